@@ -1,0 +1,14 @@
+//! The outside, as traits: disks and the shelves that hand them out, sources of bytes and sinks for
+//! them. Each has a clause for what every call does, also where it fails, and a disk says what a
+//! crash may leave. Below the traits stand real files and streams, and their likenesses in memory.
+#![tactic(auto)]
+
+mod call;
+mod disk;
+mod memory;
+mod streams;
+
+pub use call::{Call, End, FailingCall, Made};
+pub use disk::{Disk, Failed, Step};
+pub use memory::MemoryDisk;
+pub use streams::{Sink, Source};
