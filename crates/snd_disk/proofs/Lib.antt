@@ -1,2 +1,4 @@
 pub mod Images
 pub mod Lists
+pub mod Names
+pub mod Places

@@ -1,6 +1,10 @@
 pub mod Bytes
+pub mod File
 pub mod Memory
+pub mod MemoryShelf
 pub mod Mixed
 pub mod Past
+pub mod Shelf
 pub mod State
+pub mod Steady
 pub mod Streams

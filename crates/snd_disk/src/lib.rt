@@ -5,10 +5,18 @@
 
 mod call;
 mod disk;
+mod file;
 mod memory;
+mod memory_shelf;
+mod shelf;
+mod steady;
 mod streams;
 
 pub use call::{Call, End, FailingCall, Made};
 pub use disk::{Disk, Failed, Step};
+pub use file::FileDisk;
 pub use memory::MemoryDisk;
+pub use memory_shelf::MemoryShelf;
+pub use shelf::{Shelf, ShelfFault};
+pub use steady::SteadyDisk;
 pub use streams::{Sink, Source};
