@@ -1,5 +1,6 @@
 pub mod Bytes
 pub mod File
+pub mod Folder
 pub mod Memory
 pub mod MemoryShelf
 pub mod Mixed

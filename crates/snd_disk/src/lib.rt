@@ -6,6 +6,7 @@
 mod call;
 mod disk;
 mod file;
+mod folder;
 mod memory;
 mod memory_shelf;
 mod shelf;
@@ -15,6 +16,7 @@ mod streams;
 pub use call::{Call, End, FailingCall, Made};
 pub use disk::{Disk, Failed, Step};
 pub use file::FileDisk;
+pub use folder::FolderShelf;
 pub use memory::MemoryDisk;
 pub use memory_shelf::MemoryShelf;
 pub use shelf::{Shelf, ShelfFault};
