@@ -89,7 +89,10 @@ module _ (old new : MemoryDisk) (c : Made) (notes : Notes old new c) where
     later = omega (arith, ticks);
     same = λ s t x le left. was_there s t left.0 x left.1 left.2 (omega (arith, left.2)) left.4;
     kept = λ s t x left. (
-      left.0, left.1, left.2, omega (arith, left.3, ticks),
+      left.0,
+      left.1,
+      left.2,
+      omega (arith, left.3, ticks),
       same_record new.first.items old.first.items (take left.0 new.past.items) (take left.0 old.past.items) (sym notes.first) (sym (ap (take left.0) notes.past ∙ take-append-le left.0 old.past.items (c ∷ []) left.3)) x left.4,
     );
     nothing_else = λ s t x left. elim (cases_lt (length old.past.items) left.0) [

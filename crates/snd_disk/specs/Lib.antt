@@ -3,6 +3,7 @@ pub mod File
 pub mod Folder
 pub mod Memory
 pub mod MemoryShelf
+pub mod MemoryStreams
 pub mod Mixed
 pub mod Past
 pub mod Shelf

@@ -3,9 +3,8 @@ ghost use Rattle.std.specs.String.{string_bytes};
 ghost use Rattle.snd_disk.specs.State.{Rises};
 
 use crate::{Disk, Failed};
-use std::fs;
-use std::io;
 use std::os::unix::fs::FileExt;
+use std::{fs, io};
 
 /// A real file. It keeps the length that it had when it was opened, and changes that with its own
 /// writes and cuts; a read that gets fewer bytes than the length promises is a fault. Reads and

@@ -164,7 +164,8 @@ impl Shelf for FolderShelf {
 
     fn take(&mut self, name: &str, make: bool) -> Result<FileDisk, ShelfFault> {
         let alloc = self.rt.alloc();
-        let (Ok(key), Ok(given)) = (String::from_str(alloc, name), String::from_str(alloc, name)) else {
+        let (Ok(key), Ok(given)) = (String::from_str(alloc, name), String::from_str(alloc, name))
+        else {
             return Err(ShelfFault::Memory);
         };
         let file = match opened(&self.rt, name, make) {

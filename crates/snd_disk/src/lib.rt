@@ -9,7 +9,9 @@ mod file;
 mod folder;
 mod memory;
 mod memory_shelf;
+mod memory_streams;
 mod shelf;
+mod std_streams;
 mod steady;
 mod streams;
 
@@ -19,6 +21,8 @@ pub use file::FileDisk;
 pub use folder::FolderShelf;
 pub use memory::MemoryDisk;
 pub use memory_shelf::MemoryShelf;
+pub use memory_streams::{FailingPut, MemorySink, MemorySource};
 pub use shelf::{Shelf, ShelfFault};
+pub use std_streams::{ReaderSource, WriterSink};
 pub use steady::SteadyDisk;
 pub use streams::{Sink, Source};

@@ -81,7 +81,12 @@ fn with_sectors(alloc: Global, old: &[u8], new: &[u8], sectors: u64) -> Result<V
 }
 
 /// What a broken call leaves.
-fn partly_changed(alloc: Global, old: &[u8], new: &[u8], sectors: u64) -> Result<Vec<u8>, AllocError>
+fn partly_changed(
+    alloc: Global,
+    old: &[u8],
+    new: &[u8],
+    sectors: u64,
+) -> Result<Vec<u8>, AllocError>
     requires { max (length old.now) (length new.now) < 2 ^ 63 }
     ensures { IfOk result (λ v. v.items ≡ partly old.now new.now sectors) }
 {
@@ -92,9 +97,14 @@ fn partly_changed(alloc: Global, old: &[u8], new: &[u8], sectors: u64) -> Result
     with_sectors(alloc, old, new, sectors)
 }
 
-
 /// What a broken write leaves.
-fn partly_over(alloc: Global, old: &[u8], at: usize, from: &[u8], sectors: u64) -> Result<Vec<u8>, AllocError>
+fn partly_over(
+    alloc: Global,
+    old: &[u8],
+    at: usize,
+    from: &[u8],
+    sectors: u64,
+) -> Result<Vec<u8>, AllocError>
     requires old { length old.now < 2 ^ 63 }
     requires new { at + length from.now < 2 ^ 63 }
     ensures { IfOk result (λ v. v.items ≡ partly old.now (over old.now at from.now) sectors) }
@@ -126,7 +136,11 @@ impl MemoryDisk {
     ghost use Rattle.std.specs.String.{string_bytes};
 
     /// A disk with these bytes, all of them stable, whose calls with these numbers fail.
-    pub fn new(alloc: Global, bytes: Vec<u8>, failing: Vec<FailingCall>) -> Result<MemoryDisk, AllocError>
+    pub fn new(
+        alloc: Global,
+        bytes: Vec<u8>,
+        failing: Vec<FailingCall>,
+    ) -> Result<MemoryDisk, AllocError>
         ensures told { IfOk result (λ d. memory_state d ≡ record { size = length bytes.items; contents = Some bytes.items; name = None; faults = 0; written = 0; asked = 0; clock = 0 }) }
         ensures images { IfOk result (λ d. (x : List ℕ) → memory_left d x → x ≡ bytes.items) }
         ensures record { IfOk result (λ d. past_calls d ≡ []) }
@@ -233,7 +247,10 @@ impl MemoryDisk {
             return self.fail();
         };
         let call = Call::Write { at, from: copy };
-        let made = Made { call, end: End::Done };
+        let made = Made {
+            call,
+            end: End::Done,
+        };
         let Ok(()) = self.past.push(made) else {
             unreachable!()
         };
@@ -338,7 +355,8 @@ impl Disk for MemoryDisk {
         match self.failure() {
             None => self.write(at, from, copy),
             Some(sectors) => {
-                let Ok(bytes) = partly_over(self.alloc, &self.bytes, at as usize, from, sectors) else {
+                let Ok(bytes) = partly_over(self.alloc, &self.bytes, at as usize, from, sectors)
+                else {
                     return self.fail();
                 };
                 self.break_off(Call::Write { at, from: copy }, bytes, sectors)

@@ -48,7 +48,11 @@ fn empty(alloc: Global, name: &str) -> Result<(String, MemoryDisk), AllocError>
 
 /// Puts a disk, or none, in the place of what stands under a name, which is the answer. Where no
 /// entry has the name, what was to be put comes back.
-fn exchange(entries: &mut Vec<Entry>, name: &str, disk: Option<MemoryDisk>) -> Result<Option<MemoryDisk>, Option<MemoryDisk>>
+fn exchange(
+    entries: &mut Vec<Entry>,
+    name: &str,
+    disk: Option<MemoryDisk>,
+) -> Result<Option<MemoryDisk>, Option<MemoryDisk>>
     ensures { Exchanges entries.old.items entries.new.items name.now disk result }
 {
     match find(entries, name) {

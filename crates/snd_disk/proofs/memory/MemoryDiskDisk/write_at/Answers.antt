@@ -18,7 +18,7 @@ pub returns-in-None-clause-all_images : goal.returns-in-None-clause-all_images
 returns-in-None-clause-all_images c =
     let same : c.in-Ok.copy.items ≡ c.args.from.now = search rules in
     on_ok c.write.result _ _ (λ notes. all_write _ c.write.new.self c.args.at c.in-Ok.copy Done c.args.from.now same
-        (subst (λ (d : MemoryDisk). Notes d c.write.new.self (record { call = Write c.args.at c.in-Ok.copy; end = Done })) c.failure.ensures notes)) c.write.ensures.ok
+    (subst (λ (d : MemoryDisk). Notes d c.write.new.self (record { call = Write c.args.at c.in-Ok.copy; end = Done })) c.failure.ensures notes)) c.write.ensures.ok
 
 pub returns-in-None-clause-time : goal.returns-in-None-clause-time
 returns-in-None-clause-time c =
@@ -30,7 +30,7 @@ returns-in-Ok-partly_over-clause-broken c =
     let same : c.in-Ok.copy.items ≡ c.args.from.now = search rules in
     let made : Made = record { call = Write c.args.at c.in-Ok.copy; end = Broken c.in-Some.sectors } in
     let found = between_write _ c.break_off.new.self c.in-Some.sectors c.args.at c.in-Ok.copy c.args.from.now same
-        (subst (λ (d : MemoryDisk). MayNote d c.break_off.new.self made) c.failure.ensures c.break_off.ensures.noted) in
+    (subst (λ (d : MemoryDisk). MayNote d c.break_off.new.self made) c.failure.ensures c.break_off.ensures.noted) in
     on_err c.break_off.result _ (record { size = found.size; contents = found.contents; told = found.told; name = found.name })
 
 pub returns-in-Ok-partly_over-clause-images : goal.returns-in-Ok-partly_over-clause-images
