@@ -1,0 +1,11 @@
+//! Numbers in the fields of a file's head, identifiers, and the words of a command line. Nothing here
+//! allocates.
+#![tactic(auto)]
+
+mod field;
+mod ident;
+mod words;
+
+pub use field::{Order, put_u16, put_u24, put_u32, put_u64, u16_at, u24_at, u32_at, u64_at};
+pub use ident::{Guid, Id4};
+pub use words::Words;
