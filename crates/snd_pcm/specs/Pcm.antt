@@ -78,8 +78,8 @@ abbrev pub sample_bytes : Linear → ℤ → List ℕ
 sample_bytes form x = bytes_of (order_of form) (byte_count form) (code form x)
 
 -- the samples that bytes hold, one after the other, and the bytes of samples
-abbrev pub samples : Linear → List ℕ → List ℤ
+unfoldable pub samples : Linear → List ℕ → List ℤ
 samples form bytes = map (sample form) (groups (byte_count form) bytes)
 
-abbrev pub samples_bytes : Linear → List ℤ → List ℕ
+unfoldable pub samples_bytes : Linear → List ℤ → List ℕ
 samples_bytes form xs = flat_map (sample_bytes form) xs

@@ -2,6 +2,7 @@
 //! allocates or is refused.
 #![tactic(auto)]
 
+mod blocks;
 mod linear;
 mod sample;
 mod width;
