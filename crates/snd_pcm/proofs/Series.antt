@@ -1,7 +1,7 @@
 -- Samples one after the other.
 use Rattle.std.proofs.Common.{◌≡◌, ℕ, zero, suc, ◌+◌, ◌-◌, ◌*◌, ◌/◌, ◌<◌, ◌≤◌, ℤ, pos, List, [], ◌∷◌, ◌++◌, length, get_or, set, take, drop, map, refl, sym, ◌∙◌, ap, arith, append_assoc}
 use Rattle.std.proofs.Math.Nat.{div-le_of_le-mul, mul-div_cancel_left}
-use Rattle.std.proofs.lemmas.List.{append-nil, drop-drop, drop_all, drop_more, get_or-map, length-drop, length-map, length-set, places, take_all, take_more, take_more_set}
+use Rattle.std.proofs.lemmas.List.{append-nil, at_drop_more, drop-drop, drop_all, drop_more, get_or-map, length-drop, length-map, length-set, places, take_all, take_more, take_more_set}
 use Rattle.std.specs.List.{flat_map}
 use Rattle.snd_fields.proofs.Numbers.{number_same}
 use Rattle.snd_fields.specs.Field.{bytes_of, number}
@@ -71,3 +71,80 @@ read_all form b into i all full =
     let count = div-le_of_le-mul (byte_count form) {m = length b} {n = i} all in
     ap (λ l. take i into ++ l) (drop_all i (samples form b) (omega (arith, length-samples form b, count)))
     ∙ append-nil (take i into) ∙ take_all i into full
+
+-- ---- a loop that writes: what it has written, and the bytes of what is left
+
+pub samples_bytes-more : (form : Linear) (from : List ℤ) (i : ℕ) → i < length from
+    → samples_bytes form (drop i from) ≡ sample_bytes form (get_or from i (pos 0)) ++ samples_bytes form (drop (i + 1) from)
+unfolding samples_bytes
+samples_bytes-more form from i lt = at_drop_more (flat_map (sample_bytes form)) from i (pos 0) lt
+
+write_step : (form : Linear) (from : List ℤ) (old new piece : List ℕ) (i : ℕ) → i < length from → new ≡ old ++ piece
+    → piece ≡ sample_bytes form (get_or from i (pos 0)) → old ++ samples_bytes form (drop i from) ≡ samples_bytes form from
+    → new ++ samples_bytes form (drop (i + 1) from) ≡ samples_bytes form from
+write_step form from old new piece i lt longer is so_far =
+    let rest = samples_bytes form (drop (i + 1) from) in
+    ap (λ l. l ++ rest) longer ∙ append_assoc old piece rest ∙ ap (λ l. old ++ (l ++ rest)) is
+    ∙ ap (λ l. old ++ l) (sym (samples_bytes-more form from i lt)) ∙ so_far
+
+put2 : (bytes : List ℕ) (n a b : ℕ) → n + 1 < length bytes → take (n + 2) (set (set bytes n a) (n + 1) b) ≡ take n bytes ++ a ∷ b ∷ []
+put2 bytes n a b lt =
+    let second = take_more_set (set bytes n a) (n + 1) b (omega (arith, length-set bytes n a)) in
+    let first = take_more_set bytes n a (omega arith) in
+    ap (λ (m : ℕ). take m (set (set bytes n a) (n + 1) b)) (let e : n + 2 ≡ n + 1 + 1 = omega arith in e)
+    ∙ second ∙ ap (λ l. l ++ b ∷ []) first ∙ append_assoc (take n bytes) (a ∷ []) (b ∷ [])
+
+put3 : (bytes : List ℕ) (n a b c : ℕ) → n + 2 < length bytes
+    → take (n + 3) (set (set (set bytes n a) (n + 1) b) (n + 2) c) ≡ take n bytes ++ a ∷ b ∷ c ∷ []
+put3 bytes n a b c lt =
+    let two = set (set bytes n a) (n + 1) b in
+    let third = take_more_set two (n + 2) c (omega (arith, length-set (set bytes n a) (n + 1) b, length-set bytes n a)) in
+    ap (λ (m : ℕ). take m (set two (n + 2) c)) (let e : n + 3 ≡ n + 2 + 1 = omega arith in e)
+    ∙ third ∙ ap (λ l. l ++ c ∷ []) (put2 bytes n a b (omega arith)) ∙ append_assoc (take n bytes) (a ∷ b ∷ []) (c ∷ [])
+
+put4 : (bytes : List ℕ) (n a b c d : ℕ) → n + 3 < length bytes
+    → take (n + 4) (set (set (set (set bytes n a) (n + 1) b) (n + 2) c) (n + 3) d) ≡ take n bytes ++ a ∷ b ∷ c ∷ d ∷ []
+put4 bytes n a b c d lt =
+    let two = set (set bytes n a) (n + 1) b in
+    let three = set two (n + 2) c in
+    let fourth = take_more_set three (n + 3) d (omega (arith, length-set two (n + 2) c, length-set (set bytes n a) (n + 1) b, length-set bytes n a)) in
+    ap (λ (m : ℕ). take m (set three (n + 3) d)) (let e : n + 4 ≡ n + 3 + 1 = omega arith in e)
+    ∙ fourth ∙ ap (λ l. l ++ d ∷ []) (put3 bytes n a b c (omega arith)) ∙ append_assoc (take n bytes) (a ∷ b ∷ c ∷ []) (d ∷ [])
+
+pub write_step1 : (form : Linear) (from : List ℤ) (bytes : List ℕ) (i a : ℕ) → length bytes ≡ length from → i < length from
+    → a ∷ [] ≡ sample_bytes form (get_or from i (pos 0))
+    → take i bytes ++ samples_bytes form (drop i from) ≡ samples_bytes form from
+    → take (i + 1) (set bytes i a) ++ samples_bytes form (drop (i + 1) from) ≡ samples_bytes form from
+write_step1 form from bytes i a room lt is so_far = write_step form from _ _ _ i lt (take_more_set bytes i a (omega arith)) is so_far
+
+pub write_step2 : (form : Linear) (from : List ℤ) (bytes : List ℕ) (i a b : ℕ) → length bytes ≡ 2 * length from → i < length from
+    → a ∷ b ∷ [] ≡ sample_bytes form (get_or from i (pos 0))
+    → take (2 * i) bytes ++ samples_bytes form (drop i from) ≡ samples_bytes form from
+    → take (2 * (i + 1)) (set (set bytes (2 * i) a) (2 * i + 1) b) ++ samples_bytes form (drop (i + 1) from) ≡ samples_bytes form from
+write_step2 form from bytes i a b room lt is so_far =
+    let next : 2 * (i + 1) ≡ 2 * i + 2 = omega arith in
+    write_step form from _ _ _ i lt (ap (λ (m : ℕ). take m (set (set bytes (2 * i) a) (2 * i + 1) b)) next ∙ put2 bytes (2 * i) a b (omega arith)) is so_far
+
+pub write_step3 : (form : Linear) (from : List ℤ) (bytes : List ℕ) (i a b c : ℕ) → length bytes ≡ 3 * length from → i < length from
+    → a ∷ b ∷ c ∷ [] ≡ sample_bytes form (get_or from i (pos 0))
+    → take (3 * i) bytes ++ samples_bytes form (drop i from) ≡ samples_bytes form from
+    → take (3 * (i + 1)) (set (set (set bytes (3 * i) a) (3 * i + 1) b) (3 * i + 2) c) ++ samples_bytes form (drop (i + 1) from) ≡ samples_bytes form from
+write_step3 form from bytes i a b c room lt is so_far =
+    let next : 3 * (i + 1) ≡ 3 * i + 3 = omega arith in
+    write_step form from _ _ _ i lt
+    (ap (λ (m : ℕ). take m (set (set (set bytes (3 * i) a) (3 * i + 1) b) (3 * i + 2) c)) next ∙ put3 bytes (3 * i) a b c (omega arith)) is so_far
+
+pub write_step4 : (form : Linear) (from : List ℤ) (bytes : List ℕ) (i a b c d : ℕ) → length bytes ≡ 4 * length from → i < length from
+    → a ∷ b ∷ c ∷ d ∷ [] ≡ sample_bytes form (get_or from i (pos 0))
+    → take (4 * i) bytes ++ samples_bytes form (drop i from) ≡ samples_bytes form from
+    → take (4 * (i + 1)) (set (set (set (set bytes (4 * i) a) (4 * i + 1) b) (4 * i + 2) c) (4 * i + 3) d) ++ samples_bytes form (drop (i + 1) from) ≡ samples_bytes form from
+write_step4 form from bytes i a b c d room lt is so_far =
+    let next : 4 * (i + 1) ≡ 4 * i + 4 = omega arith in
+    write_step form from _ _ _ i lt
+    (ap (λ (m : ℕ). take m (set (set (set (set bytes (4 * i) a) (4 * i + 1) b) (4 * i + 2) c) (4 * i + 3) d)) next ∙ put4 bytes (4 * i) a b c d (omega arith)) is so_far
+
+pub write_all : (form : Linear) (from : List ℤ) (bytes : List ℕ) (i n : ℕ) → length bytes ≤ n → length from ≤ i
+    → take n bytes ++ samples_bytes form (drop i from) ≡ bytes
+unfolding samples_bytes
+write_all form from bytes i n full all =
+    ap (λ l. take n bytes ++ flat_map (sample_bytes form) l) (drop_all i from all) ∙ append-nil (take n bytes) ∙ take_all n bytes full

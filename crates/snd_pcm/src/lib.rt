@@ -2,8 +2,9 @@
 //! allocates or is refused.
 #![tactic(auto)]
 
-mod blocks;
 mod linear;
+mod puts;
+mod reads;
 mod sample;
 mod width;
 
