@@ -1,0 +1,8 @@
+use Rattle.std.proofs.Common.{◌≡◌, ◌++◌, take, drop}
+use Rattle.snd_fields.specs.declared.field.Order.TheVariants.{Big}
+use Rattle.snd_pcm.specs.Pcm.{samples}
+use Rattle.snd_pcm.specs.declared.linear.Linear.TheVariants.{S24}
+use Rattle.snd_pcm.proofs.reads.read_s24_big.Given as goal
+
+abbrev pub invariant-loop-i : goal.invariant-loop-i
+invariant-loop-i l = take l.i l.into ++ drop l.i (samples (S24 Big) l.bytes) ≡ samples (S24 Big) l.bytes

@@ -1,0 +1,129 @@
+//! One linear sample as bytes, both ways.
+
+ghost use Rattle.std.specs.Prelude.{◌≡◌, [], ◌∷◌, length};
+ghost use Rattle.snd_pcm.specs.Pcm.{InRange, byte_count, in_order, sample, sample_bytes};
+ghost use Rattle.snd_fields.specs.declared.field.Order.TheVariants.{Little};
+
+use crate::linear::Linear;
+use snd_fields::Order;
+
+// The numbers of bytes, and the bytes of a number, the lowest first: what each loop over samples does.
+
+#[inline(always)]
+pub(crate) fn from_u8(byte: u8) -> i32
+    ensures { result ≡ sample Linear.U8 (byte ∷ []) }
+{
+    i32::from(byte) - 128
+}
+
+#[inline(always)]
+pub(crate) fn from_s8(byte: u8) -> i32
+    ensures { result ≡ sample Linear.S8 (byte ∷ []) }
+{
+    i32::from(byte.cast_signed())
+}
+
+#[inline(always)]
+pub(crate) fn from_s16(low: u8, high: u8) -> i32
+    ensures { result ≡ sample (Linear.S16 Little) (low ∷ high ∷ []) }
+{
+    i32::from(i16::from_le_bytes([low, high]))
+}
+
+#[inline(always)]
+pub(crate) fn from_s24(low: u8, middle: u8, high: u8) -> i32
+    ensures { result ≡ sample (Linear.S24 Little) (low ∷ middle ∷ high ∷ []) }
+{
+    i32::from_le_bytes([0, low, middle, high]) >> 8
+}
+
+#[inline(always)]
+pub(crate) fn from_s32(low: u8, second: u8, third: u8, high: u8) -> i32
+    ensures { result ≡ sample (Linear.S32 Little) (low ∷ second ∷ third ∷ high ∷ []) }
+{
+    i32::from_le_bytes([low, second, third, high])
+}
+
+#[inline(always)]
+pub(crate) fn to_u8(value: i32) -> u8
+    requires { InRange Linear.U8 value }
+    ensures { result ∷ [] ≡ sample_bytes Linear.U8 value }
+{
+    (value + 128) as u8
+}
+
+#[inline(always)]
+pub(crate) fn to_s8(value: i32) -> u8
+    requires { InRange Linear.S8 value }
+    ensures { result ∷ [] ≡ sample_bytes Linear.S8 value }
+{
+    (value as i8).cast_unsigned()
+}
+
+#[inline(always)]
+pub(crate) fn to_s16(value: i32) -> [u8; 2]
+    requires { InRange (Linear.S16 Little) value }
+    ensures { result ≡ sample_bytes (Linear.S16 Little) value }
+{
+    (value as i16).to_le_bytes()
+}
+
+#[inline(always)]
+pub(crate) fn to_s24(value: i32) -> [u8; 3]
+    requires { InRange (Linear.S24 Little) value }
+    ensures { result ≡ sample_bytes (Linear.S24 Little) value }
+{
+    let [low, middle, high, _] = value.to_le_bytes();
+    [low, middle, high]
+}
+
+#[inline(always)]
+pub(crate) fn to_s32(value: i32) -> [u8; 4]
+    ensures { result ≡ sample_bytes (Linear.S32 Little) value }
+{
+    value.to_le_bytes()
+}
+
+/// The number that a sample's bytes stand for.
+pub fn read_sample(form: Linear, bytes: &[u8]) -> i32
+    requires { length bytes.now ≡ byte_count form }
+    ensures value { result ≡ sample form bytes.now }
+    ensures in_range { InRange form result }
+{
+    match form {
+        Linear::U8 => from_u8(bytes[0]),
+        Linear::S8 => from_s8(bytes[0]),
+        Linear::S16(Order::Little) => from_s16(bytes[0], bytes[1]),
+        Linear::S16(Order::Big) => from_s16(bytes[1], bytes[0]),
+        Linear::S24(Order::Little) => from_s24(bytes[0], bytes[1], bytes[2]),
+        Linear::S24(Order::Big) => from_s24(bytes[2], bytes[1], bytes[0]),
+        Linear::S32(Order::Little) => from_s32(bytes[0], bytes[1], bytes[2], bytes[3]),
+        Linear::S32(Order::Big) => from_s32(bytes[3], bytes[2], bytes[1], bytes[0]),
+    }
+}
+
+/// Writes a number that is in the range of the form as a sample's bytes.
+pub fn put_sample(form: Linear, value: i32, into: &mut [u8])
+    requires room { length into.old ≡ byte_count form }
+    requires in_range { InRange form value }
+    ensures { into.new ≡ sample_bytes form value }
+{
+    match form {
+        Linear::U8 => into[0] = to_u8(value),
+        Linear::S8 => into[0] = to_s8(value),
+        Linear::S16(order) => put_bytes(order, &to_s16(value), into),
+        Linear::S24(order) => put_bytes(order, &to_s24(value), into),
+        Linear::S32(order) => put_bytes(order, &to_s32(value), into),
+    }
+}
+
+// bytes that stand the lowest first, in an order
+fn put_bytes(order: Order, bytes: &[u8], into: &mut [u8])
+    requires { length into.old ≡ length bytes.now }
+    ensures { into.new ≡ in_order order bytes.now }
+{
+    into.copy_from_slice(bytes);
+    if order == Order::Big {
+        into.reverse();
+    }
+}

@@ -1,0 +1,20 @@
+//! Numbers of one width as numbers of another.
+
+ghost use Rattle.std.specs.Prelude.{◌≡◌};
+ghost use Rattle.snd_pcm.specs.Width.{HasWidth, IsWidth, changed};
+
+/// A number of `from` bits as one of `to` bits: a wider one is a multiple by a power of two, a narrower
+/// one is divided by it and rounded toward minus infinity.
+pub fn change_width(from: u8, to: u8, value: i32) -> i32
+    requires from_width { IsWidth from }
+    requires to_width { IsWidth to }
+    requires in_range { HasWidth from value }
+    ensures value { result ≡ changed from to value }
+    ensures in_range { HasWidth to result }
+{
+    if from <= to {
+        value << (to - from)
+    } else {
+        value >> (from - to)
+    }
+}
