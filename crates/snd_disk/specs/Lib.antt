@@ -1,4 +1,5 @@
 pub mod Bytes
+pub mod Chains
 pub mod File
 pub mod Folder
 pub mod Memory

@@ -87,3 +87,14 @@ pub record Passes (old new : ℕ) (past since : ℕ → ℕ → List ℕ → Typ
   pub same : (s t : ℕ) (x : List ℕ) → t ≤ old → since s t x → past s t x
   pub kept : (s t : ℕ) (x : List ℕ) → past s t x → since s t x
   pub nothing_else : (s t : ℕ) (x : List ℕ) → since s t x → past s t x ⊎ after x
+
+-- a count of bytes rises by no more than this
+pub record AtMost (old n new : ℕ) : Type 0 where
+  pub later : old ≤ new
+  pub most : new ≤ old + n
+
+-- calls that only read: nothing changes but the counts of faults and of bytes asked
+pub record OnlyReads (old new : State) (before after : List ℕ → Type 0) (past since : ℕ → ℕ → List ℕ → Type 0) : Type 0 where
+  pub keeps : Keeps old new
+  pub images : KeepsImages old.clock new.clock before after past since
+  pub written : new.written ≡ old.written

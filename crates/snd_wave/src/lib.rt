@@ -1,0 +1,6 @@
+//! WAVE files.
+#![tactic(auto)]
+
+mod plain;
+
+pub use plain::{Plain, open_plain};
