@@ -7,6 +7,7 @@ pub mod MemoryShelf
 pub mod MemoryStreams
 pub mod Mixed
 pub mod Past
+pub mod Returned
 pub mod Shelf
 pub mod State
 pub mod Steady

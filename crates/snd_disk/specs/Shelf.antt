@@ -33,6 +33,10 @@ pub record ShelfState : Type 0 where
 abbrev pub Puts : ShelfState → ShelfState → List ℕ → Option (List ℕ) → Type 0
 Puts old new name bytes = (f : Files) → old.files ≡ Some f → (f' : Files) × (new.files ≡ Some f') × SameFiles (put f name bytes) f'
 
+-- the told files are the same
+abbrev pub KeepsFiles : ShelfState → ShelfState → Type 0
+KeepsFiles old new = (f : Files) → old.files ≡ Some f → (f' : Files) × (new.files ≡ Some f') × SameFiles f f'
+
 -- a disk is handed out, and while it is out the shelf has no file of its name
 pub record Takes (old new : ShelfState) (name : List ℕ) (make : Bool) (disk : State) : Type 0 where
   pub out : (n : List ℕ) → new.out n ≡ (if bytes_eq n name then true else old.out n)

@@ -1,4 +1,4 @@
-ghost use Rattle.std.specs.Prelude.{◌≡◌, ◌+◌, ◌≤◌, List, ℕ, Some, IfOk, OnOk, OnErr, length};
+ghost use Rattle.std.specs.Prelude.{◌≡◌, ◌+◌, ◌≤◌, List, ℕ, Some, IfSome, IfOk, OnOk, OnErr, length};
 ghost use Rattle.std.specs.Str.{bytes_eq};
 ghost use Rattle.snd_wave.specs.Plain.{head_of, has_ids, has_format, has_sizes, id_at, plain, plain_of};
 ghost use Rattle.snd_disk.specs.State.{Rises, AtMost, OnlyReads};
@@ -64,7 +64,8 @@ fn has_plain_sizes(head: &[u8], len: u64) -> bool
 /// What a file of this length with this head holds, where it is plain.
 fn plain_head(head: &[u8], len: u64) -> Option<Plain>
     requires { 44 ≤ length head.now }
-    ensures { result ≡ plain_of (head_of head.now) len }
+    ensures value { result ≡ plain_of (head_of head.now) len }
+    ensures playable { IfSome result (λ plain. 1 ≤ plain.rate) }
 {
     if !(has_plain_ids(head) && has_plain_format(head) && has_plain_sizes(head, len)) {
         return None;
@@ -81,6 +82,7 @@ fn plain_head(head: &[u8], len: u64) -> Option<Plain>
 /// whose sizes are those of the file. The answer is `None` exactly where the file is not plain.
 pub fn open_plain<D: Disk>(disk: &mut D) -> Result<Option<Plain>, Step>
     ensures found { IfOk result (λ p. (b : List ℕ) → (D.state disk.old).contents ≡ Some b → p ≡ plain b) }
+    ensures playable { IfOk result (λ p. IfSome p (λ plain. 1 ≤ plain.rate)) }
     ensures failed { OnErr result (Rises (D.state disk.old).faults (D.state disk.new).faults) }
     ensures calm { OnOk result ((D.state disk.new).faults ≡ (D.state disk.old).faults) }
     ensures later { (D.state disk.old).faults ≤ (D.state disk.new).faults }

@@ -12,7 +12,7 @@ returns-clause-found g c = λ b told.
     let size_then : (g.D.Disk.state c.len.new.self).size ≡ length b = g.met.D.Disk.size_told c.len.new.self b told_then in
     let count : c.in-Ok-read_at.field-0 ≡ 44 = omega (arith, c.in-Ok-read_at.ensures.value, size, size_then, c.if-len.false) in
     let front = c.in-Ok-read_at.ensures.bytes.front b told_then in
-    plain_is b (head_of c.read_at.new.into) c.in-Ok.len c.plain_head.result c.plain_head.ensures
+    plain_is b (head_of c.read_at.new.into) c.in-Ok.len c.plain_head.result c.plain_head.ensures.value
     (same_head c.read_at.new.into b (λ i lt. agree_below c.in-Ok-read_at.field-0 c.read_at.new.into b front i (omega (arith, count)))) size c.if-len.false
 
 pub returns-clause-reads : goal.returns-clause-reads

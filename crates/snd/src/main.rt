@@ -1,0 +1,36 @@
+//! The program: `snd_app`'s run over the current folder, standard output and standard error.
+#![tactic(auto)]
+
+use snd_app::run;
+use snd_disk::{FolderShelf, WriterSink};
+use snd_fields::Words;
+use std::process::ExitCode;
+use std::{env, io};
+
+const NO_MEMORY: u8 = 4;
+
+/// The words that the program was called with, or none of them where one is no text.
+fn words_of(rt: &HostRuntime) -> io::Result<Words> {
+    let mut list = Vec::new(rt.alloc());
+    let mut args = env::args(rt)?;
+    let _ = args.next();
+    for word in args {
+        list.push(word)?;
+    }
+    Ok(Words::new(list))
+}
+
+fn main(rt: HostRuntime) -> ExitCode {
+    let alloc = rt.alloc();
+    let words = match words_of(&rt) {
+        Ok(words) => words,
+        Err(error) if error.kind() == io::ErrorKind::OutOfMemory => {
+            return ExitCode::from(NO_MEMORY);
+        }
+        Err(_) => Words::new(Vec::new(alloc)),
+    };
+    let mut out = WriterSink::new(rt.stdout());
+    let mut err = WriterSink::new(rt.stderr());
+    let mut shelf = FolderShelf::new(rt);
+    ExitCode::from(run(alloc, &words, &mut shelf, &mut out, &mut err))
+}

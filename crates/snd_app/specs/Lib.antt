@@ -1,0 +1,4 @@
+pub mod Info
+pub mod Outcome
+pub mod Run
+pub mod Text

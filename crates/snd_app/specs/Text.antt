@@ -1,0 +1,14 @@
+-- Printed lines.
+use Rattle.std.specs.Prelude.{ℕ, ◌-◌, List, [], ◌∷◌, ◌++◌, length, replicate, codes, decimal}
+
+-- a number's decimal digits, with zeros before them up to a width
+abbrev pub padded : ℕ → ℕ → List ℕ
+padded width n = replicate (width - length (decimal n)) 48 ++ decimal n
+
+-- a key and its value, with a space between them and a line feed behind
+abbrev pub line : List ℕ → List ℕ → List ℕ
+line key value = key ++ 32 ∷ [] ++ value ++ 10 ∷ []
+
+-- the message that a file is refused
+abbrev pub refusal : List ℕ → ℕ → List ℕ → List ℕ
+refusal name number word = codes "snd: " ++ name ++ codes ": error " ++ decimal number ++ 32 ∷ [] ++ word ++ 10 ∷ []

@@ -1,0 +1,79 @@
+ghost use Rattle.std.specs.Prelude.{◌≡◌, ◌*◌, ◌<◌, ◌≤◌, ◌^◌, ◌++◌, OnOk, IfOk, codes, decimal};
+ghost use Rattle.snd_app.specs.Info.{milliseconds, clock, description};
+ghost use Rattle.snd_app.specs.Text.{refusal, line};
+
+use crate::text::{push_line, push_number, push_padded};
+use snd_wave::Plain;
+use std::alloc::{AllocError, Global};
+
+const HOUR: u128 = 3_600_000;
+
+const MINUTE: u128 = 60_000;
+
+const SECOND: u128 = 1000;
+
+/// Appends a length of time in milliseconds, as `HH:MM:SS.mmm`.
+fn push_clock(text: &mut Vec<u8>, time: u128) -> Result<(), AllocError>
+    requires { time < 2 ^ 75 }
+    ensures { OnOk result (text.new.items ≡ text.old.items ++ clock time) }
+{
+    push_padded(text, (time / HOUR) as u64, 2)?;
+    text.push(b':')?;
+    push_padded(text, (time / MINUTE % 60) as u64, 2)?;
+    text.push(b':')?;
+    push_padded(text, (time / SECOND % 60) as u64, 2)?;
+    text.push(b'.')?;
+    push_padded(text, (time % SECOND) as u64, 3)
+}
+
+/// Appends a line of a key and a number.
+fn push_number_line(text: &mut Vec<u8>, key: &[u8], number: u64) -> Result<(), AllocError>
+    ensures { OnOk result (text.new.items ≡ text.old.items ++ line key.now (decimal number)) }
+{
+    text.extend_from_slice(key)?;
+    text.push(b' ')?;
+    push_number(text, number)?;
+    text.push(b'\n')?;
+    Ok(())
+}
+
+/// Appends the line on how long so many frames take.
+fn push_duration(text: &mut Vec<u8>, frames: u64, rate: u32) -> Result<(), AllocError>
+    requires { 1 ≤ rate }
+    ensures { OnOk result (text.new.items ≡ text.old.items ++ line (codes "duration") (clock (milliseconds frames rate))) }
+{
+    text.extend_from_slice(b"duration ")?;
+    push_clock(text, u128::from(frames) * 1000 / u128::from(rate))?;
+    text.push(b'\n')?;
+    Ok(())
+}
+
+/// The lines that describe a plain file.
+pub fn describe(alloc: Global, name: &str, plain: &Plain) -> Result<Vec<u8>, AllocError>
+    requires { 1 ≤ plain.now.rate }
+    ensures { IfOk result (λ text. text.items ≡ description name.now plain.now) }
+{
+    let mut text = Vec::new(alloc);
+    push_line(&mut text, b"name", name.as_bytes())?;
+    push_line(&mut text, b"kind", b"wave")?;
+    push_line(&mut text, b"codec", b"pcm_16_le")?;
+    push_number_line(&mut text, b"channels", u64::from(plain.channels))?;
+    push_number_line(&mut text, b"rate", u64::from(plain.rate))?;
+    push_number_line(&mut text, b"frames", plain.frames)?;
+    push_duration(&mut text, plain.frames, plain.rate)?;
+    Ok(text)
+}
+
+/// The message that a file is refused.
+pub fn refuse(alloc: Global, name: &str, number: u64, word: &[u8]) -> Result<Vec<u8>, AllocError>
+    ensures { IfOk result (λ text. text.items ≡ refusal name.now number word.now) }
+{
+    let mut text = Vec::from_slice(alloc, b"snd: ")?;
+    text.extend_from_slice(name.as_bytes())?;
+    text.extend_from_slice(b": error ")?;
+    push_number(&mut text, number)?;
+    text.push(b' ')?;
+    text.extend_from_slice(word)?;
+    text.push(b'\n')?;
+    Ok(text)
+}
