@@ -1,0 +1,5 @@
+pub mod Segments
+pub mod Floats
+pub mod Tests
+pub mod MulawLemmas
+pub mod AlawLemmas

@@ -1,0 +1,98 @@
+//! The A-law.
+ghost use Rattle.std.specs.Prelude.{◌≡◌, ◌<◌, ◌^◌, pos, length, map, All, FitsSigned};
+ghost use Rattle.std.specs.Int.{w16};
+ghost use Rattle.snd_g711.specs.Alaw.{alaw_magnitude, alaw_value, alaw_distance, alaw_code, alaw_byte, AlawRoundTrip};
+
+use crate::segment::code_of;
+
+/// The bits of a byte that the A-law inverts.
+const EVEN_BITS: u8 = 0x55;
+
+/// The magnitude of a code, 8 to 32256.
+#[inline]
+fn magnitude_of(code: u8) -> i16
+    requires { code < 128 }
+    ensures { result ≡ pos (alaw_magnitude code) }
+{
+    let code = u32::from(code);
+    if code < 16 {
+        (code * 16 + 8) as i16
+    } else {
+        ((code % 16 * 16 + 264) << (code / 16 - 1)) as i16
+    }
+}
+
+/// The 16-bit value of an A-law byte, -32256 to 32256.
+#[inline]
+pub fn alaw_decode(byte: u8) -> i16
+    ensures { result ≡ alaw_value byte }
+{
+    let magnitude = magnitude_of((byte ^ EVEN_BITS) % 128);
+    if byte < 128 { -magnitude } else { magnitude }
+}
+
+/// How far a value lies from 0, or a negative one from -1.
+#[inline]
+fn distance_of(value: i16) -> u16
+    ensures value { result ≡ alaw_distance value }
+    ensures bound { result < 2 ^ 15 }
+{
+    if value < 0 {
+        (-1 - value) as u16
+    } else {
+        value as u16
+    }
+}
+
+/// The code of a distance.
+#[inline]
+fn code_at(distance: u16) -> u8
+    requires { distance < 2 ^ 15 }
+    ensures { result ≡ alaw_code distance }
+{
+    if distance < 256 {
+        (distance / 16) as u8
+    } else {
+        code_of(distance)
+    }
+}
+
+/// The A-law byte of a 16-bit value.
+#[inline]
+pub fn alaw_encode(value: i16) -> u8
+    ensures { result ≡ alaw_byte value }
+{
+    let code = code_at(distance_of(value));
+    if value < 0 {
+        code ^ EVEN_BITS
+    } else {
+        (128 + code) ^ EVEN_BITS
+    }
+}
+
+/// Decodes a block: each byte's value stands in `into` at its place. Both have the same length.
+pub fn alaw_decode_all(bytes: &[u8], into: &mut [i32])
+    requires { length into.old ≡ length bytes.now }
+    ensures values { into.new ≡ map alaw_value bytes.now }
+    ensures in_range { All (FitsSigned w16) into.new }
+{
+    for (i, value) in into.iter_mut().enumerate() {
+        *value = i32::from(alaw_decode(bytes[i]));
+    }
+}
+
+/// Encodes a block: each value's byte stands in `bytes` at its place. Both have the same length.
+pub fn alaw_encode_all(from: &[i32], bytes: &mut [u8])
+    requires same_length { length bytes.old ≡ length from.now }
+    requires in_range { All (FitsSigned w16) from.now }
+    ensures { bytes.new ≡ map alaw_byte from.now }
+{
+    for (i, byte) in bytes.iter_mut().enumerate() {
+        *byte = alaw_encode(from[i] as i16);
+    }
+}
+
+/// Decoding and encoding give back each byte.
+pub fn alaw_round_trip()
+    ensures { AlawRoundTrip }
+{}
