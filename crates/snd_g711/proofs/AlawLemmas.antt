@@ -1,5 +1,5 @@
 -- Facts on the A-law's definitions.
-use Rattle.std.proofs.Common.{◌≡◌, sym, ap, ◌∙◌, ℕ, ℤ, pos, neg_ℤ, ◌+◌, ◌-◌, ◌*◌, ◌/◌, ◌%◌, ◌^◌, ◌<◌, ◌≤◌, inl, inr, Bool, true, false, FitsSigned, to_z, List, map, All, get_or, zero-add, arith, bit_xor}
+use Rattle.std.proofs.Common.{negsuc, ◌⊎◌, ◌≡◌, sym, ap, ◌∙◌, ℕ, ℤ, pos, neg_ℤ, ◌+◌, ◌-◌, ◌*◌, ◌/◌, ◌%◌, ◌^◌, ◌<◌, ◌≤◌, inl, inr, Bool, true, false, FitsSigned, to_z, List, map, All, get_or, zero-add, arith, bit_xor}
 use Rattle.std.specs.Prelude.{if◌then◌else◌, nat_lt, nat_eq}
 use Rattle.std.specs.Int.{w16, is_negative}
 use Rattle.std.proofs.lemmas.Bool.{cases_lt}
@@ -9,7 +9,7 @@ use Rattle.std.proofs.lemmas.List.Elements.{All-map}
 use lib.Dec.{ltb→lt, eqb→eq}
 use Rattle.snd_g711.specs.Segment.{segment_and_step}
 use Rattle.snd_g711.specs.Alaw.{alaw_magnitude, alaw_value, alaw_distance, alaw_code, alaw_byte, AlawRoundTrip}
-use Rattle.snd_g711.proofs.Segments.{segment_and_step-lt}
+use Rattle.snd_g711.proofs.Segments.{segment_and_step-lt, code-half}
 use Rattle.snd_g711.proofs.Tests.{every_below, fits_positive, fits_negative}
 
 pub steps-lt : (code : ℕ) → code < 128 → (code % 16 * 16 + 264) * 2 ^ (code / 16 - 1) < 32768
@@ -57,6 +57,24 @@ all_values_fit bytes = All-map (FitsSigned w16) alaw_value bytes (λ k d lt. ala
 
 pub code-lt : (distance : ℕ) → alaw_code distance < 128
 code-lt distance = grind (arith, nat_tests, segment_and_step-lt)
+
+pub distance-lt : (value : ℤ) → FitsSigned w16 value → alaw_distance value < 32768
+distance-lt (pos n) h = h.sfits
+distance-lt (negsuc n) h = h.sfits
+
+-- the steps below half of a distance are its code
+pub code_is : (distance steps : ℕ) → distance < 32768 → (distance / 2 < 128 → steps ≡ distance / 2 / 8) → (128 ≤ distance / 2 → steps ≡ 16 + segment_and_step (distance / 2)) → steps ≡ alaw_code distance
+code_is distance steps h low high = go (cases_lt distance 256)
+  where
+    go : (distance < 256) ⊎ (256 ≤ distance) → steps ≡ alaw_code distance
+    go (inl lt) =
+        let t : nat_lt distance 256 ≡ true = grind (arith, nat_tests) in
+        let s : steps ≡ distance / 16 = omega (arith, low (omega arith)) in
+        s ∙ ap (λ (b : Bool). if b then distance / 16 else segment_and_step distance) (sym t)
+    go (inr le) =
+        let t : nat_lt distance 256 ≡ false = grind (arith, nat_tests) in
+        let s : steps ≡ segment_and_step distance = omega (arith, high (omega arith), code-half distance le h) in
+        s ∙ ap (λ (b : Bool). if b then distance / 16 else segment_and_step distance) (sym t)
 
 pub byte_negative : (value : ℤ) (code : ℕ) → is_negative value ≡ true → code ≡ alaw_code (alaw_distance value) → bit_xor code 85 ≡ alaw_byte value
 unfolding alaw_byte

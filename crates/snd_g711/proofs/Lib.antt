@@ -1,5 +1,4 @@
 pub mod Segments
-pub mod Floats
 pub mod Tests
 pub mod MulawLemmas
 pub mod AlawLemmas

@@ -1,5 +1,5 @@
 -- Facts on the mu-law's definitions.
-use Rattle.std.proofs.Common.{◌≡◌, refl, sym, ap, ◌∙◌, ℕ, ℤ, pos, neg_ℤ, ◌+◌, ◌-◌, ◌*◌, ◌/◌, ◌%◌, ◌^◌, ◌<◌, ◌≤◌, inl, inr, Bool, true, false, FitsSigned, to_z, List, map, All, get_or, arith}
+use Rattle.std.proofs.Common.{min, ◌≡◌, refl, sym, ap, ◌∙◌, ℕ, ℤ, pos, neg_ℤ, ◌+◌, ◌-◌, ◌*◌, ◌/◌, ◌%◌, ◌^◌, ◌<◌, ◌≤◌, inl, inr, Bool, true, false, FitsSigned, to_z, List, map, All, get_or, arith}
 use Rattle.std.specs.Prelude.{if◌then◌else◌, nat_lt, nat_le, nat_eq, ◌==◌, unsigned_abs}
 use Rattle.std.specs.Int.{w16, is_negative}
 use Rattle.std.proofs.lemmas.Bool.{cases_lt}
@@ -58,6 +58,13 @@ mulaw_value_fits byte =
 
 pub all_values_fit : (bytes : List ℕ) → All (FitsSigned w16) (map mulaw_value bytes)
 all_values_fit bytes = All-map (FitsSigned w16) mulaw_value bytes (λ k d lt. mulaw_value_fits (get_or bytes k d))
+
+-- the steps below the cut and biased magnitude, without the first sixteen, are the code
+pub code_is : (value z : ℤ) (magnitude cut steps : ℕ) → z ≡ value → magnitude ≡ unsigned_abs z → cut ≡ min magnitude 32635 → (128 ≤ cut + 132 → steps ≡ 16 + segment_and_step (cut + 132)) → steps - 16 ≡ mulaw_code (unsigned_abs value)
+code_is value z magnitude cut steps p q r s =
+    let e : cut ≡ min (unsigned_abs value) 32635 = r ∙ ap (λ (n : ℕ). min n 32635) (q ∙ ap unsigned_abs p) in
+    let t : steps - 16 ≡ segment_and_step (cut + 132) = omega (arith, s (omega arith)) in
+    t ∙ ap (λ (n : ℕ). segment_and_step (n + 132)) e
 
 pub byte_negative : (value : ℤ) (code : ℕ) → is_negative value ≡ true → code ≡ mulaw_code (unsigned_abs value) → 127 - code ≡ mulaw_byte value
 unfolding mulaw_byte

@@ -1,9 +1,9 @@
 //! The A-law.
-ghost use Rattle.std.specs.Prelude.{◌≡◌, ◌<◌, ◌^◌, pos, length, map, All, FitsSigned};
+ghost use Rattle.std.specs.Prelude.{◌≡◌, ◌<◌, pos, length, map, All, FitsSigned};
 ghost use Rattle.std.specs.Int.{w16};
-ghost use Rattle.snd_g711.specs.Alaw.{alaw_magnitude, alaw_value, alaw_distance, alaw_code, alaw_byte, AlawRoundTrip};
+ghost use Rattle.snd_g711.specs.Alaw.{alaw_magnitude, alaw_value, alaw_distance, alaw_byte, AlawRoundTrip};
 
-use crate::segment::code_of;
+use crate::segment::steps_below;
 
 /// The bits of a byte that the A-law inverts.
 const EVEN_BITS: u8 = 0x55;
@@ -33,41 +33,35 @@ pub fn alaw_decode(byte: u8) -> i16
 
 /// How far a value lies from 0, or a negative one from -1.
 #[inline]
-fn distance_of(value: i16) -> u16
-    ensures value { result ≡ alaw_distance value }
-    ensures bound { result < 2 ^ 15 }
+fn distance_of(value: i32) -> u32
+    ensures { result ≡ alaw_distance value }
 {
     if value < 0 {
-        (-1 - value) as u16
+        (-1 - value) as u32
     } else {
-        value as u16
+        value as u32
     }
 }
 
-/// The code of a distance.
+/// The A-law byte of a value of 16 bits.
 #[inline]
-fn code_at(distance: u16) -> u8
-    requires { distance < 2 ^ 15 }
-    ensures { result ≡ alaw_code distance }
-{
-    if distance < 256 {
-        (distance / 16) as u8
-    } else {
-        code_of(distance)
-    }
-}
-
-/// The A-law byte of a 16-bit value.
-#[inline]
-pub fn alaw_encode(value: i16) -> u8
+fn byte_of(value: i32) -> u8
+    requires { FitsSigned w16 value }
     ensures { result ≡ alaw_byte value }
 {
-    let code = code_at(distance_of(value));
+    let code = steps_below(distance_of(value) / 2) as u8;
     if value < 0 {
         code ^ EVEN_BITS
     } else {
         (128 + code) ^ EVEN_BITS
     }
+}
+
+/// The A-law byte of a 16-bit value.
+pub fn alaw_encode(value: i16) -> u8
+    ensures { result ≡ alaw_byte value }
+{
+    byte_of(i32::from(value))
 }
 
 /// Decodes a block: each byte's value stands in `into` at its place. Both have the same length.
@@ -88,7 +82,7 @@ pub fn alaw_encode_all(from: &[i32], bytes: &mut [u8])
     ensures { bytes.new ≡ map alaw_byte from.now }
 {
     for (i, byte) in bytes.iter_mut().enumerate() {
-        *byte = alaw_encode(from[i] as i16);
+        *byte = byte_of(from[i]);
     }
 }
 

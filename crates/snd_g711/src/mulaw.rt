@@ -3,7 +3,7 @@ ghost use Rattle.std.specs.Prelude.{◌≡◌, ◌<◌, pos, length, map, All, F
 ghost use Rattle.std.specs.Int.{w16};
 ghost use Rattle.snd_g711.specs.Mulaw.{mulaw_magnitude, mulaw_value, mulaw_byte, MulawRoundTrip, MulawKeepsDecoded};
 
-use crate::segment::code_of;
+use crate::segment::steps_below;
 
 /// The magnitude of a code, 0 to 32124.
 #[inline]
@@ -24,13 +24,21 @@ pub fn mulaw_decode(byte: u8) -> i16
     if byte < 128 { -magnitude } else { magnitude }
 }
 
-/// The mu-law byte of a 16-bit value. Beyond 32635 the magnitude is cut.
+/// The mu-law byte of a value of 16 bits.
 #[inline]
+fn byte_of(value: i32) -> u8
+    requires { FitsSigned w16 value }
+    ensures { result ≡ mulaw_byte value }
+{
+    let code = (steps_below(value.unsigned_abs().min(32635) + 132) - 16) as u8;
+    if value < 0 { 127 - code } else { 255 - code }
+}
+
+/// The mu-law byte of a 16-bit value. Beyond 32635 the magnitude is cut.
 pub fn mulaw_encode(value: i16) -> u8
     ensures { result ≡ mulaw_byte value }
 {
-    let code = code_of(value.unsigned_abs().min(32635) + 132);
-    if value < 0 { 127 - code } else { 255 - code }
+    byte_of(i32::from(value))
 }
 
 /// Decodes a block: each byte's value stands in `into` at its place. Both have the same length.
@@ -51,7 +59,7 @@ pub fn mulaw_encode_all(from: &[i32], bytes: &mut [u8])
     ensures { bytes.new ≡ map mulaw_byte from.now }
 {
     for (i, byte) in bytes.iter_mut().enumerate() {
-        *byte = mulaw_encode(from[i] as i16);
+        *byte = byte_of(from[i]);
     }
 }
 
