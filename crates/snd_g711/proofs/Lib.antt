@@ -1,4 +1,5 @@
 pub mod Segments
-pub mod Tests
+pub mod Below
+pub mod Widths
 pub mod MulawLemmas
 pub mod AlawLemmas

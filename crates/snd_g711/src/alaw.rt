@@ -10,25 +10,31 @@ const EVEN_BITS: u8 = 0x55;
 
 /// The magnitude of a code, 8 to 32256.
 #[inline]
-fn magnitude_of(code: u8) -> i16
+fn magnitude_of(code: u32) -> i32
     requires { code < 128 }
     ensures { result ≡ pos (alaw_magnitude code) }
 {
-    let code = u32::from(code);
     if code < 16 {
-        (code * 16 + 8) as i16
+        (code * 16 + 8) as i32
     } else {
-        ((code % 16 * 16 + 264) << (code / 16 - 1)) as i16
+        ((code % 16 * 16 + 264) << (code / 16 - 1)) as i32
     }
 }
 
-/// The 16-bit value of an A-law byte, -32256 to 32256.
+/// The value of an A-law byte.
 #[inline]
+fn value_of(byte: u8) -> i32
+    ensures { result ≡ alaw_value byte }
+{
+    let magnitude = magnitude_of(u32::from(byte ^ EVEN_BITS) % 128);
+    if byte < 128 { -magnitude } else { magnitude }
+}
+
+/// The 16-bit value of an A-law byte, -32256 to 32256.
 pub fn alaw_decode(byte: u8) -> i16
     ensures { result ≡ alaw_value byte }
 {
-    let magnitude = magnitude_of((byte ^ EVEN_BITS) % 128);
-    if byte < 128 { -magnitude } else { magnitude }
+    value_of(byte) as i16
 }
 
 /// How far a value lies from 0, or a negative one from -1.
@@ -71,7 +77,7 @@ pub fn alaw_decode_all(bytes: &[u8], into: &mut [i32])
     ensures in_range { All (FitsSigned w16) into.new }
 {
     for (i, value) in into.iter_mut().enumerate() {
-        *value = i32::from(alaw_decode(bytes[i]));
+        *value = value_of(bytes[i]);
     }
 }
 
@@ -90,3 +96,6 @@ pub fn alaw_encode_all(from: &[i32], bytes: &mut [u8])
 pub fn alaw_round_trip()
     ensures { AlawRoundTrip }
 {}
+
+#[cfg(test)]
+mod tests;

@@ -7,21 +7,27 @@ use crate::segment::steps_below;
 
 /// The magnitude of a code, 0 to 32124.
 #[inline]
-fn magnitude_of(code: u8) -> i16
+fn magnitude_of(code: u32) -> i32
     requires { code < 128 }
     ensures { result ≡ pos (mulaw_magnitude code) }
 {
-    let code = u32::from(code);
-    (((code % 16 * 8 + 132) << (code / 16)) - 132) as i16
+    (((code % 16 * 8 + 132) << (code / 16)) - 132) as i32
+}
+
+/// The value of a mu-law byte.
+#[inline]
+fn value_of(byte: u8) -> i32
+    ensures { result ≡ mulaw_value byte }
+{
+    let magnitude = magnitude_of(u32::from(255 - byte) % 128);
+    if byte < 128 { -magnitude } else { magnitude }
 }
 
 /// The 16-bit value of a mu-law byte, -32124 to 32124.
-#[inline]
 pub fn mulaw_decode(byte: u8) -> i16
     ensures { result ≡ mulaw_value byte }
 {
-    let magnitude = magnitude_of((255 - byte) % 128);
-    if byte < 128 { -magnitude } else { magnitude }
+    value_of(byte) as i16
 }
 
 /// The mu-law byte of a value of 16 bits.
@@ -48,7 +54,7 @@ pub fn mulaw_decode_all(bytes: &[u8], into: &mut [i32])
     ensures in_range { All (FitsSigned w16) into.new }
 {
     for (i, value) in into.iter_mut().enumerate() {
-        *value = i32::from(mulaw_decode(bytes[i]));
+        *value = value_of(bytes[i]);
     }
 }
 
@@ -69,3 +75,6 @@ pub fn mulaw_round_trip()
     ensures bytes { MulawRoundTrip }
     ensures values { MulawKeepsDecoded }
 {}
+
+#[cfg(test)]
+mod tests;

@@ -1,12 +1,10 @@
-use Rattle.std.proofs.Common.{◌%◌, arith, bit_xor}
-use Rattle.std.proofs.lemmas.Int.{ints}
-use Rattle.snd_g711.proofs.AlawLemmas.{value_negative, value_positive, magnitude-lt}
+use Rattle.snd_g711.specs.Alaw.{alaw_value}
+use Rattle.snd_g711.proofs.Widths.{narrowed, fits_wide}
+use Rattle.snd_g711.proofs.AlawLemmas.{alaw_value_fits}
 use Rattle.snd_g711.proofs.alaw.alaw_decode.Goals as goal
 
-pub returns-then-byte-lt128 : goal.returns-then-byte-lt128
-returns-then-byte-lt128 c =
-    omega (arith, ints, value_negative c.args.byte c.if-byte-lt128.true, magnitude-lt (bit_xor c.args.byte 85 % 128) (omega arith))
+pub overflow_cast-result : goal.overflow_cast-result
+overflow_cast-result c = fits_wide c.value_of.result (alaw_value c.args.byte) c.value_of.ensures (alaw_value_fits c.args.byte)
 
-pub returns-else-byte-lt128 : goal.returns-else-byte-lt128
-returns-else-byte-lt128 c =
-    omega (arith, ints, value_positive c.args.byte c.if-byte-lt128.false, magnitude-lt (bit_xor c.args.byte 85 % 128) (omega arith))
+pub returns : goal.returns
+returns c = narrowed c.value_of.result (alaw_value c.args.byte) c.value_of.ensures (alaw_value_fits c.args.byte)

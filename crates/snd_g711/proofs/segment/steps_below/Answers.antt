@@ -1,4 +1,4 @@
-use Rattle.std.proofs.Common.{◌≡◌, ap, ◌∙◌, ℕ, ◌+◌}
+use Rattle.std.proofs.Common.{ap, ◌∙◌, ℕ, ◌+◌}
 use Rattle.snd_g711.proofs.Segments.{all_steps}
 use Rattle.snd_g711.proofs.segment.steps_below.Goals as goal
 
