@@ -4,7 +4,7 @@ use Rattle.std.specs.Int.{is_negative}
 use Rattle.snd_g711.specs.Segment.{segment_and_step}
 
 -- The magnitude that a code from 0 to 127 stands for, in the middle of its step: segment code / 16, step code % 16.
--- The bias of 132 is half a step of the first segment, 4, more than where the second of two equal segments would begin.
+-- With the bias of 132 the segments begin at powers of two.
 abbrev pub mulaw_magnitude : ℕ → ℕ
 mulaw_magnitude code = (code % 16 * 8 + 132) * 2 ^ (code / 16) - 132
 
