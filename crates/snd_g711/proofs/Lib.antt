@@ -1,0 +1,5 @@
+pub mod Segments
+pub mod Below
+pub mod Widths
+pub mod MulawLemmas
+pub mod AlawLemmas

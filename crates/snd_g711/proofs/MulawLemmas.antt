@@ -1,0 +1,105 @@
+-- Facts on the mu-law's definitions.
+use Rattle.std.proofs.Common.{min, ◌≡◌, refl, sym, ap, ◌∙◌, ℕ, ℤ, pos, neg_ℤ, ◌+◌, ◌-◌, ◌*◌, ◌/◌, ◌%◌, ◌^◌, ◌<◌, ◌≤◌, inl, inr, Bool, true, false, FitsSigned, to_z, List, map, All, get_or, arith}
+use Rattle.std.specs.Prelude.{if◌then◌else◌, nat_lt, nat_le, nat_eq, ◌==◌, unsigned_abs}
+use Rattle.std.specs.Int.{w16, w32, is_negative}
+use Rattle.std.proofs.lemmas.Bool.{cases_lt}
+use Rattle.std.proofs.lemmas.Bool.Decides.{nat_tests}
+use Rattle.std.proofs.lemmas.Int.{to_z_pos}
+use Rattle.std.proofs.lemmas.List.Elements.{All-map}
+use lib.Dec.{ltb→lt, leb→le, eqb→eq}
+use Rattle.snd_g711.specs.Segment.{segment_and_step}
+use Rattle.snd_g711.specs.Mulaw.{mulaw_magnitude, mulaw_value, mulaw_code, mulaw_byte, MulawRoundTrip, MulawKeepsDecoded}
+use Rattle.snd_g711.proofs.Below.{every_below}
+use Rattle.snd_g711.proofs.Widths.{fits_positive, fits_negative}
+
+-- a code's magnitude with the bias
+abbrev pub biased : ℕ → ℕ
+biased code = (code % 16 * 8 + 132) * 2 ^ (code / 16)
+
+pub biased-lt : (code : ℕ) → code < 128 → biased code < 32768
+biased-lt code h = ltb→lt _ _ (every_below (λ k. nat_lt (biased k) 32768) 128 tt code h)
+
+pub biased-ge : (code : ℕ) → code < 128 → 132 ≤ biased code
+biased-ge code h = leb→le _ _ (every_below (λ k. nat_le 132 (biased k)) 128 tt code h)
+
+-- the code's shift does not wrap
+pub no_wrap : (code : ℕ) → code < 128 → to_z w32 (biased code % 4294967296 - 132) ≡ pos (mulaw_magnitude code)
+no_wrap code h =
+    let small : biased code < 32768 = biased-lt code h in
+    let e : biased code % 4294967296 ≡ biased code = omega arith in
+    let fits : biased code - 132 < 2147483648 = omega arith in
+    rw e (to_z_pos w32 (biased code - 132) fits)
+
+pub magnitude-lt : (byte : ℕ) → mulaw_magnitude ((255 - byte) % 128) < 32768
+magnitude-lt byte =
+    let h : (255 - byte) % 128 < 128 = omega arith in
+    omega (arith, biased-lt ((255 - byte) % 128) h)
+
+pub value_negative : (byte : ℕ) → byte < 128 → mulaw_value byte ≡ neg_ℤ (pos (mulaw_magnitude ((255 - byte) % 128)))
+unfolding mulaw_value
+value_negative byte h =
+    let m : ℕ = mulaw_magnitude ((255 - byte) % 128) in
+    let e : nat_lt byte 128 ≡ true = grind (arith, nat_tests) in
+    ap (λ (b : Bool). if b then neg_ℤ (pos m) else pos m) e
+
+pub value_positive : (byte : ℕ) → 128 ≤ byte → mulaw_value byte ≡ pos (mulaw_magnitude ((255 - byte) % 128))
+unfolding mulaw_value
+value_positive byte h =
+    let m : ℕ = mulaw_magnitude ((255 - byte) % 128) in
+    let e : nat_lt byte 128 ≡ false = grind (arith, nat_tests) in
+    ap (λ (b : Bool). if b then neg_ℤ (pos m) else pos m) e
+
+-- every value has 16 bits
+pub mulaw_value_fits : (byte : ℕ) → FitsSigned w16 (mulaw_value byte)
+mulaw_value_fits byte =
+    elim (cases_lt byte 128) [
+      | inl lt ↦ rw (value_negative byte lt) (fits_negative _ (magnitude-lt byte))
+      | inr le ↦ rw (value_positive byte le) (fits_positive _ (magnitude-lt byte))
+    ]
+
+pub all_values_fit : (bytes : List ℕ) → All (FitsSigned w16) (map mulaw_value bytes)
+all_values_fit bytes = All-map (FitsSigned w16) mulaw_value bytes (λ k d lt. mulaw_value_fits (get_or bytes k d))
+
+-- the steps below the cut and biased magnitude, without the first sixteen, are the code
+pub code_is : (value z : ℤ) (magnitude cut steps : ℕ) → z ≡ value → magnitude ≡ unsigned_abs z → cut ≡ min magnitude 32635 → (128 ≤ cut + 132 → steps ≡ 16 + segment_and_step (cut + 132)) → steps - 16 ≡ mulaw_code (unsigned_abs value)
+code_is value z magnitude cut steps p q r s =
+    let e : cut ≡ min (unsigned_abs value) 32635 = r ∙ ap (λ (n : ℕ). min n 32635) (q ∙ ap unsigned_abs p) in
+    let t : steps - 16 ≡ segment_and_step (cut + 132) = omega (arith, s (omega arith)) in
+    t ∙ ap (λ (n : ℕ). segment_and_step (n + 132)) e
+
+pub byte_negative : (value : ℤ) (code : ℕ) → is_negative value ≡ true → code ≡ mulaw_code (unsigned_abs value) → 127 - code ≡ mulaw_byte value
+unfolding mulaw_byte
+byte_negative value code n e =
+    let sum : 127 - code ≡ 255 - (128 + code) = omega arith in
+    sum ∙ ap (λ (k : ℕ). 255 - (128 + k)) e ∙ ap (λ (b : Bool). 255 - ((if b then 128 else 0) + mulaw_code (unsigned_abs value))) (sym n)
+
+pub byte_positive : (value : ℤ) (code : ℕ) → is_negative value ≡ false → code ≡ mulaw_code (unsigned_abs value) → 255 - code ≡ mulaw_byte value
+unfolding mulaw_byte
+byte_positive value code n e =
+    let sum : 255 - code ≡ 255 - (0 + code) = omega arith in
+    sum ∙ ap (λ (k : ℕ). 255 - (0 + k)) e ∙ ap (λ (b : Bool). 255 - ((if b then 128 else 0) + mulaw_code (unsigned_abs value))) (sym n)
+
+-- the byte that encoding gives for a byte's value
+abbrev returned : ℕ → ℕ
+returned byte = if byte == 127 then 255 else byte
+
+pub round_trip : MulawRoundTrip
+unfolding mulaw_byte mulaw_value segment_and_step
+round_trip byte h = eqb→eq _ _ (every_below (λ k. nat_eq (mulaw_byte (mulaw_value k)) (returned k)) 256 tt byte h)
+
+-- the two zeros
+zeros : mulaw_value 255 ≡ mulaw_value 127
+unfolding mulaw_value
+zeros = refl
+
+same_value : (byte : ℕ) → mulaw_value (returned byte) ≡ mulaw_value byte
+same_value byte = go (byte == 127) refl
+  where
+    go : (b : Bool) → byte == 127 ≡ b → mulaw_value (if b then 255 else byte) ≡ mulaw_value byte
+    go true e =
+        let same : byte ≡ 127 = grind (arith, nat_tests) in
+        zeros ∙ ap mulaw_value (sym same)
+    go false e = refl
+
+pub keeps_decoded : MulawKeepsDecoded
+keeps_decoded byte h = ap mulaw_value (round_trip byte h) ∙ same_value byte

@@ -1,0 +1,80 @@
+//! The mu-law.
+ghost use Rattle.std.specs.Prelude.{◌≡◌, ◌<◌, pos, length, map, All, FitsSigned};
+ghost use Rattle.std.specs.Int.{w16};
+ghost use Rattle.snd_g711.specs.Mulaw.{mulaw_magnitude, mulaw_value, mulaw_byte, MulawRoundTrip, MulawKeepsDecoded};
+
+use crate::segment::steps_below;
+
+/// The magnitude of a code, 0 to 32124.
+#[inline]
+fn magnitude_of(code: u32) -> i32
+    requires { code < 128 }
+    ensures { result ≡ pos (mulaw_magnitude code) }
+{
+    (((code % 16 * 8 + 132) << (code / 16)) - 132) as i32
+}
+
+/// The value of a mu-law byte.
+#[inline]
+fn value_of(byte: u8) -> i32
+    ensures { result ≡ mulaw_value byte }
+{
+    let magnitude = magnitude_of(u32::from(255 - byte) % 128);
+    if byte < 128 { -magnitude } else { magnitude }
+}
+
+/// The 16-bit value of a mu-law byte, -32124 to 32124.
+pub fn mulaw_decode(byte: u8) -> i16
+    ensures { result ≡ mulaw_value byte }
+{
+    value_of(byte) as i16
+}
+
+/// The mu-law byte of a value of 16 bits.
+#[inline]
+fn byte_of(value: i32) -> u8
+    requires { FitsSigned w16 value }
+    ensures { result ≡ mulaw_byte value }
+{
+    let code = (steps_below(value.unsigned_abs().min(32635) + 132) - 16) as u8;
+    if value < 0 { 127 - code } else { 255 - code }
+}
+
+/// The mu-law byte of a 16-bit value. Beyond 32635 the magnitude is cut.
+pub fn mulaw_encode(value: i16) -> u8
+    ensures { result ≡ mulaw_byte value }
+{
+    byte_of(i32::from(value))
+}
+
+/// Decodes a block: each byte's value stands in `into` at its place. Both have the same length.
+pub fn mulaw_decode_all(bytes: &[u8], into: &mut [i32])
+    requires { length into.old ≡ length bytes.now }
+    ensures values { into.new ≡ map mulaw_value bytes.now }
+    ensures in_range { All (FitsSigned w16) into.new }
+{
+    for (i, value) in into.iter_mut().enumerate() {
+        *value = value_of(bytes[i]);
+    }
+}
+
+/// Encodes a block: each value's byte stands in `bytes` at its place. Both have the same length.
+pub fn mulaw_encode_all(from: &[i32], bytes: &mut [u8])
+    requires same_length { length bytes.old ≡ length from.now }
+    requires in_range { All (FitsSigned w16) from.now }
+    ensures { bytes.new ≡ map mulaw_byte from.now }
+{
+    for (i, byte) in bytes.iter_mut().enumerate() {
+        *byte = byte_of(from[i]);
+    }
+}
+
+/// Decoding and encoding give back each byte but 0x7F, the second zero, which becomes 0xFF; and no
+/// decoded value changes when it is encoded and decoded again.
+pub fn mulaw_round_trip()
+    ensures bytes { MulawRoundTrip }
+    ensures values { MulawKeepsDecoded }
+{}
+
+#[cfg(test)]
+mod tests;
