@@ -1,2 +1,4 @@
 pub mod Narrowed
+pub mod Ranges
+pub mod RoundTrips
 pub mod Series

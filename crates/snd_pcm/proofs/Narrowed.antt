@@ -1,9 +1,8 @@
 -- A narrower number is in its range.
-use Rattle.std.proofs.Common.{◌≡◌, ◌∙◌, ap, ℕ, ◌-◌, ◌*◌, ◌/◌, ◌<◌, ◌≤◌, ◌^◌, ℤ, pos, negsuc, refl, arith}
+use Rattle.std.proofs.Common.{◌≡◌, ◌∙◌, ap, ℕ, ◌-◌, ◌*◌, ◌/◌, ◌<◌, ◌≤◌, ◌^◌, ℤ, pos, negsuc, arith}
 use Rattle.std.proofs.Math.Nat.{div-lt_iff_lt-mul, one-le-pow}
 use Rattle.std.proofs.lemmas.Nat.{pow-add}
 use Rattle.std.proofs.lemmas.Int.{ints}
-use lib.Signed.{shr_z}
 use Rattle.snd_pcm.specs.Width.{HasWidth, floor_div}
 
 -- the quotient of a number below 2 ^ (from - 1)
@@ -20,7 +19,3 @@ narrowed from to (pos n) least le h =
 narrowed from to (negsuc n) least le h =
     let lt = below from to n least le (omega (arith, ints)) in
     (omega (arith, ints), omega (arith, ints))
-
-pub shr_is : (x : ℤ) (d : ℕ) → shr_z x d ≡ floor_div x d
-shr_is (pos n) d = refl
-shr_is (negsuc n) d = refl

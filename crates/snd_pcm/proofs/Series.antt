@@ -1,10 +1,10 @@
 -- Samples one after the other.
-use Rattle.std.proofs.Common.{◌≡◌, ℕ, zero, suc, ◌+◌, ◌-◌, ◌*◌, ◌/◌, ◌<◌, ◌≤◌, ℤ, pos, List, [], ◌∷◌, ◌++◌, length, get_or, set, take, drop, map, refl, sym, ◌∙◌, ap, arith, append_assoc}
+use Rattle.std.proofs.Common.{◌≡◌, ℕ, zero, suc, ◌+◌, ◌*◌, ◌/◌, ◌<◌, ◌≤◌, ℤ, pos, List, [], ◌∷◌, ◌++◌, length, get_or, set, take, drop, refl, sym, ◌∙◌, ap, arith, append_assoc}
 use Rattle.std.proofs.Math.Nat.{div-le_of_le-mul, mul-div_cancel_left}
-use Rattle.std.proofs.lemmas.List.{append-nil, at_drop_more, drop-drop, drop_all, drop_more, get_or-map, length-drop, length-map, length-set, places, take_all, take_more, take_more_set}
+use Rattle.std.proofs.lemmas.List.{append-nil, at_drop_more, drop-drop, drop_all, drop_more, get_or-map, length-map, length-set, places, take_all, take_more_set}
 use Rattle.std.specs.List.{flat_map}
 use Rattle.snd_fields.proofs.Numbers.{number_same}
-use Rattle.snd_fields.specs.Field.{bytes_of, number}
+use Rattle.snd_fields.specs.Field.{number}
 use Rattle.snd_pcm.specs.declared.linear.Linear.{Linear}
 use Rattle.snd_pcm.specs.declared.linear.Linear.TheVariants.{U8, S8, S16, S24, S32}
 use Rattle.snd_pcm.specs.Groups.{first_groups, groups}
@@ -34,7 +34,7 @@ unfolding samples
 length-samples form b = length-map (groups (byte_count form) b) (sample form) ∙ length-first_groups (byte_count form) _ b
 
 -- a number read at a place is that of the bytes cut out there
-at_place : (form : Linear) (b : List ℕ) (at : ℕ) → sample form (take (byte_count form) (drop at b)) ≡ value form (number (order_of form) b at (byte_count form))
+pub at_place : (form : Linear) (b : List ℕ) (at : ℕ) → sample form (take (byte_count form) (drop at b)) ≡ value form (number (order_of form) b at (byte_count form))
 at_place form b at =
     ap (value form) (number_same (order_of form) (byte_count form) 0 at (take (byte_count form) (drop at b)) b
     (λ i p q lt pe qe. in_piece b at (byte_count form) i p q lt pe qe))

@@ -1,3 +1,4 @@
 pub mod Groups
+pub mod Laws
 pub mod Pcm
 pub mod Width

@@ -2,10 +2,10 @@
 -- Microsoft's and IBM's "Multimedia Programming Interface and Data Specifications 1.0" (RIFF), WAVE
 -- format PCM, where 8 bits are offset binary and more are two's complement, the lowest byte first; and
 -- Apple's "Audio Interchange File Format" 1.3, where all are two's complement, the highest byte first.
-use Rattle.std.specs.Prelude.{ℕ, ◌-◌, ◌*◌, ◌^◌, ℤ, pos, negsuc, ◌+ℤ◌, ◌-ℤ◌, neg_ℤ, ◌≤ℤ◌, nat_lt, unsigned_abs, if◌then◌else◌, List, map, reverse}
+use Rattle.std.specs.Prelude.{ℕ, ◌-◌, ◌*◌, ◌^◌, ℤ, pos, negsuc, ◌+ℤ◌, ◌-ℤ◌, neg_ℤ, ◌≤ℤ◌, nat_lt, unsigned_abs, if◌then◌else◌, List, map}
 use Rattle.std.specs.List.{flat_map}
 use Rattle.snd_fields.specs.declared.field.Order.{Order}
-use Rattle.snd_fields.specs.declared.field.Order.TheVariants.{Little, Big}
+use Rattle.snd_fields.specs.declared.field.Order.TheVariants.{Little}
 use Rattle.snd_fields.specs.Field.{bytes_of, number}
 use Rattle.snd_pcm.specs.Groups.{groups}
 use Rattle.snd_pcm.specs.declared.linear.Linear.{Linear}
@@ -64,11 +64,6 @@ code S8 x = twos_code 1 x
 code (S16 order) x = twos_code 2 x
 code (S24 order) x = twos_code 3 x
 code (S32 order) x = twos_code 4 x
-
--- bytes that stand the lowest first, in an order
-abbrev pub in_order : Order → List ℕ → List ℕ
-in_order Little bytes = bytes
-in_order Big bytes = reverse bytes
 
 -- one sample
 abbrev pub sample : Linear → List ℕ → ℤ

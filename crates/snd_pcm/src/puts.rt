@@ -6,7 +6,9 @@ ghost use Rattle.snd_pcm.specs.Pcm.{InRange, samples_bytes};
 ghost use Rattle.snd_fields.specs.declared.field.Order.TheVariants.{Big, Little};
 
 use crate::linear::Linear;
-use crate::sample::{to_s8, to_s16, to_s24, to_s32, to_u8};
+use crate::sample::{
+    to_s8, to_s16_big, to_s16_little, to_s24_big, to_s24_little, to_s32_big, to_s32_little, to_u8,
+};
 
 pub(crate) fn put_u8(from: &[i32], bytes: &mut [u8])
     requires room { length bytes.old ≡ length from.now }
@@ -34,7 +36,7 @@ pub(crate) fn put_s16_little(from: &[i32], bytes: &mut [u8])
     ensures { bytes.new ≡ samples_bytes (Linear.S16 Little) from.now }
 {
     for (i, x) in from.iter().enumerate() {
-        let [low, high] = to_s16(*x);
+        let [low, high] = to_s16_little(*x);
         bytes[2 * i] = low;
         bytes[2 * i + 1] = high;
     }
@@ -46,7 +48,7 @@ pub(crate) fn put_s16_big(from: &[i32], bytes: &mut [u8])
     ensures { bytes.new ≡ samples_bytes (Linear.S16 Big) from.now }
 {
     for (i, x) in from.iter().enumerate() {
-        let [low, high] = to_s16(*x);
+        let [high, low] = to_s16_big(*x);
         bytes[2 * i] = high;
         bytes[2 * i + 1] = low;
     }
@@ -58,7 +60,7 @@ pub(crate) fn put_s24_little(from: &[i32], bytes: &mut [u8])
     ensures { bytes.new ≡ samples_bytes (Linear.S24 Little) from.now }
 {
     for (i, x) in from.iter().enumerate() {
-        let [low, middle, high] = to_s24(*x);
+        let [low, middle, high] = to_s24_little(*x);
         bytes[3 * i] = low;
         bytes[3 * i + 1] = middle;
         bytes[3 * i + 2] = high;
@@ -71,7 +73,7 @@ pub(crate) fn put_s24_big(from: &[i32], bytes: &mut [u8])
     ensures { bytes.new ≡ samples_bytes (Linear.S24 Big) from.now }
 {
     for (i, x) in from.iter().enumerate() {
-        let [low, middle, high] = to_s24(*x);
+        let [high, middle, low] = to_s24_big(*x);
         bytes[3 * i] = high;
         bytes[3 * i + 1] = middle;
         bytes[3 * i + 2] = low;
@@ -83,7 +85,7 @@ pub(crate) fn put_s32_little(from: &[i32], bytes: &mut [u8])
     ensures { bytes.new ≡ samples_bytes (Linear.S32 Little) from.now }
 {
     for (i, x) in from.iter().enumerate() {
-        let [low, second, third, high] = to_s32(*x);
+        let [low, second, third, high] = to_s32_little(*x);
         bytes[4 * i] = low;
         bytes[4 * i + 1] = second;
         bytes[4 * i + 2] = third;
@@ -96,7 +98,7 @@ pub(crate) fn put_s32_big(from: &[i32], bytes: &mut [u8])
     ensures { bytes.new ≡ samples_bytes (Linear.S32 Big) from.now }
 {
     for (i, x) in from.iter().enumerate() {
-        let [low, second, third, high] = to_s32(*x);
+        let [high, third, second, low] = to_s32_big(*x);
         bytes[4 * i] = high;
         bytes[4 * i + 1] = third;
         bytes[4 * i + 2] = second;

@@ -6,7 +6,10 @@ ghost use Rattle.snd_pcm.specs.Pcm.{samples};
 ghost use Rattle.snd_fields.specs.declared.field.Order.TheVariants.{Big, Little};
 
 use crate::linear::Linear;
-use crate::sample::{from_s8, from_s16, from_s24, from_s32, from_u8};
+use crate::sample::{
+    from_s8, from_s16_big, from_s16_little, from_s24_big, from_s24_little, from_s32_big,
+    from_s32_little, from_u8,
+};
 
 pub(crate) fn read_u8(bytes: &[u8], into: &mut [i32])
     requires { length bytes.now ≡ length into.old }
@@ -31,7 +34,7 @@ pub(crate) fn read_s16_little(bytes: &[u8], into: &mut [i32])
     ensures { into.new ≡ samples (Linear.S16 Little) bytes.now }
 {
     for (i, x) in into.iter_mut().enumerate() {
-        *x = from_s16(bytes[2 * i], bytes[2 * i + 1]);
+        *x = from_s16_little(bytes[2 * i], bytes[2 * i + 1]);
     }
 }
 
@@ -40,7 +43,7 @@ pub(crate) fn read_s16_big(bytes: &[u8], into: &mut [i32])
     ensures { into.new ≡ samples (Linear.S16 Big) bytes.now }
 {
     for (i, x) in into.iter_mut().enumerate() {
-        *x = from_s16(bytes[2 * i + 1], bytes[2 * i]);
+        *x = from_s16_big(bytes[2 * i], bytes[2 * i + 1]);
     }
 }
 
@@ -49,7 +52,7 @@ pub(crate) fn read_s24_little(bytes: &[u8], into: &mut [i32])
     ensures { into.new ≡ samples (Linear.S24 Little) bytes.now }
 {
     for (i, x) in into.iter_mut().enumerate() {
-        *x = from_s24(bytes[3 * i], bytes[3 * i + 1], bytes[3 * i + 2]);
+        *x = from_s24_little(bytes[3 * i], bytes[3 * i + 1], bytes[3 * i + 2]);
     }
 }
 
@@ -58,7 +61,7 @@ pub(crate) fn read_s24_big(bytes: &[u8], into: &mut [i32])
     ensures { into.new ≡ samples (Linear.S24 Big) bytes.now }
 {
     for (i, x) in into.iter_mut().enumerate() {
-        *x = from_s24(bytes[3 * i + 2], bytes[3 * i + 1], bytes[3 * i]);
+        *x = from_s24_big(bytes[3 * i], bytes[3 * i + 1], bytes[3 * i + 2]);
     }
 }
 
@@ -67,7 +70,7 @@ pub(crate) fn read_s32_little(bytes: &[u8], into: &mut [i32])
     ensures { into.new ≡ samples (Linear.S32 Little) bytes.now }
 {
     for (i, x) in into.iter_mut().enumerate() {
-        *x = from_s32(
+        *x = from_s32_little(
             bytes[4 * i],
             bytes[4 * i + 1],
             bytes[4 * i + 2],
@@ -81,11 +84,11 @@ pub(crate) fn read_s32_big(bytes: &[u8], into: &mut [i32])
     ensures { into.new ≡ samples (Linear.S32 Big) bytes.now }
 {
     for (i, x) in into.iter_mut().enumerate() {
-        *x = from_s32(
-            bytes[4 * i + 3],
-            bytes[4 * i + 2],
-            bytes[4 * i + 1],
+        *x = from_s32_big(
             bytes[4 * i],
+            bytes[4 * i + 1],
+            bytes[4 * i + 2],
+            bytes[4 * i + 3],
         );
     }
 }
