@@ -1,0 +1,55 @@
+#!/usr/bin/env bash
+# The built program against the system: names that are no regular files, files that may not be read or written, streams
+# that are closed or full. No case may wait.
+set -u
+top=$(dirname "$(dirname "$(readlink -f "${BASH_SOURCE[0]}")")")
+"$top/snd" info "$top/examples/bell.wav" >/dev/null || exit 1
+program=$top/crates/snd/out/snd
+folder=$(mktemp -d)
+trap 'rm -rf "$folder"' EXIT
+cd "$folder" || exit 1
+passed=0
+failed=0
+
+# expect NAME STATUS OUT ERR COMMAND..: the command's status and the first lines of its two streams
+expect() {
+    local name=$1 status=$2 out=$3 err=$4
+    shift 4
+    timeout 10 "$@" >out.txt 2>err.txt </dev/null
+    local got=$?
+    if [ "$got" = "$status" ] && [ "$(head -n 1 out.txt)" = "$out" ] && [ "$(head -n 1 err.txt)" = "$err" ]; then
+        passed=$((passed + 1))
+    else
+        failed=$((failed + 1))
+        echo "FAILED $name: status $got, out '$(head -n 1 out.txt)', err '$(head -n 1 err.txt)'"
+    fi
+}
+
+cp "$top/examples/bell.wav" bell.wav
+mkdir sub && cp bell.wav sub/b.wav && mkfifo pipe && ln -s bell.wav link.wav && ln -s nowhere dangling.wav
+cp bell.wav readonly.wav && chmod 444 readonly.wav
+expect "a file" 0 "name bell.wav" "" "$program" info bell.wav
+expect "a name with a slash" 0 "name sub/b.wav" "" "$program" info sub/b.wav
+expect "a link" 0 "name link.wav" "" "$program" info link.wav
+expect "a file that may only be read" 0 "name readonly.wav" "" "$program" info readonly.wav
+expect "a missing file" 1 "" "snd: no.wav: error 56 MissingFile" "$program" info no.wav
+expect "a link to nowhere" 1 "" "snd: dangling.wav: error 56 MissingFile" "$program" info dangling.wav
+expect "a path through a file" 1 "" "snd: bell.wav/x: error 56 MissingFile" "$program" info bell.wav/x
+expect "a folder" 3 "" "" "$program" info sub
+expect "a pipe" 3 "" "" "$program" info pipe
+expect "a device" 3 "" "" "$program" info /dev/zero
+expect "no words" 2 "" "snd: bad words" "$program"
+expect "a word that is no text" 2 "" "snd: bad words" "$program" info $'\xff.wav'
+expect "a full standard output" 3 "" "" bash -c "'$program' info bell.wav >/dev/full"
+expect "a closed standard output" 3 "" "" bash -c "'$program' info bell.wav >&-"
+expect "a full standard error" 3 "" "" bash -c "'$program' info no.wav 2>/dev/full"
+if [ "$(id -u)" = 0 ] && command -v setpriv >/dev/null; then
+    chmod 755 . && chmod 000 sub/b.wav && cp "$program" ./snd-program && chmod 755 ./snd-program
+    expect "a file without permission to read" 3 "" "" setpriv --reuid=65534 --regid=65534 --clear-groups ./snd-program info sub/b.wav
+else
+    chmod 000 sub/b.wav
+    expect "a file without permission to read" 3 "" "" "$program" info sub/b.wav
+fi
+cmp -s bell.wav "$top/examples/bell.wav" || { failed=$((failed + 1)); echo "FAILED: a file was changed"; }
+echo "command line: $passed passed, $failed failed"
+[ "$failed" = 0 ]

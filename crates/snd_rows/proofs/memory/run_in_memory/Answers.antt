@@ -1,0 +1,18 @@
+use Rattle.std.proofs.Common.{◌≡◌, ◌∙◌, ap, subst, sym, refl, rules, Some, None, List, ℕ}
+use Rattle.snd_disk.specs.Shelf.{Files}
+use Rattle.snd_disk.specs.MemoryStreams.{bytes_told}
+use Rattle.snd_app.specs.Outcome.{Outcome, outcome}
+use Rattle.snd_app.specs.Run.{IsOutcome}
+use Rattle.snd_rows.specs.Memory.{one_file, IsPrinted}
+use Rattle.snd_rows.proofs.Runs.{outcome_same, printed}
+use Rattle.snd_rows.specs.declared.memory.Printed.{Printed}
+use Rattle.snd_rows.proofs.memory.run_in_memory.Goals as goal
+
+pub returns : goal.returns
+returns c =
+    let there = c.in_ok-put.ensures.put c.args.bytes.items (ap (λ s. s.contents) c.in_ok-disk.ensures.told) (λ n. None) c.new-shelf.ensures.none in
+    let p : Printed = record { out = c.in_ok-to_vec.field-0; err = c.in_ok-to_vec-2.field-0; status = c.run-status.result } in
+    let out : p.out.items ≡ c.bytes.result.now = search rules in
+    let err : p.err.items ≡ c.bytes-2.result.now = search rules in
+    subst (λ (o : Outcome). IsPrinted o p) (outcome_same c.args.words.now (one_file c.args.name.now c.args.bytes.items) there.0 there.2)
+    (printed (outcome c.args.words.now there.0) _ _ _ _ p c.bytes.result.now c.bytes-2.result.now c.new-out.ensures.told c.new-err.ensures.told c.bytes.ensures c.bytes-2.ensures out err (c.run-status.ensures.headline there.0 there.1))

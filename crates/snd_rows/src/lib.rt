@@ -1,0 +1,9 @@
+//! Runs in memory: `snd_app`'s run over a shelf and sinks that tell all that they hold, as tests and
+//! worked examples want it.
+#![tactic(auto)]
+
+mod memory;
+#[cfg(test)]
+mod tests;
+
+pub use memory::{Printed, run_in_memory};

@@ -1,0 +1,38 @@
+ghost use Rattle.std.specs.Prelude.{◌≡◌, IfOk};
+ghost use Rattle.snd_app.specs.Outcome.{outcome};
+ghost use Rattle.snd_rows.specs.Memory.{one_file, IsPrinted};
+
+use snd_app::run;
+use snd_disk::{MemoryDisk, MemoryShelf, MemorySink};
+use snd_fields::Words;
+use std::alloc::{AllocError, Global};
+
+/// What a run printed, and the status that it answered.
+#[derive(Drop)]
+pub struct Printed {
+    pub out: Vec<u8>,
+    pub err: Vec<u8>,
+    pub status: u8,
+}
+
+/// Runs the words over a shelf with one file, with streams that do not fail.
+pub fn run_in_memory(
+    alloc: Global,
+    words: &Words,
+    name: &str,
+    bytes: Vec<u8>,
+) -> Result<Printed, AllocError>
+    ensures { IfOk result (IsPrinted (outcome words.now (one_file name.now bytes.items))) }
+{
+    let disk = MemoryDisk::new(alloc, bytes, Vec::new(alloc))?;
+    let mut shelf = MemoryShelf::new(alloc);
+    shelf.put(name, disk)?;
+    let mut out = MemorySink::new(alloc, Vec::new(alloc));
+    let mut err = MemorySink::new(alloc, Vec::new(alloc));
+    let status = run(alloc, words, &mut shelf, &mut out, &mut err);
+    Ok(Printed {
+        out: out.bytes().to_vec(alloc)?,
+        err: err.bytes().to_vec(alloc)?,
+        status,
+    })
+}
