@@ -1,0 +1,3 @@
+pub mod ImaCodes
+pub mod Pushes
+pub mod Steps

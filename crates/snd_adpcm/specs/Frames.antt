@@ -1,0 +1,35 @@
+-- How the samples of one or two channels stand in a block's list, and how a byte holds two codes.
+use Rattle.std.specs.Prelude.{◌+◌, ◌*◌, ◌/◌, ◌%◌, ◌-◌, ℕ, ℤ, pos, negsuc, List, [], ◌∷◌, drop, ◌==◌, nat_lt, if◌then◌else◌}
+
+-- the number of two bytes, the low one first, in two's complement
+abbrev pub number_16 : ℕ → ℕ → ℤ
+number_16 low high = if nat_lt high 128 then pos (low + 256 * high) else negsuc (65535 - (low + 256 * high))
+
+-- an entry of each list in turn
+abbrev pub alternating : List ℤ → List ℤ → List ℤ
+alternating [] ys = []
+alternating (x ∷ xs) [] = []
+alternating (x ∷ xs) (y ∷ ys) = x ∷ y ∷ alternating xs ys
+
+-- frame by frame, the channels in turn
+abbrev pub in_frames : ℕ → (ℕ → List ℤ) → List ℤ
+in_frames channels samples_of = if channels == 1 then samples_of 0 else alternating (samples_of 0) (samples_of 1)
+
+-- the first entry, the third, and so on
+abbrev pub every_second : {X : Type 0} → List X → List X
+every_second [] = []
+every_second (x ∷ []) = x ∷ []
+every_second (x ∷ y ∷ xs) = x ∷ every_second xs
+
+-- what belongs to one channel in a list where the channels stand in turn
+abbrev pub of_channel : {X : Type 0} → ℕ → ℕ → List X → List X
+of_channel channels channel xs = if channels == 1 then xs else every_second (drop channel xs)
+
+-- the codes of a list of bytes, two in each
+abbrev pub low_half_first : List ℕ → List ℕ
+low_half_first [] = []
+low_half_first (byte ∷ bytes) = byte % 16 ∷ byte / 16 ∷ low_half_first bytes
+
+abbrev pub high_half_first : List ℕ → List ℕ
+high_half_first [] = []
+high_half_first (byte ∷ bytes) = byte / 16 ∷ byte % 16 ∷ high_half_first bytes

@@ -1,0 +1,12 @@
+//! The two ADPCM codecs of WAVE files, IMA and Microsoft, and Dialogic's VOX.
+#![tactic(auto)]
+
+mod ima;
+mod number;
+mod step;
+
+pub use ima::ImaBlock;
+
+/// A block whose head no sample can be read from.
+#[derive(Debug, Clone, Copy, PartialEq, Eq)]
+pub struct BadBlock;
