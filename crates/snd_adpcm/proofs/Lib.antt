@@ -1,3 +1,5 @@
 pub mod ImaCodes
+pub mod MsCodes
+pub mod Numbers
 pub mod Pushes
 pub mod Steps

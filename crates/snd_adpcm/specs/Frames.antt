@@ -1,5 +1,6 @@
 -- How the samples of one or two channels stand in a block's list, and how a byte holds two codes.
-use Rattle.std.specs.Prelude.{◌+◌, ◌*◌, ◌/◌, ◌%◌, ◌-◌, ℕ, ℤ, pos, negsuc, List, [], ◌∷◌, drop, ◌==◌, nat_lt, if◌then◌else◌}
+use Rattle.std.specs.Prelude.{◌+◌, ◌*◌, ◌/◌, ◌%◌, ◌-◌, ℕ, ℤ, pos, negsuc, List, [], ◌∷◌, ◌==◌, nat_lt, if◌then◌else◌}
+use Rattle.std.specs.Int.{int_min, int_max}
 
 -- the number of two bytes, the low one first, in two's complement
 abbrev pub number_16 : ℕ → ℕ → ℤ
@@ -15,15 +16,20 @@ alternating (x ∷ xs) (y ∷ ys) = x ∷ y ∷ alternating xs ys
 abbrev pub in_frames : ℕ → (ℕ → List ℤ) → List ℤ
 in_frames channels samples_of = if channels == 1 then samples_of 0 else alternating (samples_of 0) (samples_of 1)
 
--- the first entry, the third, and so on
-abbrev pub every_second : {X : Type 0} → List X → List X
-every_second [] = []
-every_second (x ∷ []) = x ∷ []
-every_second (x ∷ y ∷ xs) = x ∷ every_second xs
+-- the first of each two entries, and the second
+abbrev pub firsts : {X : Type 0} → List X → List X
+firsts [] = []
+firsts (x ∷ []) = x ∷ []
+firsts (x ∷ y ∷ xs) = x ∷ firsts xs
+
+abbrev pub seconds : {X : Type 0} → List X → List X
+seconds [] = []
+seconds (x ∷ []) = []
+seconds (x ∷ y ∷ xs) = y ∷ seconds xs
 
 -- what belongs to one channel in a list where the channels stand in turn
 abbrev pub of_channel : {X : Type 0} → ℕ → ℕ → List X → List X
-of_channel channels channel xs = if channels == 1 then xs else every_second (drop channel xs)
+of_channel channels channel xs = if channels == 1 then xs else if channel == 0 then firsts xs else seconds xs
 
 -- the codes of a list of bytes, two in each
 abbrev pub low_half_first : List ℕ → List ℕ
@@ -33,3 +39,13 @@ low_half_first (byte ∷ bytes) = byte % 16 ∷ byte / 16 ∷ low_half_first byt
 abbrev pub high_half_first : List ℕ → List ℕ
 high_half_first [] = []
 high_half_first (byte ∷ bytes) = byte / 16 ∷ byte % 16 ∷ high_half_first bytes
+
+-- ---- numbers
+
+-- the quotient, rounded toward minus infinity
+abbrev pub floor_div : ℤ → ℕ → ℤ
+floor_div (pos a) n = pos (a / n)
+floor_div (negsuc a) n = negsuc (a / n)
+
+abbrev pub clamp : ℤ → ℤ → ℤ → ℤ
+clamp low high x = int_max low (int_min x high)

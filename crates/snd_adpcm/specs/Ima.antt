@@ -1,8 +1,8 @@
 -- IMA ADPCM in WAVE files (format tag 0x11), as Microsoft's "New Multimedia Data Types and Data Techniques" (1994) lays out its blocks.
 use Rattle.std.specs.Prelude.{◌+◌, ◌-◌, ◌*◌, ◌/◌, ◌%◌, ℕ, ℤ, pos, negsuc, List, [], ◌∷◌, map, length, Bool, ◌&&◌, ◌==◌, nat_lt, nat_le, slice_index}
 use Rattle.std.specs.List.{range_with_len, list_any}
-use Rattle.snd_adpcm.specs.Step.{step_size, moved, next_index, clamp}
-use Rattle.snd_adpcm.specs.Frames.{number_16, in_frames, low_half_first}
+use Rattle.snd_adpcm.specs.Step.{step_size, moved, next_index}
+use Rattle.snd_adpcm.specs.Frames.{number_16, in_frames, low_half_first, clamp}
 
 -- ---- one code
 

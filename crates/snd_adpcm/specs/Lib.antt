@@ -1,3 +1,4 @@
 pub mod Frames
 pub mod Ima
+pub mod Microsoft
 pub mod Step

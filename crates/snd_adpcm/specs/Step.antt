@@ -1,7 +1,7 @@
 -- One code of IMA ADPCM, by the recommended practices of the Interactive Multimedia Association (revision 3.00, 1992).
 -- A code has four bits. Its low three are a distance, measured in steps; the fourth is the distance's sign.
 use Rattle.std.specs.Prelude.{◌+◌, ◌-◌, ◌*◌, ◌/◌, ◌%◌, ℕ, ℤ, pos, ◌+ℤ◌, ◌-ℤ◌, List, [], ◌∷◌, ◌==◌, nat_lt, nat_le, min, max, bit_and, unsigned_abs, slice_index, if◌then◌else◌}
-use Rattle.std.specs.Int.{int_min, int_max, is_negative}
+use Rattle.std.specs.Int.{is_negative}
 
 -- the step sizes, by index 0 to 88
 unfoldable pub step_sizes : List ℕ
@@ -28,9 +28,6 @@ moved predictor step code = if bit_and code 8 == 0 then predictor +ℤ pos (dist
 -- the index moved by a code: by -1 -1 -1 -1 2 4 6 8 for the low three bits 0 to 7, and kept from `first` to `last`
 abbrev pub next_index : ℕ → ℕ → ℕ → ℕ → ℕ
 next_index first last index code = max first (min last (if nat_lt (code % 8) 4 then index - 1 else index + 2 * (code % 8 - 3)))
-
-abbrev pub clamp : ℤ → ℤ → ℤ → ℤ
-clamp low high x = int_max low (int_min x high)
 
 -- ---- choosing a code: the bits are taken from the highest down, each where its part of the step still fits
 

@@ -2,10 +2,12 @@
 #![tactic(auto)]
 
 mod ima;
+mod microsoft;
 mod number;
 mod step;
 
 pub use ima::ImaBlock;
+pub use microsoft::MsBlock;
 
 /// A block whose head no sample can be read from.
 #[derive(Debug, Clone, Copy, PartialEq, Eq)]
