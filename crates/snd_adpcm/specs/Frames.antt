@@ -1,5 +1,5 @@
 -- How the samples of one or two channels stand in a block's list, and how a byte holds two codes.
-use Rattle.std.specs.Prelude.{◌+◌, ◌*◌, ◌/◌, ◌%◌, ◌-◌, ℕ, ℤ, pos, negsuc, List, [], ◌∷◌, ◌==◌, nat_lt, if◌then◌else◌}
+use Rattle.std.specs.Prelude.{◌≡◌, ◌+◌, ◌*◌, ◌/◌, ◌%◌, ◌-◌, ◌≤◌, ◌≤ℤ◌, ℕ, ℤ, pos, negsuc, List, [], ◌∷◌, Bool, IsTrue, ◌==◌, nat_lt, if◌then◌else◌}
 use Rattle.std.specs.Int.{int_min, int_max}
 
 -- the number of two bytes, the low one first, in two's complement
@@ -49,3 +49,36 @@ floor_div (negsuc a) n = negsuc (a / n)
 
 abbrev pub clamp : ℤ → ℤ → ℤ → ℤ
 clamp low high x = int_max low (int_min x high)
+
+-- the two bytes of a number of 16 bits, the low one first, in two's complement
+abbrev pub bytes_16 : ℤ → List ℕ
+bytes_16 (pos n) = n % 256 ∷ n / 256 ∷ []
+bytes_16 (negsuc n) = (65535 - n) % 256 ∷ (65535 - n) / 256 ∷ []
+
+-- a number of 16 bits
+pub record Is16Bit (x : ℤ) : Type 0 where
+  pub least : negsuc 32767 ≤ℤ x
+  pub most : x ≤ℤ pos 32767
+
+-- the bytes of a list of codes, two in each
+abbrev pub bytes_low_half_first : List ℕ → List ℕ
+bytes_low_half_first [] = []
+bytes_low_half_first (code ∷ []) = []
+bytes_low_half_first (one ∷ two ∷ codes) = (one + 16 * two) ∷ bytes_low_half_first codes
+
+abbrev pub bytes_high_half_first : List ℕ → List ℕ
+bytes_high_half_first [] = []
+bytes_high_half_first (code ∷ []) = []
+bytes_high_half_first (one ∷ two ∷ codes) = (16 * one + two) ∷ bytes_high_half_first codes
+
+-- 4 bytes of each list in turn
+abbrev pub fours : List ℕ → List ℕ → List ℕ
+fours (a ∷ b ∷ c ∷ d ∷ xs) (e ∷ f ∷ g ∷ h ∷ ys) = a ∷ b ∷ c ∷ d ∷ e ∷ f ∷ g ∷ h ∷ fours xs ys
+fours xs ys = []
+
+-- `count` numbers are one whole block, of a length that the format allows and that is at most 8192
+pub record IsWholeBlock (is_align : ℕ → ℕ → Bool) (samples_per_block : ℕ → ℕ → ℕ) (channels count : ℕ) : Type 0 where
+  pub align : ℕ
+  pub accepted : IsTrue (is_align channels align)
+  pub room : align ≤ 8192
+  pub whole : count ≡ channels * samples_per_block channels align

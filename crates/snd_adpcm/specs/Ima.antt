@@ -1,8 +1,8 @@
 -- IMA ADPCM in WAVE files (format tag 0x11), as Microsoft's "New Multimedia Data Types and Data Techniques" (1994) lays out its blocks.
-use Rattle.std.specs.Prelude.{◌+◌, ◌-◌, ◌*◌, ◌/◌, ◌%◌, ℕ, ℤ, pos, negsuc, List, [], ◌∷◌, map, length, Bool, ◌&&◌, ◌==◌, nat_lt, nat_le, slice_index}
+use Rattle.std.specs.Prelude.{◌+◌, ◌-◌, ◌*◌, ◌/◌, ◌%◌, ℕ, ℤ, pos, negsuc, ◌-ℤ◌, List, [], ◌∷◌, ◌++◌, map, length, Bool, ◌&&◌, ◌==◌, nat_lt, nat_le, slice_index, if◌then◌else◌}
 use Rattle.std.specs.List.{range_with_len, list_any}
-use Rattle.snd_adpcm.specs.Step.{step_size, moved, next_index}
-use Rattle.snd_adpcm.specs.Frames.{number_16, in_frames, low_half_first, clamp}
+use Rattle.snd_adpcm.specs.Step.{step_size, moved, next_index, code_for}
+use Rattle.snd_adpcm.specs.Frames.{number_16, in_frames, low_half_first, clamp, bytes_16, bytes_low_half_first, firsts, seconds, fours, IsWholeBlock}
 
 -- ---- one code
 
@@ -56,3 +56,61 @@ ima_channel channels channel block = ima_first channel block ∷ ima_samples (im
 -- the samples of a block
 abbrev pub ima_block : ℕ → List ℕ → List ℤ
 ima_block channels block = in_frames channels (λ channel. ima_channel channels channel block)
+
+-- ---- writing a block
+
+-- the code of a sample, by the predictor and the index before it
+unfoldable pub ima_code : ℤ → ℕ → ℤ → ℕ
+ima_code predictor index sample = code_for (step_size index) (sample -ℤ predictor)
+
+-- the codes of a list of samples
+abbrev pub ima_codes : ℤ → ℕ → List ℤ → List ℕ
+ima_codes predictor index [] = []
+ima_codes predictor index (sample ∷ samples) =
+    ima_code predictor index sample ∷ ima_codes (ima_predictor predictor index (ima_code predictor index sample)) (ima_index index (ima_code predictor index sample)) samples
+
+-- the predictor and the index after them
+abbrev pub ima_predictor_after : ℤ → ℕ → List ℤ → ℤ
+ima_predictor_after predictor index [] = predictor
+ima_predictor_after predictor index (sample ∷ samples) =
+    ima_predictor_after (ima_predictor predictor index (ima_code predictor index sample)) (ima_index index (ima_code predictor index sample)) samples
+
+abbrev pub ima_index_after : ℤ → ℕ → List ℤ → ℕ
+ima_index_after predictor index [] = index
+ima_index_after predictor index (sample ∷ samples) =
+    ima_index_after (ima_predictor predictor index (ima_code predictor index sample)) (ima_index index (ima_code predictor index sample)) samples
+
+-- from a channel's samples in a block and its index before: its head, its bytes of codes, and its index afterwards. The first sample is the block's first predictor.
+abbrev pub ima_head : ℕ → List ℤ → List ℕ
+ima_head index [] = []
+ima_head index (first ∷ samples) = bytes_16 first ++ index ∷ 0 ∷ []
+
+abbrev pub ima_body : ℕ → List ℤ → List ℕ
+ima_body index [] = []
+ima_body index (first ∷ samples) = bytes_low_half_first (ima_codes first index samples)
+
+abbrev pub ima_next_index : ℕ → List ℤ → ℕ
+ima_next_index index [] = index
+ima_next_index index (first ∷ samples) = ima_index_after first index samples
+
+-- the indices that are carried from block to block, of the first and of the second channel
+abbrev pub Indices : Type 0
+Indices = ℕ × ℕ
+
+-- the bytes of a block, from its samples frame by frame
+abbrev pub ima_bytes : ℕ → Indices → List ℤ → List ℕ
+ima_bytes channels indices samples =
+    if channels == 1
+    then ima_head indices.0 samples ++ ima_body indices.0 samples
+    else (ima_head indices.0 (firsts samples) ++ ima_head indices.1 (seconds samples) ++ fours (ima_body indices.0 (firsts samples)) (ima_body indices.1 (seconds samples)))
+
+-- the indices after it
+abbrev pub ima_next_indices : ℕ → Indices → List ℤ → Indices
+ima_next_indices channels indices samples =
+    if channels == 1
+    then (ima_next_index indices.0 samples, indices.1)
+    else (ima_next_index indices.0 (firsts samples), ima_next_index indices.1 (seconds samples))
+
+-- so many numbers are the samples of a whole block
+abbrev pub IsImaBlock : ℕ → ℕ → Type 0
+IsImaBlock channels count = IsWholeBlock is_ima_align ima_samples_per_block channels count

@@ -3,18 +3,18 @@
 ghost use Rattle.std.specs.Prelude.{◌≡◌, ◌+◌, ◌*◌, ◌-◌, ◌/◌, ◌%◌, ◌<◌, ◌≤◌, ◌≤ℤ◌, ◌⊎◌, ◌↔◌, pos, negsuc, length, [], ◌∷◌, ◌++◌, slice_index, IsTrue, OnOk, OnErr, IsErr};
 ghost use Rattle.arrayvec.specs.ArrayVec.{array_vec_len};
 ghost use Rattle.snd_adpcm.specs.Frames.{alternating};
-ghost use Rattle.snd_adpcm.specs.Ima.{ima_predictor, ima_index, ima_first, ima_start_index, is_ima_align, is_bad_ima_block, ima_channel, ima_block};
+ghost use Rattle.snd_adpcm.specs.Ima.{ima_predictor, ima_index, ima_code, ima_first, ima_start_index, is_ima_align, is_bad_ima_block, ima_channel, ima_block};
 
 use crate::BadBlock;
 use crate::number::{high_code, low_code, number_of};
-use crate::step::{index_after, moved_by, step_at};
+use crate::step::{code_of, index_after, moved_by, step_at};
 use arrayvec::ArrayVec;
 
 /// Where one channel stands between two codes.
 #[derive(Clone, Copy)]
-struct ImaState {
-    predictor: i32,
-    index: usize,
+pub(crate) struct ImaState {
+    pub(crate) predictor: i32,
+    pub(crate) index: usize,
     ghost low: { negsuc 32767 ≤ℤ predictor },
     ghost high: { predictor ≤ℤ pos 32767 },
     ghost indexed: { index ≤ 88 },
@@ -24,13 +24,38 @@ impl ImaState {
     /// The state after a code. Its predictor is the code's sample.
     #[inline]
     #[tactic(auto, unfolding(crate::specs::Ima::ima_predictor, crate::specs::Ima::ima_index))]
-    fn after(self, code: u8) -> ImaState
+    pub(crate) fn after(self, code: u8) -> ImaState
         ensures predictor { result.predictor ≡ ima_predictor self.predictor self.index code }
         ensures index { result.index ≡ ima_index self.index code }
     {
         let predictor = moved_by(self.predictor, step_at(self.index), code).clamp(-32768, 32767);
         let index = index_after(0, 88, self.index, code);
         ImaState { predictor, index }
+    }
+
+    /// The code of a sample.
+    #[inline]
+    fn code_of(self, sample: i32) -> u8
+        requires least { negsuc 32767 ≤ℤ sample }
+        requires most { sample ≤ℤ pos 32767 }
+        ensures value { result ≡ ima_code self.predictor self.index sample }
+        ensures bound { result < 16 }
+    {
+        code_of(step_at(self.index), sample - self.predictor)
+    }
+
+    /// The code of a sample, and the state after it.
+    #[inline]
+    pub(crate) fn encode(self, sample: i32) -> (u8, ImaState)
+        requires least { negsuc 32767 ≤ℤ sample }
+        requires most { sample ≤ℤ pos 32767 }
+        ensures code { result.0 ≡ ima_code self.predictor self.index sample }
+        ensures bound { result.0 < 16 }
+        ensures predictor { result.1.predictor ≡ ima_predictor self.predictor self.index (ima_code self.predictor self.index sample) }
+        ensures index { result.1.index ≡ ima_index self.index (ima_code self.predictor self.index sample) }
+    {
+        let code = self.code_of(sample);
+        (code, self.after(code))
     }
 
     /// The state that a channel's head gives.

@@ -2,11 +2,13 @@
 #![tactic(auto)]
 
 mod ima;
+mod ima_writer;
 mod microsoft;
 mod number;
 mod step;
 
 pub use ima::ImaBlock;
+pub use ima_writer::ImaWriter;
 pub use microsoft::MsBlock;
 
 /// A block whose head no sample can be read from.

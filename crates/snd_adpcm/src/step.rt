@@ -72,3 +72,42 @@ pub fn index_after(first: usize, last: usize, index: usize, code: u8) -> usize
     };
     moved.min(last).max(first)
 }
+
+/// A bit of a code, where its part of the step is within what is left of the distance.
+#[inline]
+fn bit_if_within(part: u32, rest: u32, bit: u8) -> u8
+    ensures { result ≡ bit_if_fits part rest bit }
+{
+    if part <= rest { bit } else { 0 }
+}
+
+/// What is left of the distance then.
+#[inline]
+fn rest_of(part: u32, rest: u32) -> u32
+    ensures { result ≡ rest_after part rest }
+{
+    if part <= rest { rest - part } else { rest }
+}
+
+/// The low three bits of the code for a distance.
+#[inline]
+fn distance_bits_of(step: u32, distance: u32) -> u8
+    ensures value { result ≡ distance_bits step distance }
+    ensures bound { result < 8 }
+{
+    let after_step = rest_of(step, distance);
+    let after_half = rest_of(step >> 1, after_step);
+    bit_if_within(step, distance, 4)
+        + bit_if_within(step >> 1, after_step, 2)
+        + bit_if_within(step >> 2, after_half, 1)
+}
+
+/// The code for the way from the predictor to a target.
+#[inline]
+pub fn code_of(step: u32, way: i32) -> u8
+    ensures value { result ≡ code_for step way }
+    ensures bound { result < 16 }
+{
+    let sign = if way < 0 { 8 } else { 0 };
+    sign + distance_bits_of(step, way.unsigned_abs())
+}
