@@ -1,7 +1,7 @@
 -- Lists taken two entries at a time.
-use Rattle.std.proofs.Common.{◌≡◌, ℕ, ◌+◌, ◌-◌, ◌*◌, ◌/◌, ◌%◌, ◌<◌, ◌≤◌, List, [], ◌∷◌, ◌++◌, length, get_or, take, drop, refl, sym, ap, ◌∙◌, arith}
+use Rattle.std.proofs.Common.{◌≡◌, zero, suc, ℕ, ◌+◌, ◌-◌, ◌*◌, ◌/◌, ◌%◌, ◌<◌, ◌≤◌, List, [], ◌∷◌, ◌++◌, length, get_or, take, drop, refl, sym, ap, ◌∙◌, arith}
 use Rattle.std.specs.List.{All, slice_range}
-use Rattle.std.proofs.lemmas.List.{drop_more, take-append-drop, drop-drop}
+use Rattle.std.proofs.lemmas.List.{drop_more, take_more, take-append-drop, drop-drop}
 use Rattle.std.proofs.lemmas.List.Elements.{All-nil, All-cons, All-head, All-tail}
 use Rattle.snd_adpcm.specs.Frames.{firsts, seconds}
 
@@ -51,3 +51,22 @@ pub first_two : {X : Type 0} (xs : List X) (d : X) → 2 ≤ length xs → xs �
 first_two [] d le = absurd (omega arith)
 first_two (x ∷ []) d le = absurd (omega arith)
 first_two (x ∷ y ∷ xs) d le = refl
+
+-- the entries of every second one
+pub get_or-firsts : {X : Type 0} (xs : List X) (k : ℕ) (d : X) → 2 * k + 1 < length xs → get_or (firsts xs) k d ≡ get_or xs (2 * k) d
+get_or-firsts [] k d lt = absurd (omega arith)
+get_or-firsts (x ∷ []) k d lt = absurd (omega arith)
+get_or-firsts (x ∷ y ∷ xs) zero d lt = refl
+get_or-firsts (x ∷ y ∷ xs) (suc k) d lt = let e : 2 * suc k ≡ suc (suc (2 * k)) = omega arith in rw e (get_or-firsts xs k d (omega arith))
+
+pub get_or-seconds : {X : Type 0} (xs : List X) (k : ℕ) (d : X) → 2 * k + 1 < length xs → get_or (seconds xs) k d ≡ get_or xs (2 * k + 1) d
+get_or-seconds [] k d lt = absurd (omega arith)
+get_or-seconds (x ∷ []) k d lt = absurd (omega arith)
+get_or-seconds (x ∷ y ∷ xs) zero d lt = refl
+get_or-seconds (x ∷ y ∷ xs) (suc k) d lt = let e : 2 * suc k + 1 ≡ suc (suc (2 * k + 1)) = omega arith in rw e (get_or-seconds xs k d (omega arith))
+
+pub take-firsts-more : {X : Type 0} (xs : List X) (k : ℕ) (d : X) → 2 * k + 1 < length xs → take (k + 1) (firsts xs) ≡ take k (firsts xs) ++ get_or xs (2 * k) d ∷ []
+take-firsts-more {X} xs k d lt = take_more (firsts xs) k d (omega (arith, length-firsts xs)) ∙ ap (λ (x : X). take k (firsts xs) ++ x ∷ []) (get_or-firsts xs k d lt)
+
+pub take-seconds-more : {X : Type 0} (xs : List X) (k : ℕ) (d : X) → 2 * k + 1 < length xs → take (k + 1) (seconds xs) ≡ take k (seconds xs) ++ get_or xs (2 * k + 1) d ∷ []
+take-seconds-more {X} xs k d lt = take_more (seconds xs) k d (omega (arith, length-seconds xs)) ∙ ap (λ (x : X). take k (seconds xs) ++ x ∷ []) (get_or-seconds xs k d lt)

@@ -1,5 +1,5 @@
 -- How the samples of one or two channels stand in a block's list, and how a byte holds two codes.
-use Rattle.std.specs.Prelude.{◌≡◌, ◌+◌, ◌*◌, ◌/◌, ◌%◌, ◌-◌, ◌≤◌, ◌≤ℤ◌, ℕ, ℤ, pos, negsuc, List, [], ◌∷◌, Bool, IsTrue, ◌==◌, nat_lt, if◌then◌else◌}
+use Rattle.std.specs.Prelude.{◌≡◌, ◌+◌, ◌*◌, ◌/◌, ◌%◌, ◌-◌, ◌≤◌, ◌≤ℤ◌, ℕ, ℤ, pos, negsuc, List, [], ◌∷◌, ◌++◌, Bool, IsTrue, ◌==◌, nat_lt, if◌then◌else◌}
 use Rattle.std.specs.Int.{int_min, int_max}
 
 -- the number of two bytes, the low one first, in two's complement
@@ -7,14 +7,18 @@ abbrev pub number_16 : ℕ → ℕ → ℤ
 number_16 low high = if nat_lt high 128 then pos (low + 256 * high) else negsuc (65535 - (low + 256 * high))
 
 -- an entry of each list in turn
-abbrev pub alternating : List ℤ → List ℤ → List ℤ
+abbrev pub alternating : {X : Type 0} → List X → List X → List X
 alternating [] ys = []
 alternating (x ∷ xs) [] = []
 alternating (x ∷ xs) (y ∷ ys) = x ∷ y ∷ alternating xs ys
 
 -- frame by frame, the channels in turn
-abbrev pub in_frames : ℕ → (ℕ → List ℤ) → List ℤ
-in_frames channels samples_of = if channels == 1 then samples_of 0 else alternating (samples_of 0) (samples_of 1)
+abbrev pub in_frames : {X : Type 0} → ℕ → (ℕ → List X) → List X
+in_frames channels list_of = if channels == 1 then list_of 0 else alternating (list_of 0) (list_of 1)
+
+-- one channel's bytes, and then the other's
+abbrev pub in_turn : ℕ → (ℕ → List ℕ) → List ℕ
+in_turn channels bytes_of = if channels == 1 then bytes_of 0 else (bytes_of 0 ++ bytes_of 1)
 
 -- the first of each two entries, and the second
 abbrev pub firsts : {X : Type 0} → List X → List X

@@ -5,6 +5,7 @@ ghost use Rattle.snd_adpcm.specs.Frames.{Is16Bit, bytes_16, bytes_low_half_first
 ghost use Rattle.snd_adpcm.specs.Ima.{ima_codes, ima_predictor_after, ima_index_after, ima_head, ima_body, ima_next_index, ima_bytes, ima_next_indices, IsImaBlock};
 
 use crate::ima::ImaState;
+use crate::number::put_number;
 use arrayvec::ArrayVec;
 use std::marker::Model;
 
@@ -35,9 +36,7 @@ fn put_head(first: i32, index: usize, into: &mut ArrayVec<u8, 8192>)
     requires room { length into.old.items + 4 ≤ 8192 }
     ensures { into.new.items ≡ into.old.items ++ (bytes_16 first ++ index ∷ 0 ∷ []) }
 {
-    let [low, high] = (first as i16).to_le_bytes();
-    into.push(low);
-    into.push(high);
+    put_number(first, into);
     into.push(index as u8);
     into.push(0);
 }

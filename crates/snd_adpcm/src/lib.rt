@@ -4,12 +4,14 @@
 mod ima;
 mod ima_writer;
 mod microsoft;
+mod microsoft_writer;
 mod number;
 mod step;
 
 pub use ima::ImaBlock;
 pub use ima_writer::ImaWriter;
 pub use microsoft::MsBlock;
+pub use microsoft_writer::MsWriter;
 
 /// A block whose head no sample can be read from.
 #[derive(Debug, Clone, Copy, PartialEq, Eq)]

@@ -18,7 +18,7 @@ static ADAPTATIONS: [i32; 16] = [
 
 /// The weight of the newer sample, by predictor number.
 #[tactic(auto, unfolding(crate::specs::Microsoft::newer_weight, crate::specs::Microsoft::newer_weights))]
-fn newer_weight_of(number: usize) -> i32
+pub(crate) fn newer_weight_of(number: usize) -> i32
     requires { number ≤ 6 }
     ensures value { result ≡ newer_weight number }
     ensures bound { unsigned_abs result ≤ 512 }
@@ -28,7 +28,7 @@ fn newer_weight_of(number: usize) -> i32
 
 /// The weight of the older sample, by predictor number.
 #[tactic(auto, unfolding(crate::specs::Microsoft::older_weight, crate::specs::Microsoft::older_weights))]
-fn older_weight_of(number: usize) -> i32
+pub(crate) fn older_weight_of(number: usize) -> i32
     requires { number ≤ 6 }
     ensures value { result ≡ older_weight number }
     ensures bound { unsigned_abs result ≤ 256 }
@@ -87,7 +87,7 @@ fn floor_256(x: i32) -> i32
 
 /// The sample that two weights foretell from the two before.
 #[inline]
-fn prediction(newer_by: i32, older_by: i32, newer: i32, older: i32) -> i32
+pub(crate) fn prediction(newer_by: i32, older_by: i32, newer: i32, older: i32) -> i32
     requires newer_by { unsigned_abs newer_by ≤ 512 }
     requires older_by { unsigned_abs older_by ≤ 256 }
     requires newer { unsigned_abs newer ≤ 32768 }
@@ -123,6 +123,7 @@ fn delta_after(delta: i32, code: u8) -> i32
     requires delta { unsigned_abs delta ≤ 1048576 }
     requires code { code < 16 }
     ensures value { result ≡ ms_delta delta code }
+    ensures least { pos 16 ≤ℤ result }
     ensures bound { unsigned_abs result ≤ 1048576 }
 {
     floor_256(product(delta, adaptation_of(code))).clamp(16, 1048576)
@@ -140,12 +141,12 @@ fn number_in(bytes: &[u8], at: usize) -> i32
 
 /// Where one channel stands between two codes.
 #[derive(Clone, Copy)]
-struct MsState {
-    newer_by: i32,
-    older_by: i32,
-    newer: i32,
-    older: i32,
-    delta: i32,
+pub(crate) struct MsState {
+    pub(crate) newer_by: i32,
+    pub(crate) older_by: i32,
+    pub(crate) newer: i32,
+    pub(crate) older: i32,
+    pub(crate) delta: i32,
     ghost newer_weighs: { unsigned_abs newer_by ≤ 512 },
     ghost older_weighs: { unsigned_abs older_by ≤ 256 },
     ghost newer_fits: { unsigned_abs newer ≤ 32768 },
@@ -156,11 +157,12 @@ struct MsState {
 impl MsState {
     /// The state after a code. Its newer sample is the code's.
     #[inline]
-    fn after(self, code: u8) -> MsState
+    pub(crate) fn after(self, code: u8) -> MsState
         requires { code < 16 }
         ensures newer { result.newer ≡ ms_sample self.newer_by self.older_by self.newer self.older self.delta code }
         ensures older { result.older ≡ self.newer }
         ensures delta { result.delta ≡ ms_delta self.delta code }
+        ensures least_delta { pos 16 ≤ℤ result.delta }
         ensures newer_by { result.newer_by ≡ self.newer_by }
         ensures older_by { result.older_by ≡ self.older_by }
     {

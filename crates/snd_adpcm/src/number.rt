@@ -1,7 +1,9 @@
 //! Numbers of 16 bits and the two codes of a byte.
 
-ghost use Rattle.std.specs.Prelude.{◌≡◌, ◌/◌, ◌%◌, ◌≤ℤ◌, pos, negsuc};
-ghost use Rattle.snd_adpcm.specs.Frames.{number_16};
+ghost use Rattle.std.specs.Prelude.{◌≡◌, ◌+◌, ◌/◌, ◌%◌, ◌≤◌, ◌≤ℤ◌, ◌++◌, length, pos, negsuc};
+ghost use Rattle.snd_adpcm.specs.Frames.{number_16, bytes_16, Is16Bit};
+
+use arrayvec::ArrayVec;
 
 /// The number of two bytes, the low one first.
 #[inline]
@@ -27,4 +29,17 @@ pub fn high_code(byte: u8) -> u8
     ensures { result ≡ byte / 16 }
 {
     byte >> 4
+}
+
+/// Puts the two bytes of a number of 16 bits, the low one first.
+#[inline]
+pub fn put_number(number: i32, into: &mut ArrayVec<u8, 8192>)
+    requires range { Is16Bit number }
+    requires room { length into.old.items + 2 ≤ 8192 }
+    ensures bytes { into.new.items ≡ into.old.items ++ bytes_16 number }
+    ensures count { length into.new.items ≡ length into.old.items + 2 }
+{
+    let [low, high] = (number as i16).to_le_bytes();
+    into.push(low);
+    into.push(high);
 }
