@@ -2,3 +2,4 @@ pub mod Frames
 pub mod Ima
 pub mod Microsoft
 pub mod Step
+pub mod Vox

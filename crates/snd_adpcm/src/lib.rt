@@ -7,11 +7,13 @@ mod microsoft;
 mod microsoft_writer;
 mod number;
 mod step;
+mod vox;
 
 pub use ima::ImaBlock;
 pub use ima_writer::ImaWriter;
 pub use microsoft::MsBlock;
 pub use microsoft_writer::MsWriter;
+pub use vox::{VoxReader, VoxWriter};
 
 /// A block whose head no sample can be read from.
 #[derive(Debug, Clone, Copy, PartialEq, Eq)]
