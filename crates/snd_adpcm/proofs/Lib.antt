@@ -1,3 +1,4 @@
+pub mod BlockLaws
 pub mod ImaCodes
 pub mod ImaWritten
 pub mod MsCodes

@@ -3,6 +3,7 @@
 
 mod ima;
 mod ima_writer;
+mod laws;
 mod microsoft;
 mod microsoft_writer;
 mod number;
@@ -11,6 +12,7 @@ mod vox;
 
 pub use ima::ImaBlock;
 pub use ima_writer::ImaWriter;
+pub use laws::{ima_calls_give_blocks, ms_calls_give_blocks, vox_calls_give_files};
 pub use microsoft::MsBlock;
 pub use microsoft_writer::MsWriter;
 pub use vox::{VoxReader, VoxWriter};
