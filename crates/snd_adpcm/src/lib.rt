@@ -20,3 +20,6 @@ pub use vox::{VoxReader, VoxWriter};
 /// A block whose head no sample can be read from.
 #[derive(Debug, Clone, Copy, PartialEq, Eq)]
 pub struct BadBlock;
+
+#[cfg(test)]
+mod tests;
