@@ -1,0 +1,22 @@
+-- The codes of a channel in a Microsoft block, one by one.
+use Rattle.std.proofs.Common.{◌≡◌, ℕ, ℤ, ◌*◌, List, ◌∷◌, drop, refl}
+use Rattle.snd_adpcm.specs.declared.microsoft.MsState.{MsState}
+use Rattle.snd_adpcm.specs.Frames.{high_half_first, of_channel}
+use Rattle.snd_adpcm.specs.Microsoft.{ms_samples, ms_sample, ms_delta, ms_channel, ms_newer, ms_older, ms_start_delta, ms_number, newer_weight, older_weight}
+
+-- what a state makes of the codes still to come
+abbrev pub rest_of : MsState → List ℕ → List ℤ
+rest_of s codes = ms_samples s.newer_by s.older_by s.newer s.older s.delta codes
+
+pub rest_of-code : (s t : MsState) (code : ℕ) (codes : List ℕ) →
+    t.newer ≡ ms_sample s.newer_by s.older_by s.newer s.older s.delta code → t.older ≡ s.newer → t.delta ≡ ms_delta s.delta code → t.newer_by ≡ s.newer_by → t.older_by ≡ s.older_by →
+    rest_of s (code ∷ codes) ≡ t.newer ∷ rest_of t codes
+rest_of-code s t code codes newer older delta newer_by older_by = rw (newer, older, delta, newer_by, older_by) refl
+
+-- a head's state and the codes give the channel's samples
+pub of_head : (channels channel : ℕ) (block codes : List ℕ) (s : MsState) →
+    s.newer ≡ ms_newer channels channel block → s.older ≡ ms_older channels channel block → s.delta ≡ ms_start_delta channels channel block →
+    s.newer_by ≡ newer_weight (ms_number channel block) → s.older_by ≡ older_weight (ms_number channel block) →
+    codes ≡ of_channel channels channel (high_half_first (drop (7 * channels) block)) →
+    s.older ∷ s.newer ∷ rest_of s codes ≡ ms_channel channels channel block
+of_head channels channel block codes s newer older delta newer_by older_by codes_are = rw (newer, older, delta, newer_by, older_by, codes_are) refl

@@ -1,0 +1,23 @@
+use Rattle.std.proofs.Common.{◌≡◌, ◌*◌, drop, sym, ap, ◌∙◌, arith}
+use Rattle.snd_adpcm.specs.Frames.{high_half_first, firsts, seconds}
+use Rattle.snd_adpcm.specs.Microsoft.{ms_block}
+use Rattle.snd_adpcm.proofs.MsCodes.{of_head}
+use Rattle.snd_adpcm.proofs.Pushes.{alternating-same}
+use Rattle.snd_adpcm.proofs.microsoft.MsBlock.decode.Goals as goal
+
+pub returns-then-channels-eq1-clause-samples : goal.returns-then-channels-eq1-clause-samples
+returns-then-channels-eq1-clause-samples c =
+    let one : c.args.channels ≡ 1 = c.if-channels-eq1.true in
+    let codes : c.split_at.result.1.now ≡ drop (7 * 1) c.args.bytes.now = c.split_at.ensures.back ∙ ap (λ k. drop (7 * k) c.args.bytes.now) (c.from.ensures ∙ one) in
+    let s = c.of_head.ensures in
+    c.decode_mono.ensures.samples ∙ of_head 1 0 c.args.bytes.now _ c.of_head.result s.newer s.older s.delta s.newer_by s.older_by (ap high_half_first codes) ∙ ap (λ k. ms_block k c.args.bytes.now) (sym one)
+
+pub returns-else-channels-eq1-clause-samples : goal.returns-else-channels-eq1-clause-samples
+returns-else-channels-eq1-clause-samples c =
+    let two : c.args.channels ≡ 2 = omega arith in
+    let codes : c.split_at.result.1.now ≡ drop (7 * 2) c.args.bytes.now = c.split_at.ensures.back ∙ ap (λ k. drop (7 * k) c.args.bytes.now) (c.from.ensures ∙ two) in
+    let l = c.of_head-left.ensures in
+    let r = c.of_head-right.ensures in
+    let left = of_head 2 0 c.args.bytes.now _ c.of_head-left.result l.newer l.older l.delta l.newer_by l.older_by (ap (λ bytes. firsts (high_half_first bytes)) codes) in
+    let right = of_head 2 1 c.args.bytes.now _ c.of_head-right.result r.newer r.older r.delta r.newer_by r.older_by (ap (λ bytes. seconds (high_half_first bytes)) codes) in
+    c.decode_stereo.ensures.samples ∙ alternating-same _ _ _ _ left right ∙ ap (λ k. ms_block k c.args.bytes.now) (sym two)

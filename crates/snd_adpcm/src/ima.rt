@@ -1,0 +1,163 @@
+//! IMA ADPCM in WAVE files: a block's samples.
+
+ghost use Rattle.std.specs.Prelude.{◌≡◌, ◌+◌, ◌*◌, ◌-◌, ◌/◌, ◌%◌, ◌<◌, ◌≤◌, ◌≤ℤ◌, ◌⊎◌, ◌↔◌, pos, negsuc, length, [], ◌∷◌, ◌++◌, slice_index, IsTrue, OnOk, OnErr, IsErr};
+ghost use Rattle.arrayvec.specs.ArrayVec.{array_vec_len};
+ghost use Rattle.snd_adpcm.specs.Frames.{alternating};
+ghost use Rattle.snd_adpcm.specs.Ima.{ima_predictor, ima_index, ima_code, ima_first, ima_start_index, is_ima_align, is_bad_ima_block, ima_channel, ima_block};
+
+use crate::BadBlock;
+use crate::number::{high_code, low_code, number_of};
+use crate::step::{code_of, index_after, moved_by, step_at};
+use arrayvec::ArrayVec;
+
+/// Where one channel stands between two codes.
+#[derive(Clone, Copy)]
+pub(crate) struct ImaState {
+    pub(crate) predictor: i32,
+    pub(crate) index: usize,
+    ghost low: { negsuc 32767 ≤ℤ predictor },
+    ghost high: { predictor ≤ℤ pos 32767 },
+    ghost indexed: { index ≤ 88 },
+}
+
+impl ImaState {
+    /// The state after a code. Its predictor is the code's sample.
+    #[inline]
+    #[tactic(auto, unfolding(crate::specs::Ima::ima_predictor, crate::specs::Ima::ima_index))]
+    pub(crate) fn after(self, code: u8) -> ImaState
+        ensures predictor { result.predictor ≡ ima_predictor self.predictor self.index code }
+        ensures index { result.index ≡ ima_index self.index code }
+    {
+        let predictor = moved_by(self.predictor, step_at(self.index), code).clamp(-32768, 32767);
+        let index = index_after(0, 88, self.index, code);
+        ImaState { predictor, index }
+    }
+
+    /// The code of a sample.
+    #[inline]
+    fn code_of(self, sample: i32) -> u8
+        requires least { negsuc 32767 ≤ℤ sample }
+        requires most { sample ≤ℤ pos 32767 }
+        ensures value { result ≡ ima_code self.predictor self.index sample }
+        ensures bound { result < 16 }
+    {
+        code_of(step_at(self.index), sample - self.predictor)
+    }
+
+    /// The code of a sample, and the state after it.
+    #[inline]
+    pub(crate) fn encode(self, sample: i32) -> (u8, ImaState)
+        requires least { negsuc 32767 ≤ℤ sample }
+        requires most { sample ≤ℤ pos 32767 }
+        ensures code { result.0 ≡ ima_code self.predictor self.index sample }
+        ensures bound { result.0 < 16 }
+        ensures predictor { result.1.predictor ≡ ima_predictor self.predictor self.index (ima_code self.predictor self.index sample) }
+        ensures index { result.1.index ≡ ima_index self.index (ima_code self.predictor self.index sample) }
+    {
+        let code = self.code_of(sample);
+        (code, self.after(code))
+    }
+
+    /// The state that a channel's head gives.
+    fn of_head(bytes: &[u8], channel: usize) -> ImaState
+        requires whole { 4 * channel + 4 ≤ length bytes.now }
+        requires good { ima_start_index channel bytes.now ≤ 88 }
+        ensures predictor { result.predictor ≡ ima_first channel bytes.now }
+        ensures index { result.index ≡ ima_start_index channel bytes.now }
+    {
+        let at = 4 * channel;
+        let predictor = number_of(bytes[at], bytes[at + 1]);
+        let index = usize::from(bytes[at + 2]);
+        ImaState { predictor, index }
+    }
+}
+
+/// The samples of a block of one channel.
+fn decode_mono(bytes: &[u8], into: &mut ArrayVec<i32, 16384>)
+    requires whole { 4 ≤ length bytes.now }
+    requires room { length bytes.now ≤ 8192 }
+    requires good { ima_start_index 0 bytes.now ≤ 88 }
+    requires empty { into.old.items ≡ [] }
+    ensures { into.new.items ≡ ima_channel 1 0 bytes.now }
+{
+    let mut state = ImaState::of_head(bytes, 0);
+    into.push(state.predictor);
+    for n in 0..bytes.len() - 4 {
+        let byte = bytes[4 + n];
+        let middle = state.after(low_code(byte));
+        state = middle.after(high_code(byte));
+        into.push(middle.predictor);
+        into.push(state.predictor);
+    }
+}
+
+/// The samples of a block of two channels.
+fn decode_stereo(bytes: &[u8], into: &mut ArrayVec<i32, 16384>)
+    requires whole { 8 ≤ length bytes.now }
+    requires groups { length bytes.now % 8 ≡ 0 }
+    requires room { length bytes.now ≤ 8192 }
+    requires good_left { ima_start_index 0 bytes.now ≤ 88 }
+    requires good_right { ima_start_index 1 bytes.now ≤ 88 }
+    requires empty { into.old.items ≡ [] }
+    ensures { into.new.items ≡ alternating (ima_channel 2 0 bytes.now) (ima_channel 2 1 bytes.now) }
+{
+    let mut left = ImaState::of_head(bytes, 0);
+    let mut right = ImaState::of_head(bytes, 1);
+    into.push(left.predictor);
+    into.push(right.predictor);
+    for n in 0..bytes.len() / 2 - 4 {
+        let place = 8 + 8 * (n / 4) + n % 4;
+        let left_byte = bytes[place];
+        let right_byte = bytes[place + 4];
+        let left_middle = left.after(low_code(left_byte));
+        let right_middle = right.after(low_code(right_byte));
+        left = left_middle.after(high_code(left_byte));
+        right = right_middle.after(high_code(right_byte));
+        into.push(left_middle.predictor);
+        into.push(right_middle.predictor);
+        into.push(left.predictor);
+        into.push(right.predictor);
+    }
+}
+
+/// Whether a head has an index that the step table does not hold.
+fn has_bad_head(bytes: &[u8], channels: u16) -> bool
+    requires channels { (channels ≡ 1) ⊎ (channels ≡ 2) }
+    requires heads { 4 * channels ≤ length bytes.now }
+    ensures { result ≡ is_bad_ima_block channels bytes.now }
+{
+    bytes[2] > 88 || (channels == 2 && bytes[6] > 88)
+}
+
+/// A block of IMA ADPCM.
+pub struct ImaBlock;
+
+impl ImaBlock {
+    /// Puts a block's samples in place of what `into` holds, frame by frame, channels in turn.
+    ///
+    /// `bytes` is one block of 1 or 2 `channels`, of at most 8192 bytes. Where a channel's head has a step index above 88
+    /// the answer is [`BadBlock`], and `into` is empty.
+    pub fn decode(
+        bytes: &[u8],
+        channels: u16,
+        into: &mut ArrayVec<i32, 16384>,
+    ) -> Result<(), BadBlock>
+        requires channels { (channels ≡ 1) ⊎ (channels ≡ 2) }
+        requires align { IsTrue (is_ima_align channels (length bytes.now)) }
+        requires most { length bytes.now ≤ 8192 }
+        ensures samples { OnOk result (into.new.items ≡ ima_block channels bytes.now) }
+        ensures bad { IsErr result ↔ IsTrue (is_bad_ima_block channels bytes.now) }
+        ensures empty { OnErr result (into.new.items ≡ []) }
+    {
+        into.clear();
+        if has_bad_head(bytes, channels) {
+            return Err(BadBlock);
+        }
+        if channels == 1 {
+            decode_mono(bytes, into);
+        } else {
+            decode_stereo(bytes, into);
+        }
+        Ok(())
+    }
+}

@@ -1,0 +1,184 @@
+//! IMA ADPCM in WAVE files: a block from its samples.
+
+ghost use Rattle.std.specs.Prelude.{◌≡◌, ◌+◌, ◌*◌, ◌-◌, ◌/◌, ◌%◌, ◌<◌, ◌≤◌, ◌⊎◌, pos, length, ℕ, [], ◌∷◌, ◌++◌, All, slice_index_or};
+ghost use Rattle.snd_adpcm.specs.Frames.{Is16Bit, bytes_16, bytes_low_half_first, firsts, seconds, fours};
+ghost use Rattle.snd_adpcm.specs.Ima.{ima_codes, ima_predictor_after, ima_index_after, ima_head, ima_body, ima_next_index, ima_bytes, ima_next_indices, IsImaBlock};
+
+use crate::ima::ImaState;
+use crate::number::put_number;
+use arrayvec::ArrayVec;
+use std::marker::Model;
+
+/// Puts the bytes of a channel's samples, two codes in each, and gives the state after them.
+fn encode_run(samples: &[i32], start: ImaState, into: &mut ArrayVec<u8, 8192>) -> ImaState
+    requires even { length samples.now % 2 ≡ 0 }
+    requires range { All Is16Bit samples.now }
+    requires room { length into.old.items + length samples.now / 2 ≤ 8192 }
+    ensures bytes { into.new.items ≡ into.old.items ++ bytes_low_half_first (ima_codes start.predictor start.index samples.now) }
+    ensures count { length into.new.items ≡ length into.old.items + length samples.now / 2 }
+    ensures predictor { result.predictor ≡ ima_predictor_after start.predictor start.index samples.now }
+    ensures index { result.index ≡ ima_index_after start.predictor start.index samples.now }
+{
+    let mut state = start;
+    for n in 0..samples.len() / 2 {
+        let (low, middle) = state.encode(samples[2 * n]);
+        let (high, end) = middle.encode(samples[2 * n + 1]);
+        into.push(low + 16 * high);
+        state = end;
+    }
+    state
+}
+
+/// Puts a channel's head.
+fn put_head(first: i32, index: usize, into: &mut ArrayVec<u8, 8192>)
+    requires range { Is16Bit first }
+    requires index { index ≤ 88 }
+    requires room { length into.old.items + 4 ≤ 8192 }
+    ensures { into.new.items ≡ into.old.items ++ (bytes_16 first ++ index ∷ 0 ∷ []) }
+{
+    put_number(first, into);
+    into.push(index as u8);
+    into.push(0);
+}
+
+/// The samples of each channel in 8 frames of two.
+fn split_frames(frames: &[i32]) -> ([i32; 8], [i32; 8])
+    requires { length frames.now ≡ 16 }
+    ensures left { result.0 ≡ firsts frames.now }
+    ensures right { result.1 ≡ seconds frames.now }
+{
+    let mut left = [0; 8];
+    let mut right = [0; 8];
+    for n in 0..8 {
+        left[n] = frames[2 * n];
+        right[n] = frames[2 * n + 1];
+    }
+    (left, right)
+}
+
+/// Puts the bytes of two channels, 8 frames at a time, and gives their states after them.
+fn encode_frames(
+    frames: &[i32],
+    first: ImaState,
+    second: ImaState,
+    into: &mut ArrayVec<u8, 8192>,
+) -> (ImaState, ImaState)
+    requires groups { length frames.now % 16 ≡ 0 }
+    requires range { All Is16Bit frames.now }
+    requires room { length into.old.items + length frames.now / 2 ≤ 8192 }
+    ensures bytes { into.new.items ≡ into.old.items
+        ++ fours (bytes_low_half_first (ima_codes first.predictor first.index (firsts frames.now)))
+        (bytes_low_half_first (ima_codes second.predictor second.index (seconds frames.now))) }
+    ensures left { result.0.index ≡ ima_index_after first.predictor first.index (firsts frames.now) }
+    ensures right { result.1.index ≡ ima_index_after second.predictor second.index (seconds frames.now) }
+{
+    let mut left = first;
+    let mut right = second;
+    for n in 0..frames.len() / 16 {
+        let (left_samples, right_samples) = split_frames(&frames[16 * n..16 * n + 16]);
+        left = encode_run(&left_samples, left, into);
+        right = encode_run(&right_samples, right, into);
+    }
+    (left, right)
+}
+
+/// Puts a block of one channel, and gives its index after it.
+fn encode_mono(samples: &[i32], index: usize, into: &mut ArrayVec<u8, 8192>) -> usize
+    requires whole { length samples.now % 8 ≡ 1 }
+    requires range { All Is16Bit samples.now }
+    requires room { 4 + length samples.now / 2 ≤ 8192 }
+    requires index { index ≤ 88 }
+    requires empty { into.old.items ≡ [] }
+    ensures bytes { into.new.items ≡ ima_head index samples.now ++ ima_body index samples.now }
+    ensures index { result ≡ ima_next_index index samples.now }
+    ensures bound { result ≤ 88 }
+{
+    put_head(samples[0], index, into);
+    let start = ImaState {
+        predictor: samples[0],
+        index,
+    };
+    let (_, rest) = samples.split_at(1);
+    encode_run(rest, start, into).index
+}
+
+/// Puts a block of two channels, and gives their indices after it.
+fn encode_stereo(
+    samples: &[i32],
+    left: usize,
+    right: usize,
+    into: &mut ArrayVec<u8, 8192>,
+) -> (usize, usize)
+    requires whole { length samples.now % 16 ≡ 2 }
+    requires range { All Is16Bit samples.now }
+    requires room { 8 + length samples.now / 2 ≤ 8193 }
+    requires left_index { left ≤ 88 }
+    requires right_index { right ≤ 88 }
+    requires empty { into.old.items ≡ [] }
+    ensures bytes { into.new.items
+        ≡ ima_head left (firsts samples.now) ++ ima_head right (seconds samples.now) ++ fours (ima_body left (firsts samples.now)) (ima_body right (seconds samples.now)) }
+    ensures left { result.0 ≡ ima_next_index left (firsts samples.now) }
+    ensures right { result.1 ≡ ima_next_index right (seconds samples.now) }
+    ensures left_bound { result.0 ≤ 88 }
+    ensures right_bound { result.1 ≤ 88 }
+{
+    put_head(samples[0], left, into);
+    put_head(samples[1], right, into);
+    let first = ImaState {
+        predictor: samples[0],
+        index: left,
+    };
+    let second = ImaState {
+        predictor: samples[1],
+        index: right,
+    };
+    let (_, frames) = samples.split_at(2);
+    let (left_end, right_end) = encode_frames(frames, first, second, into);
+    (left_end.index, right_end.index)
+}
+
+/// A writer of IMA ADPCM blocks, which carries each channel's step index from block to block.
+///
+/// A contract sees it as the indices of the first and of the second channel.
+#[derive(Drop)]
+pub struct ImaWriter {
+    left: usize,
+    right: usize,
+}
+
+impl Model for ImaWriter {
+    ghost Value = { ℕ × ℕ };
+
+    ghost view = { λ w. (w.left, w.right) };
+
+    ghost invariant = { λ w. (w.left ≤ 88) × (w.right ≤ 88) };
+}
+
+impl ImaWriter {
+    /// A writer whose indices are 0.
+    pub fn new() -> ImaWriter
+        ensures { result ≡ (0, 0) }
+    {
+        ImaWriter { left: 0, right: 0 }
+    }
+
+    /// Puts a block's bytes in place of what `into` holds.
+    ///
+    /// `samples` are the numbers of 16 bits of one whole block of 1 or 2 `channels`, frame by frame, channels in turn.
+    pub fn encode(&mut self, samples: &[i32], channels: u16, into: &mut ArrayVec<u8, 8192>)
+        requires channels { (channels ≡ 1) ⊎ (channels ≡ 2) }
+        requires whole { IsImaBlock channels (length samples.now) }
+        requires range { All Is16Bit samples.now }
+        ensures bytes { into.new.items ≡ ima_bytes channels self.old samples.now }
+        ensures indices { self.new ≡ ima_next_indices channels self.old samples.now }
+    {
+        into.clear();
+        if channels == 1 {
+            self.left = encode_mono(samples, self.left, into);
+        } else {
+            let (left, right) = encode_stereo(samples, self.left, self.right, into);
+            self.left = left;
+            self.right = right;
+        }
+    }
+}

@@ -1,0 +1,297 @@
+//! Microsoft ADPCM in WAVE files: a block's samples.
+
+ghost use Rattle.std.specs.Prelude.{◌≡◌, ◌+◌, ◌*◌, ◌-◌, ◌/◌, ◌%◌, ◌<◌, ◌≤◌, ◌^◌, ◌*ℤ◌, ◌≤ℤ◌, ◌⊎◌, ◌↔◌, pos, negsuc, length, [], ◌∷◌, ◌++◌, slice_index, IsTrue, OnOk, OnErr, IsErr, unsigned_abs};
+ghost use Rattle.snd_adpcm.specs.Frames.{alternating, high_half_first, firsts, seconds, floor_div};
+ghost use Rattle.snd_adpcm.specs.Microsoft.{newer_weight, older_weight, adaptation, ms_prediction, signed_code, ms_sample, ms_delta, ms_samples, number_at, ms_number, ms_start_delta, ms_newer, ms_older, is_ms_align, is_bad_ms_block, ms_channel, ms_block};
+
+use crate::BadBlock;
+use crate::number::{high_code, low_code, number_of};
+use arrayvec::ArrayVec;
+
+static NEWER_WEIGHTS: [i32; 7] = [256, 512, 0, 192, 240, 460, 392];
+
+static OLDER_WEIGHTS: [i32; 7] = [0, -256, 0, 64, 0, -208, -232];
+
+static ADAPTATIONS: [i32; 16] = [
+    230, 230, 230, 230, 307, 409, 512, 614, 768, 614, 512, 409, 307, 230, 230, 230,
+];
+
+/// The weight of the newer sample, by predictor number.
+#[tactic(auto, unfolding(crate::specs::Microsoft::newer_weight, crate::specs::Microsoft::newer_weights))]
+pub(crate) fn newer_weight_of(number: usize) -> i32
+    requires { number ≤ 6 }
+    ensures value { result ≡ newer_weight number }
+    ensures bound { unsigned_abs result ≤ 512 }
+{
+    NEWER_WEIGHTS[number]
+}
+
+/// The weight of the older sample, by predictor number.
+#[tactic(auto, unfolding(crate::specs::Microsoft::older_weight, crate::specs::Microsoft::older_weights))]
+pub(crate) fn older_weight_of(number: usize) -> i32
+    requires { number ≤ 6 }
+    ensures value { result ≡ older_weight number }
+    ensures bound { unsigned_abs result ≤ 256 }
+{
+    OLDER_WEIGHTS[number]
+}
+
+/// What a code multiplies the delta by, in parts of 256.
+#[inline]
+#[tactic(auto, unfolding(crate::specs::Microsoft::adaptation, crate::specs::Microsoft::adaptations))]
+fn adaptation_of(code: u8) -> i32
+    requires { code < 16 }
+    ensures value { result ≡ adaptation code }
+    ensures bound { unsigned_abs result ≤ 768 }
+{
+    ADAPTATIONS[usize::from(code)]
+}
+
+/// A code as a number from -8 to 7.
+#[inline]
+fn signed(code: u8) -> i32
+    requires { code < 16 }
+    ensures value { result ≡ signed_code code }
+    ensures bound { unsigned_abs result ≤ 8 }
+{
+    if code < 8 {
+        i32::from(code)
+    } else {
+        i32::from(code) - 16
+    }
+}
+
+/// The product of two numbers.
+#[inline]
+fn product(a: i32, b: i32) -> i32
+    requires { unsigned_abs a * unsigned_abs b ≤ 805306368 }
+    ensures value { result ≡ a *ℤ b }
+    ensures least { negsuc 805306367 ≤ℤ result }
+    ensures most { result ≤ℤ pos 805306368 }
+{
+    a * b
+}
+
+/// A 256th of a number, rounded toward minus infinity.
+#[inline]
+#[tactic(auto, using(crate::proofs::Numbers::floor_bounds))]
+fn floor_256(x: i32) -> i32
+    requires low { negsuc 1610612735 ≤ℤ x }
+    requires high { x ≤ℤ pos 1610612736 }
+    ensures value { result ≡ floor_div x 256 }
+    ensures least { negsuc 6291455 ≤ℤ result }
+    ensures most { result ≤ℤ pos 6291456 }
+{
+    x >> 8
+}
+
+/// The sample that two weights foretell from the two before.
+#[inline]
+pub(crate) fn prediction(newer_by: i32, older_by: i32, newer: i32, older: i32) -> i32
+    requires newer_by { unsigned_abs newer_by ≤ 512 }
+    requires older_by { unsigned_abs older_by ≤ 256 }
+    requires newer { unsigned_abs newer ≤ 32768 }
+    requires older { unsigned_abs older ≤ 32768 }
+    ensures value { result ≡ ms_prediction newer_by older_by newer older }
+    ensures least { negsuc 6291455 ≤ℤ result }
+    ensures most { result ≤ℤ pos 6291456 }
+{
+    floor_256(product(newer, newer_by) + product(older, older_by))
+}
+
+/// The sample of a code.
+#[inline]
+#[tactic(auto, unfolding(crate::specs::Microsoft::ms_sample), using(crate::proofs::Numbers::abs_within))]
+fn sample_of(newer_by: i32, older_by: i32, newer: i32, older: i32, delta: i32, code: u8) -> i32
+    requires newer_by { unsigned_abs newer_by ≤ 512 }
+    requires older_by { unsigned_abs older_by ≤ 256 }
+    requires newer { unsigned_abs newer ≤ 32768 }
+    requires older { unsigned_abs older ≤ 32768 }
+    requires delta { unsigned_abs delta ≤ 1048576 }
+    requires code { code < 16 }
+    ensures value { result ≡ ms_sample newer_by older_by newer older delta code }
+    ensures bound { unsigned_abs result ≤ 32768 }
+{
+    let foretold = prediction(newer_by, older_by, newer, older);
+    (foretold + product(signed(code), delta)).clamp(-32768, 32767)
+}
+
+/// The delta after a code.
+#[inline]
+#[tactic(auto, unfolding(crate::specs::Microsoft::ms_delta), using(crate::proofs::Numbers::abs_within))]
+fn delta_after(delta: i32, code: u8) -> i32
+    requires delta { unsigned_abs delta ≤ 1048576 }
+    requires code { code < 16 }
+    ensures value { result ≡ ms_delta delta code }
+    ensures least { pos 16 ≤ℤ result }
+    ensures bound { unsigned_abs result ≤ 1048576 }
+{
+    floor_256(product(delta, adaptation_of(code))).clamp(16, 1048576)
+}
+
+/// The number in two bytes of a head.
+#[tactic(auto, using(crate::proofs::Numbers::abs_within))]
+fn number_in(bytes: &[u8], at: usize) -> i32
+    requires { at + 2 ≤ length bytes.now }
+    ensures value { result ≡ number_at bytes.now at }
+    ensures bound { unsigned_abs result ≤ 32768 }
+{
+    number_of(bytes[at], bytes[at + 1])
+}
+
+/// Where one channel stands between two codes.
+#[derive(Clone, Copy)]
+pub(crate) struct MsState {
+    pub(crate) newer_by: i32,
+    pub(crate) older_by: i32,
+    pub(crate) newer: i32,
+    pub(crate) older: i32,
+    pub(crate) delta: i32,
+    ghost newer_weighs: { unsigned_abs newer_by ≤ 512 },
+    ghost older_weighs: { unsigned_abs older_by ≤ 256 },
+    ghost newer_fits: { unsigned_abs newer ≤ 32768 },
+    ghost older_fits: { unsigned_abs older ≤ 32768 },
+    ghost delta_fits: { unsigned_abs delta ≤ 1048576 },
+}
+
+impl MsState {
+    /// The state after a code. Its newer sample is the code's.
+    #[inline]
+    pub(crate) fn after(self, code: u8) -> MsState
+        requires { code < 16 }
+        ensures newer { result.newer ≡ ms_sample self.newer_by self.older_by self.newer self.older self.delta code }
+        ensures older { result.older ≡ self.newer }
+        ensures delta { result.delta ≡ ms_delta self.delta code }
+        ensures least_delta { pos 16 ≤ℤ result.delta }
+        ensures newer_by { result.newer_by ≡ self.newer_by }
+        ensures older_by { result.older_by ≡ self.older_by }
+    {
+        let newer = sample_of(
+            self.newer_by,
+            self.older_by,
+            self.newer,
+            self.older,
+            self.delta,
+            code,
+        );
+        let delta = delta_after(self.delta, code);
+        MsState {
+            newer_by: self.newer_by,
+            older_by: self.older_by,
+            newer,
+            older: self.newer,
+            delta,
+        }
+    }
+
+    /// The state that a channel's head gives.
+    fn of_head(bytes: &[u8], channels: usize, channel: usize) -> MsState
+        requires channel { channel < channels }
+        requires whole { 7 * channels ≤ length bytes.now }
+        requires good { ms_number channel bytes.now ≤ 6 }
+        ensures newer { result.newer ≡ ms_newer channels channel bytes.now }
+        ensures older { result.older ≡ ms_older channels channel bytes.now }
+        ensures delta { result.delta ≡ ms_start_delta channels channel bytes.now }
+        ensures newer_by { result.newer_by ≡ newer_weight (ms_number channel bytes.now) }
+        ensures older_by { result.older_by ≡ older_weight (ms_number channel bytes.now) }
+    {
+        let number = usize::from(bytes[channel]);
+        let newer_by = newer_weight_of(number);
+        let older_by = older_weight_of(number);
+        let delta = number_in(bytes, channels + 2 * channel);
+        let newer = number_in(bytes, 3 * channels + 2 * channel);
+        let older = number_in(bytes, 5 * channels + 2 * channel);
+        MsState {
+            newer_by,
+            older_by,
+            newer,
+            older,
+            delta,
+        }
+    }
+}
+
+/// The samples of a block of one channel, whose head gives `start`.
+fn decode_mono(codes: &[u8], start: MsState, into: &mut ArrayVec<i32, 16384>)
+    requires room { length codes.now ≤ 8185 }
+    requires empty { into.old.items ≡ [] }
+    ensures samples { into.new.items ≡ start.older ∷ start.newer ∷ ms_samples start.newer_by start.older_by start.newer start.older start.delta (high_half_first codes.now) }
+{
+    let mut state = start;
+    into.push(state.older);
+    into.push(state.newer);
+    for byte in codes {
+        let middle = state.after(high_code(*byte));
+        state = middle.after(low_code(*byte));
+        into.push(middle.newer);
+        into.push(state.newer);
+    }
+}
+
+/// The samples of a block of two channels, whose heads give `first` and `second`.
+fn decode_stereo(codes: &[u8], first: MsState, second: MsState, into: &mut ArrayVec<i32, 16384>)
+    requires room { length codes.now ≤ 8178 }
+    requires empty { into.old.items ≡ [] }
+    ensures samples { into.new.items
+        ≡ alternating
+        (first.older ∷ first.newer ∷ ms_samples first.newer_by first.older_by first.newer first.older first.delta (firsts (high_half_first codes.now)))
+        (second.older ∷ second.newer ∷ ms_samples second.newer_by second.older_by second.newer second.older second.delta (seconds (high_half_first codes.now))) }
+{
+    let mut left = first;
+    let mut right = second;
+    into.push(left.older);
+    into.push(right.older);
+    into.push(left.newer);
+    into.push(right.newer);
+    for byte in codes {
+        left = left.after(high_code(*byte));
+        right = right.after(low_code(*byte));
+        into.push(left.newer);
+        into.push(right.newer);
+    }
+}
+
+/// Whether a head has a predictor number that there are no weights for.
+fn has_bad_head(bytes: &[u8], channels: u16) -> bool
+    requires channels { (channels ≡ 1) ⊎ (channels ≡ 2) }
+    requires heads { channels ≤ length bytes.now }
+    ensures { result ≡ is_bad_ms_block channels bytes.now }
+{
+    bytes[0] > 6 || (channels == 2 && bytes[1] > 6)
+}
+
+/// A block of Microsoft ADPCM.
+pub struct MsBlock;
+
+impl MsBlock {
+    /// Puts a block's samples in place of what `into` holds, frame by frame, channels in turn.
+    ///
+    /// `bytes` is one block of 1 or 2 `channels`, of at most 8192 bytes. Where a channel's head has a predictor number above 6
+    /// the answer is [`BadBlock`], and `into` is empty. The delta of a head is used as it stands, whatever its sign.
+    pub fn decode(
+        bytes: &[u8],
+        channels: u16,
+        into: &mut ArrayVec<i32, 16384>,
+    ) -> Result<(), BadBlock>
+        requires channels { (channels ≡ 1) ⊎ (channels ≡ 2) }
+        requires align { IsTrue (is_ms_align channels (length bytes.now)) }
+        requires most { length bytes.now ≤ 8192 }
+        ensures samples { OnOk result (into.new.items ≡ ms_block channels bytes.now) }
+        ensures bad { IsErr result ↔ IsTrue (is_bad_ms_block channels bytes.now) }
+        ensures empty { OnErr result (into.new.items ≡ []) }
+    {
+        into.clear();
+        if has_bad_head(bytes, channels) {
+            return Err(BadBlock);
+        }
+        let (_, codes) = bytes.split_at(7 * usize::from(channels));
+        if channels == 1 {
+            decode_mono(codes, MsState::of_head(bytes, 1, 0), into);
+        } else {
+            let left = MsState::of_head(bytes, 2, 0);
+            let right = MsState::of_head(bytes, 2, 1);
+            decode_stereo(codes, left, right, into);
+        }
+        Ok(())
+    }
+}

@@ -1,0 +1,45 @@
+//! Numbers of 16 bits and the two codes of a byte.
+
+ghost use Rattle.std.specs.Prelude.{◌≡◌, ◌+◌, ◌/◌, ◌%◌, ◌≤◌, ◌≤ℤ◌, ◌++◌, length, pos, negsuc};
+ghost use Rattle.snd_adpcm.specs.Frames.{number_16, bytes_16, Is16Bit};
+
+use arrayvec::ArrayVec;
+
+/// The number of two bytes, the low one first.
+#[inline]
+pub fn number_of(low: u8, high: u8) -> i32
+    ensures value { result ≡ number_16 low high }
+    ensures least { negsuc 32767 ≤ℤ result }
+    ensures most { result ≤ℤ pos 32767 }
+{
+    i32::from(i16::from_le_bytes([low, high]))
+}
+
+/// The code in the low half of a byte.
+#[inline]
+pub fn low_code(byte: u8) -> u8
+    ensures { result ≡ byte % 16 }
+{
+    byte & 15
+}
+
+/// The code in the high half of a byte.
+#[inline]
+pub fn high_code(byte: u8) -> u8
+    ensures { result ≡ byte / 16 }
+{
+    byte >> 4
+}
+
+/// Puts the two bytes of a number of 16 bits, the low one first.
+#[inline]
+pub fn put_number(number: i32, into: &mut ArrayVec<u8, 8192>)
+    requires range { Is16Bit number }
+    requires room { length into.old.items + 2 ≤ 8192 }
+    ensures bytes { into.new.items ≡ into.old.items ++ bytes_16 number }
+    ensures count { length into.new.items ≡ length into.old.items + 2 }
+{
+    let [low, high] = (number as i16).to_le_bytes();
+    into.push(low);
+    into.push(high);
+}
