@@ -1,0 +1,186 @@
+ghost use Rattle.std.specs.Prelude.{◌≡◌, ◌≤◌, All, FitsSigned, length};
+ghost use Rattle.std.specs.Int.{w16};
+ghost use Rattle.codec_bench.specs.Codec.{block_size};
+
+use arrayvec::ArrayVec;
+use snd_adpcm::{ImaBlock, ImaWriter, MsBlock, MsWriter};
+use snd_fields::Order;
+use snd_g711::{alaw_decode_all, alaw_encode_all, mulaw_decode_all, mulaw_encode_all};
+use snd_pcm::{Linear, in_range, put_samples, read_samples};
+
+const LINEAR: Linear = Linear::S16(Order::Little);
+
+/// One codec, one way. A writer of ADPCM keeps what is carried from block to block.
+#[derive(Drop)]
+pub enum Codec {
+    MulawDecode,
+    MulawEncode,
+    AlawDecode,
+    AlawEncode,
+    ImaDecode,
+    ImaEncode(ImaWriter),
+    MsDecode,
+    MsEncode(MsWriter),
+}
+
+impl Codec {
+    pub fn of_words(codec: &str, way: &str) -> Option<Codec> {
+        match (codec, way) {
+            ("mulaw", "decode") => Some(Codec::MulawDecode),
+            ("mulaw", "encode") => Some(Codec::MulawEncode),
+            ("alaw", "decode") => Some(Codec::AlawDecode),
+            ("alaw", "encode") => Some(Codec::AlawEncode),
+            ("ima", "decode") => Some(Codec::ImaDecode),
+            ("ima", "encode") => Some(Codec::ImaEncode(ImaWriter::new())),
+            ("ms", "decode") => Some(Codec::MsDecode),
+            ("ms", "encode") => Some(Codec::MsEncode(MsWriter::new())),
+            _ => None,
+        }
+    }
+
+    /// How many bytes are turned at a time.
+    pub fn block_size(&self) -> usize
+        ensures value { result ≡ block_size self.now }
+        ensures room { result ≤ 32768 }
+    {
+        match self {
+            Codec::MulawDecode | Codec::AlawDecode => 16384,
+            Codec::MulawEncode | Codec::AlawEncode => 32768,
+            Codec::ImaDecode | Codec::MsDecode => 1024,
+            Codec::ImaEncode(_) => 4082,
+            Codec::MsEncode(_) => 4072,
+        }
+    }
+
+    /// Turns a block, and answers how many bytes it became.
+    pub fn turn(&mut self, input: &[u8], output: &mut [u8]) -> usize
+        requires whole { length input.now ≡ block_size self.old }
+        requires room { length output.old ≡ 32768 }
+        ensures { result ≤ 32768 }
+    {
+        match self {
+            Codec::MulawDecode => decode_law(input, output, false),
+            Codec::AlawDecode => decode_law(input, output, true),
+            Codec::MulawEncode => encode_law(input, output, false),
+            Codec::AlawEncode => encode_law(input, output, true),
+            Codec::ImaDecode => decode_ima(input, output),
+            Codec::MsDecode => decode_ms(input, output),
+            Codec::ImaEncode(writer) => encode_ima(writer, input, output),
+            Codec::MsEncode(writer) => encode_ms(writer, input, output),
+        }
+    }
+}
+
+fn decode_law(input: &[u8], output: &mut [u8], is_alaw: bool) -> usize
+    requires whole { length input.now ≡ 16384 }
+    requires room { length output.old ≡ 32768 }
+    ensures { result ≤ 32768 }
+{
+    let mut samples = [0; 16384];
+    if is_alaw {
+        alaw_decode_all(input, &mut samples);
+    } else {
+        mulaw_decode_all(input, &mut samples);
+    }
+    put_samples(LINEAR, &samples, output);
+    32768
+}
+
+/// Puts the bytes of samples to the front.
+fn put_encoded(samples: &[i32], output: &mut [u8], is_alaw: bool) -> usize
+    requires range { All (FitsSigned w16) samples.now }
+    requires few { length samples.now ≤ 16384 }
+    requires room { length output.old ≡ 32768 }
+    ensures { result ≤ 32768 }
+{
+    let count = samples.len();
+    let front = &mut output[..count];
+    if is_alaw {
+        alaw_encode_all(samples, front);
+    } else {
+        mulaw_encode_all(samples, front);
+    }
+    count
+}
+
+fn encode_law(input: &[u8], output: &mut [u8], is_alaw: bool) -> usize
+    requires whole { length input.now ≡ 32768 }
+    requires room { length output.old ≡ 32768 }
+    ensures { result ≤ 32768 }
+{
+    let mut samples = [0; 16384];
+    read_samples(LINEAR, input, &mut samples);
+    put_encoded(&samples, output, is_alaw)
+}
+
+/// Puts samples as bytes, where they have 16 bits, as those of a block do.
+fn put_decoded(samples: &[i32], output: &mut [u8]) -> usize
+    requires few { length samples.now ≤ 16384 }
+    requires room { length output.old ≡ 32768 }
+    ensures { result ≤ 32768 }
+{
+    if !in_range(LINEAR, samples) {
+        return 0;
+    }
+    let size = 2 * samples.len();
+    put_samples(LINEAR, samples, &mut output[..size]);
+    size
+}
+
+fn decode_ima(input: &[u8], output: &mut [u8]) -> usize
+    requires whole { length input.now ≡ 1024 }
+    requires room { length output.old ≡ 32768 }
+    ensures { result ≤ 32768 }
+{
+    let mut samples = ArrayVec::new();
+    match ImaBlock::decode(input, 1, &mut samples) {
+        Ok(()) => put_decoded(&samples, output),
+        Err(_) => 0,
+    }
+}
+
+fn decode_ms(input: &[u8], output: &mut [u8]) -> usize
+    requires whole { length input.now ≡ 1024 }
+    requires room { length output.old ≡ 32768 }
+    ensures { result ≤ 32768 }
+{
+    let mut samples = ArrayVec::new();
+    match MsBlock::decode(input, 1, &mut samples) {
+        Ok(()) => put_decoded(&samples, output),
+        Err(_) => 0,
+    }
+}
+
+/// Puts a block's bytes to the front.
+fn put_block(bytes: &[u8], output: &mut [u8]) -> usize
+    requires few { length bytes.now ≤ 8192 }
+    requires room { length output.old ≡ 32768 }
+    ensures { result ≤ 32768 }
+{
+    output[..bytes.len()].copy_from_slice(bytes);
+    bytes.len()
+}
+
+fn encode_ima(writer: &mut ImaWriter, input: &[u8], output: &mut [u8]) -> usize
+    requires whole { length input.now ≡ 4082 }
+    requires room { length output.old ≡ 32768 }
+    ensures { result ≤ 32768 }
+{
+    let mut samples = [0; 2041];
+    read_samples(LINEAR, input, &mut samples);
+    let mut bytes = ArrayVec::new();
+    writer.encode(&samples, 1, &mut bytes);
+    put_block(&bytes, output)
+}
+
+fn encode_ms(writer: &mut MsWriter, input: &[u8], output: &mut [u8]) -> usize
+    requires whole { length input.now ≡ 4072 }
+    requires room { length output.old ≡ 32768 }
+    ensures { result ≤ 32768 }
+{
+    let mut samples = [0; 2036];
+    read_samples(LINEAR, input, &mut samples);
+    let mut bytes = ArrayVec::new();
+    writer.encode(&samples, 1, &mut bytes);
+    put_block(&bytes, output)
+}

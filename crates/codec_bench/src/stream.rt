@@ -1,0 +1,55 @@
+ghost use Rattle.std.specs.Prelude.{◌≤◌, IfSome, length};
+
+use crate::codec::Codec;
+use snd_disk::{Sink, Source};
+
+const BLOCK: usize = 32768;
+
+/// Fills a slice as far as bytes come, and answers how many did.
+fn fill<R: Source>(source: &mut R, into: &mut [u8]) -> Option<usize>
+    ensures { IfSome result (λ n. n ≤ length into.old) }
+{
+    let mut at = 0;
+    while at < into.len() {
+        let count = source.take(&mut into[at..]).ok()?;
+        if count == 0 {
+            break;
+        }
+        at += count;
+    }
+    Some(at)
+}
+
+/// Turns all whole blocks of a source, and answers 0, or 3 at a fault.
+pub fn turn_all<R: Source, O: Sink>(codec: &mut Codec, source: &mut R, sink: &mut O) -> u8 {
+    let mut input = [0; BLOCK];
+    let mut output = [0; BLOCK];
+    for _ in 0..u64::MAX {
+        let size = codec.block_size();
+        let Some(count) = fill(source, &mut input[..size]) else {
+            return 3;
+        };
+        if count < size {
+            return 0;
+        }
+        let made = codec.turn(&input[..size], &mut output);
+        if sink.put(&output[..made]).is_err() {
+            return 3;
+        }
+    }
+    0
+}
+
+/// Turns the first block of a source many times.
+pub fn turn_again<R: Source>(codec: &mut Codec, source: &mut R, turns: u64) -> u8 {
+    let mut input = [0; BLOCK];
+    let mut output = [0; BLOCK];
+    if fill(source, &mut input).is_none() {
+        return 3;
+    }
+    for _ in 0..turns {
+        let size = codec.block_size();
+        let _ = codec.turn(&input[..size], &mut output);
+    }
+    0
+}
