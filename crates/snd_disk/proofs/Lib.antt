@@ -1,5 +1,8 @@
+pub mod Fields
 pub mod Images
 pub mod Lists
 pub mod Names
 pub mod Places
+pub mod RunsOfCalls
+pub mod Sources
 pub mod TakenOut

@@ -1,11 +1,13 @@
 pub mod Bytes
 pub mod File
 pub mod Folder
+pub mod Laws
 pub mod Memory
 pub mod MemoryShelf
 pub mod MemoryStreams
 pub mod Mixed
 pub mod Past
+pub mod Runs
 pub mod Shelf
 pub mod State
 pub mod Steady

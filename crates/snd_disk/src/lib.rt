@@ -7,6 +7,7 @@ mod call;
 mod disk;
 mod file;
 mod folder;
+pub mod laws;
 mod memory;
 mod memory_shelf;
 mod memory_streams;
