@@ -6,3 +6,4 @@ pub mod Places
 pub mod RunsOfCalls
 pub mod Sources
 pub mod TakenOut
+pub mod TwoFields

@@ -7,7 +7,7 @@ use Rattle.snd_disk.specs.Runs.{IsSource, ComesFrom, IsMade, Since, IsInOneSecto
 use Rattle.snd_disk.proofs.Sources.{comes_of_mix, comes_itself, byte_from, made_comes, made_front, made_back, same_place, same_field}
 use Rattle.snd_disk.proofs.Fields.{field_from}
 
-same_some : (x y : List ℕ) → Some x ≡ Some y → x ≡ y
+pub same_some : (x y : List ℕ) → Some x ≡ Some y → x ≡ y
 same_some x y is = cc
 
 module _ {D : Type 0} (state : D → State) (may_leave : D → List ℕ → Type 0) (left_between : D → ℕ → ℕ → List ℕ → Type 0) where

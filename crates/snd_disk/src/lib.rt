@@ -15,6 +15,7 @@ mod shelf;
 mod std_streams;
 mod steady;
 mod streams;
+mod two_fields;
 
 pub use call::{Call, End, FailingCall, Made};
 pub use disk::{Disk, Failed, Step};
@@ -27,3 +28,4 @@ pub use shelf::{Shelf, ShelfFault};
 pub use std_streams::{ReaderSource, WriterSink};
 pub use steady::SteadyDisk;
 pub use streams::{Sink, Source};
+pub use two_fields::patch_two;
