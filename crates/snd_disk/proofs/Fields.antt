@@ -1,8 +1,8 @@
 -- Fields that a crash leaves whole.
-use Rattle.std.proofs.Common.{◌≡◌, ◌⊎◌, inl, inr, ⊎_elim, ℕ, ◌+◌, ◌-◌, ◌<◌, ◌≤◌, ◌/◌, List, [], ◌∷◌, ◌++◌, length, get_or, take, drop, replicate, refl, sym, ◌∙◌, ap, subst, arith, rules}
+use Rattle.std.proofs.Common.{◌≡◌, ◌⊎◌, inl, inr, ⊎_elim, ℕ, ◌+◌, ◌<◌, ◌≤◌, ◌/◌, List, [], ◌∷◌, length, get_or, ◌∙◌, ap, arith}
 use Rattle.std.proofs.lemmas.List.{places, get_or-take}
-use Rattle.snd_disk.specs.Bytes.{over, Mix, HasSectorOf}
-use Rattle.snd_disk.specs.Runs.{IsSource, ComesFrom, IsMade, IsInOneSector, HasFieldOf, HasAt, IsBeside, IsWriting, AreApart, IsPatching}
+use Rattle.snd_disk.specs.Bytes.{over, Mix}
+use Rattle.snd_disk.specs.Runs.{IsSource, ComesFrom, IsMade, IsInOneSector, HasFieldOf, HasAt, IsBeside, IsWriting}
 use Rattle.snd_disk.proofs.Lists.{length-over}
 use Rattle.snd_disk.proofs.Sources.{byte_from}
 

@@ -1,5 +1,6 @@
+pub mod AfterCall
 pub mod Fields
-pub mod Images
+pub mod ListedBytes
 pub mod Lists
 pub mod Names
 pub mod Places

@@ -1,8 +1,8 @@
 -- The three steps of a change of two fields.
-use Rattle.std.proofs.Common.{◌≡◌, ◌⊎◌, inl, inr, ⊎_elim, ℕ, ◌+◌, ◌-◌, ◌<◌, ◌≤◌, ◌/◌, List, [], ◌∷◌, ◌++◌, length, get_or, refl, sym, ◌∙◌, ap, subst, arith, rules}
+use Rattle.std.proofs.Common.{◌≡◌, ◌⊎◌, inl, inr, ⊎_elim, ℕ, ◌+◌, ◌<◌, ◌≤◌, List, [], ◌∷◌, length, ◌∙◌, arith}
 use Rattle.snd_disk.specs.Bytes.{over}
 use Rattle.snd_disk.specs.State.{State}
-use Rattle.snd_disk.specs.Runs.{IsSource, IsMade, Since, IsInOneSector, HasFieldOf, HasAt, IsBeside, IsWriting, AreApart, IsPatching}
+use Rattle.snd_disk.specs.Runs.{Since, HasFieldOf, HasAt, IsBeside, IsWriting, AreApart, IsPatching}
 use Rattle.snd_disk.proofs.Fields.{same_length, over_beside, over_in, one_field_changes}
 
 module _ (b : List ℕ) (at : ℕ) (v : List ℕ) (at' : ℕ) (w : List ℕ) (fits : at + length v ≤ length b) (fits' : at' + length w ≤ length b) (apart : AreApart at (length v) at' (length w)) where

@@ -1,5 +1,5 @@
 -- The laws of disks: what a crash may leave after one call and after a run of calls.
-use Rattle.std.specs.Prelude.{◌≡◌, ◌⊎◌, ◌+◌, ◌<◌, ◌≤◌, ℕ, List, [], ◌∷◌, ◌++◌, length, get_or, Option, Some}
+use Rattle.std.specs.Prelude.{◌≡◌, ◌⊎◌, ◌+◌, ◌≤◌, ℕ, List, [], ◌∷◌, ◌++◌, length, get_or, Some}
 use Rattle.std.specs.List.{All}
 use Rattle.snd_disk.specs.Bytes.{Mix, over}
 use Rattle.snd_disk.specs.State.{State, Keeps, SameImages, KeepsImages, Mixes, Passes}

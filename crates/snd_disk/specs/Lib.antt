@@ -2,6 +2,7 @@ pub mod Bytes
 pub mod File
 pub mod Folder
 pub mod Laws
+pub mod Listed
 pub mod Memory
 pub mod MemoryShelf
 pub mod MemoryStreams

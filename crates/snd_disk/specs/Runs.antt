@@ -1,7 +1,7 @@
 -- Where the bytes come from that a crash leaves while a run of calls changes a disk.
 use Rattle.std.specs.Prelude.{◌≡◌, ◌⊎◌, ◌+◌, ◌-◌, ◌<◌, ◌≤◌, ◌/◌, ℕ, List, [], ◌∷◌, length, take, get_or}
 use Rattle.snd_disk.specs.State.{State}
-use Rattle.snd_disk.specs.Bytes.{over, HasSectorOf}
+use Rattle.snd_disk.specs.Bytes.{HasSectorOf}
 
 -- y is an image of the start, or one of the lists that the disk has held, or was to hold, since then
 abbrev pub IsSource : (List ℕ → Type 0) → List (List ℕ) → List ℕ → Type 0

@@ -1,4 +1,4 @@
-use Rattle.std.proofs.Common.{◌≡◌, ◌∙◌, sym, ap, arith, List, ℕ, length, Some, option_map}
+use Rattle.std.proofs.Common.{◌≡◌, ◌∙◌, sym, ap, arith, Some, option_map}
 use Rattle.snd_disk.specs.Bytes.{over}
 use Rattle.snd_disk.proofs.RunsOfCalls.{same_some}
 use Rattle.snd_disk.proofs.TwoFields.{settled, first_put, second_put}

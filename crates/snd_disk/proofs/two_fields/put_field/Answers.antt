@@ -1,4 +1,4 @@
-use Rattle.std.proofs.Common.{List, ℕ, [], ◌∷◌}
+use Rattle.std.proofs.Common.{[], ◌∷◌}
 use Rattle.snd_disk.specs.Bytes.{over}
 use Rattle.snd_disk.proofs.RunsOfCalls.{change_is_run, runs_join}
 use Rattle.snd_disk.proofs.two_fields.put_field.Goals as goal
