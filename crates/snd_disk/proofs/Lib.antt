@@ -1,5 +1,10 @@
-pub mod Images
+pub mod AfterCall
+pub mod Fields
+pub mod ListedBytes
 pub mod Lists
 pub mod Names
 pub mod Places
+pub mod RunsOfCalls
+pub mod Sources
 pub mod TakenOut
+pub mod TwoFields

@@ -1,5 +1,5 @@
 -- Lists of bytes.
-use Rattle.std.proofs.Common.{◌≡◌, ℕ, ◌+◌, ◌-◌, ◌<◌, ◌≤◌, List, [], ◌∷◌, ◌++◌, length, take, drop, get_or, replicate, max, refl, sym, ◌∙◌, ap, subst, arith, rules}
+use Rattle.std.proofs.Common.{◌≡◌, ℕ, ◌+◌, ◌-◌, List, ◌++◌, length, take, drop, replicate, max, arith}
 use Rattle.std.proofs.lemmas.List.{places, same_lists}
 use Rattle.snd_disk.specs.Bytes.{over}
 

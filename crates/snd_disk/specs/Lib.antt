@@ -2,12 +2,15 @@ pub mod Bytes
 pub mod Chains
 pub mod File
 pub mod Folder
+pub mod Laws
+pub mod Listed
 pub mod Memory
 pub mod MemoryShelf
 pub mod MemoryStreams
 pub mod Mixed
 pub mod Past
 pub mod Returned
+pub mod Runs
 pub mod Shelf
 pub mod State
 pub mod Steady

@@ -1,7 +1,6 @@
 -- Mixes that are known to be mixes, for the laws that disks owe.
-use Rattle.std.specs.Prelude.{◌≡◌, ◌<◌, ◌≤◌, ◌⊎◌, ℕ, ◌+◌, ◌/◌, List, [], ◌∷◌, length, take, get_or, refl, max, nat_lt, nat_le, Bool, true, false, map}
-use Rattle.std.specs.List.{range_with_len}
-use Rattle.std.proofs.Common.{ap, subst, sym, ◌∙◌, arith, inl, inr, cond}
+use Rattle.std.specs.Prelude.{◌≡◌, ◌⊎◌, ℕ, ◌/◌, List, [], ◌∷◌, length, take, get_or, refl, max, nat_lt, nat_le, Bool, true, false}
+use Rattle.std.proofs.Common.{ap, ◌∙◌, arith, inl, inr, cond}
 use Rattle.std.proofs.lemmas.Bool.{cases_Bool}
 use Rattle.std.proofs.lemmas.List.FromFn.{length-map-range_with_len, get_or-map-range_with_len}
 use Rattle.snd_disk.specs.Bytes.{Mix, HasSectorOf, over, partly, with_sectors_of, sectors_of}

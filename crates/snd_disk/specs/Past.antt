@@ -1,5 +1,5 @@
 -- What a crash may leave after a list of calls on a file that was synced.
-use Rattle.std.specs.Prelude.{◌≡◌, ◌⊎◌, ◌<◌, ◌≤◌, ℕ, List, [], ◌∷◌, ◌++◌, length, take}
+use Rattle.std.specs.Prelude.{◌≡◌, ◌≤◌, ℕ, List, [], ◌∷◌, length, take}
 use Rattle.snd_disk.specs.Bytes.{Mix, over, partly}
 use Rattle.snd_disk.specs.declared.call.Call.{Call}
 use Rattle.snd_disk.specs.declared.call.Call.TheVariants.{Write, Cut, Sync}

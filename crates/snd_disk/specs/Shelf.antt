@@ -1,9 +1,9 @@
 -- What is known of a shelf, and how a call may change it.
-use Rattle.std.specs.Prelude.{◌≡◌, ◌⊎◌, ◌+◌, ◌<◌, ◌≤◌, ℕ, List, [], Bool, true, false, Option, Some, None, unwrap_or, Result, Ok, Err, if◌then◌else◌}
+use Rattle.std.specs.Prelude.{◌≡◌, ◌⊎◌, ◌≤◌, ℕ, List, [], Bool, true, false, Option, Some, None, unwrap_or, Result, Err, if◌then◌else◌}
 use Rattle.std.specs.Str.{bytes_eq}
 use Rattle.snd_disk.specs.State.{State, Rises, Adds, KeepsImages}
 use Rattle.snd_disk.specs.declared.shelf.ShelfFault.{ShelfFault}
-use Rattle.snd_disk.specs.declared.shelf.ShelfFault.TheVariants.{Missing, Failed, Memory}
+use Rattle.snd_disk.specs.declared.shelf.ShelfFault.TheVariants.{Failed}
 
 -- the bytes of each file that is there, by its name
 abbrev pub Files : Type 0

@@ -1,5 +1,5 @@
 -- What is known of a disk, and how a call may change it.
-use Rattle.std.specs.Prelude.{◌≡◌, ◌⊎◌, ℕ, ◌+◌, ◌-◌, ◌<◌, ◌≤◌, List, ◌++◌, length, take, drop, Option, Some, option_map, Result, OnOk, OnErr}
+use Rattle.std.specs.Prelude.{◌≡◌, ◌⊎◌, ℕ, ◌+◌, ◌<◌, ◌≤◌, List, take, drop, Option, Some, option_map, Result, OnOk, OnErr}
 use Rattle.snd_disk.specs.Bytes.{Mix}
 use Rattle.snd_disk.specs.declared.disk.Failed.{Failed}
 

@@ -1,5 +1,5 @@
 -- What a source gives and what a sink takes.
-use Rattle.std.specs.Prelude.{◌≡◌, ◌⊎◌, ◌≤◌, ◌↔◌, ℕ, List, [], ◌++◌, length, take, drop, Option, Some}
+use Rattle.std.specs.Prelude.{◌≡◌, ◌⊎◌, ◌≤◌, ℕ, List, [], ◌++◌, length, take, drop, Option, Some}
 
 -- n bytes came, in order, and none exactly where none was asked or none was left
 pub record TakesBytes (old new : Option (List ℕ)) (n : ℕ) (was into : List ℕ) : Type 0 where

@@ -7,6 +7,8 @@ mod call;
 mod disk;
 mod file;
 mod folder;
+mod images;
+pub mod laws;
 mod memory;
 mod memory_shelf;
 mod memory_streams;
@@ -14,11 +16,13 @@ mod shelf;
 mod std_streams;
 mod steady;
 mod streams;
+mod two_fields;
 
 pub use call::{Call, End, FailingCall, Made};
 pub use disk::{Disk, Failed, Step};
 pub use file::FileDisk;
 pub use folder::FolderShelf;
+pub use images::images_between;
 pub use memory::MemoryDisk;
 pub use memory_shelf::MemoryShelf;
 pub use memory_streams::{FailingPut, MemorySink, MemorySource};
@@ -26,3 +30,7 @@ pub use shelf::{Shelf, ShelfFault};
 pub use std_streams::{ReaderSource, WriterSink};
 pub use steady::SteadyDisk;
 pub use streams::{Sink, Source};
+pub use two_fields::patch_two;
+
+#[cfg(test)]
+mod tests;

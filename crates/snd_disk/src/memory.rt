@@ -42,7 +42,7 @@ fn copy_to(bytes: &mut [u8], at: usize, from: &[u8])
 }
 
 /// Puts bytes over others, which stay where there is no memory.
-fn put_over(bytes: &mut Vec<u8>, at: usize, from: &[u8]) -> Result<(), AllocError>
+pub(crate) fn put_over(bytes: &mut Vec<u8>, at: usize, from: &[u8]) -> Result<(), AllocError>
     requires { at + length from.now < 2 ^ 63 }
     ensures ok { OnOk result (bytes.new.items ≡ over bytes.old.items at from.now) }
     ensures err { OnErr result (bytes.new.items ≡ bytes.old.items) }
@@ -52,7 +52,7 @@ fn put_over(bytes: &mut Vec<u8>, at: usize, from: &[u8]) -> Result<(), AllocErro
     Ok(())
 }
 
-fn byte_or_zero(bytes: &[u8], i: usize) -> u8
+pub(crate) fn byte_or_zero(bytes: &[u8], i: usize) -> u8
     ensures { result ≡ get_or bytes.now i 0 }
 {
     bytes.get(i).copied().unwrap_or(0)
@@ -81,7 +81,7 @@ fn with_sectors(alloc: Global, old: &[u8], new: &[u8], sectors: u64) -> Result<V
 }
 
 /// What a broken call leaves.
-fn partly_changed(
+pub(crate) fn partly_changed(
     alloc: Global,
     old: &[u8],
     new: &[u8],

@@ -1,4 +1,4 @@
-use Rattle.std.proofs.Common.{◌≡◌, ◌+◌, ◌-◌, ◌++◌, length, replicate, take, drop, rules, refl, arith}
+use Rattle.std.proofs.Common.{◌≡◌, ◌+◌, ◌-◌, ◌++◌, length, replicate, take, drop, rules}
 use Rattle.snd_disk.proofs.Lists.{over_lengthened}
 use Rattle.snd_disk.proofs.memory.put_over.Goals as goal
 

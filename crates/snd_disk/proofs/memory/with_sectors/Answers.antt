@@ -1,4 +1,4 @@
-use Rattle.std.proofs.Common.{◌≡◌, ◌/◌, ℕ, get_or, cond, ltb, arith, rules, ap, ◌∙◌, sym, ◌++◌, ◌∷◌, []}
+use Rattle.std.proofs.Common.{◌/◌, get_or, cond, arith, rules}
 use Rattle.std.specs.Prelude.{nat_lt}
 use Rattle.std.proofs.lemmas.List.FromFn.{map-range_with_len_more}
 use Rattle.snd_disk.proofs.memory.with_sectors.Goals as goal

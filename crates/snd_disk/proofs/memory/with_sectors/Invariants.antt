@@ -1,4 +1,4 @@
-use Rattle.std.proofs.Common.{◌≡◌, ◌/◌, ℕ, map, get_or, cond, ltb}
+use Rattle.std.proofs.Common.{◌≡◌, ◌/◌, map, get_or, cond}
 use Rattle.std.specs.List.{range_with_len}
 use Rattle.std.specs.Prelude.{nat_lt}
 use Rattle.snd_disk.proofs.memory.with_sectors.Given as goal

@@ -1,4 +1,4 @@
-use Rattle.std.proofs.Common.{◌≡◌, rules, refl, ap, ◌∙◌, List}
+use Rattle.std.proofs.Common.{refl, ap, ◌∙◌, List}
 use Rattle.snd_disk.specs.MemoryShelf.{entry_at}
 use Rattle.snd_disk.specs.declared.memory_shelf.Entry.{Entry}
 use Rattle.std.specs.String.{string_bytes}

@@ -1,4 +1,4 @@
-use Rattle.std.proofs.Common.{◌≡◌, ◌+◌, ◌∷◌, [], ℕ, List, suc, drop, get_or, Option, Some, None, option_map, Bool, true, false, cond, refl, sym, ap, ◌∙◌, subst, rules, arith, add-zero}
+use Rattle.std.proofs.Common.{◌≡◌, ◌+◌, ◌∷◌, ℕ, List, suc, drop, Option, Some, None, option_map, Bool, true, false, cond, refl, sym, ap, ◌∙◌, rules, arith, add-zero}
 use Rattle.std.proofs.lemmas.List.{drop_more}
 use Rattle.std.specs.String.{string_bytes}
 use Rattle.std.specs.Str.{bytes_eq}

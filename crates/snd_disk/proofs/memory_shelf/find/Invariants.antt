@@ -1,4 +1,4 @@
-use Rattle.std.proofs.Common.{◌≡◌, ◌+◌, ℕ, drop, option_map}
+use Rattle.std.proofs.Common.{◌≡◌, ◌+◌, drop, option_map}
 use Rattle.snd_disk.specs.MemoryShelf.{place_of}
 use Rattle.snd_disk.proofs.memory_shelf.find.Given as goal
 

@@ -1,4 +1,4 @@
-use Rattle.std.proofs.Common.{ap, ◌∙◌, rules, List}
+use Rattle.std.proofs.Common.{ap, ◌∙◌, List}
 use Rattle.snd_disk.specs.Folder.{is_out}
 use Rattle.snd_disk.specs.declared.folder.Taken.{Taken}
 use Rattle.snd_disk.proofs.TakenOut.{is_out-push}

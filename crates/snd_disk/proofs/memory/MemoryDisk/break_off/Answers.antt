@@ -1,7 +1,6 @@
 use Rattle.std.proofs.Common.{rules}
-use Rattle.snd_disk.specs.declared.call.Call.TheVariants.{Write, Cut, Sync}
-use Rattle.snd_disk.specs.declared.call.End.TheVariants.{Done, Broken}
-use Rattle.snd_disk.proofs.Images.{kept_push}
+use Rattle.snd_disk.specs.declared.call.End.TheVariants.{Broken}
+use Rattle.snd_disk.proofs.AfterCall.{kept_push}
 use Rattle.snd_disk.proofs.memory.MemoryDisk.break_off.Goals as goal
 
 pub invariant_of-self-2 : goal.invariant_of-self-2

@@ -1,5 +1,5 @@
-use Rattle.std.proofs.Common.{rules, is_ok}
-use Rattle.snd_disk.proofs.Images.{kept_sync}
+use Rattle.std.proofs.Common.{is_ok}
+use Rattle.snd_disk.proofs.AfterCall.{kept_sync}
 use Rattle.snd_disk.proofs.memory.MemoryDisk.settle.Goals as goal
 
 pub invariant_of-self : goal.invariant_of-self

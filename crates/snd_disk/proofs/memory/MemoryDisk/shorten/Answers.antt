@@ -1,7 +1,7 @@
 use Rattle.std.proofs.Common.{rules}
-use Rattle.snd_disk.specs.declared.call.Call.TheVariants.{Write, Cut, Sync}
-use Rattle.snd_disk.specs.declared.call.End.TheVariants.{Done, Broken}
-use Rattle.snd_disk.proofs.Images.{kept_push}
+use Rattle.snd_disk.specs.declared.call.Call.TheVariants.{Cut}
+use Rattle.snd_disk.specs.declared.call.End.TheVariants.{Done}
+use Rattle.snd_disk.proofs.AfterCall.{kept_push}
 use Rattle.snd_disk.proofs.memory.MemoryDisk.shorten.Goals as goal
 
 pub invariant_of-self-2 : goal.invariant_of-self-2

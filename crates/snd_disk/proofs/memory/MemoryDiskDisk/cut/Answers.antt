@@ -1,10 +1,10 @@
-use Rattle.std.proofs.Common.{◌≡◌, rules, subst, List, ℕ, arith}
+use Rattle.std.proofs.Common.{subst}
 use Rattle.snd_disk.specs.Memory.{Notes, MayNote}
 use Rattle.snd_disk.specs.declared.call.Call.TheVariants.{Cut}
 use Rattle.snd_disk.specs.declared.call.End.TheVariants.{Done, Broken}
 use Rattle.snd_disk.specs.declared.call.Made.{Made}
 use Rattle.snd_disk.specs.declared.memory.MemoryDisk.{MemoryDisk}
-use Rattle.snd_disk.proofs.Images.{mixes_cut, all_cut, passes_may, between_cut, on_err, on_ok}
+use Rattle.snd_disk.proofs.AfterCall.{mixes_cut, all_cut, passes_may, between_cut, on_err, on_ok}
 use Rattle.snd_disk.proofs.memory.MemoryDiskDisk.cut.Goals as goal
 
 pub returns-in-None-clause-images : goal.returns-in-None-clause-images

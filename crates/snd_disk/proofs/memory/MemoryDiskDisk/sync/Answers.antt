@@ -1,10 +1,10 @@
-use Rattle.std.proofs.Common.{◌≡◌, rules, inl, subst, ap, ◌∙◌, sym, List, ℕ, Some, arith}
-use Rattle.snd_disk.specs.Memory.{memory_state, memory_left, Notes, MayNote}
+use Rattle.std.proofs.Common.{◌≡◌, inl, subst, ap, ◌∙◌}
+use Rattle.snd_disk.specs.Memory.{Notes, MayNote}
 use Rattle.snd_disk.specs.declared.call.Call.TheVariants.{Sync}
 use Rattle.snd_disk.specs.declared.call.End.TheVariants.{Done, Broken}
 use Rattle.snd_disk.specs.declared.call.Made.{Made}
 use Rattle.snd_disk.specs.declared.memory.MemoryDisk.{MemoryDisk}
-use Rattle.snd_disk.proofs.Images.{only_settled, same_unsettled, passes_may, on_err, on_ok}
+use Rattle.snd_disk.proofs.AfterCall.{only_settled, same_unsettled, passes_may, on_err, on_ok}
 use Rattle.snd_disk.proofs.memory.MemoryDiskDisk.sync.Goals as goal
 
 pub returns-in-None-clause-done : goal.returns-in-None-clause-done

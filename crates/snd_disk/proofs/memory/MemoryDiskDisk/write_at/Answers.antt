@@ -1,11 +1,10 @@
-use Rattle.std.proofs.Common.{◌≡◌, rules, subst, List, ℕ, arith}
-use Rattle.snd_disk.specs.Bytes.{over}
+use Rattle.std.proofs.Common.{◌≡◌, rules, subst}
 use Rattle.snd_disk.specs.Memory.{Notes, MayNote}
 use Rattle.snd_disk.specs.declared.call.Call.TheVariants.{Write}
 use Rattle.snd_disk.specs.declared.call.End.TheVariants.{Done, Broken}
 use Rattle.snd_disk.specs.declared.call.Made.{Made}
 use Rattle.snd_disk.specs.declared.memory.MemoryDisk.{MemoryDisk}
-use Rattle.snd_disk.proofs.Images.{mixes_write, all_write, passes_may, between_write, on_err, on_ok}
+use Rattle.snd_disk.proofs.AfterCall.{mixes_write, all_write, passes_may, between_write, on_err, on_ok}
 use Rattle.snd_disk.proofs.memory.MemoryDiskDisk.write_at.Goals as goal
 
 pub returns-in-None-clause-images : goal.returns-in-None-clause-images

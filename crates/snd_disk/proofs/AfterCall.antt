@@ -1,17 +1,16 @@
 -- What a crash may leave after one call more.
-use Rattle.std.proofs.Common.{◌≡◌, ◌⊎◌, inl, inr, ℕ, ◌+◌, ◌<◌, ◌≤◌, List, [], ◌∷◌, ◌++◌, length, take, drop, max, Vec, Option, Some, option_map, Result, Ok, Err, OnOk, OnErr, Bool, true, false, cond, refl, sym, ◌∙◌, ap, subst, arith, length-append}
+use Rattle.std.proofs.Common.{◌≡◌, ◌⊎◌, inl, inr, ℕ, ◌+◌, ◌<◌, ◌≤◌, List, [], ◌∷◌, ◌++◌, length, take, max, Vec, Some, option_map, Result, Ok, Err, OnOk, OnErr, Bool, true, false, cond, refl, sym, ◌∙◌, ap, subst, arith, length-append}
 use Rattle.std.proofs.lemmas.List.{take_all, take-append-le, length-take-le}
 use Rattle.std.proofs.lemmas.Bool.{cases_lt}
 use Rattle.std.specs.String.{string_bytes}
 use Rattle.std.specs.declared.alloc.Global.{Global}
 use Rattle.snd_disk.specs.Bytes.{Mix, over, partly}
 use Rattle.snd_disk.proofs.Lists.{length-over}
-use Rattle.snd_disk.specs.Mixed.{mix_first, mix_second, mix_partly}
-use Rattle.snd_disk.specs.State.{Mixes, MixesAll, Passes, SameImages, KeepsImages, IsBetween, State}
+use Rattle.snd_disk.specs.Mixed.{mix_first, mix_partly}
+use Rattle.snd_disk.specs.State.{Mixes, MixesAll, Passes, SameImages, KeepsImages, IsBetween}
 use Rattle.snd_disk.specs.Past.{contents_after, contents_by, image_after, image_by, image_of, image_between}
 use Rattle.snd_disk.specs.Memory.{memory_state, memory_left, memory_between, Notes, Stays, MayNote}
 use Rattle.snd_disk.specs.declared.call.Call.TheVariants.{Write, Cut, Sync}
-use Rattle.snd_disk.specs.declared.call.Call.{Call}
 use Rattle.snd_disk.specs.declared.call.End.{End}
 use Rattle.snd_disk.specs.declared.call.End.TheVariants.{Done, Broken}
 use Rattle.snd_disk.specs.declared.call.Made.{Made}
@@ -25,11 +24,11 @@ contents_by-push c (p ∷ calls) b = contents_by-push c calls (contents_after p 
 pub kept_push : (first b next : List ℕ) (calls calls' : List Made) (c : Made) → b ≡ contents_by calls first → calls' ≡ calls ++ c ∷ [] → next ≡ contents_after c b → next ≡ contents_by calls' first
 kept_push first b next calls calls' c kept noted is = is ∙ ap (contents_after c) kept ∙ sym (contents_by-push c calls first) ∙ ap (λ (l : List Made). contents_by l first) (sym noted)
 
-image_by-push : (c : Made) (calls : List Made) (b : List ℕ) (before : List ℕ → Type 0) (x : List ℕ) → image_by (calls ++ c ∷ []) b before x → image_after c.call c.end (contents_by calls b) (image_by calls b before) x
+pub image_by-push : (c : Made) (calls : List Made) (b : List ℕ) (before : List ℕ → Type 0) (x : List ℕ) → image_by (calls ++ c ∷ []) b before x → image_after c.call c.end (contents_by calls b) (image_by calls b before) x
 image_by-push c [] b before x left = left
 image_by-push c (p ∷ calls) b before x left = image_by-push c calls (contents_after p b) (image_after p.call p.end b before) x left
 
-image_by-pushed : (c : Made) (calls : List Made) (b : List ℕ) (before : List ℕ → Type 0) (x : List ℕ) → image_after c.call c.end (contents_by calls b) (image_by calls b before) x → image_by (calls ++ c ∷ []) b before x
+pub image_by-pushed : (c : Made) (calls : List Made) (b : List ℕ) (before : List ℕ → Type 0) (x : List ℕ) → image_after c.call c.end (contents_by calls b) (image_by calls b before) x → image_by (calls ++ c ∷ []) b before x
 image_by-pushed c [] b before x left = left
 image_by-pushed c (p ∷ calls) b before x left = image_by-pushed c calls (contents_after p b) (image_after p.call p.end b before) x left
 
