@@ -1,4 +1,5 @@
 ghost use Rattle.std.specs.Prelude.{◌≡◌, ◌≤◌, List, ℕ, Some, false, IfSome, IfOk, OnOk, OnErr, IsErrOf};
+ghost use Rattle.snd_disk.specs.Returned.{KeepsFileImages};
 ghost use Rattle.snd_disk.specs.Shelf.{Files, KeepsFiles};
 ghost use Rattle.snd_disk.specs.State.{Rises, AtMost, OnlyReads};
 ghost use Rattle.snd_wave.specs.Plain.{plain};
@@ -67,6 +68,7 @@ pub fn look<S: Shelf>(shelf: &mut S, name: &str) -> Result<Found, Stop>
     ensures playable { IfOk result IsPlayable }
     ensures back { (n : List ℕ) → (S.state shelf.new).out n ≡ (S.state shelf.old).out n }
     ensures files { KeepsFiles (S.state shelf.old) (S.state shelf.new) }
+    ensures images { KeepsFileImages (S.state shelf.old) (S.state shelf.old).clock (S.state shelf.new).clock (S.may_leave shelf.old) (S.may_leave shelf.new) (S.left_between shelf.old) (S.left_between shelf.new) }
     ensures failed { IsErrOf result Stop.Fault → Rises (S.state shelf.old).faults (S.state shelf.new).faults }
     ensures calm { OnOk result ((S.state shelf.new).faults ≡ (S.state shelf.old).faults) }
 {

@@ -1,5 +1,6 @@
 ghost use Rattle.std.specs.Prelude.{◌≡◌, ◌⊎◌, List, ℕ, Option, Some, None, false, IfOk, option_map};
 ghost use Rattle.std.specs.List.{list_all};
+ghost use Rattle.snd_disk.specs.Returned.{KeepsFileImages};
 ghost use Rattle.snd_disk.specs.Shelf.{Files, KeepsFiles};
 ghost use Rattle.snd_disk.specs.State.{Rises};
 ghost use Rattle.snd_app.specs.Outcome.{outcome, info_name, bad_words, is_name, is_printed, text_of, IsPlayable};
@@ -99,9 +100,10 @@ pub fn run<S: Shelf, O: Sink, E: Sink>(
     // Also over files that are not told.
     ensures fault { result ≡ 3 → Rises (S.state shelf.old).faults (S.state shelf.new).faults ⊎ (Rises (O.faults out.old) (O.faults out.new) ⊎ Rises (E.faults err.old) (E.faults err.new)) }
 
-    // Every file that was taken is given back, and no file changes.
+    // Every file that was taken is given back, and no file changes, nor what a crash may leave of one.
     ensures back { IsAllIn (S.state shelf.new) }
     ensures files { KeepsFiles (S.state shelf.old) (S.state shelf.new) }
+    ensures images { KeepsFileImages (S.state shelf.old) (S.state shelf.old).clock (S.state shelf.new).clock (S.may_leave shelf.old) (S.may_leave shelf.new) (S.left_between shelf.old) (S.left_between shelf.new) }
 {
     let Some(name) = name_to_describe(words) else {
         return put_text(err, b"snd: bad words\n", 2);
