@@ -1,6 +1,8 @@
 -- What a list is after a few pushes, beside what is still to come.
 use Rattle.std.proofs.Common.{◌≡◌, ℤ, List, [], ◌∷◌, ◌++◌, append_assoc}
-use Rattle.snd_adpcm.specs.Frames.{alternating}
+use Rattle.std.specs.List.{All}
+use Rattle.std.proofs.lemmas.List.Elements.{All-same, All-push}
+use Rattle.snd_adpcm.specs.Frames.{Is16Bit, alternating}
 
 -- two frames of two channels
 pub two_frames : (items one two three four whole : List ℤ) (a b d e : ℤ) (left right lefts rights : List ℤ) →
@@ -21,3 +23,8 @@ two_samples items one two whole a b all rest p q l h = rw (q, p) (simp append_as
 
 pub alternating-same : {X : Type 0} (xs ys us vs : List X) → xs ≡ us → ys ≡ vs → alternating xs ys ≡ alternating us vs
 alternating-same xs ys us vs p q = rw (p, q)
+
+-- pushes of numbers of 16 bits
+pub range_of_two : (items one two : List ℤ) (a b : ℤ) → one ≡ items ++ a ∷ [] → two ≡ one ++ b ∷ [] → All Is16Bit items → Is16Bit a → Is16Bit b → All Is16Bit two
+range_of_two items one two a b p q all x y =
+    All-same Is16Bit two (one ++ b ∷ []) q (All-push Is16Bit one b (All-same Is16Bit one (items ++ a ∷ []) p (All-push Is16Bit items a all x)) y)

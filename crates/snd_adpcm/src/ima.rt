@@ -1,9 +1,9 @@
 //! IMA ADPCM in WAVE files: a block's samples.
 
-ghost use Rattle.std.specs.Prelude.{◌≡◌, ◌+◌, ◌*◌, ◌-◌, ◌/◌, ◌%◌, ◌<◌, ◌≤◌, ◌≤ℤ◌, ◌⊎◌, ◌↔◌, pos, negsuc, length, [], ◌∷◌, ◌++◌, slice_index, IsTrue, OnOk, OnErr, IsErr};
+ghost use Rattle.std.specs.Prelude.{◌≡◌, ◌+◌, ◌*◌, ◌-◌, ◌/◌, ◌%◌, ◌<◌, ◌≤◌, ◌≤ℤ◌, All, ◌⊎◌, ◌↔◌, pos, negsuc, length, [], ◌∷◌, ◌++◌, slice_index, IsTrue, OnOk, OnErr, IsErr};
 ghost use Rattle.arrayvec.specs.ArrayVec.{array_vec_len};
-ghost use Rattle.snd_adpcm.specs.Frames.{alternating};
-ghost use Rattle.snd_adpcm.specs.Ima.{ima_predictor, ima_index, ima_code, ima_first, ima_start_index, is_ima_align, is_bad_ima_block, ima_channel, ima_block};
+ghost use Rattle.snd_adpcm.specs.Frames.{Is16Bit, alternating};
+ghost use Rattle.snd_adpcm.specs.Ima.{ima_predictor, ima_index, ima_code, ima_first, ima_start_index, is_ima_align, ima_samples_per_block, is_bad_ima_block, ima_channel, ima_block};
 
 use crate::BadBlock;
 use crate::number::{high_code, low_code, number_of};
@@ -78,7 +78,9 @@ fn decode_mono(bytes: &[u8], into: &mut ArrayVec<i32, 16384>)
     requires room { length bytes.now ≤ 8192 }
     requires good { ima_start_index 0 bytes.now ≤ 88 }
     requires empty { into.old.items ≡ [] }
-    ensures { into.new.items ≡ ima_channel 1 0 bytes.now }
+    ensures samples { into.new.items ≡ ima_channel 1 0 bytes.now }
+    ensures count { length into.new.items ≡ 2 * (length bytes.now - 4) + 1 }
+    ensures range { All Is16Bit into.new.items }
 {
     let mut state = ImaState::of_head(bytes, 0);
     into.push(state.predictor);
@@ -99,7 +101,9 @@ fn decode_stereo(bytes: &[u8], into: &mut ArrayVec<i32, 16384>)
     requires good_left { ima_start_index 0 bytes.now ≤ 88 }
     requires good_right { ima_start_index 1 bytes.now ≤ 88 }
     requires empty { into.old.items ≡ [] }
-    ensures { into.new.items ≡ alternating (ima_channel 2 0 bytes.now) (ima_channel 2 1 bytes.now) }
+    ensures samples { into.new.items ≡ alternating (ima_channel 2 0 bytes.now) (ima_channel 2 1 bytes.now) }
+    ensures count { length into.new.items ≡ 4 * (length bytes.now / 2 - 4) + 2 }
+    ensures range { All Is16Bit into.new.items }
 {
     let mut left = ImaState::of_head(bytes, 0);
     let mut right = ImaState::of_head(bytes, 1);
@@ -146,6 +150,8 @@ impl ImaBlock {
         requires align { IsTrue (is_ima_align channels (length bytes.now)) }
         requires most { length bytes.now ≤ 8192 }
         ensures samples { OnOk result (into.new.items ≡ ima_block channels bytes.now) }
+        ensures count { OnOk result (length into.new.items ≡ channels * ima_samples_per_block channels (length bytes.now)) }
+        ensures range { All Is16Bit into.new.items }
         ensures bad { IsErr result ↔ IsTrue (is_bad_ima_block channels bytes.now) }
         ensures empty { OnErr result (into.new.items ≡ []) }
     {

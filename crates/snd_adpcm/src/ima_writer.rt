@@ -111,7 +111,7 @@ fn encode_stereo(
 ) -> (usize, usize)
     requires whole { length samples.now % 16 ≡ 2 }
     requires range { All Is16Bit samples.now }
-    requires room { 8 + length samples.now / 2 ≤ 8193 }
+    requires room { 7 + length samples.now / 2 ≤ 8192 }
     requires left_index { left ≤ 88 }
     requires right_index { right ≤ 88 }
     requires empty { into.old.items ≡ [] }

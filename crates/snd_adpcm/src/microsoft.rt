@@ -1,8 +1,8 @@
 //! Microsoft ADPCM in WAVE files: a block's samples.
 
-ghost use Rattle.std.specs.Prelude.{◌≡◌, ◌+◌, ◌*◌, ◌-◌, ◌/◌, ◌%◌, ◌<◌, ◌≤◌, ◌^◌, ◌*ℤ◌, ◌≤ℤ◌, ◌⊎◌, ◌↔◌, pos, negsuc, length, [], ◌∷◌, ◌++◌, slice_index, IsTrue, OnOk, OnErr, IsErr, unsigned_abs};
-ghost use Rattle.snd_adpcm.specs.Frames.{alternating, high_half_first, firsts, seconds, floor_div};
-ghost use Rattle.snd_adpcm.specs.Microsoft.{newer_weight, older_weight, adaptation, ms_prediction, signed_code, ms_sample, ms_delta, ms_samples, number_at, ms_number, ms_start_delta, ms_newer, ms_older, is_ms_align, is_bad_ms_block, ms_channel, ms_block};
+ghost use Rattle.std.specs.Prelude.{◌≡◌, ◌+◌, ◌*◌, ◌-◌, ◌/◌, ◌%◌, ◌<◌, ◌≤◌, ◌^◌, ◌*ℤ◌, ◌≤ℤ◌, All, ◌⊎◌, ◌↔◌, pos, negsuc, length, [], ◌∷◌, ◌++◌, slice_index, IsTrue, OnOk, OnErr, IsErr, unsigned_abs};
+ghost use Rattle.snd_adpcm.specs.Frames.{Is16Bit, alternating, high_half_first, firsts, seconds, floor_div};
+ghost use Rattle.snd_adpcm.specs.Microsoft.{newer_weight, older_weight, adaptation, ms_prediction, signed_code, ms_sample, ms_delta, ms_samples, number_at, ms_number, ms_start_delta, ms_newer, ms_older, is_ms_align, ms_samples_per_block, is_bad_ms_block, ms_channel, ms_block};
 
 use crate::BadBlock;
 use crate::number::{high_code, low_code, number_of};
@@ -110,6 +110,7 @@ fn sample_of(newer_by: i32, older_by: i32, newer: i32, older: i32, delta: i32, c
     requires delta { unsigned_abs delta ≤ 1048576 }
     requires code { code < 16 }
     ensures value { result ≡ ms_sample newer_by older_by newer older delta code }
+    ensures range { Is16Bit result }
     ensures bound { unsigned_abs result ≤ 32768 }
 {
     let foretold = prediction(newer_by, older_by, newer, older);
@@ -134,6 +135,7 @@ fn delta_after(delta: i32, code: u8) -> i32
 fn number_in(bytes: &[u8], at: usize) -> i32
     requires { at + 2 ≤ length bytes.now }
     ensures value { result ≡ number_at bytes.now at }
+    ensures range { Is16Bit result }
     ensures bound { unsigned_abs result ≤ 32768 }
 {
     number_of(bytes[at], bytes[at + 1])
@@ -151,6 +153,8 @@ pub(crate) struct MsState {
     ghost older_weighs: { unsigned_abs older_by ≤ 256 },
     ghost newer_fits: { unsigned_abs newer ≤ 32768 },
     ghost older_fits: { unsigned_abs older ≤ 32768 },
+    ghost newer_range: { Is16Bit newer },
+    ghost older_range: { Is16Bit older },
     ghost delta_fits: { unsigned_abs delta ≤ 1048576 },
 }
 
@@ -216,6 +220,8 @@ fn decode_mono(codes: &[u8], start: MsState, into: &mut ArrayVec<i32, 16384>)
     requires room { length codes.now ≤ 8185 }
     requires empty { into.old.items ≡ [] }
     ensures samples { into.new.items ≡ start.older ∷ start.newer ∷ ms_samples start.newer_by start.older_by start.newer start.older start.delta (high_half_first codes.now) }
+    ensures count { length into.new.items ≡ 2 + 2 * length codes.now }
+    ensures range { All Is16Bit into.new.items }
 {
     let mut state = start;
     into.push(state.older);
@@ -236,6 +242,8 @@ fn decode_stereo(codes: &[u8], first: MsState, second: MsState, into: &mut Array
         ≡ alternating
         (first.older ∷ first.newer ∷ ms_samples first.newer_by first.older_by first.newer first.older first.delta (firsts (high_half_first codes.now)))
         (second.older ∷ second.newer ∷ ms_samples second.newer_by second.older_by second.newer second.older second.delta (seconds (high_half_first codes.now))) }
+    ensures count { length into.new.items ≡ 4 + 2 * length codes.now }
+    ensures range { All Is16Bit into.new.items }
 {
     let mut left = first;
     let mut right = second;
@@ -277,6 +285,8 @@ impl MsBlock {
         requires align { IsTrue (is_ms_align channels (length bytes.now)) }
         requires most { length bytes.now ≤ 8192 }
         ensures samples { OnOk result (into.new.items ≡ ms_block channels bytes.now) }
+        ensures count { OnOk result (length into.new.items ≡ channels * ms_samples_per_block channels (length bytes.now)) }
+        ensures range { All Is16Bit into.new.items }
         ensures bad { IsErr result ↔ IsTrue (is_bad_ms_block channels bytes.now) }
         ensures empty { OnErr result (into.new.items ≡ []) }
     {

@@ -3,7 +3,7 @@ use Rattle.std.proofs.lemmas.List.{drop_more}
 use Rattle.std.proofs.lemmas.Grind.{common_steps}
 use Rattle.snd_adpcm.specs.Frames.{high_half_first}
 use Rattle.snd_adpcm.proofs.MsCodes.{rest_of, rest_of-code}
-use Rattle.snd_adpcm.proofs.Pushes.{two_samples}
+use Rattle.snd_adpcm.proofs.Pushes.{two_samples, range_of_two}
 use Rattle.snd_adpcm.proofs.microsoft.decode_mono.Goals as goal
 
 pub loop-byte-preserved : goal.loop-byte-preserved
@@ -18,4 +18,4 @@ loop-byte-preserved c =
     ∙ ap (λ rest. middle.newer ∷ rest) (rest_of-code middle c.after-state.result (b % 16) (high_half_first after) (search rules) (search rules) (search rules) (search rules) (search rules)) in
     let one : c.push-in-loop-byte.new.self.items ≡ c.loop-byte.into.items ++ middle.newer ∷ [] = search rules in
     let two : c.push-in-loop-byte-2.new.self.items ≡ c.push-in-loop-byte.new.self.items ++ c.after-state.result.newer ∷ [] = search rules in
-    record { so_far = two_samples _ _ _ _ _ _ _ _ one two codes c.loop-byte.invariant.so_far; count = grind (arith, common_steps) }
+    record { so_far = two_samples _ _ _ _ _ _ _ _ one two codes c.loop-byte.invariant.so_far; count = grind (arith, common_steps); range = range_of_two _ _ _ _ _ one two c.loop-byte.invariant.range middle.newer_range c.after-state.result.newer_range }

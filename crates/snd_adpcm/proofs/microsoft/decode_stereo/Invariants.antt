@@ -1,5 +1,6 @@
 use Rattle.std.proofs.Common.{◌≡◌, ◌+◌, ◌*◌, ◌++◌, ◌∷◌, drop, length}
-use Rattle.snd_adpcm.specs.Frames.{high_half_first, firsts, seconds, alternating}
+use Rattle.std.specs.List.{All}
+use Rattle.snd_adpcm.specs.Frames.{Is16Bit, high_half_first, firsts, seconds, alternating}
 use Rattle.snd_adpcm.specs.Microsoft.{ms_samples}
 use Rattle.snd_adpcm.proofs.microsoft.decode_stereo.Given as goal
 
@@ -12,4 +13,5 @@ invariant-loop-byte l = record {
       (l.fn.first.older ∷ l.fn.first.newer ∷ ms_samples l.fn.first.newer_by l.fn.first.older_by l.fn.first.newer l.fn.first.older l.fn.first.delta (firsts (high_half_first l.codes)))
       (l.fn.second.older ∷ l.fn.second.newer ∷ ms_samples l.fn.second.newer_by l.fn.second.older_by l.fn.second.newer l.fn.second.older l.fn.second.delta (seconds (high_half_first l.codes)));
   count : length l.into.items ≡ 4 + 2 * l.byte-index;
+  range : All Is16Bit l.into.items;
 }

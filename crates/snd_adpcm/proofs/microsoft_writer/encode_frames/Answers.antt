@@ -31,3 +31,8 @@ pub encode-low-requires-clause-sample : goal.encode-low-requires-clause-sample
 encode-low-requires-clause-sample c =
     let within : Is16Bit (get_or c.args.frames.now (2 * c.loop-n.n + 1) (pos 0)) = c.requires.range (2 * c.loop-n.n + 1) (pos 0) (omega arith) in
     search rules
+
+pub encode-high-requires-clause-sample : goal.encode-high-requires-clause-sample
+encode-high-requires-clause-sample c =
+    let within : Is16Bit (get_or c.args.frames.now (2 * c.loop-n.n) (pos 0)) = c.requires.range (2 * c.loop-n.n) (pos 0) (omega arith) in
+    search rules

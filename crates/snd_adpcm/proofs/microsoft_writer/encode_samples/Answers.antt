@@ -1,5 +1,6 @@
 use Rattle.std.proofs.Common.{◌≡◌, ◌+◌, ◌*◌, [], ◌∷◌, ◌++◌, drop, pos, get_or, arith, rules, ap, ◌∙◌}
 use Rattle.std.proofs.lemmas.Grind.{common_steps}
+use Rattle.snd_adpcm.specs.Frames.{Is16Bit}
 use Rattle.snd_adpcm.proofs.MsWritten.{Follows, codes_of, codes_of-sample, one_byte}
 use Rattle.snd_adpcm.proofs.Pairs.{drop_two}
 use Rattle.snd_adpcm.proofs.microsoft_writer.encode_samples.Goals as goal
@@ -20,3 +21,13 @@ loop-n-preserved c =
     ap (codes_of s) pair ∙ codes_of-sample s middle x _ (y ∷ rest) first ∙ ap (λ cs. c.encode-high.result.0 ∷ cs) (codes_of-sample middle end y _ rest second) in
     let pushed : c.push.new.self.items ≡ c.loop-n.into.items ++ (16 * c.encode-high.result.0 + c.encode-low.result.0) ∷ [] = search rules in
     record { so_far = one_byte _ _ _ _ _ _ _ pushed codes c.loop-n.invariant.so_far; count = grind (arith, common_steps); delta = search rules }
+
+pub encode-high-requires-clause-sample : goal.encode-high-requires-clause-sample
+encode-high-requires-clause-sample c =
+    let within : Is16Bit (get_or c.args.samples.now (2 * c.loop-n.n) (pos 0)) = c.requires.range (2 * c.loop-n.n) (pos 0) (omega arith) in
+    search rules
+
+pub encode-low-requires-clause-sample : goal.encode-low-requires-clause-sample
+encode-low-requires-clause-sample c =
+    let within : Is16Bit (get_or c.args.samples.now (2 * c.loop-n.n + 1) (pos 0)) = c.requires.range (2 * c.loop-n.n + 1) (pos 0) (omega arith) in
+    search rules
