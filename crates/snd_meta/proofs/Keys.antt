@@ -1,0 +1,127 @@
+-- The texts of a list, by their keys.
+use Rattle.std.proofs.Common.{ℕ, ◌≡◌, ◌≢◌, ◌<◌, ◌≤◌, Bool, true, false, cond, nat_eq, List, [], ◌∷◌, length, get_or, set, Option, Some, None, option_map, refl, sym, ap, ◌∙◌, arith, inl, inr}
+use Rattle.std.specs.List.{cons_option, filter_map}
+use Rattle.std.proofs.lemmas.Bool.{cases_Bool}
+use Rattle.std.proofs.lemmas.Bool.Decides.{nat_tests}
+use Rattle.std.proofs.lemmas.List.{get_or-set_same, get_or-set_other, get_or_default}
+use Rattle.snd_meta.specs.declared.info.InfoKey.{InfoKey}
+use Rattle.snd_meta.specs.declared.info.InfoKey.TheVariants.{Title, Copyright, Software, Artist, Comment, Date, Album, Genre, Track}
+use Rattle.snd_meta.specs.declared.text.Text.{Text}
+use Rattle.snd_meta.specs.Info.{Entry, table, place_of, same_key, listed, text_under, with_text}
+use Rattle.snd_meta.specs.Slots.{text_in}
+
+key_at_place : (key : InfoKey) → get_or table (place_of key) Title ≡ key
+key_at_place Title = refl
+key_at_place Copyright = refl
+key_at_place Software = refl
+key_at_place Artist = refl
+key_at_place Comment = refl
+key_at_place Date = refl
+key_at_place Album = refl
+key_at_place Genre = refl
+key_at_place Track = refl
+
+pub place_within : (key : InfoKey) → place_of key < 9
+place_within Title = omega arith
+place_within Copyright = omega arith
+place_within Software = omega arith
+place_within Artist = omega arith
+place_within Comment = omega arith
+place_within Date = omega arith
+place_within Album = omega arith
+place_within Genre = omega arith
+place_within Track = omega arith
+
+pub same_key-true : (a b : InfoKey) → same_key a b ≡ true → a ≡ b
+same_key-true a b h =
+    let places : place_of a ≡ place_of b = grind (arith, nat_tests) in
+    sym (key_at_place a) ∙ ap (λ n. get_or table n Title) places ∙ key_at_place b
+
+-- ---- the texts that a function gives
+
+abbrev over : List InfoKey → (InfoKey → Option (List ℕ)) → List Entry
+over keys f = filter_map (λ key. option_map (λ t. record { key = key; text = t }) (f key)) keys
+
+over-same : (keys : List InfoKey) (f g : InfoKey → Option (List ℕ)) → ((key : InfoKey) → f key ≡ g key) → over keys f ≡ over keys g
+over-same [] f g h = refl
+over-same (key ∷ keys) f g h = rw (h key, over-same keys f g h) refl
+
+-- functions that give the same texts give one list
+pub listed-same : (f g : InfoKey → Option (List ℕ)) → ((key : InfoKey) → f key ≡ g key) → listed f ≡ listed g
+unfolding listed
+listed-same f g h = over-same table f g h
+
+abbrev among : InfoKey → List InfoKey → Bool
+among key [] = false
+among key (k ∷ keys) = cond (same_key k key) true (among key keys)
+
+cond_none : (b : Bool) → ◌≡◌ {A = Option (List ℕ)} (cond b None None) None
+cond_none true = refl
+cond_none false = refl
+
+-- one key more, whose text is o
+under_more : (k key : InfoKey) (f : InfoKey → Option (List ℕ)) (there : Bool) (es : List Entry) (o : Option (List ℕ)) → f k ≡ o
+    → text_under key es ≡ cond there (f key) None
+    → text_under key (cons_option (option_map (λ t. record { key = k; text = t }) o) es) ≡ cond (cond (same_key k key) true there) (f key) None
+under_more k key f there es None e rest = elim (cases_Bool (same_key k key)) [
+  | inl same ↦
+      let none : f key ≡ None = ap f (sym (same_key-true k key same)) ∙ e in
+      rw (rest, same, none) (cond_none there)
+  | inr other ↦ rw other rest
+]
+under_more k key f there es (Some t) e rest = elim (cases_Bool (same_key k key)) [
+  | inl same ↦
+      let some : f key ≡ Some t = ap f (sym (same_key-true k key same)) ∙ e in
+      rw (same, some) refl
+  | inr other ↦ rw other rest
+]
+
+under-over : (keys : List InfoKey) (f : InfoKey → Option (List ℕ)) (key : InfoKey) → text_under key (over keys f) ≡ cond (among key keys) (f key) None
+under-over [] f key = refl
+under-over (k ∷ keys) f key = under_more k key f (among key keys) (over keys f) (f k) refl (under-over keys f key)
+
+all_keys : (key : InfoKey) → among key table ≡ true
+all_keys Title = refl
+all_keys Copyright = refl
+all_keys Software = refl
+all_keys Artist = refl
+all_keys Comment = refl
+all_keys Date = refl
+all_keys Album = refl
+all_keys Genre = refl
+all_keys Track = refl
+
+-- a list has the texts that it was made of
+pub under-listed : (f : InfoKey → Option (List ℕ)) (key : InfoKey) → text_under key (listed f) ≡ f key
+unfolding listed
+under-listed f key = under-over table f key ∙ ap (λ b. cond b (f key) None) (all_keys key)
+
+-- such a list is in the order of the table
+pub listed-listed : (f : InfoKey → Option (List ℕ)) (es : List Entry) → es ≡ listed f → listed (λ key. text_under key es) ≡ es
+listed-listed f es e = listed-same (λ key. text_under key es) f (λ key. ap (text_under key) e ∙ under-listed f key) ∙ sym e
+
+-- ---- the places that hold the texts
+
+pub no_texts : (slots : List (Option Text)) → ((key : InfoKey) → text_in slots key ≡ None) → listed (text_in slots) ≡ []
+unfolding listed
+no_texts slots none = listed-same (text_in slots) (λ key. None) none
+
+-- what is held at a key's place is the key's text
+pub text_held : (slots : List (Option Text)) (es : List Entry) (key : InfoKey) (n : ℕ) (d slot : Option Text) → listed (text_in slots) ≡ es → length slots ≡ 9
+    → n ≡ place_of key → get_or slots n d ≡ slot → text_under key es ≡ option_map (λ t. t.bytes.items) slot
+text_held slots es key n d slot whole nine at held =
+    ap (text_under key) (sym whole) ∙ under-listed (text_in slots) key
+    ∙ ap (option_map (λ (t : Text). t.bytes.items)) (get_or_default slots (place_of key) None d (omega (arith, place_within key)) ∙ ap (λ k. get_or slots k d) (sym at) ∙ held)
+
+-- a text put at a key's place
+pub text_put : (slots : List (Option Text)) (es : List Entry) (key : InfoKey) (n : ℕ) (text : Text) → listed (text_in slots) ≡ es → length slots ≡ 9
+    → n ≡ place_of key → listed (text_in (set slots n (Some text))) ≡ with_text key text.bytes.items es
+text_put slots es key n text whole nine at = rw at (listed-same (text_in (set slots (place_of key) (Some text))) (λ k. cond (same_key key k) (Some text.bytes.items) (text_under k es)) (λ k. elim (cases_Bool (same_key key k)) [
+  | inl same ↦
+      let e : key ≡ k = same_key-true key k same in
+      let within : place_of key < length slots = omega (arith, place_within key) in
+      rw (same, ← e, get_or-set_same) refl
+  | inr other ↦
+      let ne : place_of k ≢ place_of key = grind (arith, nat_tests) in
+      rw (other, get_or-set_other) (sym (under-listed (text_in slots) k) ∙ ap (text_under k) whole)
+]))

@@ -1,0 +1,5 @@
+pub mod Text
+pub mod Info
+pub mod Slots
+pub mod Cue
+pub mod Broadcast

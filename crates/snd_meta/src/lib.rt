@@ -1,0 +1,14 @@
+//! The bodies of the metadata chunks of WAVE files, read and written whole: the INFO list, cue points and
+//! the broadcast extension.
+#![tactic(auto)]
+
+mod bext;
+mod cue;
+mod error;
+mod info;
+mod text;
+
+pub use bext::BextKey;
+pub use cue::CuePoint;
+pub use error::MetaError;
+pub use info::{INFO_KEYS, InfoKey, InfoList};

@@ -1,0 +1,43 @@
+//! Texts, which end at their first 0.
+
+ghost use Rattle.std.specs.Prelude.{◌≡◌, ◌≤◌, ◌==◌, length, position, IfOk};
+ghost use Rattle.snd_meta.specs.Text.{text_of};
+
+use std::alloc::{AllocError, Global};
+
+/// A text that a draft keeps: no byte of it is 0.
+#[derive(Drop)]
+pub(crate) struct Text {
+    pub(crate) bytes: Vec<u8>,
+    ghost no_zero: { text_of bytes.items ≡ bytes.items },
+    ghost short: { length bytes.items ≤ 65536 },
+}
+
+impl Text {
+    pub(crate) fn new(alloc: Global, bytes: &[u8]) -> Result<Text, AllocError>
+        requires no_zero { text_of bytes.now ≡ bytes.now }
+        requires short { length bytes.now ≤ 65536 }
+        ensures { IfOk result (λ text. text.bytes.items ≡ bytes.now) }
+    {
+        Ok(Text {
+            bytes: Vec::from_slice(alloc, bytes)?,
+        })
+    }
+}
+
+/// The place of the first 0.
+fn first_zero(bytes: &[u8]) -> Option<usize>
+    ensures { result ≡ position (λ b. b == 0) bytes.now }
+{
+    bytes.iter().position(|b| *b == 0)
+}
+
+/// The bytes before the first 0, or all where there is none.
+pub(crate) fn until_zero(bytes: &[u8]) -> &[u8]
+    ensures { result.now ≡ text_of bytes.now }
+{
+    match first_zero(bytes) {
+        Some(end) => &bytes[..end],
+        None => bytes,
+    }
+}
