@@ -1,5 +1,7 @@
 -- The texts of a list, by their keys.
-use Rattle.std.proofs.Common.{ℕ, ◌≡◌, ◌≢◌, ◌<◌, ◌≤◌, Bool, true, false, cond, nat_eq, List, [], ◌∷◌, length, get_or, set, Option, Some, None, option_map, refl, sym, ap, ◌∙◌, arith, inl, inr}
+use Rattle.std.proofs.Common.{ℕ, ◌≡◌, ◌≢◌, ◌<◌, ◌≤◌, Bool, true, false, cond, nat_eq, List, [], ◌∷◌, length, get_or, set, Option, Some, None, option_map, Bor, refl, sym, ap, ◌∙◌, arith, inl, inr}
+use Rattle.std.specs.Option.{option_copied}
+use Rattle.std.specs.Array.{AllZipBelow}
 use Rattle.std.specs.List.{cons_option, filter_map}
 use Rattle.std.proofs.lemmas.Bool.{cases_Bool}
 use Rattle.std.proofs.lemmas.Bool.Decides.{nat_tests}
@@ -7,7 +9,7 @@ use Rattle.std.proofs.lemmas.List.{get_or-set_same, get_or-set_other, get_or_def
 use Rattle.snd_meta.specs.declared.info.InfoKey.{InfoKey}
 use Rattle.snd_meta.specs.declared.info.InfoKey.TheVariants.{Title, Copyright, Software, Artist, Comment, Date, Album, Genre, Track}
 use Rattle.snd_meta.specs.declared.text.Text.{Text}
-use Rattle.snd_meta.specs.Info.{Entry, table, place_of, same_key, listed, text_under, with_text}
+use Rattle.snd_meta.specs.Info.{Entry, table, place_of, same_key, listed, text_under, with_text, IsInOrder}
 use Rattle.snd_meta.specs.Slots.{text_in}
 
 key_at_place : (key : InfoKey) → get_or table (place_of key) Title ≡ key
@@ -39,19 +41,22 @@ same_key-true a b h =
 
 -- ---- the texts that a function gives
 
-abbrev over : List InfoKey → (InfoKey → Option (List ℕ)) → List Entry
+-- the same of some keys
+unfoldable pub over : List InfoKey → (InfoKey → Option (List ℕ)) → List Entry
 over keys f = filter_map (λ key. option_map (λ t. record { key = key; text = t }) (f key)) keys
 
 over-same : (keys : List InfoKey) (f g : InfoKey → Option (List ℕ)) → ((key : InfoKey) → f key ≡ g key) → over keys f ≡ over keys g
+unfolding over
 over-same [] f g h = refl
 over-same (key ∷ keys) f g h = rw (h key, over-same keys f g h) refl
 
 -- functions that give the same texts give one list
 pub listed-same : (f g : InfoKey → Option (List ℕ)) → ((key : InfoKey) → f key ≡ g key) → listed f ≡ listed g
-unfolding listed
+unfolding listed over
 listed-same f g h = over-same table f g h
 
-abbrev among : InfoKey → List InfoKey → Bool
+-- whether a key is in a list
+abbrev pub among : InfoKey → List InfoKey → Bool
 among key [] = false
 among key (k ∷ keys) = cond (same_key k key) true (among key keys)
 
@@ -77,10 +82,11 @@ under_more k key f there es (Some t) e rest = elim (cases_Bool (same_key k key))
 ]
 
 under-over : (keys : List InfoKey) (f : InfoKey → Option (List ℕ)) (key : InfoKey) → text_under key (over keys f) ≡ cond (among key keys) (f key) None
+unfolding over
 under-over [] f key = refl
 under-over (k ∷ keys) f key = under_more k key f (among key keys) (over keys f) (f k) refl (under-over keys f key)
 
-all_keys : (key : InfoKey) → among key table ≡ true
+pub all_keys : (key : InfoKey) → among key table ≡ true
 all_keys Title = refl
 all_keys Copyright = refl
 all_keys Software = refl
@@ -93,7 +99,7 @@ all_keys Track = refl
 
 -- a list has the texts that it was made of
 pub under-listed : (f : InfoKey → Option (List ℕ)) (key : InfoKey) → text_under key (listed f) ≡ f key
-unfolding listed
+unfolding listed over
 under-listed f key = under-over table f key ∙ ap (λ b. cond b (f key) None) (all_keys key)
 
 -- such a list is in the order of the table
@@ -125,3 +131,31 @@ text_put slots es key n text whole nine at = rw at (listed-same (text_in (set sl
       let ne : place_of k ≢ place_of key = grind (arith, nat_tests) in
       rw (other, get_or-set_other) (sym (under-listed (text_in slots) k) ∙ ap (text_under k) whole)
 ]))
+
+-- the texts that places hold are in the order of the table
+pub in_order : (slots : List (Option Text)) (es : List Entry) → listed (text_in slots) ≡ es → IsInOrder es
+in_order slots es whole = listed-listed (text_in slots) es (sym whole)
+
+-- a text read through a reference
+pub read_text : (r : Option (Bor Text)) → option_map (λ text. text.now.bytes.items) r ≡ option_map (λ t. t.bytes.items) (option_copied r)
+read_text None = refl
+read_text (Some r) = refl
+
+pub empty_in_order : (es : List Entry) → es ≡ [] → IsInOrder es
+unfolding listed
+empty_in_order es e = listed-listed (λ key. None) es e
+
+copied : (R : Option Text → Option Text → Type 0) → ((t u : Text) → R (Some t) (Some u) → u.bytes.items ≡ t.bytes.items)
+    → ((t : Text) → R (Some t) None → ⊥) → ((u : Text) → R None (Some u) → ⊥)
+    → (o p : Option Text) → R o p → option_map (λ t. t.bytes.items) p ≡ option_map (λ t. t.bytes.items) o
+copied R both lost made None None h = refl
+copied R both lost made None (Some u) h = absurd (made u h)
+copied R both lost made (Some t) None h = absurd (lost t h)
+copied R both lost made (Some t) (Some u) h = ap Some (both t u h)
+
+-- clones of the texts make an equal list
+pub same_clones : {R : Option Text → Option Text → Type 0} (slots copies : List (Option Text)) (es : List Entry) → listed (text_in slots) ≡ es
+    → AllZipBelow R slots copies 9 → ((t u : Text) → R (Some t) (Some u) → u.bytes.items ≡ t.bytes.items)
+    → ((t : Text) → R (Some t) None → ⊥) → ((u : Text) → R None (Some u) → ⊥) → listed (text_in copies) ≡ es
+same_clones {R} slots copies es whole clones both lost made =
+    listed-same (text_in copies) (text_in slots) (λ key. copied R both lost made _ _ (clones.at (place_of key) None None (place_within key))) ∙ whole

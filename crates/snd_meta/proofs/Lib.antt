@@ -1,2 +1,5 @@
 pub mod Texts
 pub mod Keys
+pub mod Items
+pub mod Completing
+pub mod Bodies

@@ -1,6 +1,6 @@
 -- The INFO list: texts under four-byte ids, in a `LIST` chunk. Microsoft and IBM, "Multimedia Programming
 -- Interface and Data Specifications 1.0" (1991), "INFO List Chunk".
-use Rattle.std.specs.Prelude.{ℕ, zero, suc, ◌+◌, ◌%◌, ◌==◌, nat_lt, Bool, if◌then◌else◌, List, [], ◌∷◌, ◌++◌, length, take, drop, replicate, codes, Option, Some, None, option_map}
+use Rattle.std.specs.Prelude.{◌≡◌, ℕ, zero, suc, ◌+◌, ◌≤◌, ◌%◌, ◌==◌, nat_lt, Bool, if◌then◌else◌, List, [], ◌∷◌, ◌++◌, length, take, drop, replicate, codes, Option, Some, None, option_map, find}
 use Rattle.std.specs.List.{filter_map, flat_map}
 use Rattle.std.specs.Option.{option_or}
 use Rattle.std.specs.Str.{bytes_eq}
@@ -46,6 +46,10 @@ id_of Album = codes "IPRD"
 id_of Genre = codes "IGNR"
 id_of Track = codes "ITRK"
 
+-- the key whose text stands under an id, if it is a known one
+unfoldable pub key_of : List ℕ → Option InfoKey
+key_of id = find (λ key. bytes_eq id (id_of key)) table
+
 -- the texts that a function gives, in the order of the table
 unfoldable pub listed : (InfoKey → Option (List ℕ)) → List Entry
 listed text = filter_map (λ key. option_map (λ t. record { key = key; text = t }) (text key)) table
@@ -54,6 +58,10 @@ listed text = filter_map (λ key. option_map (λ t. record { key = key; text = t
 abbrev pub text_under : InfoKey → List Entry → Option (List ℕ)
 text_under key [] = None
 text_under key (e ∷ es) = if same_key e.key key then Some e.text else text_under key es
+
+-- each list of a draft is in the order of the table, with at most one text of a key
+abbrev pub IsInOrder : List Entry → Type 0
+IsInOrder es = listed (λ key. text_under key es) ≡ es
 
 -- a list with a text put under a key, in place of the one that was there
 abbrev pub with_text : InfoKey → List ℕ → List Entry → List Entry
@@ -67,21 +75,35 @@ pub record Item : Type 0 where
   pub text : List ℕ
 
 -- the size of the text at the front: the u32 behind its id
-abbrev pub size_of : List ℕ → ℕ
+unfoldable pub size_of : List ℕ → ℕ
 size_of bytes = number Little bytes 4 4
 
 -- the item at the front: its text ends at its first 0 or at its size
 abbrev pub item_of : List ℕ → Item
 item_of bytes = record { id = take 4 bytes; text = text_of (take (size_of bytes) (drop 8 bytes)) }
 
--- The items, one behind the other, at most n of them. A pad byte follows an odd size. Fewer than eight bytes
--- at the end are passed over; there is nothing to read where a text runs past the end.
-unfoldable pub items_of : ℕ → List ℕ → Option (List Item)
-items_of zero bytes = Some []
-items_of (suc n) bytes =
+-- what follows the item at the front: a pad byte follows an odd size
+abbrev pub after_item : List ℕ → List ℕ
+after_item bytes = drop (8 + size_of bytes + size_of bytes % 2) bytes
+
+-- The items, one behind the other, at most n of them. Fewer than eight bytes at the end are passed over; there
+-- is nothing to read where a text runs past the end.
+unfoldable pub items_up_to : ℕ → List ℕ → Option (List Item)
+items_up_to zero bytes = Some []
+items_up_to (suc n) bytes =
     if nat_lt (length bytes) 8 then Some []
     else if nat_lt (length bytes) (8 + size_of bytes) then None
-    else option_map (λ items. item_of bytes ∷ items) (items_of n (drop (8 + size_of bytes + size_of bytes % 2) bytes))
+    else option_map (λ items. item_of bytes ∷ items) (items_up_to n (after_item bytes))
+
+-- all of them: there are no more items than bytes
+unfoldable pub items_of : List ℕ → Option (List Item)
+items_of bytes = items_up_to (length bytes) bytes
+
+-- a whole item stands at the front, with this id and this text, and the rest follows it
+pub record IsItemAt (bytes id text later : List ℕ) : Type 0 where
+  pub whole : 8 + size_of bytes ≤ length bytes
+  pub item : record { id = id; text = text } ≡ item_of bytes
+  pub rest : later ≡ after_item bytes
 
 -- the first text under an id
 abbrev pub first_text : List ℕ → List Item → Option (List ℕ)
@@ -93,11 +115,10 @@ first_text id (item ∷ items) = if bytes_eq item.id id then Some item.text else
 abbrev pub completed : List Entry → List Item → List Entry
 completed es items = listed (λ key. option_or (text_under key es) (first_text (id_of key) items))
 
--- What a body holds: nothing where it does not begin with `INFO`, or a text runs past its end. A body has no
--- more items than bytes.
+-- what a body holds: nothing where it does not begin with `INFO`, or a text runs past its end
 abbrev pub info_of : List ℕ → Option (List Entry)
 info_of body =
-    if bytes_eq (codes "INFO") (take 4 body) then option_map (completed []) (items_of (length body) (drop 4 body)) else None
+    if bytes_eq (codes "INFO") (take 4 body) then option_map (completed []) (items_of (drop 4 body)) else None
 
 -- ---- writing
 

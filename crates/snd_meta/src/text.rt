@@ -25,6 +25,16 @@ impl Text {
     }
 }
 
+impl Clone for Text {
+    ghost is_clone = { λ text copy. copy.bytes.items ≡ text.bytes.items };
+
+    fn clone(&self) -> Result<Text, AllocError> {
+        Ok(Text {
+            bytes: Vec::from_slice(*self.bytes.allocator(), self.bytes.as_slice())?,
+        })
+    }
+}
+
 /// The place of the first 0.
 fn first_zero(bytes: &[u8]) -> Option<usize>
     ensures { result ≡ position (λ b. b == 0) bytes.now }
