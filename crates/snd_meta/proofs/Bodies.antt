@@ -4,14 +4,14 @@ use Rattle.std.specs.Prelude.{codes}
 use Rattle.std.specs.List.{cons_option, flat_map}
 use Rattle.std.proofs.lemmas.List.{append_assoc, append-nil, drop_all, drop_more}
 use Rattle.snd_meta.specs.declared.info.InfoKey.{InfoKey}
-use Rattle.snd_meta.specs.Info.{Entry, table, listed, text_under, item_bytes, info_body, IsInOrder}
+use Rattle.snd_meta.specs.Info.{Entry, table, listed, text_under, item_bytes, info_body}
 use Rattle.snd_meta.proofs.Keys.{over}
 
 -- the bytes of the texts that a list has of some keys
 unfoldable pub bytes_under : List InfoKey → List Entry → List ℕ
 bytes_under keys es = flat_map item_bytes (over keys (λ key. text_under key es))
 
-pub body_start : (es : List Entry) (body : List ℕ) → IsInOrder es → body ≡ codes "INFO" → body ++ bytes_under table es ≡ info_body es
+pub body_start : (es : List Entry) (body : List ℕ) → listed (λ key. text_under key es) ≡ es → body ≡ codes "INFO" → body ++ bytes_under table es ≡ info_body es
 unfolding bytes_under over listed
 body_start es body ordered e = ap (λ b. b ++ flat_map item_bytes (listed (λ key. text_under key es))) e ∙ ap (λ list. codes "INFO" ++ flat_map item_bytes list) ordered
 

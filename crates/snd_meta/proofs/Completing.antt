@@ -9,7 +9,7 @@ use Rattle.std.proofs.lemmas.Option.{none-some, same_Some}
 use Rattle.std.proofs.lemmas.Slice.Eq.{bytes_eq-Decides}
 use Rattle.snd_meta.specs.declared.info.InfoKey.{InfoKey}
 use Rattle.snd_meta.specs.declared.info.InfoKey.TheVariants.{Title, Copyright, Software, Artist, Comment, Date, Album, Genre, Track}
-use Rattle.snd_meta.specs.Info.{Entry, Item, IsItemAt, size_of, item_of, after_item, items_of, table, same_key, id_of, key_of, listed, text_under, with_text, first_text, completed, IsInOrder}
+use Rattle.snd_meta.specs.Info.{Entry, Item, IsItemAt, size_of, item_of, after_item, items_of, table, same_key, id_of, key_of, listed, text_under, with_text, first_text, completed}
 use Rattle.snd_meta.proofs.Items.{items_of-short, items_of-cut, items_of-more}
 use Rattle.snd_meta.proofs.Keys.{all_keys, among, listed-same, listed-listed, same_key-true, under-listed}
 
@@ -43,20 +43,20 @@ option_or-none : (held : Option (List ℕ)) → option_or held None ≡ held
 option_or-none (Some t) = refl
 option_or-none None = refl
 
-pub completed-nil : (es : List Entry) → IsInOrder es → completed es [] ≡ es
+pub completed-nil : (es : List Entry) → listed (λ key. text_under key es) ≡ es → completed es [] ≡ es
 completed-nil es ordered = listed-same _ _ (λ key. option_or-none (text_under key es)) ∙ ordered
 
-pub completed-in_order : (es next : List Entry) (items : List Item) → next ≡ completed es items → IsInOrder next
+pub completed-in_order : (es next : List Entry) (items : List Item) → next ≡ completed es items → listed (λ key. text_under key next) ≡ next
 completed-in_order es next items e = listed-listed (λ key. option_or (text_under key es) (first_text (id_of key) items)) next e
 
 -- ---- one item
 
 -- an item under an unknown id is passed over
-pub completed-unknown : (es : List Entry) (item : Item) → IsInOrder es → ((key : InfoKey) → bytes_eq item.id (id_of key) ≡ false) → completed es (item ∷ []) ≡ es
+pub completed-unknown : (es : List Entry) (item : Item) → listed (λ key. text_under key es) ≡ es → ((key : InfoKey) → bytes_eq item.id (id_of key) ≡ false) → completed es (item ∷ []) ≡ es
 completed-unknown es item ordered unknown = listed-same _ _ (λ key. rw (unknown key) (option_or-none (text_under key es))) ∙ ordered
 
 -- of a repeated id the first counts
-pub completed-held : (es : List Entry) (item : Item) (key : InfoKey) (t : List ℕ) → IsInOrder es → item.id ≡ id_of key → text_under key es ≡ Some t
+pub completed-held : (es : List Entry) (item : Item) (key : InfoKey) (t : List ℕ) → listed (λ key. text_under key es) ≡ es → item.id ≡ id_of key → text_under key es ≡ Some t
     → completed es (item ∷ []) ≡ es
 completed-held es item key t ordered known held = listed-same _ _ (λ k. elim (cases_Bool (same_key key k)) [
   | inl same ↦
@@ -69,7 +69,7 @@ completed-held es item key t ordered known held = listed-same _ _ (λ k. elim (c
 ]) ∙ ordered
 
 -- the same, where the text was read through a reference
-pub completed-seen : (es : List Entry) (item : Item) (key : InfoKey) (r : Option (Bor Text)) → IsInOrder es → item.id ≡ id_of key
+pub completed-seen : (es : List Entry) (item : Item) (key : InfoKey) (r : Option (Bor Text)) → listed (λ key. text_under key es) ≡ es → item.id ≡ id_of key
     → option_map (λ text. text.now.bytes.items) r ≡ text_under key es → is_some r ≡ true → es ≡ completed es (item ∷ [])
 completed-seen es item key (Some t) ordered known seen some = sym (completed-held es item key t.now.bytes.items ordered known (sym seen))
 completed-seen es item key None ordered known seen some = cc
@@ -139,7 +139,7 @@ completed-step es next rest id text later long found e =
     ∙ ap (option_map (completed es)) (sym (items_of-more rest long found.whole))
 
 -- the end of the items
-pub completed-end : (es : List Entry) (rest : List ℕ) → IsInOrder es → length rest < 8 → option_map (completed es) (items_of rest) ≡ Some es
+pub completed-end : (es : List Entry) (rest : List ℕ) → listed (λ key. text_under key es) ≡ es → length rest < 8 → option_map (completed es) (items_of rest) ≡ Some es
 completed-end es rest ordered short = ap (option_map (completed es)) (items_of-short rest short) ∙ ap Some (completed-nil es ordered)
 
 none_completed : (es : List Entry) (items : Option (List Item)) → option_map (completed es) items ≡ None → items ≡ None

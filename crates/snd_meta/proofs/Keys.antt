@@ -1,15 +1,17 @@
 -- The texts of a list, by their keys.
-use Rattle.std.proofs.Common.{ℕ, ◌≡◌, ◌≢◌, ◌<◌, ◌≤◌, Bool, true, false, cond, nat_eq, List, [], ◌∷◌, length, get_or, set, Option, Some, None, option_map, Bor, refl, sym, ap, ◌∙◌, arith, inl, inr}
+use Rattle.std.proofs.Common.{ℕ, ◌≡◌, ◌≢◌, ◌<◌, ◌≤◌, Bool, true, false, cond, nat_eq, List, [], ◌∷◌, length, get_or, set, Option, Some, None, option_map, Bor, refl, sym, ap, subst, ◌∙◌, arith, inl, inr}
 use Rattle.std.specs.Option.{option_copied}
 use Rattle.std.specs.Array.{AllZipBelow}
-use Rattle.std.specs.List.{cons_option, filter_map}
+use Rattle.std.specs.List.{AllByRecursion, cons_option, filter_map}
 use Rattle.std.proofs.lemmas.Bool.{cases_Bool}
+use Rattle.std.proofs.lemmas.Option.{same_Some}
 use Rattle.std.proofs.lemmas.Bool.Decides.{nat_tests}
 use Rattle.std.proofs.lemmas.List.{get_or-set_same, get_or-set_other, get_or_default}
 use Rattle.snd_meta.specs.declared.info.InfoKey.{InfoKey}
 use Rattle.snd_meta.specs.declared.info.InfoKey.TheVariants.{Title, Copyright, Software, Artist, Comment, Date, Album, Genre, Track}
 use Rattle.snd_meta.specs.declared.text.Text.{Text}
-use Rattle.snd_meta.specs.Info.{Entry, table, place_of, same_key, listed, text_under, with_text, IsInOrder}
+use Rattle.snd_meta.specs.Info.{Entry, table, place_of, same_key, listed, text_under, with_text, IsText, IsInfo}
+use Rattle.snd_meta.specs.Text.{text_of}
 use Rattle.snd_meta.specs.Slots.{text_in}
 
 key_at_place : (key : InfoKey) → get_or table (place_of key) Title ≡ key
@@ -132,18 +134,43 @@ text_put slots es key n text whole nine at = rw at (listed-same (text_in (set sl
       rw (other, get_or-set_other) (sym (under-listed (text_in slots) k) ∙ ap (text_under k) whole)
 ]))
 
--- the texts that places hold are in the order of the table
-pub in_order : (slots : List (Option Text)) (es : List Entry) → listed (text_in slots) ≡ es → IsInOrder es
-in_order slots es whole = listed-listed (text_in slots) es (sym whole)
+-- a list of what some keys have
+over-each : (keys : List InfoKey) (f : InfoKey → Option (List ℕ)) → ((key : InfoKey) (t : List ℕ) → f key ≡ Some t → IsText t)
+    → AllByRecursion (λ e. IsText e.text) (over keys f)
+unfolding over
+over-each [] f each = tt
+over-each (key ∷ keys) f each = with_each key keys f each (f key) refl (over-each keys f each)
+  where
+    with_each : (k : InfoKey) (ks : List InfoKey) (g : InfoKey → Option (List ℕ)) → ((q : InfoKey) (t : List ℕ) → g q ≡ Some t → IsText t)
+        → (o : Option (List ℕ)) → g k ≡ o → AllByRecursion (λ e. IsText e.text) (over ks g)
+        → AllByRecursion (λ e. IsText e.text) (cons_option (option_map (λ t. record { key = k; text = t }) o) (over ks g))
+    with_each k ks g h None e rest = rest
+    with_each k ks g h (Some t) e rest = (h k t e, rest)
+
+-- the list of the texts that a function gives is one that a draft can hold
+pub is_info : (f : InfoKey → Option (List ℕ)) (es : List Entry) → es ≡ listed f → ((key : InfoKey) (t : List ℕ) → f key ≡ Some t → IsText t) → IsInfo es
+unfolding listed over
+is_info f es e each = record { in_order = listed-listed f es e; texts = let P : List Entry → Type 0 = λ list. AllByRecursion (λ x. IsText x.text) list in subst P (sym e) (over-each table f each) }
+
+is_text : (o : Option Text) (t : List ℕ) → option_map (λ text. text.bytes.items) o ≡ Some t → IsText t
+is_text None t e = cc
+is_text (Some text) t e =
+    let same : text.bytes.items ≡ t = same_Some text.bytes.items t e in
+    record { no_zero = ap text_of (sym same) ∙ text.no_zero ∙ same; short = let P : List ℕ → Type 0 = λ x. length x ≤ 65536 in subst P same text.short }
+
+-- an empty list
+pub empty_info : (es : List Entry) → es ≡ [] → IsInfo es
+unfolding listed
+empty_info es e = is_info (λ key. None) es e (λ key t none. cc)
+
+-- what places hold
+pub held_info : (slots : List (Option Text)) (es : List Entry) → listed (text_in slots) ≡ es → IsInfo es
+held_info slots es whole = is_info (text_in slots) es (sym whole) (λ key t e. is_text (get_or slots (place_of key) None) t e)
 
 -- a text read through a reference
 pub read_text : (r : Option (Bor Text)) → option_map (λ text. text.now.bytes.items) r ≡ option_map (λ t. t.bytes.items) (option_copied r)
 read_text None = refl
 read_text (Some r) = refl
-
-pub empty_in_order : (es : List Entry) → es ≡ [] → IsInOrder es
-unfolding listed
-empty_in_order es e = listed-listed (λ key. None) es e
 
 copied : (R : Option Text → Option Text → Type 0) → ((t u : Text) → R (Some t) (Some u) → u.bytes.items ≡ t.bytes.items)
     → ((t : Text) → R (Some t) None → ⊥) → ((u : Text) → R None (Some u) → ⊥)

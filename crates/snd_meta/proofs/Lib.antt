@@ -3,3 +3,5 @@ pub mod Keys
 pub mod Items
 pub mod Completing
 pub mod Bodies
+pub mod Numbers
+pub mod RoundTrip

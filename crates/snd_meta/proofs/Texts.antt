@@ -1,9 +1,9 @@
 -- Texts that end at a 0.
-use Rattle.std.proofs.Common.{ℕ, ◌≡◌, ◌≢◌, ◌<◌, ◌≤◌, ◌+◌, ◌-◌, min, Bool, true, false, nat_eq, List, [], ◌∷◌, ◌++◌, length, take, drop, get_or, replicate, refl, sym, ap, ◌∙◌, arith, All, inl, inr}
+use Rattle.std.proofs.Common.{ℕ, ◌≡◌, ◌≢◌, ◌<◌, ◌≤◌, ◌+◌, ◌-◌, one-add, min, Bool, true, false, cond, zero, suc, nat_eq, List, [], ◌∷◌, ◌++◌, length, take, drop, get_or, replicate, refl, sym, ap, ◌∙◌, arith, All, inl, inr}
 use Rattle.std.specs.List.{position_or_len}
-use Rattle.std.proofs.lemmas.List.{take_all, get_or-take, length-take}
+use Rattle.std.proofs.lemmas.List.{append-nil, take_all, get_or-take, length-take}
 use Rattle.std.proofs.lemmas.List.Sums.{position_or_len_is, fails_before_first}
-use Rattle.std.proofs.lemmas.Bool.{eqb-false}
+use Rattle.std.proofs.lemmas.Bool.{cases_Bool, eqb-false}
 use Rattle.std.proofs.lemmas.Bool.Decides.{nat_tests}
 use Rattle.snd_meta.specs.Text.{text_of, padded}
 
@@ -23,3 +23,20 @@ text_of-text_of bytes = text_of-no_zero (text_of bytes) (λ k d lt.
 
 pub length-text_of : (bytes : List ℕ) → length (text_of bytes) ≤ length bytes
 length-text_of bytes = omega (arith, length-take (position_or_len (λ b. nat_eq b 0) bytes) bytes)
+
+-- ---- texts with zeros behind them
+
+text_of-cons : (b : ℕ) (bytes : List ℕ) → text_of (b ∷ bytes) ≡ cond (nat_eq b 0) [] (b ∷ text_of bytes)
+text_of-cons b bytes = elim (cases_Bool (nat_eq b 0)) [
+  | inl stops ↦ rw stops refl
+  | inr other ↦ rw (other, one-add) refl
+]
+
+pub text_of-stops : (text rest : List ℕ) → text_of (text ++ 0 ∷ rest) ≡ text_of text
+text_of-stops [] rest = refl
+text_of-stops (b ∷ text) rest =
+    text_of-cons b (text ++ 0 ∷ rest) ∙ ap (λ t. cond (nat_eq b 0) [] (b ∷ t)) (text_of-stops text rest) ∙ sym (text_of-cons b text)
+
+pub text_of-zeros : (text : List ℕ) (n : ℕ) → text_of (text ++ replicate n 0) ≡ text_of text
+text_of-zeros text zero = ap text_of (append-nil text)
+text_of-zeros text (suc n) = text_of-stops text (replicate n 0)

@@ -1,7 +1,7 @@
 -- The INFO list: texts under four-byte ids, in a `LIST` chunk. Microsoft and IBM, "Multimedia Programming
 -- Interface and Data Specifications 1.0" (1991), "INFO List Chunk".
 use Rattle.std.specs.Prelude.{◌≡◌, ℕ, zero, suc, ◌+◌, ◌≤◌, ◌%◌, ◌==◌, nat_lt, Bool, if◌then◌else◌, List, [], ◌∷◌, ◌++◌, length, take, drop, replicate, codes, Option, Some, None, option_map, find}
-use Rattle.std.specs.List.{filter_map, flat_map}
+use Rattle.std.specs.List.{AllByRecursion, filter_map, flat_map}
 use Rattle.std.specs.Option.{option_or}
 use Rattle.std.specs.Str.{bytes_eq}
 use Rattle.snd_fields.specs.Field.{number, bytes_of}
@@ -59,9 +59,15 @@ abbrev pub text_under : InfoKey → List Entry → Option (List ℕ)
 text_under key [] = None
 text_under key (e ∷ es) = if same_key e.key key then Some e.text else text_under key es
 
--- each list of a draft is in the order of the table, with at most one text of a key
-abbrev pub IsInOrder : List Entry → Type 0
-IsInOrder es = listed (λ key. text_under key es) ≡ es
+-- what a draft holds of a key: no byte of it is 0, and its size can be written
+pub record IsText (text : List ℕ) : Type 0 where
+  pub no_zero : text_of text ≡ text
+  pub short : length text ≤ 65536
+
+-- what the list of a draft is: in the order of the table, with at most one text of a key
+pub record IsInfo (es : List Entry) : Type 0 where
+  pub in_order : listed (λ key. text_under key es) ≡ es
+  pub texts : AllByRecursion (λ e. IsText e.text) es
 
 -- a list with a text put under a key, in place of the one that was there
 abbrev pub with_text : InfoKey → List ℕ → List Entry → List Entry

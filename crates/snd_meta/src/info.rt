@@ -3,7 +3,7 @@
 ghost use Rattle.std.specs.Prelude.{◌≡◌, ◌≢◌, ◌⊎◌, ◌↔◌, ◌+◌, ◌<◌, ◌≤◌, ◌%◌, List, [], ◌∷◌, ◌++◌, length, take, drop, All, Some, None, IfOk, OnOk, IfErr, OnErr, IsErrOf, MatchOption, IfSome, option_map};
 ghost use Rattle.std.specs.Option.{option_copied};
 ghost use Rattle.snd_meta.specs.Text.{text_of};
-ghost use Rattle.snd_meta.specs.Info.{place_of, id_of, key_of, text_under, with_text, completed, items_of, info_of, info_body, size_of, item_bytes, IsInOrder, IsItemAt};
+ghost use Rattle.snd_meta.specs.Info.{place_of, id_of, key_of, text_under, with_text, completed, items_of, info_of, info_body, size_of, item_bytes, IsInfo, IsItemAt};
 
 use crate::error::MetaError;
 use crate::text::{Text, until_zero};
@@ -124,6 +124,7 @@ fn item_at(bytes: &[u8]) -> Option<(Item<'_>, &[u8])>
 fn read_items(alloc: Global, items: &[u8]) -> Result<InfoList, MetaError>
     requires { length items.now ≤ 65536 }
     ensures read { IfOk result (λ list. option_map (completed []) (items_of items.now) ≡ Some list) }
+    ensures info { IfOk result (λ list. IsInfo list) }
     ensures bad { IsErrOf result MetaError.BadInfo → items_of items.now ≡ None }
     ensures only { IfErr result (λ e. (e ≡ MetaError.BadInfo) ⊎ (e ≡ MetaError.Memory)) }
 {
@@ -172,6 +173,8 @@ impl InfoList {
     pub fn read(alloc: Global, body: &[u8]) -> Result<InfoList, MetaError>
         requires { length body.now ≤ 65536 }
         ensures read { IfOk result (λ list. info_of body.now ≡ Some list) }
+        // A list that is not changed is written with the texts that the body had.
+        ensures again { IfOk result (λ list. info_of (info_body list) ≡ info_of body.now) }
         ensures bad { IsErrOf result MetaError.BadInfo → info_of body.now ≡ None }
         ensures only { IfErr result (λ e. (e ≡ MetaError.BadInfo) ⊎ (e ≡ MetaError.Memory)) }
     {
@@ -184,7 +187,7 @@ impl InfoList {
     /// The text at the place of a key.
     fn held(&self, key: InfoKey) -> Option<&Text>
         ensures value { option_map (λ text. text.now.bytes.items) result ≡ text_under key self.now }
-        ensures in_order { IsInOrder self.now }
+        ensures info { IsInfo self.now }
     {
         self.texts[key.place()].as_ref()
     }
@@ -192,8 +195,7 @@ impl InfoList {
     /// The text of a key: none exactly where the list holds none. No byte of it is 0.
     pub fn text(&self, key: InfoKey) -> Option<&[u8]>
         ensures value { option_copied result ≡ text_under key self.now }
-        ensures in_order { IsInOrder self.now }
-        ensures no_zero { IfSome result (λ text. text_of text.now ≡ text.now) }
+        ensures info { IsInfo self.now }
     {
         match self.held(key) {
             Some(text) => Some(text.bytes.as_slice()),
@@ -206,6 +208,7 @@ impl InfoList {
         requires no_zero { text_of text.now ≡ text.now }
         requires short { length text.now ≤ 65536 }
         ensures kept { OnOk result (self.new ≡ with_text key text.now self.old) }
+        ensures info { OnOk result (IsInfo self.new) }
         ensures same { OnErr result (self.new ≡ self.old) }
     {
         let text = Text::new(self.alloc, text)?;
@@ -217,7 +220,8 @@ impl InfoList {
     fn complete(&mut self, item: &Item<'_>) -> Result<(), AllocError>
         requires no_zero { text_of item.now.text.now ≡ item.now.text.now }
         requires short { length item.now.text.now ≤ 65536 }
-        ensures { OnOk result (self.new ≡ completed self.old (record { id = item.now.id.now; text = item.now.text.now } ∷ [])) }
+        ensures kept { OnOk result (self.new ≡ completed self.old (record { id = item.now.id.now; text = item.now.text.now } ∷ [])) }
+        ensures info { OnOk result (IsInfo self.new) }
     {
         let Some(key) = InfoKey::from_id(item.id) else {
             let _ = &self.texts;
@@ -266,7 +270,8 @@ impl InfoList {
 
     /// The body that holds these texts.
     fn body(&self) -> Result<Vec<u8>, AllocError>
-        ensures { IfOk result (λ body. body.items ≡ info_body self.now) }
+        ensures written { IfOk result (λ body. body.items ≡ info_body self.now) }
+        ensures again { OnOk result (info_of (info_body self.now) ≡ Some self.now) }
     {
         let mut body = Vec::from_slice(self.alloc, b"INFO")?;
         for key in INFO_KEYS {
@@ -285,6 +290,8 @@ impl InfoList {
     /// `Memory`.
     pub fn put(&self, into: &mut Vec<u8>) -> Result<(), MetaError>
         ensures written { OnOk result (into.new.items ≡ into.old.items ++ info_body self.now) }
+        // What is written is read again as the same list.
+        ensures again { OnOk result (info_of (info_body self.now) ≡ Some self.now) }
         ensures only { IfErr result (λ e. e ≡ MetaError.Memory) }
         ensures same { OnErr result (into.new.items ≡ into.old.items) }
     {

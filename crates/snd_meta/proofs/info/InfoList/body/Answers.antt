@@ -3,12 +3,13 @@ use Rattle.snd_meta.specs.declared.text.Text.{Text}
 use Rattle.snd_meta.specs.declared.info.InfoKey.TheVariants.{Title}
 use Rattle.snd_meta.specs.Info.{table, item_bytes, info_body}
 use Rattle.snd_meta.proofs.Bodies.{body_start, body_more, body_same, body_end}
-use Rattle.snd_meta.proofs.Keys.{in_order}
+use Rattle.snd_meta.proofs.Keys.{held_info}
+use Rattle.snd_meta.proofs.RoundTrip.{info_again}
 use Rattle.snd_meta.proofs.info.InfoList.body.Goals as goal
 use Rattle.snd_meta.proofs.info.InfoList.body.Goals.{in-Some+in_ok-push_item, in_default}
 
 pub loop-key-init : goal.loop-key-init
-loop-key-init c = body_start c.args.self.now c.in_ok-body.body.items (in_order c.self.inside.texts c.args.self.now c.self.view_is) c.in_ok-body.ensures.items
+loop-key-init c = body_start c.args.self.now c.in_ok-body.body.items (held_info c.self.inside.texts c.args.self.now c.self.view_is).in_order c.in_ok-body.ensures.items
 
 pub loop-key-preserved : goal.loop-key-preserved
 loop-key-preserved c = elim c.match-held.branch [
@@ -23,5 +24,8 @@ loop-key-preserved c = elim c.match-held.branch [
       ∙ c.loop-key.invariant
 ]
 
-pub returns : goal.returns
-returns c = body_end table c.loop-key.key-index c.args.self.now c.loop-key.body.items (info_body c.args.self.now) (omega arith) c.loop-key.invariant
+pub returns-clause-written : goal.returns-clause-written
+returns-clause-written c = body_end table c.loop-key.key-index c.args.self.now c.loop-key.body.items (info_body c.args.self.now) (omega arith) c.loop-key.invariant
+
+pub returns-clause-again : goal.returns-clause-again
+returns-clause-again c = info_again c.args.self.now (held_info c.self.inside.texts c.args.self.now c.self.view_is)
