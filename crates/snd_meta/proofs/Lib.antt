@@ -5,3 +5,4 @@ pub mod Completing
 pub mod Bodies
 pub mod Numbers
 pub mod RoundTrip
+pub mod Points

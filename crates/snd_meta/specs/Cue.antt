@@ -1,10 +1,22 @@
 -- The cue points of a `cue ` chunk. Microsoft and IBM, "Multimedia Programming Interface and Data
 -- Specifications 1.0" (1991), "Cue-Points Chunk".
-use Rattle.std.specs.Prelude.{ℕ, zero, suc, ◌+◌, ◌*◌, nat_lt, if◌then◌else◌, List, [], ◌∷◌, ◌++◌, length, drop, codes, Option, Some, None}
-use Rattle.std.specs.List.{flat_map}
+use Rattle.std.specs.Prelude.{ℕ, zero, suc, ◌+◌, ◌*◌, ◌^◌, ◌<◌, nat_lt, if◌then◌else◌, List, [], ◌∷◌, ◌++◌, length, drop, codes, Option, Some, None}
+use Rattle.std.specs.List.{AllByRecursion, flat_map}
 use Rattle.snd_fields.specs.Field.{number, bytes_of}
 use Rattle.snd_fields.specs.declared.field.Order.TheVariants.{Little}
 use Rattle.snd_meta.specs.declared.cue.CuePoint.{CuePoint}
+
+-- a point's numbers are those of four bytes
+pub record IsPoint (p : CuePoint) : Type 0 where
+  pub name : p.name < 2 ^ 32
+  pub offset : p.offset < 2 ^ 32
+
+-- what a list of points is: its length is a number of four bytes too
+pub record IsCues (points : List CuePoint) : Type 0 where
+  pub count : length points < 2 ^ 32
+  pub each : AllByRecursion IsPoint points
+
+-- ---- reading
 
 -- the point at the front: its name is the first of its six fields, and its sample offset the last
 abbrev pub point_of : List ℕ → CuePoint
@@ -25,6 +37,8 @@ cues_of body =
     if nat_lt (length body) 4 then None
     else if nat_lt (length body) (4 + 24 * count_of body) then None
     else Some (points_of (count_of body) (drop 4 body))
+
+-- ---- writing
 
 -- name, position, the id of the chunk that holds the sample, the starts of chunk and block, sample offset
 abbrev pub point_bytes : CuePoint → List ℕ

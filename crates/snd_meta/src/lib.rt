@@ -9,6 +9,6 @@ mod info;
 mod text;
 
 pub use bext::BextKey;
-pub use cue::CuePoint;
+pub use cue::{CueList, CuePoint};
 pub use error::MetaError;
 pub use info::{INFO_KEYS, InfoKey, InfoList};
