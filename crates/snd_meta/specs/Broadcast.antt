@@ -1,10 +1,10 @@
 -- The broadcast extension of a `bext` chunk. EBU Tech 3285 (version 2, 2011), "Broadcast Audio Extension Chunk".
-use Rattle.std.specs.Prelude.{ℕ, ◌+◌, ◌-◌, ◌<◌, nat_lt, if◌then◌else◌, List, [], ◌++◌, length, take, drop, replicate, Option, Some, None}
+use Rattle.std.specs.Prelude.{◌≡◌, ℕ, ◌^◌, ◌<◌, nat_lt, if◌then◌else◌, List, [], ◌∷◌, length, take, drop, replicate, Option, Some, None}
 use Rattle.snd_fields.specs.Field.{number, bytes_of}
 use Rattle.snd_fields.specs.declared.field.Order.TheVariants.{Little}
 use Rattle.snd_meta.specs.declared.bext.BextKey.{BextKey}
 use Rattle.snd_meta.specs.declared.bext.BextKey.TheVariants.{Description, Originator, OrigRef, OrigDate, OrigTime, TimeRef, CodingHist}
-use Rattle.snd_meta.specs.Text.{text_of, padded}
+use Rattle.snd_meta.specs.Text.{text_of, padded, joined, IsTextWithin}
 
 -- what a broadcast extension says
 pub record Broadcast : Type 0 where
@@ -20,6 +20,19 @@ pub record Broadcast : Type 0 where
   -- loudness in version 2, and reserved bytes: kept, and not interpreted
   pub further : List ℕ
   pub history : List ℕ
+
+-- what a draft can be: each text fits its field, and each number has its bytes
+pub record IsBroadcast (b : Broadcast) : Type 0 where
+  pub description : IsTextWithin 256 b.description
+  pub originator : IsTextWithin 32 b.originator
+  pub reference : IsTextWithin 32 b.reference
+  pub date : IsTextWithin 10 b.date
+  pub time : IsTextWithin 8 b.time
+  pub time_reference : b.time_reference < 2 ^ 64
+  pub version : b.version < 2 ^ 16
+  pub umid : length b.umid ≡ 64
+  pub further : length b.further ≡ 190
+  pub history : IsTextWithin 65536 b.history
 
 -- where the field of a key begins; the coding history stands behind the 602 bytes of the fixed part
 abbrev pub field_place : BextKey → ℕ
@@ -65,9 +78,19 @@ bext_of body =
 
 -- the body that says this; no 0 ends the history
 abbrev pub bext_body : Broadcast → List ℕ
-bext_body b =
-    padded 256 b.description ++ padded 32 b.originator ++ padded 32 b.reference ++ padded 10 b.date ++ padded 8 b.time
-    ++ bytes_of Little 8 b.time_reference ++ bytes_of Little 2 b.version ++ b.umid ++ b.further ++ b.history
+bext_body b = joined (
+  padded 256 b.description
+  ∷ padded 32 b.originator
+  ∷ padded 32 b.reference
+  ∷ padded 10 b.date
+  ∷ padded 8 b.time
+  ∷ bytes_of Little 8 b.time_reference
+  ∷ bytes_of Little 2 b.version
+  ∷ b.umid
+  ∷ b.further
+  ∷ b.history
+  ∷ []
+)
 
 -- a new draft: version 1, and zeros elsewhere
 abbrev pub blank : Broadcast

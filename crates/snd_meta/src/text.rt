@@ -3,6 +3,7 @@
 ghost use Rattle.std.specs.Prelude.{◌≡◌, ◌≤◌, ◌==◌, length, position, IfOk};
 ghost use Rattle.snd_meta.specs.Text.{text_of};
 
+use arrayvec::ArrayVec;
 use std::alloc::{AllocError, Global};
 
 /// A text that a draft keeps: no byte of it is 0.
@@ -32,6 +33,26 @@ impl Clone for Text {
         Ok(Text {
             bytes: Vec::from_slice(*self.bytes.allocator(), self.bytes.as_slice())?,
         })
+    }
+}
+
+/// A text in a field of `N` bytes: no byte of it is 0.
+#[derive(Drop)]
+pub(crate) struct FieldText<const N: usize> {
+    pub(crate) bytes: ArrayVec<u8, N>,
+    ghost no_zero: { text_of bytes.items ≡ bytes.items },
+    ghost fits: { length bytes.items ≤ N },
+}
+
+impl<const N: usize> FieldText<N> {
+    pub(crate) fn new(text: &[u8]) -> FieldText<N>
+        requires no_zero { text_of text.now ≡ text.now }
+        requires fits { length text.now ≤ N }
+        ensures { result.bytes.items ≡ text.now }
+    {
+        let mut bytes = ArrayVec::new();
+        bytes.try_extend_from_slice(text).unwrap();
+        FieldText { bytes }
     }
 }
 
