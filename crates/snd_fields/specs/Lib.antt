@@ -1,1 +1,3 @@
+pub mod Decimal
 pub mod Field
+pub mod Laws

@@ -68,6 +68,7 @@ pub fn u64_at(bytes: &[u8], at: usize, order: Order) -> u64
 
 /// Writes `value` into the 2 bytes from `at` on. The other bytes stay.
 #[inline]
+#[tactic(auto, using(crate::proofs::Places::put_field))]
 pub fn put_u16(bytes: &mut [u8], at: usize, order: Order, value: u16)
     requires { at + 2 ≤ length bytes.old }
     ensures { bytes.new ≡ with_field bytes.old at (bytes_of order 2 value) }
@@ -81,6 +82,7 @@ pub fn put_u16(bytes: &mut [u8], at: usize, order: Order, value: u16)
 
 /// Writes `value`, which is below 2^24, into the 3 bytes from `at` on. The other bytes stay.
 #[inline]
+#[tactic(auto, using(crate::proofs::Places::put_field))]
 pub fn put_u24(bytes: &mut [u8], at: usize, order: Order, value: u32)
     requires room { at + 3 ≤ length bytes.old }
     requires fits { value < 2 ^ 24 }
@@ -95,6 +97,7 @@ pub fn put_u24(bytes: &mut [u8], at: usize, order: Order, value: u32)
 
 /// Writes `value` into the 4 bytes from `at` on. The other bytes stay.
 #[inline]
+#[tactic(auto, using(crate::proofs::Places::put_field))]
 pub fn put_u32(bytes: &mut [u8], at: usize, order: Order, value: u32)
     requires { at + 4 ≤ length bytes.old }
     ensures { bytes.new ≡ with_field bytes.old at (bytes_of order 4 value) }
@@ -108,6 +111,7 @@ pub fn put_u32(bytes: &mut [u8], at: usize, order: Order, value: u32)
 
 /// Writes `value` into the 8 bytes from `at` on. The other bytes stay.
 #[inline]
+#[tactic(auto, using(crate::proofs::Places::put_field))]
 pub fn put_u64(bytes: &mut [u8], at: usize, order: Order, value: u64)
     requires { at + 8 ≤ length bytes.old }
     ensures { bytes.new ≡ with_field bytes.old at (bytes_of order 8 value) }

@@ -1,6 +1,6 @@
 //! The words of a command line.
 
-ghost use Rattle.std.specs.Prelude.{◌≡◌, length, map, option_map, slice_get};
+ghost use Rattle.std.specs.Prelude.{◌≡◌, ◌↔◌, [], IsTrue, length, map, option_map, slice_get};
 ghost use Rattle.std.specs.String.{string_bytes};
 
 use std::marker::Model;
@@ -34,6 +34,13 @@ impl Words {
         ensures { result ≡ length self.now }
     {
         self.list.len()
+    }
+
+    /// Whether there is no word.
+    pub fn is_empty(&self) -> bool
+        ensures { IsTrue result ↔ (self.now ≡ []) }
+    {
+        self.list.is_empty()
     }
 
     /// The word at a place, counted from 0: none from the length on.
