@@ -3,7 +3,7 @@ use Rattle.std.proofs.Common.{ℕ, zero, suc, ◌≡◌, ◌<◌, ◌≤◌, ◌
 use Rattle.std.proofs.lemmas.Bool.{cases_Bool, ltb-false, ltb-true, lt-ltb, le-ltb}
 use Rattle.std.proofs.lemmas.List.{length-drop, length-take, drop-drop, drop_min, take_rest, take-take}
 use Rattle.snd_meta.specs.Text.{text_of}
-use Rattle.snd_meta.proofs.Texts.{text_of-text_of, length-text_of}
+use Rattle.snd_meta.proofs.Texts.{text_whole, text_short}
 use Rattle.snd_meta.specs.Info.{Item, IsItemAt, size_of, item_of, after_item, items_up_to, items_of}
 
 pub after_item-shorter : (bytes : List ℕ) → length (after_item bytes) ≤ length bytes - 8
@@ -69,10 +69,10 @@ item_cut bytes head rest text later found size pad is_size is_head is_rest is_te
 pub item_text : (bytes id text later : List ℕ) → IsItemAt bytes id text later → text_of text ≡ text
 item_text bytes id text later found =
     let e : text ≡ (item_of bytes).text = ap (λ (i : Item). i.text) found.item in
-    ap text_of e ∙ text_of-text_of (take (size_of bytes) (drop 8 bytes)) ∙ sym e
+    ap text_of e ∙ text_whole (take (size_of bytes) (drop 8 bytes)) ∙ sym e
 
 -- it is no longer than the bytes
 pub item_short : (bytes id text later : List ℕ) → IsItemAt bytes id text later → length text ≤ length bytes
 item_short bytes id text later found =
     let e : text ≡ (item_of bytes).text = ap (λ (i : Item). i.text) found.item in
-    omega (arith, ap length e, length-text_of (take (size_of bytes) (drop 8 bytes)), length-take (size_of bytes) (drop 8 bytes), length-drop 8 bytes)
+    omega (arith, ap length e, text_short (take (size_of bytes) (drop 8 bytes)), length-take (size_of bytes) (drop 8 bytes), length-drop 8 bytes)

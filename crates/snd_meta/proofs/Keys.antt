@@ -10,8 +10,8 @@ use Rattle.std.proofs.lemmas.List.{get_or-set_same, get_or-set_other, get_or_def
 use Rattle.snd_meta.specs.declared.info.InfoKey.{InfoKey}
 use Rattle.snd_meta.specs.declared.info.InfoKey.TheVariants.{Title, Copyright, Software, Artist, Comment, Date, Album, Genre, Track}
 use Rattle.snd_meta.specs.declared.text.Text.{Text}
-use Rattle.snd_meta.specs.Info.{Entry, table, place_of, same_key, listed, text_under, with_text, IsText, IsInfo}
-use Rattle.snd_meta.specs.Text.{text_of}
+use Rattle.snd_meta.specs.Info.{Entry, table, place_of, same_key, listed, text_under, with_text,  IsInfo}
+use Rattle.snd_meta.specs.Text.{text_of, IsTextWithin}
 use Rattle.snd_meta.specs.Slots.{text_in}
 
 key_at_place : (key : InfoKey) → get_or table (place_of key) Title ≡ key
@@ -135,24 +135,24 @@ text_put slots es key n text whole nine at = rw at (listed-same (text_in (set sl
 ]))
 
 -- a list of what some keys have
-over-each : (keys : List InfoKey) (f : InfoKey → Option (List ℕ)) → ((key : InfoKey) (t : List ℕ) → f key ≡ Some t → IsText t)
-    → AllByRecursion (λ e. IsText e.text) (over keys f)
+over-each : (keys : List InfoKey) (f : InfoKey → Option (List ℕ)) → ((key : InfoKey) (t : List ℕ) → f key ≡ Some t → IsTextWithin 65536 t)
+    → AllByRecursion (λ e. IsTextWithin 65536 e.text) (over keys f)
 unfolding over
 over-each [] f each = tt
 over-each (key ∷ keys) f each = with_each key keys f each (f key) refl (over-each keys f each)
   where
-    with_each : (k : InfoKey) (ks : List InfoKey) (g : InfoKey → Option (List ℕ)) → ((q : InfoKey) (t : List ℕ) → g q ≡ Some t → IsText t)
-        → (o : Option (List ℕ)) → g k ≡ o → AllByRecursion (λ e. IsText e.text) (over ks g)
-        → AllByRecursion (λ e. IsText e.text) (cons_option (option_map (λ t. record { key = k; text = t }) o) (over ks g))
+    with_each : (k : InfoKey) (ks : List InfoKey) (g : InfoKey → Option (List ℕ)) → ((q : InfoKey) (t : List ℕ) → g q ≡ Some t → IsTextWithin 65536 t)
+        → (o : Option (List ℕ)) → g k ≡ o → AllByRecursion (λ e. IsTextWithin 65536 e.text) (over ks g)
+        → AllByRecursion (λ e. IsTextWithin 65536 e.text) (cons_option (option_map (λ t. record { key = k; text = t }) o) (over ks g))
     with_each k ks g h None e rest = rest
     with_each k ks g h (Some t) e rest = (h k t e, rest)
 
 -- the list of the texts that a function gives is one that a draft can hold
-pub is_info : (f : InfoKey → Option (List ℕ)) (es : List Entry) → es ≡ listed f → ((key : InfoKey) (t : List ℕ) → f key ≡ Some t → IsText t) → IsInfo es
+pub is_info : (f : InfoKey → Option (List ℕ)) (es : List Entry) → es ≡ listed f → ((key : InfoKey) (t : List ℕ) → f key ≡ Some t → IsTextWithin 65536 t) → IsInfo es
 unfolding listed over
-is_info f es e each = record { in_order = listed-listed f es e; texts = let P : List Entry → Type 0 = λ list. AllByRecursion (λ x. IsText x.text) list in subst P (sym e) (over-each table f each) }
+is_info f es e each = record { in_order = listed-listed f es e; texts = let P : List Entry → Type 0 = λ list. AllByRecursion (λ x. IsTextWithin 65536 x.text) list in subst P (sym e) (over-each table f each) }
 
-is_text : (o : Option Text) (t : List ℕ) → option_map (λ text. text.bytes.items) o ≡ Some t → IsText t
+is_text : (o : Option Text) (t : List ℕ) → option_map (λ text. text.bytes.items) o ≡ Some t → IsTextWithin 65536 t
 is_text None t e = cc
 is_text (Some text) t e =
     let same : text.bytes.items ≡ t = same_Some text.bytes.items t e in

@@ -6,3 +6,4 @@ pub mod Bodies
 pub mod Numbers
 pub mod RoundTrip
 pub mod Points
+pub mod Broadcasting

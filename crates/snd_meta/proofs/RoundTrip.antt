@@ -11,8 +11,8 @@ use Rattle.byteorder.specs.Numbers.{length-bytes_low_first}
 use Rattle.snd_meta.specs.declared.info.InfoKey.{InfoKey}
 use Rattle.snd_meta.specs.declared.info.InfoKey.TheVariants.{Title, Copyright, Software, Artist, Comment, Date, Album, Genre, Track}
 use Rattle.snd_meta.specs.declared.error.MetaError.{MetaError}
-use Rattle.snd_meta.specs.Text.{text_of}
-use Rattle.snd_meta.specs.Info.{Entry, Item, IsText, IsInfo, id_of, same_key, size_of, item_of, after_item, items_of, item_bytes, listed, text_under, first_text, completed, info_of, info_body}
+use Rattle.snd_meta.specs.Text.{text_of, IsTextWithin}
+use Rattle.snd_meta.specs.Info.{Entry, Item,  IsInfo, id_of, same_key, size_of, item_of, after_item, items_of, item_bytes, listed, text_under, first_text, completed, info_of, info_body}
 use Rattle.snd_meta.proofs.Texts.{text_of-stops}
 use Rattle.snd_meta.proofs.Numbers.{little_at}
 use Rattle.snd_meta.proofs.Items.{items_of-short, items_of-more}
@@ -85,7 +85,7 @@ zeros : (n : ℕ) → replicate {A = ℕ} (1 + n) 0 ≡ 0 ∷ replicate n 0
 zeros n = rw one-add refl
 
 -- an entry's bytes are one item
-read_entry : (e : Entry) (rest : List ℕ) → IsText e.text → items_of (item_bytes e ++ rest) ≡ option_map (λ items. as_item e ∷ items) (items_of rest)
+read_entry : (e : Entry) (rest : List ℕ) → IsTextWithin 65536 e.text → items_of (item_bytes e ++ rest) ≡ option_map (λ items. as_item e ∷ items) (items_of rest)
 unfolding as_item
 read_entry e rest good =
     read_item (id_of e.key) (bytes_of Little 4 (length e.text + 1)) e.text (replicate ((length e.text + 1) % 2) 0) rest (item_bytes e ++ rest) (length e.text + 1)
@@ -93,7 +93,7 @@ read_entry e rest good =
       (length-id_of e.key) refl refl (omega (arith, good.short)) (length-replicate ((length e.text + 1) % 2) 0) good.no_zero
 
 -- the items of a list
-read_entries : (es : List Entry) → AllByRecursion (λ e. IsText e.text) es → items_of (flat_map item_bytes es) ≡ Some (map as_item es)
+read_entries : (es : List Entry) → AllByRecursion (λ e. IsTextWithin 65536 e.text) es → items_of (flat_map item_bytes es) ≡ Some (map as_item es)
 read_entries [] good = items_of-short [] (omega arith)
 read_entries (e ∷ es) good = read_entry e (flat_map item_bytes es) good.0 ∙ ap (option_map (λ items. as_item e ∷ items)) (read_entries es good.1)
 

@@ -1,5 +1,5 @@
 -- The broadcast extension of a `bext` chunk. EBU Tech 3285 (version 2, 2011), "Broadcast Audio Extension Chunk".
-use Rattle.std.specs.Prelude.{◌≡◌, ℕ, ◌^◌, ◌<◌, nat_lt, if◌then◌else◌, List, [], ◌∷◌, length, take, drop, replicate, Option, Some, None}
+use Rattle.std.specs.Prelude.{◌≡◌, ℕ, ◌^◌, ◌<◌, nat_lt, if◌then◌else◌, List, [], ◌∷◌, ◌++◌, length, take, drop, replicate, Option, Some, None}
 use Rattle.snd_fields.specs.Field.{number, bytes_of}
 use Rattle.snd_fields.specs.declared.field.Order.TheVariants.{Little}
 use Rattle.snd_meta.specs.declared.bext.BextKey.{BextKey}
@@ -60,7 +60,7 @@ field_text key body = text_of (take (field_size key) (drop (field_place key) bod
 
 -- What a body holds: nothing where it is shorter than the fixed part. The time reference is a u32 low and a
 -- u32 high, which is one number of eight bytes.
-abbrev pub bext_of : List ℕ → Option Broadcast
+unfoldable pub bext_of : List ℕ → Option Broadcast
 bext_of body =
     if nat_lt (length body) 602 then None
     else Some (record {
@@ -76,21 +76,17 @@ bext_of body =
       history = text_of (drop 602 body)
     })
 
--- the body that says this; no 0 ends the history
-abbrev pub bext_body : Broadcast → List ℕ
-bext_body b = joined (
-  padded 256 b.description
-  ∷ padded 32 b.originator
-  ∷ padded 32 b.reference
-  ∷ padded 10 b.date
-  ∷ padded 8 b.time
-  ∷ bytes_of Little 8 b.time_reference
-  ∷ bytes_of Little 2 b.version
-  ∷ b.umid
-  ∷ b.further
-  ∷ b.history
-  ∷ []
-)
+-- the five texts, each in its field
+abbrev pub text_parts : Broadcast → List ℕ
+text_parts b = joined (padded 256 b.description ∷ padded 32 b.originator ∷ padded 32 b.reference ∷ padded 10 b.date ∷ padded 8 b.time ∷ [])
+
+-- the numbers, the bytes that are kept, and the history, which no 0 ends
+abbrev pub other_parts : Broadcast → List ℕ
+other_parts b = joined (bytes_of Little 8 b.time_reference ∷ bytes_of Little 2 b.version ∷ b.umid ∷ b.further ∷ b.history ∷ [])
+
+-- the body that says this
+unfoldable pub bext_body : Broadcast → List ℕ
+bext_body b = text_parts b ++ other_parts b
 
 -- a new draft: version 1, and zeros elsewhere
 abbrev pub blank : Broadcast

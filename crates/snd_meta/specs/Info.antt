@@ -8,7 +8,7 @@ use Rattle.snd_fields.specs.Field.{number, bytes_of}
 use Rattle.snd_fields.specs.declared.field.Order.TheVariants.{Little}
 use Rattle.snd_meta.specs.declared.info.InfoKey.{InfoKey}
 use Rattle.snd_meta.specs.declared.info.InfoKey.TheVariants.{Title, Copyright, Software, Artist, Comment, Date, Album, Genre, Track}
-use Rattle.snd_meta.specs.Text.{text_of}
+use Rattle.snd_meta.specs.Text.{text_of, IsTextWithin}
 
 -- a text and its key
 pub record Entry : Type 0 where
@@ -59,15 +59,11 @@ abbrev pub text_under : InfoKey → List Entry → Option (List ℕ)
 text_under key [] = None
 text_under key (e ∷ es) = if same_key e.key key then Some e.text else text_under key es
 
--- what a draft holds of a key: no byte of it is 0, and its size can be written
-pub record IsText (text : List ℕ) : Type 0 where
-  pub no_zero : text_of text ≡ text
-  pub short : length text ≤ 65536
-
--- what the list of a draft is: in the order of the table, with at most one text of a key
+-- what the list of a draft is: in the order of the table, with at most one text of a key, and each text of a
+-- size that can be written
 pub record IsInfo (es : List Entry) : Type 0 where
   pub in_order : listed (λ key. text_under key es) ≡ es
-  pub texts : AllByRecursion (λ e. IsText e.text) es
+  pub texts : AllByRecursion (λ e. IsTextWithin 65536 e.text) es
 
 -- a list with a text put under a key, in place of the one that was there
 abbrev pub with_text : InfoKey → List ℕ → List Entry → List Entry

@@ -3,3 +3,4 @@ pub mod Info
 pub mod Slots
 pub mod Cue
 pub mod Broadcast
+pub mod Fields

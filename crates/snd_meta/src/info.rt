@@ -239,6 +239,7 @@ impl InfoList {
     /// # Errors
     ///
     /// `TextTooLong` exactly where the text has more than 1024 bytes; `Memory`.
+    #[tactic(auto, using(crate::proofs::Texts::whole_text))]
     pub fn set(&mut self, key: InfoKey, text: &[u8]) -> Result<(), MetaError>
         requires { All (λ b. b ≢ 0) text.now }
         ensures set { OnOk result (self.new ≡ with_text key text.now self.old) }

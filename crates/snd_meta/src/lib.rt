@@ -8,7 +8,7 @@ mod error;
 mod info;
 mod text;
 
-pub use bext::BextKey;
+pub use bext::{Bext, BextKey};
 pub use cue::{CueList, CuePoint};
 pub use error::MetaError;
 pub use info::{INFO_KEYS, InfoKey, InfoList};

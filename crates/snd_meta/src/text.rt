@@ -1,6 +1,6 @@
 //! Texts, which end at their first 0.
 
-ghost use Rattle.std.specs.Prelude.{◌≡◌, ◌≤◌, ◌==◌, length, position, IfOk};
+ghost use Rattle.std.specs.Prelude.{◌≡◌, ◌≤◌, ◌==◌, [], length, position, IfOk};
 ghost use Rattle.snd_meta.specs.Text.{text_of};
 
 use arrayvec::ArrayVec;
@@ -23,6 +23,23 @@ impl Text {
         Ok(Text {
             bytes: Vec::from_slice(alloc, bytes)?,
         })
+    }
+
+    /// The bytes before the first 0, or all where there is none.
+    #[tactic(auto, using(crate::proofs::Texts::text_whole, crate::proofs::Texts::text_short))]
+    pub(crate) fn until_zero(alloc: Global, bytes: &[u8]) -> Result<Text, AllocError>
+        requires { length bytes.now ≤ 65536 }
+        ensures { IfOk result (λ text. text.bytes.items ≡ text_of bytes.now) }
+    {
+        Text::new(alloc, until_zero(bytes))
+    }
+
+    pub(crate) fn empty(alloc: Global) -> Text
+        ensures { result.bytes.items ≡ [] }
+    {
+        Text {
+            bytes: Vec::new(alloc),
+        }
     }
 }
 
@@ -53,6 +70,21 @@ impl<const N: usize> FieldText<N> {
         let mut bytes = ArrayVec::new();
         bytes.try_extend_from_slice(text).unwrap();
         FieldText { bytes }
+    }
+
+    /// The bytes before the first 0, or all where there is none.
+    #[tactic(auto, using(crate::proofs::Texts::text_whole, crate::proofs::Texts::text_short))]
+    pub(crate) fn until_zero(bytes: &[u8]) -> FieldText<N>
+        requires { length bytes.now ≤ N }
+        ensures { result.bytes.items ≡ text_of bytes.now }
+    {
+        FieldText::new(until_zero(bytes))
+    }
+
+    pub(crate) fn copy(&self) -> FieldText<N>
+        ensures { result.bytes.items ≡ self.now.bytes.items }
+    {
+        FieldText::new(self.bytes.as_slice())
     }
 }
 
