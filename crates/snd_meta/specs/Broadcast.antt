@@ -1,5 +1,6 @@
 -- The broadcast extension of a `bext` chunk. EBU Tech 3285 (version 2, 2011), "Broadcast Audio Extension Chunk".
-use Rattle.std.specs.Prelude.{◌≡◌, ℕ, ◌^◌, ◌<◌, nat_lt, if◌then◌else◌, List, [], ◌∷◌, ◌++◌, length, take, drop, replicate, Option, Some, None}
+use Rattle.std.specs.Prelude.{◌≡◌, ℕ, ◌^◌, ◌<◌, nat_lt, if◌then◌else◌, List, [], ◌∷◌, ◌++◌, length, take, drop, replicate, Option, Some, None, unwrap_or}
+use Rattle.snd_fields.specs.Decimal.{decimal}
 use Rattle.snd_fields.specs.Field.{number, bytes_of}
 use Rattle.snd_fields.specs.declared.field.Order.TheVariants.{Little}
 use Rattle.snd_meta.specs.declared.bext.BextKey.{BextKey}
@@ -122,3 +123,10 @@ with_bext_text OrigDate text b = record b { date = text }
 with_bext_text OrigTime text b = record b { time = text }
 with_bext_text TimeRef text b = b
 with_bext_text CodingHist text b = record b { history = text }
+
+-- ---- one field alone
+
+-- The bytes that put a text into its field: zeros follow it. The time reference is written in decimal digits.
+abbrev pub field_of : BextKey → List ℕ → List ℕ
+field_of TimeRef text = bytes_of Little 8 (unwrap_or (decimal text) 0)
+field_of key text = padded (field_size key) text

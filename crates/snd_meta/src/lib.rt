@@ -5,10 +5,12 @@
 mod bext;
 mod cue;
 mod error;
+mod field;
 mod info;
 mod text;
 
 pub use bext::{Bext, BextKey};
 pub use cue::{CueList, CuePoint};
 pub use error::MetaError;
+pub use field::field_bytes;
 pub use info::{INFO_KEYS, InfoKey, InfoList};
