@@ -35,7 +35,7 @@ little_from-drop body at i zero = refl
 little_from-drop body at i (suc k) =
     let byte : slice_index body (at + i) ≡ slice_index (drop at body) i = sym (get_or-drop at body i 0) in
     let rest : little_from (suc (at + i)) k body ≡ little_from (suc i) k (drop at body) =
-      ap (λ n. little_from n k body) (sym (add-suc at i)) ∙ little_from-drop body at (suc i) k in
+    ap (λ n. little_from n k body) (sym (add-suc at i)) ∙ little_from-drop body at (suc i) k in
     rw (byte, rest) refl
 
 -- a number in a field
@@ -57,16 +57,16 @@ unfolding bext_of
 read_fields body b long d o r e t n v u f h =
     cond-false (nat_lt (length body) 602) None _ (le-ltb (length body) 602 long)
     ∙ sym (
-      ap (λ x. Some (made x b.originator b.reference b.date b.time b.time_reference b.version b.umid b.further b.history)) d
-      ∙ ap (λ x. Some (made (field_text Description body) x b.reference b.date b.time b.time_reference b.version b.umid b.further b.history)) o
-      ∙ ap (λ x. Some (made (field_text Description body) (field_text Originator body) x b.date b.time b.time_reference b.version b.umid b.further b.history)) r
-      ∙ ap (λ x. Some (made (field_text Description body) (field_text Originator body) (field_text OrigRef body) x b.time b.time_reference b.version b.umid b.further b.history)) e
-      ∙ ap (λ x. Some (made (field_text Description body) (field_text Originator body) (field_text OrigRef body) (field_text OrigDate body) x b.time_reference b.version b.umid b.further b.history)) t
-      ∙ ap (λ x. Some (made (field_text Description body) (field_text Originator body) (field_text OrigRef body) (field_text OrigDate body) (field_text OrigTime body) x b.version b.umid b.further b.history)) n
-      ∙ ap (λ x. Some (made (field_text Description body) (field_text Originator body) (field_text OrigRef body) (field_text OrigDate body) (field_text OrigTime body) (number Little body 338 8) x b.umid b.further b.history)) v
-      ∙ ap (λ x. Some (made (field_text Description body) (field_text Originator body) (field_text OrigRef body) (field_text OrigDate body) (field_text OrigTime body) (number Little body 338 8) (number Little body 346 2) x b.further b.history)) u
-      ∙ ap (λ x. Some (made (field_text Description body) (field_text Originator body) (field_text OrigRef body) (field_text OrigDate body) (field_text OrigTime body) (number Little body 338 8) (number Little body 346 2) (take 64 (drop 348 body)) x b.history)) f
-      ∙ ap (λ x. Some (made (field_text Description body) (field_text Originator body) (field_text OrigRef body) (field_text OrigDate body) (field_text OrigTime body) (number Little body 338 8) (number Little body 346 2) (take 64 (drop 348 body)) (take 190 (drop 412 body)) x)) h
+    ap (λ x. Some (made x b.originator b.reference b.date b.time b.time_reference b.version b.umid b.further b.history)) d
+    ∙ ap (λ x. Some (made (field_text Description body) x b.reference b.date b.time b.time_reference b.version b.umid b.further b.history)) o
+    ∙ ap (λ x. Some (made (field_text Description body) (field_text Originator body) x b.date b.time b.time_reference b.version b.umid b.further b.history)) r
+    ∙ ap (λ x. Some (made (field_text Description body) (field_text Originator body) (field_text OrigRef body) x b.time b.time_reference b.version b.umid b.further b.history)) e
+    ∙ ap (λ x. Some (made (field_text Description body) (field_text Originator body) (field_text OrigRef body) (field_text OrigDate body) x b.time_reference b.version b.umid b.further b.history)) t
+    ∙ ap (λ x. Some (made (field_text Description body) (field_text Originator body) (field_text OrigRef body) (field_text OrigDate body) (field_text OrigTime body) x b.version b.umid b.further b.history)) n
+    ∙ ap (λ x. Some (made (field_text Description body) (field_text Originator body) (field_text OrigRef body) (field_text OrigDate body) (field_text OrigTime body) (number Little body 338 8) x b.umid b.further b.history)) v
+    ∙ ap (λ x. Some (made (field_text Description body) (field_text Originator body) (field_text OrigRef body) (field_text OrigDate body) (field_text OrigTime body) (number Little body 338 8) (number Little body 346 2) x b.further b.history)) u
+    ∙ ap (λ x. Some (made (field_text Description body) (field_text Originator body) (field_text OrigRef body) (field_text OrigDate body) (field_text OrigTime body) (number Little body 338 8) (number Little body 346 2) (take 64 (drop 348 body)) x b.history)) f
+    ∙ ap (λ x. Some (made (field_text Description body) (field_text Originator body) (field_text OrigRef body) (field_text OrigDate body) (field_text OrigTime body) (number Little body 338 8) (number Little body 346 2) (take 64 (drop 348 body)) (take 190 (drop 412 body)) x)) h
     )
 
 grouped : (a b c d e rest : List ℕ) → joined (a ∷ b ∷ c ∷ d ∷ e ∷ []) ++ rest ≡ a ++ (b ++ (c ++ (d ++ (e ++ rest))))
@@ -109,16 +109,16 @@ module _ (b : Broadcast) (good : IsBroadcast b) (body : List ℕ) (whole : body 
   read_parts : bext_of body ≡ Some b
   read_parts =
       read_fields body b long
-        (sym (text_again body b.description _ 0 256 at_description good.description))
-        (sym (text_again body b.originator _ 256 32 at_originator good.originator))
-        (sym (text_again body b.reference _ 288 32 at_reference good.reference))
-        (sym (text_again body b.date _ 320 10 at_date good.date))
-        (sym (text_again body b.time _ 330 8 at_time good.time))
-        (sym (number_again body _ 338 8 b.time_reference at_time_reference good.time_reference))
-        (sym (number_again body _ 346 2 b.version at_version good.version))
-        (sym (part_at body b.umid _ 348 64 at_umid good.umid))
-        (sym (part_at body b.further _ 412 190 at_further good.further))
-        (sym (ap text_of (at_history ∙ append-nil b.history) ∙ good.history.no_zero))
+      (sym (text_again body b.description _ 0 256 at_description good.description))
+      (sym (text_again body b.originator _ 256 32 at_originator good.originator))
+      (sym (text_again body b.reference _ 288 32 at_reference good.reference))
+      (sym (text_again body b.date _ 320 10 at_date good.date))
+      (sym (text_again body b.time _ 330 8 at_time good.time))
+      (sym (number_again body _ 338 8 b.time_reference at_time_reference good.time_reference))
+      (sym (number_again body _ 346 2 b.version at_version good.version))
+      (sym (part_at body b.umid _ 348 64 at_umid good.umid))
+      (sym (part_at body b.further _ 412 190 at_further good.further))
+      (sym (ap text_of (at_history ∙ append-nil b.history) ∙ good.history.no_zero))
 
 -- what is written is read again
 pub bext_again : (b : Broadcast) → IsBroadcast b → bext_of (bext_body b) ≡ Some b

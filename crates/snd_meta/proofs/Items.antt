@@ -25,7 +25,7 @@ items_up_to-enough (suc m) (suc n) bytes hm hn = elim (cases_Bool (nat_lt (lengt
       let long : 8 ≤ length bytes = ltb-false (length bytes) 8 whole in
       let less : length (after_item bytes) ≤ length bytes - 8 = after_item-shorter bytes in
       ap (stepped (nat_lt (length bytes) 8) (nat_lt (length bytes) (8 + size_of bytes)) bytes)
-         (items_up_to-enough m n (after_item bytes) (omega arith) (omega arith))
+      (items_up_to-enough m n (after_item bytes) (omega arith) (omega arith))
 ]
 
 -- fewer than eight bytes hold no item
@@ -47,8 +47,8 @@ unfolding items_of items_up_to
 items_of-more bytes long whole =
     items_up_to-enough (length bytes) (suc (length bytes)) bytes (omega arith) (omega arith)
     ∙ rw (le-ltb (length bytes) 8 long, le-ltb (length bytes) (8 + size_of bytes) whole) (
-        ap (option_map (λ (items : List Item). item_of bytes ∷ items))
-           (items_up_to-enough (length bytes) (length (after_item bytes)) (after_item bytes) (omega (arith, after_item-shorter bytes)) (omega arith)))
+    ap (option_map (λ (items : List Item). item_of bytes ∷ items))
+    (items_up_to-enough (length bytes) (length (after_item bytes)) (after_item bytes) (omega (arith, after_item-shorter bytes)) (omega arith)))
 
 -- an item as it is cut from the bytes
 pub item_cut : (bytes head rest text later found : List ℕ) (size pad : ℕ) → size ≡ size_of bytes → head ≡ take 8 bytes → rest ≡ drop 8 bytes
@@ -61,8 +61,8 @@ item_cut bytes head rest text later found size pad is_size is_head is_rest is_te
       whole = omega arith;
       item = ap (λ i. record { id = i; text = found }) id ∙ ap (λ t. record { id = take 4 bytes; text = t }) words;
       rest = take_rest later pad ∙ ap (λ n. drop n later) is_pad ∙ drop_min (size % 2) later
-        ∙ ap (drop (size % 2)) (is_later ∙ ap (drop size) is_rest ∙ drop-drop size 8 bytes) ∙ drop-drop (size % 2) (8 + size) bytes
-        ∙ ap (λ n. drop (8 + n + n % 2) bytes) is_size;
+          ∙ ap (drop (size % 2)) (is_later ∙ ap (drop size) is_rest ∙ drop-drop size 8 bytes) ∙ drop-drop (size % 2) (8 + size) bytes
+          ∙ ap (λ n. drop (8 + n + n % 2) bytes) is_size;
     }
 
 -- the text of an item has no 0

@@ -10,7 +10,7 @@ use Rattle.std.proofs.lemmas.List.{get_or-set_same, get_or-set_other, get_or_def
 use Rattle.snd_meta.specs.declared.info.InfoKey.{InfoKey}
 use Rattle.snd_meta.specs.declared.info.InfoKey.TheVariants.{Title, Copyright, Software, Artist, Comment, Date, Album, Genre, Track}
 use Rattle.snd_meta.specs.declared.text.Text.{Text}
-use Rattle.snd_meta.specs.Info.{Entry, table, place_of, same_key, listed, text_under, with_text,  IsInfo}
+use Rattle.snd_meta.specs.Info.{Entry, table, place_of, same_key, listed, text_under, with_text, IsInfo}
 use Rattle.snd_meta.specs.Text.{text_of, IsTextWithin}
 use Rattle.snd_meta.specs.Slots.{text_in}
 

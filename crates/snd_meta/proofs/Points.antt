@@ -55,7 +55,7 @@ cues_again points good =
     let count : count_of (cue_body points) ≡ length points = little_number-reads_back 4 (length points) [] good.count in
     let long : nat_lt (length (cue_body points)) 4 ≡ false = le-ltb (length (cue_body points)) 4 (omega arith) in
     let enough : nat_lt (length (cue_body points)) (4 + 24 * count_of (cue_body points)) ≡ false =
-      le-ltb (length (cue_body points)) (4 + 24 * count_of (cue_body points)) (omega (arith, count, length-point_bytes points)) in
+    le-ltb (length (cue_body points)) (4 + 24 * count_of (cue_body points)) (omega (arith, count, length-point_bytes points)) in
     let found = Some (points_of (count_of (cue_body points)) (flat_map point_bytes points)) in
     ap (λ b. cond b None (cond (nat_lt (length (cue_body points)) (4 + 24 * count_of (cue_body points))) None found)) long
     ∙ ap (λ b. cond b None found) enough
@@ -71,7 +71,7 @@ pub points_step : (done next whole : List CuePoint) (n m name offset : ℕ) (res
     → done ++ points_of n rest ≡ whole → next ++ points_of m later ≡ whole
 points_step done next whole n m name offset rest later more is_later is_name is_offset is_next so_far =
     let point : record { name = name; offset = offset } ≡ point_of rest =
-      ap (λ k. record { name = k; offset = offset }) is_name ∙ ap (λ k. record { name = number Little rest 0 4; offset = k }) is_offset in
+    ap (λ k. record { name = k; offset = offset }) is_name ∙ ap (λ k. record { name = number Little rest 0 4; offset = k }) is_offset in
     ap (λ ps. ps ++ points_of m later) (is_next ∙ ap (λ p. done ++ p ∷ []) point) ∙ append_assoc done (point_of rest ∷ []) (points_of m later)
     ∙ ap (λ bytes. done ++ point_of rest ∷ points_of m bytes) is_later ∙ ap (λ k. done ++ points_of k rest) (sym more) ∙ so_far
 

@@ -12,7 +12,7 @@ use Rattle.snd_meta.specs.declared.info.InfoKey.{InfoKey}
 use Rattle.snd_meta.specs.declared.info.InfoKey.TheVariants.{Title, Copyright, Software, Artist, Comment, Date, Album, Genre, Track}
 use Rattle.snd_meta.specs.declared.error.MetaError.{MetaError}
 use Rattle.snd_meta.specs.Text.{text_of, IsTextWithin}
-use Rattle.snd_meta.specs.Info.{Entry, Item,  IsInfo, id_of, same_key, size_of, item_of, after_item, items_of, item_bytes, listed, text_under, first_text, completed, info_of, info_body}
+use Rattle.snd_meta.specs.Info.{Entry, Item, IsInfo, id_of, same_key, size_of, item_of, after_item, items_of, item_bytes, listed, text_under, first_text, completed, info_of, info_body}
 use Rattle.snd_meta.proofs.Texts.{text_of-stops}
 use Rattle.snd_meta.proofs.Numbers.{little_at}
 use Rattle.snd_meta.proofs.Items.{items_of-short, items_of-more}
@@ -38,12 +38,11 @@ as_item e = record { id = id_of e.key; text = e.text }
 
 module _ (id size text more rest bytes : List ℕ) (n : ℕ) (whole : bytes ≡ id ++ size ++ text ++ (0 ∷ more) ++ rest)
     (four : length id ≡ 4) (is_size : size ≡ bytes_of Little 4 n) (is_n : n ≡ length text + 1) (small : n < 256 ^ 4) (pad : length more ≡ n % 2) where
-
   size_read : size_of bytes ≡ n
   unfolding size_of
   size_read =
       ap (λ b. number Little b 4 4) (whole ∙ append_assoc (id ++ size ++ text) (0 ∷ more) rest ∙ append_assoc (id ++ size) text ((0 ∷ more) ++ rest)
-        ∙ append_assoc id size (text ++ ((0 ∷ more) ++ rest)) ∙ ap (λ s. id ++ (s ++ (text ++ ((0 ∷ more) ++ rest)))) is_size)
+      ∙ append_assoc id size (text ++ ((0 ∷ more) ++ rest)) ∙ ap (λ s. id ++ (s ++ (text ++ ((0 ∷ more) ++ rest)))) is_size)
       ∙ little_at id (text ++ ((0 ∷ more) ++ rest)) 4 4 n four small
 
   head_length : length (id ++ size) ≡ 8
@@ -52,7 +51,7 @@ module _ (id size text more rest bytes : List ℕ) (n : ℕ) (whole : bytes ≡ 
   id_read : take 4 bytes ≡ id
   id_read =
       ap (take 4) (whole ∙ append_assoc (id ++ size ++ text) (0 ∷ more) rest ∙ append_assoc (id ++ size) text ((0 ∷ more) ++ rest)
-        ∙ append_assoc id size (text ++ ((0 ∷ more) ++ rest)))
+      ∙ append_assoc id size (text ++ ((0 ∷ more) ++ rest)))
       ∙ take_at id (size ++ (text ++ ((0 ∷ more) ++ rest))) 4 four
 
   text_read : take n (drop 8 bytes) ≡ text ++ 0 ∷ []
@@ -65,7 +64,7 @@ module _ (id size text more rest bytes : List ℕ) (n : ℕ) (whole : bytes ≡ 
   rest_read =
       ap (drop (8 + n + n % 2)) whole
       ∙ drop_at (id ++ size ++ text ++ (0 ∷ more)) rest (8 + n + n % 2)
-          (omega (arith, length-append (id ++ size ++ text) (0 ∷ more), length-append (id ++ size) text, head_length))
+      (omega (arith, length-append (id ++ size ++ text) (0 ∷ more), length-append (id ++ size) text, head_length))
 
   long : 8 + n ≤ length bytes
   long = omega (arith, ap length whole, length-append (id ++ size ++ text ++ (0 ∷ more)) rest, length-append (id ++ size ++ text) (0 ∷ more), length-append (id ++ size) text, head_length)
@@ -73,9 +72,9 @@ module _ (id size text more rest bytes : List ℕ) (n : ℕ) (whole : bytes ≡ 
   read_item : text_of text ≡ text → items_of bytes ≡ option_map (λ items. record { id = id; text = text } ∷ items) (items_of rest)
   read_item no_zero =
       let found : item_of bytes ≡ record { id = id; text = text } =
-        ap (λ i. record { id = i; text = text_of (take (size_of bytes) (drop 8 bytes)) }) id_read
-        ∙ ap (λ k. record { id = id; text = text_of (take k (drop 8 bytes)) }) size_read
-        ∙ ap (λ t. record { id = id; text = t }) (ap text_of text_read ∙ text_of-stops text [] ∙ no_zero) in
+      ap (λ i. record { id = i; text = text_of (take (size_of bytes) (drop 8 bytes)) }) id_read
+      ∙ ap (λ k. record { id = id; text = text_of (take k (drop 8 bytes)) }) size_read
+      ∙ ap (λ t. record { id = id; text = t }) (ap text_of text_read ∙ text_of-stops text [] ∙ no_zero) in
       let behind : after_item bytes ≡ rest = ap (λ k. drop (8 + k + k % 2) bytes) size_read ∙ rest_read in
       items_of-more bytes (omega (arith, long)) (omega (arith, long, size_read))
       ∙ ap (λ item. option_map (λ items. item ∷ items) (items_of (after_item bytes))) found
@@ -89,8 +88,8 @@ read_entry : (e : Entry) (rest : List ℕ) → IsTextWithin 65536 e.text → ite
 unfolding as_item
 read_entry e rest good =
     read_item (id_of e.key) (bytes_of Little 4 (length e.text + 1)) e.text (replicate ((length e.text + 1) % 2) 0) rest (item_bytes e ++ rest) (length e.text + 1)
-      (ap (λ z. id_of e.key ++ bytes_of Little 4 (length e.text + 1) ++ e.text ++ z ++ rest) (zeros ((length e.text + 1) % 2)))
-      (length-id_of e.key) refl refl (omega (arith, good.short)) (length-replicate ((length e.text + 1) % 2) 0) good.no_zero
+    (ap (λ z. id_of e.key ++ bytes_of Little 4 (length e.text + 1) ++ e.text ++ z ++ rest) (zeros ((length e.text + 1) % 2)))
+    (length-id_of e.key) refl refl (omega (arith, good.short)) (length-replicate ((length e.text + 1) % 2) 0) good.no_zero
 
 -- the items of a list
 read_entries : (es : List Entry) → AllByRecursion (λ e. IsTextWithin 65536 e.text) es → items_of (flat_map item_bytes es) ≡ Some (map as_item es)

@@ -11,7 +11,7 @@ use Rattle.snd_meta.specs.Text.{text_of, padded}
 pub whole_text : (bytes : List ℕ) → All (λ b. b ≢ 0) bytes → text_of bytes ≡ bytes
 whole_text bytes h =
     let whole : position_or_len (λ b. nat_eq b 0) bytes ≡ length bytes =
-        position_or_len_is (λ b. nat_eq b 0) bytes (length bytes) 0 (omega arith) (λ k lt. let here = h k 0 lt in grind (arith, nat_tests)) (λ lt. absurd (omega arith)) in
+    position_or_len_is (λ b. nat_eq b 0) bytes (length bytes) 0 (omega arith) (λ k lt. let here = h k 0 lt in grind (arith, nat_tests)) (λ lt. absurd (omega arith)) in
     take_all _ bytes (omega arith)
 
 -- a text has no 0

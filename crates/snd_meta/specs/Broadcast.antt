@@ -74,7 +74,7 @@ bext_of body =
       version = number Little body 346 2;
       umid = take 64 (drop 348 body);
       further = take 190 (drop 412 body);
-      history = text_of (drop 602 body)
+      history = text_of (drop 602 body);
     })
 
 -- the five texts, each in its field
@@ -101,7 +101,7 @@ blank = record {
   version = 1;
   umid = replicate 64 0;
   further = replicate 190 0;
-  history = []
+  history = [];
 }
 
 -- the text of a key; the time reference is a number and has none

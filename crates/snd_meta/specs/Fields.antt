@@ -13,5 +13,5 @@ broadcast_in s = record {
   version = s.version;
   umid = s.umid;
   further = s.further;
-  history = s.history.bytes.items
+  history = s.history.bytes.items;
 }

@@ -1,6 +1,6 @@
 //! Cue points.
 
-ghost use Rattle.std.specs.Prelude.{◌≡◌, ◌⊎◌, ◌+◌, ◌*◌, ◌^◌, ◌<◌, ◌≤◌, ◌++◌, length, take, drop, slice_get, Some, None, IfOk, OnOk, IfErr, OnErr, IsErrOf};
+ghost use Rattle.std.specs.Prelude.{◌≡◌, ◌⊎◌, ◌↔◌, ◌+◌, ◌*◌, ◌^◌, ◌<◌, ◌≤◌, ◌++◌, length, take, drop, slice_get, Some, None, IfOk, OnOk, IfErr, OnErr, IsErrOf, IsTrue};
 ghost use Rattle.snd_meta.specs.Cue.{points_of, point_bytes, IsCues};
 
 use crate::error::MetaError;
@@ -117,6 +117,13 @@ impl CueList {
         ensures { result ≡ length self.now }
     {
         self.points.len()
+    }
+
+    /// Whether there are none.
+    pub fn is_empty(&self) -> bool
+        ensures { IsTrue result ↔ (length self.now ≡ 0) }
+    {
+        self.points.is_empty()
     }
 
     /// The point at a place, counted from 0: none from the length on.

@@ -52,7 +52,10 @@ impl InfoKey {
     fn from_id(id: &[u8]) -> Option<InfoKey>
         ensures { result ≡ key_of id.now }
     {
-        INFO_KEYS.iter().copied().find(|key| id == key.id().as_slice())
+        INFO_KEYS
+            .iter()
+            .copied()
+            .find(|key| id == key.id().as_slice())
     }
 
     /// The id under which a text stands in a file.

@@ -7,6 +7,8 @@ mod cue;
 mod error;
 mod field;
 mod info;
+#[cfg(test)]
+mod tests;
 mod text;
 
 pub use bext::{Bext, BextKey};

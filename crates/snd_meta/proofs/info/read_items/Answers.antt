@@ -26,7 +26,7 @@ pub loop-rest-preserved : goal.loop-rest-preserved
 loop-rest-preserved c = record {
   same = completed-step c.loop-rest.list c.complete.new.self c.loop-rest.rest.now c.in-Some.item.id.now c.in-Some.item.text.now c.in-Some.later.now (omega arith)
       c.in-Some.ensures c.in_ok-complete.ensures.kept
-    ∙ c.loop-rest.invariant.same;
+      ∙ c.loop-rest.invariant.same;
   info = c.in_ok-complete.ensures.info;
   short = omega (arith, ap length c.in-Some.ensures.rest, after_item-shorter c.loop-rest.rest.now);
 }

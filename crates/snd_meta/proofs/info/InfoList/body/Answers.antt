@@ -15,12 +15,12 @@ pub loop-key-preserved : goal.loop-key-preserved
 loop-key-preserved c = elim c.match-held.branch [
   | in-Some+in_ok-push_item w ↦
       body_more table c.loop-key.key-index Title c.args.self.now w.in-Some.text.now.bytes.items c.loop-key.body.items c.match-held.body.items (omega arith)
-        w.in-Some.ensures.value (ap (λ v. v.items) w.body-is ∙ w.in_ok-push_item.ensures
-          ∙ ap (λ t. c.loop-key.body.items ++ item_bytes (record { key = get_or table c.loop-key.key-index Title; text = t })) w.as_slice.ensures.value)
+      w.in-Some.ensures.value (ap (λ v. v.items) w.body-is ∙ w.in_ok-push_item.ensures
+      ∙ ap (λ t. c.loop-key.body.items ++ item_bytes (record { key = get_or table c.loop-key.key-index Title; text = t })) w.as_slice.ensures.value)
       ∙ c.loop-key.invariant
   | in_default w ↦
       body_same table c.loop-key.key-index Title c.args.self.now c.loop-key.body.items c.match-held.body.items (omega arith)
-        (ap (option_map (λ (text : Bor Text). text.now.bytes.items)) (sym w.in_default.is) ∙ c.held.ensures.value) (ap (λ v. v.items) w.body-is)
+      (ap (option_map (λ (text : Bor Text). text.now.bytes.items)) (sym w.in_default.is) ∙ c.held.ensures.value) (ap (λ v. v.items) w.body-is)
       ∙ c.loop-key.invariant
 ]
 
