@@ -1,15 +1,14 @@
 -- What is written of a broadcast extension is read again.
-use Rattle.std.proofs.Common.{ℕ, zero, suc, ◌≡◌, ◌<◌, ◌≤◌, ◌+◌, ◌-◌, ◌^◌, nat_lt, Bool, true, false, cond, List, [], ◌∷◌, ◌++◌, length, take, drop, get_or, replicate, slice_index, Option, Some, None, add-suc, add-zero, refl, sym, ap, ◌∙◌, subst, arith, length-append}
+use Rattle.std.proofs.Common.{ℕ, zero, suc, ◌≡◌, ◌<◌, ◌≤◌, ◌+◌, ◌-◌, ◌^◌, nat_lt, List, [], ◌∷◌, ◌++◌, length, take, drop, replicate, slice_index, Some, None, add-suc, add-zero, refl, sym, ap, ◌∙◌, arith, length-append}
 use Rattle.std.proofs.lemmas.Bool.{cond-false, le-ltb}
 use Rattle.std.proofs.lemmas.List.{append_assoc, append-nil, drop-drop, drop_at, length-drop, length-take, take_at, get_or-drop, length-replicate}
 use Rattle.byteorder.specs.Endian.{little_from}
-use Rattle.byteorder.specs.Numbers.{little_number-reads_back, length-bytes_low_first}
+use Rattle.byteorder.specs.Numbers.{little_number-reads_back}
 use Rattle.snd_fields.specs.Field.{bytes_of, number}
 use Rattle.snd_fields.specs.declared.field.Order.TheVariants.{Little}
 use Rattle.snd_meta.specs.Text.{text_of, padded, joined, IsTextWithin}
-use Rattle.snd_meta.specs.declared.bext.BextKey.{BextKey}
-use Rattle.snd_meta.specs.declared.bext.BextKey.TheVariants.{Description, Originator, OrigRef, OrigDate, OrigTime, TimeRef, CodingHist}
-use Rattle.snd_meta.specs.Broadcast.{Broadcast, IsBroadcast, field_text, field_place, field_size, bext_of, bext_body, text_parts, other_parts}
+use Rattle.snd_meta.specs.declared.bext.BextKey.TheVariants.{Description, Originator, OrigRef, OrigDate, OrigTime}
+use Rattle.snd_meta.specs.Broadcast.{Broadcast, IsBroadcast, field_text, bext_of, bext_body, text_parts, other_parts}
 use Rattle.snd_meta.proofs.Texts.{text_of-zeros}
 
 -- ---- one part after the other

@@ -1,10 +1,8 @@
 -- What is written of an INFO list is read again.
-use Rattle.std.proofs.Common.{ℕ, zero, suc, ◌≡◌, ◌<◌, ◌≤◌, ◌+◌, ◌*◌, ◌%◌, ◌^◌, one-add, Bool, true, false, cond, nat_lt, List, [], ◌∷◌, ◌++◌, length, take, drop, replicate, map, Option, Some, None, Result, Ok, Err, IfOk, option_map, refl, sym, ap, ◌∙◌, arith, inl, inr, length-append}
+use Rattle.std.proofs.Common.{ℕ, ◌≡◌, ◌<◌, ◌≤◌, ◌+◌, ◌%◌, ◌^◌, one-add, cond, List, [], ◌∷◌, ◌++◌, length, take, drop, replicate, map, Some, None, Result, Ok, Err, IfOk, option_map, refl, sym, ap, ◌∙◌, arith, length-append}
 use Rattle.std.specs.List.{AllByRecursion, flat_map}
 use Rattle.std.specs.Option.{option_or}
-use Rattle.std.specs.Str.{bytes_eq}
-use Rattle.std.proofs.lemmas.Bool.{cases_Bool}
-use Rattle.std.proofs.lemmas.List.{append_assoc, append-nil, drop_at, take_at, length-replicate}
+use Rattle.std.proofs.lemmas.List.{append_assoc, drop_at, take_at, length-replicate}
 use Rattle.snd_fields.specs.Field.{bytes_of, number}
 use Rattle.snd_fields.specs.declared.field.Order.TheVariants.{Little}
 use Rattle.byteorder.specs.Numbers.{length-bytes_low_first}
@@ -12,7 +10,7 @@ use Rattle.snd_meta.specs.declared.info.InfoKey.{InfoKey}
 use Rattle.snd_meta.specs.declared.info.InfoKey.TheVariants.{Title, Copyright, Software, Artist, Comment, Date, Album, Genre, Track}
 use Rattle.snd_meta.specs.declared.error.MetaError.{MetaError}
 use Rattle.snd_meta.specs.Text.{text_of, IsTextWithin}
-use Rattle.snd_meta.specs.Info.{Entry, Item, IsInfo, id_of, same_key, size_of, item_of, after_item, items_of, item_bytes, listed, text_under, first_text, completed, info_of, info_body}
+use Rattle.snd_meta.specs.Info.{Entry, Item, IsInfo, id_of, same_key, size_of, item_of, after_item, items_of, item_bytes, text_under, first_text, completed, info_of, info_body}
 use Rattle.snd_meta.proofs.Texts.{text_of-stops}
 use Rattle.snd_meta.proofs.Numbers.{little_at}
 use Rattle.snd_meta.proofs.Items.{items_of-short, items_of-more}

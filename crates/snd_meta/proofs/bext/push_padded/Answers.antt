@@ -1,4 +1,4 @@
-use Rattle.std.proofs.Common.{ℕ, ◌+◌, ◌-◌, ◌++◌, List, length, replicate, ap, ◌∙◌, arith}
+use Rattle.std.proofs.Common.{◌+◌, ◌-◌, length, arith}
 use Rattle.snd_meta.proofs.Texts.{padded_by}
 use Rattle.snd_meta.proofs.bext.push_padded.Goals as goal
 

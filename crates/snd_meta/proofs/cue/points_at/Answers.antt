@@ -1,4 +1,4 @@
-use Rattle.std.proofs.Common.{ℕ, ◌<◌, ◌+◌, ◌-◌, ap, ◌∙◌, arith, length}
+use Rattle.std.proofs.Common.{◌+◌, ◌-◌, ap, arith, length}
 use Rattle.std.proofs.lemmas.List.{length-drop, take_rest}
 use Rattle.snd_meta.proofs.Points.{points_step, points_end, read_info}
 use Rattle.snd_meta.proofs.cue.points_at.Goals as goal

@@ -1,4 +1,4 @@
-use Rattle.std.proofs.Common.{ℕ, ◌≡◌, ◌-◌, ◌++◌, length, replicate}
+use Rattle.std.proofs.Common.{◌≡◌, ◌-◌, ◌++◌, length, replicate}
 use Rattle.snd_meta.proofs.field.text_field.Given as goal
 
 abbrev pub invariant-loop : goal.invariant-loop

@@ -1,4 +1,4 @@
-use Rattle.std.proofs.Common.{[], ap, ◌∙◌, sym, arith, option_map, length}
+use Rattle.std.proofs.Common.{ap, ◌∙◌, sym, arith, option_map, length}
 use Rattle.snd_meta.specs.Info.{completed, items_of}
 use Rattle.snd_meta.proofs.Completing.{completed-step, completed-end, completed-cut}
 use Rattle.snd_meta.proofs.Items.{item_text, item_short, after_item-shorter}

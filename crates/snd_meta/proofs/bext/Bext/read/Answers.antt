@@ -1,4 +1,4 @@
-use Rattle.std.proofs.Common.{rules, refl, sym, ap, ◌∙◌, take, drop, arith, length}
+use Rattle.std.proofs.Common.{rules, ap, ◌∙◌, take, drop}
 use Rattle.std.proofs.lemmas.List.{take_rest}
 use Rattle.snd_fields.specs.Field.{number}
 use Rattle.snd_fields.specs.declared.field.Order.TheVariants.{Little}

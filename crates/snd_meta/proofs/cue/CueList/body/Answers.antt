@@ -1,4 +1,4 @@
-use Rattle.std.proofs.Common.{◌≡◌, ap, arith, subst}
+use Rattle.std.proofs.Common.{arith, subst}
 use Rattle.snd_meta.specs.Cue.{IsCues}
 use Rattle.snd_meta.proofs.Points.{written_step, cues_again}
 use Rattle.snd_meta.proofs.cue.CueList.body.Goals as goal
