@@ -12,7 +12,7 @@ unfoldable pub bytes_under : List InfoKey → List Entry → List ℕ
 bytes_under keys es = flat_map item_bytes (over keys (λ key. text_under key es))
 
 pub body_start : (es : List Entry) (body : List ℕ) → listed (λ key. text_under key es) ≡ es → body ≡ codes "INFO" → body ++ bytes_under table es ≡ info_body es
-unfolding bytes_under over listed
+unfolding bytes_under over listed info_body
 body_start es body ordered e = ap (λ b. b ++ flat_map item_bytes (listed (λ key. text_under key es))) e ∙ ap (λ list. codes "INFO" ++ flat_map item_bytes list) ordered
 
 with_key : (key : InfoKey) (keys : List InfoKey) (es : List Entry) (t : List ℕ) → Some t ≡ text_under key es

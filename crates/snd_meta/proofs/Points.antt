@@ -50,6 +50,7 @@ length-point_bytes (p ∷ points) = omega (arith, length-point_bytes points)
 
 -- what is written is read again
 pub cues_again : (points : List CuePoint) → IsCues points → cues_of (cue_body points) ≡ Some points
+unfolding cues_of cue_body
 cues_again points good =
     let count : count_of (cue_body points) ≡ length points = little_number-reads_back 4 (length points) [] good.count in
     let long : nat_lt (length (cue_body points)) 4 ≡ false = le-ltb (length (cue_body points)) 4 (omega arith) in

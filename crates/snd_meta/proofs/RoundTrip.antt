@@ -105,6 +105,7 @@ first_text-entries key (e ∷ es) =
 
 -- what is written is read again
 pub info_again : (es : List Entry) → IsInfo es → info_of (info_body es) ≡ Some es
+unfolding info_of info_body
 info_again es good =
     ap (option_map (completed [])) (read_entries es good.texts)
     ∙ ap Some (listed-same (λ key. option_or None (first_text (id_of key) (map as_item es))) (λ key. text_under key es) (λ key. first_text-entries key es) ∙ good.in_order)

@@ -32,7 +32,7 @@ abbrev pub count_of : List ℕ → ℕ
 count_of body = number Little body 0 4
 
 -- what a body holds: nothing where it is shorter than its count and the points
-abbrev pub cues_of : List ℕ → Option (List CuePoint)
+unfoldable pub cues_of : List ℕ → Option (List CuePoint)
 cues_of body =
     if nat_lt (length body) 4 then None
     else if nat_lt (length body) (4 + 24 * count_of body) then None
@@ -47,7 +47,7 @@ point_bytes p =
     ++ bytes_of Little 4 p.offset
 
 -- the body that holds these points
-abbrev pub cue_body : List CuePoint → List ℕ
+unfoldable pub cue_body : List CuePoint → List ℕ
 cue_body points = bytes_of Little 4 (length points) ++ flat_map point_bytes points
 
 -- a point at each place, with the names from one number on

@@ -118,7 +118,7 @@ abbrev pub completed : List Entry → List Item → List Entry
 completed es items = listed (λ key. option_or (text_under key es) (first_text (id_of key) items))
 
 -- what a body holds: nothing where it does not begin with `INFO`, or a text runs past its end
-abbrev pub info_of : List ℕ → Option (List Entry)
+unfoldable pub info_of : List ℕ → Option (List Entry)
 info_of body =
     if bytes_eq (codes "INFO") (take 4 body) then option_map (completed []) (items_of (drop 4 body)) else None
 
@@ -130,5 +130,5 @@ item_bytes e =
     id_of e.key ++ bytes_of Little 4 (length e.text + 1) ++ e.text ++ replicate (1 + (length e.text + 1) % 2) 0
 
 -- the body that holds these texts
-abbrev pub info_body : List Entry → List ℕ
+unfoldable pub info_body : List Entry → List ℕ
 info_body es = codes "INFO" ++ flat_map item_bytes es

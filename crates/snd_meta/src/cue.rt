@@ -73,6 +73,7 @@ impl CueList {
     /// # Errors
     ///
     /// `BadCue` exactly where the body is shorter than its count and the points that this says; `Memory`.
+    #[tactic(auto, unfolding(crate::specs::Cue::cues_of))]
     pub fn read(alloc: Global, body: &[u8]) -> Result<CueList, MetaError>
         requires { length body.now ≤ 65536 }
         ensures read { IfOk result (λ list. cues_of body.now ≡ Some list) }
@@ -134,6 +135,7 @@ impl CueList {
     }
 
     /// The body that holds these points.
+    #[tactic(auto, unfolding(crate::specs::Cue::cue_body))]
     fn body(&self) -> Result<Vec<u8>, AllocError>
         ensures written { IfOk result (λ body. body.items ≡ cue_body self.now) }
         ensures again { OnOk result (cues_of (cue_body self.now) ≡ Some self.now) }

@@ -173,6 +173,7 @@ impl InfoList {
     /// # Errors
     ///
     /// `BadInfo` exactly where the body does not begin with `INFO` or a text runs past its end; `Memory`.
+    #[tactic(auto, unfolding(crate::specs::Info::info_of))]
     pub fn read(alloc: Global, body: &[u8]) -> Result<InfoList, MetaError>
         requires { length body.now ≤ 65536 }
         ensures read { IfOk result (λ list. info_of body.now ≡ Some list) }
