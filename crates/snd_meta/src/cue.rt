@@ -79,7 +79,7 @@ impl CueList {
         ensures read { IfOk result (λ list. cues_of body.now ≡ Some list) }
         // A list that is not changed is written with the points that the body had.
         ensures again { IfOk result (λ list. cues_of (cue_body list) ≡ cues_of body.now) }
-        ensures bad { IsErrOf result MetaError.BadCue → cues_of body.now ≡ None }
+        ensures bad { IsErrOf result MetaError.BadCue ↔ (cues_of body.now ≡ None) }
         ensures only { IfErr result (λ e. (e ≡ MetaError.BadCue) ⊎ (e ≡ MetaError.Memory)) }
     {
         if body.len() < 4 {
