@@ -69,6 +69,6 @@ pub returned_images : (old : ShelfState) (name : List ℕ) (clock clock' clock''
 returned_images old name clock clock' clock'' before mid after past then since disk disk' left left' between between' handed same given taken back =
     kept_at_each old name clock clock'' before after past since
     (λ f b told is. keeps_images_then (clock name) disk (clock'' name) (before name) left (after name) (past name) between (since name)
-        (handed_there (f name) b (clock name) disk (before name) left (past name) between is (handed f told))
-        (keeps_images_then disk disk' (clock'' name) left left' (after name) between between' (since name) same given))
+    (handed_there (f name) b (clock name) disk (before name) left (past name) between is (handed f told))
+    (keeps_images_then disk disk' (clock'' name) left left' (after name) between between' (since name) same given))
     (λ n other. keeps_images_then (clock n) (clock' n) (clock'' n) (before n) (mid n) (after n) (past n) (then n) (since n) (taken n other) (back n other))
