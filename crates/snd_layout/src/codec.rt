@@ -1,6 +1,7 @@
 //! The codecs: how samples stand in a file.
 
 ghost use Rattle.std.specs.Prelude.{◌≡◌};
+ghost use Rattle.snd_layout.specs.Blocks.{is_adpcm};
 ghost use Rattle.snd_layout.specs.Names.{codec_name};
 
 use snd_fields::Order;
@@ -29,6 +30,13 @@ pub enum Codec {
 }
 
 impl Codec {
+    /// Whether samples stand in blocks, and have no bytes of their own.
+    pub fn is_adpcm(&self) -> bool
+        ensures { result ≡ is_adpcm self.now }
+    {
+        matches!(self, Codec::Ima { .. } | Codec::Ms { .. })
+    }
+
     /// The word that stands for it in scripts and in what is printed, as `pcm_16_le`.
     pub fn name(&self) -> &'static str
         ensures { result.now ≡ codec_name self.now }

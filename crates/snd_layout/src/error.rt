@@ -6,7 +6,7 @@ ghost use Rattle.snd_layout.specs.declared.error.PieceError.TheVariants.{Memory 
 
 use crate::refusal::OpenRefusal;
 use snd_disk::Step;
-use std::alloc::AllocError;
+use std::alloc::{AllocError, AllocFailed};
 use thiserror::Error;
 
 /// Why a file is not opened or made.
@@ -41,6 +41,14 @@ impl From<AllocError> for OpenError {
     ghost from_gives = { λ _ e. e ≡ open_memory };
 
     fn from(_e: AllocError) -> OpenError {
+        OpenError::Memory
+    }
+}
+
+impl<T: Drop> From<AllocFailed<T>> for OpenError {
+    ghost from_gives = { λ _ e. e ≡ open_memory };
+
+    fn from(_e: AllocFailed<T>) -> OpenError {
         OpenError::Memory
     }
 }
@@ -81,6 +89,14 @@ impl From<AllocError> for PieceError {
     ghost from_gives = { λ _ e. e ≡ piece_memory };
 
     fn from(_e: AllocError) -> PieceError {
+        PieceError::Memory
+    }
+}
+
+impl<T: Drop> From<AllocFailed<T>> for PieceError {
+    ghost from_gives = { λ _ e. e ≡ piece_memory };
+
+    fn from(_e: AllocFailed<T>) -> PieceError {
         PieceError::Memory
     }
 }

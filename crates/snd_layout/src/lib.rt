@@ -5,9 +5,11 @@
 mod codec;
 mod error;
 mod kind;
+mod params;
 mod refusal;
 
 pub use codec::Codec;
 pub use error::{OpenError, PieceError};
 pub use kind::Kind;
+pub use params::Params;
 pub use refusal::OpenRefusal;
