@@ -1,10 +1,11 @@
 -- The parameters of a sound, and which are refused.
-use Rattle.std.specs.Prelude.{◌≡◌, ℕ, ◌+◌, ◌-◌, ◌*◌, ◌/◌, ◌^◌, ◌<◌, ◌≤◌, Bool, ◌&&◌, Option, Some, None, Result, Ok, Err, nat_le, nat_lt, if◌then◌else◌}
+use Rattle.std.specs.Prelude.{◌≡◌, ℕ, ◌+◌, ◌-◌, ◌*◌, ◌/◌, ◌^◌, ◌<◌, ◌≤◌, Bool, ◌&&◌, Option, Some, None, Result, nat_le, nat_lt, if◌then◌else◌}
 use Rattle.snd_layout.specs.declared.codec.Codec.{Codec}
 use Rattle.snd_layout.specs.declared.codec.Codec.TheVariants.{Ima, Ms}
 use Rattle.snd_layout.specs.declared.refusal.OpenRefusal.{OpenRefusal}
 use Rattle.snd_layout.specs.declared.refusal.OpenRefusal.TheVariants.{BadChannels, BadRate, BadAlign, BlockTooLarge}
 use Rattle.snd_layout.specs.Blocks.{block_align, block_frames, is_ima_block, is_ms_block}
+use Rattle.snd_layout.specs.Refusals.{unless}
 
 pub record Parameters : Type 0 where
   pub channels : ℕ
@@ -31,12 +32,8 @@ params_refusal channels rate codec =
     then (if nat_le 1 rate && nat_lt rate (2 ^ 32) then block_refusal channels codec else Some BadRate)
     else Some BadChannels
 
-abbrev pub made_unless : Option OpenRefusal → Parameters → Result Parameters OpenRefusal
-made_unless None params = Ok params
-made_unless (Some refusal) params = Err refusal
-
 abbrev pub params_of : ℕ → ℕ → Codec → Result Parameters OpenRefusal
-params_of channels rate codec = made_unless (params_refusal channels rate codec) (record { channels = channels; rate = rate; codec = codec })
+params_of channels rate codec = unless (params_refusal channels rate codec) (record { channels = channels; rate = rate; codec = codec })
 
 -- what holds of all parameters
 pub record AreParams (p : Parameters) : Type 0 where

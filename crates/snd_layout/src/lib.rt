@@ -4,12 +4,18 @@
 
 mod codec;
 mod error;
+mod field;
+mod format;
 mod kind;
 mod params;
+mod piece;
 mod refusal;
 
 pub use codec::Codec;
 pub use error::{OpenError, PieceError};
+pub use field::{Field, one_sector};
+pub use format::read_fmt;
 pub use kind::Kind;
 pub use params::Params;
+pub use piece::{Piece, PieceList};
 pub use refusal::OpenRefusal;

@@ -71,13 +71,7 @@ impl Params {
     pub fn block_align(&self) -> u16
         ensures { result ≡ block_align self.now.channels self.now.codec }
     {
-        match self.codec {
-            Codec::U8 | Codec::S8 | Codec::MuLaw | Codec::ALaw => self.channels,
-            Codec::S16(_) => 2 * self.channels,
-            Codec::S24(_) => 3 * self.channels,
-            Codec::S32(_) => 4 * self.channels,
-            Codec::Ima { align, .. } | Codec::Ms { align, .. } => align,
-        }
+        block_align(self.channels, self.codec)
     }
 
     /// The frames of a block: 1 but for ADPCM.
@@ -88,6 +82,20 @@ impl Params {
             Codec::Ima { per_block, .. } | Codec::Ms { per_block, .. } => per_block,
             _ => 1,
         }
+    }
+}
+
+// The bytes of a block.
+pub(crate) fn block_align(channels: u16, codec: Codec) -> u16
+    requires { channels ≤ 256 }
+    ensures { result ≡ block_align channels codec }
+{
+    match codec {
+        Codec::U8 | Codec::S8 | Codec::MuLaw | Codec::ALaw => channels,
+        Codec::S16(_) => 2 * channels,
+        Codec::S24(_) => 3 * channels,
+        Codec::S32(_) => 4 * channels,
+        Codec::Ima { align, .. } | Codec::Ms { align, .. } => align,
     }
 }
 
