@@ -5,8 +5,10 @@
 mod codec;
 mod error;
 mod field;
+mod fit;
 mod format;
 mod kind;
+mod layout;
 mod params;
 mod piece;
 mod refusal;
@@ -16,6 +18,7 @@ pub use error::{OpenError, PieceError};
 pub use field::{Field, one_sector};
 pub use format::read_fmt;
 pub use kind::Kind;
+pub use layout::Layout;
 pub use params::Params;
 pub use piece::{Piece, PieceList};
 pub use refusal::OpenRefusal;
