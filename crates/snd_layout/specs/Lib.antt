@@ -6,3 +6,4 @@ pub mod Params
 pub mod Refusals
 pub mod Sector
 pub mod Shape
+pub mod Written

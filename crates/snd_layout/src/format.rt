@@ -28,7 +28,7 @@ const EXTENSIBLE: u16 = 0xfffe;
 const TAG_GUID_END: u64 = 0x8000_00aa_0038_9b71;
 
 /// The 7 pairs of coefficients of Microsoft ADPCM, in 16-bit two's complement.
-const COEFFICIENTS: [u16; 14] = [
+pub(crate) const COEFFICIENTS: [u16; 14] = [
     256, 0, 512, 65280, 0, 0, 192, 64, 240, 0, 460, 65328, 392, 65304,
 ];
 

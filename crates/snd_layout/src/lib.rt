@@ -12,6 +12,9 @@ mod layout;
 mod params;
 mod piece;
 mod refusal;
+#[cfg(test)]
+mod tests;
+mod written;
 
 pub use codec::Codec;
 pub use error::{OpenError, PieceError};
@@ -22,3 +25,4 @@ pub use layout::Layout;
 pub use params::Params;
 pub use piece::{Piece, PieceList};
 pub use refusal::OpenRefusal;
+pub use written::put_fmt;
