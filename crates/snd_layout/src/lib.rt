@@ -1,0 +1,30 @@
+//! What a sound file says of itself: its kind, its parameters and its layout, and why it is refused.
+//! Nothing here reads a file, and nothing allocates but the list of pieces.
+#![tactic(auto)]
+
+mod codec;
+mod error;
+mod field;
+mod fit;
+mod format;
+mod kind;
+mod laws;
+mod layout;
+mod params;
+mod piece;
+mod refusal;
+#[cfg(test)]
+mod tests;
+mod written;
+
+pub use codec::Codec;
+pub use error::{OpenError, PieceError};
+pub use field::{Field, one_sector};
+pub use format::read_fmt;
+pub use kind::Kind;
+pub use laws::written_format_reads_back;
+pub use layout::Layout;
+pub use params::Params;
+pub use piece::{Piece, PieceList};
+pub use refusal::OpenRefusal;
+pub use written::put_fmt;
