@@ -1,0 +1,17 @@
+use Rattle.std.proofs.Common.{rules, ◌≡◌, [], ◌∷◌, ◌+◌, ◌-◌, ◌≤◌, ◌<◌, length, take, drop, refl, sym, ap, ◌∙◌, arith}
+use Rattle.std.proofs.lemmas.List.{take_rest}
+use Rattle.std.specs.List.{position_or_len}
+use Rattle.snd_command.specs.Words.{is_space, without_spaces, words}
+use Rattle.snd_command.proofs.Cuts.{no_words, words-next}
+use Rattle.snd_command.proofs.words.next_word.Goals as goal
+
+pub returns-then-is_empty-clause-words : goal.returns-then-is_empty-clause-words
+returns-then-is_empty-clause-words c =
+    let none : length (without_spaces c.args.text.now) ≡ 0 = search rules in
+    no_words c.args.text.now none
+
+pub returns-clause-words : goal.returns-clause-words
+returns-clause-words c =
+    let some : 0 < length (without_spaces c.args.text.now) = search rules in
+    let first = words-next c.args.text.now some in
+    rw (take_rest, c.length_to_space-end.ensures.length, c.skip_spaces-text.ensures) first

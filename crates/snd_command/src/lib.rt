@@ -1,0 +1,4 @@
+//! The commands of a script, each one line of text. Nothing here allocates.
+#![tactic(auto)]
+
+mod words;

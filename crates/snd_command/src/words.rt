@@ -1,0 +1,43 @@
+//! The words of a line. Only the space separates words.
+
+ghost use Rattle.std.specs.Prelude.{◌≡◌, ◌≤◌, length, [], ◌∷◌, MatchOption};
+ghost use Rattle.std.specs.List.{position_or_len};
+ghost use Rattle.snd_command.specs.Words.{behind_word, is_space, without_spaces, words};
+
+// a text without the spaces at its front
+pub fn skip_spaces(text: &[u8]) -> &[u8]
+    ensures { result.now ≡ without_spaces text.now }
+{
+    for (i, c) in text.iter().enumerate() {
+        if *c != b' ' {
+            return &text[i..];
+        }
+    }
+    &text[text.len()..]
+}
+
+// how many bytes stand before the first space
+pub fn length_to_space(text: &[u8]) -> usize
+    ensures length { result ≡ position_or_len is_space text.now }
+    ensures within { result ≤ length text.now }
+{
+    for (i, c) in text.iter().enumerate() {
+        if *c == b' ' {
+            return i;
+        }
+    }
+    text.len()
+}
+
+// the first word of a text, and what stands behind it
+pub fn next_word(text: &[u8]) -> Option<(&[u8], &[u8])>
+    ensures words { MatchOption result (words text.now ≡ []) (λ found. words text.now ≡ found.0.now ∷ words found.1.now) }
+    ensures rest { MatchOption result (behind_word text.now ≡ []) (λ found. behind_word text.now ≡ found.1.now) }
+{
+    let text = skip_spaces(text);
+    if text.is_empty() {
+        return None;
+    }
+    let end = length_to_space(text);
+    Some((&text[..end], &text[end..]))
+}
