@@ -1,1 +1,5 @@
+pub mod Forms
+pub mod Open
+pub mod Said
+pub mod Tables
 pub mod Words

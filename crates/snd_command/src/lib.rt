@@ -1,4 +1,8 @@
 //! The commands of a script, each one line of text. Nothing here allocates.
 #![tactic(auto)]
 
+mod command;
+mod forms;
+mod opens;
+mod tables;
 mod words;

@@ -1,6 +1,6 @@
 //! The words of a line. Only the space separates words.
 
-ghost use Rattle.std.specs.Prelude.{◌≡◌, ◌≤◌, length, [], ◌∷◌, MatchOption};
+ghost use Rattle.std.specs.Prelude.{◌≡◌, ◌≢◌, ◌≤◌, length, [], ◌∷◌, MatchOption};
 ghost use Rattle.std.specs.List.{position_or_len};
 ghost use Rattle.snd_command.specs.Words.{behind_word, is_space, without_spaces, words};
 
@@ -40,4 +40,24 @@ pub fn next_word(text: &[u8]) -> Option<(&[u8], &[u8])>
     }
     let end = length_to_space(text);
     Some((&text[..end], &text[end..]))
+}
+
+// the one word of a text
+pub fn one_word(text: &[u8]) -> Option<&[u8]>
+    ensures { MatchOption result (length (words text.now) ≢ 1) (λ word. words text.now ≡ word.now ∷ []) }
+{
+    let (word, rest) = next_word(text)?;
+    if next_word(rest).is_some() {
+        return None;
+    }
+    Some(word)
+}
+
+// the two words of a text
+pub fn two_words(text: &[u8]) -> Option<(&[u8], &[u8])>
+    ensures { MatchOption result (length (words text.now) ≢ 2) (λ two. words text.now ≡ two.0.now ∷ two.1.now ∷ []) }
+{
+    let (first, rest) = next_word(text)?;
+    let second = one_word(rest)?;
+    Some((first, second))
 }
