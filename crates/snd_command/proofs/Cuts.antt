@@ -77,7 +77,7 @@ word_behind c cs true space some behind =
     rw same (behind (rw same at some))
 word_behind c cs false other some behind = rw (other, other) (omega arith)
 
-word_there : (text : List ℕ) → 0 < length (without_spaces text) → 0 < position_or_len is_space (without_spaces text)
+pub word_there : (text : List ℕ) → 0 < length (without_spaces text) → 0 < position_or_len is_space (without_spaces text)
 word_there [] some = absurd (omega (arith, some))
 word_there (c ∷ cs) some = word_behind c cs (is_space c) refl some (word_there cs)
 

@@ -1,4 +1,5 @@
 pub mod Forms
+pub mod Frames
 pub mod Open
 pub mod Said
 pub mod Tables

@@ -3,6 +3,7 @@
 
 mod command;
 mod forms;
+mod frames;
 mod opens;
 mod tables;
 mod words;

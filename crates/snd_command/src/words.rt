@@ -1,8 +1,8 @@
 //! The words of a line. Only the space separates words.
 
-ghost use Rattle.std.specs.Prelude.{◌≡◌, ◌≢◌, ◌≤◌, length, [], ◌∷◌, MatchOption};
+ghost use Rattle.std.specs.Prelude.{◌≡◌, ◌≢◌, ◌≤◌, length, [], ◌∷◌, IfSome, MatchOption};
 ghost use Rattle.std.specs.List.{position_or_len};
-ghost use Rattle.snd_command.specs.Words.{behind_word, is_space, without_spaces, words};
+ghost use Rattle.snd_command.specs.Words.{behind_word, is_space, trimmed, without_spaces, words};
 
 // a text without the spaces at its front
 pub fn skip_spaces(text: &[u8]) -> &[u8]
@@ -14,6 +14,17 @@ pub fn skip_spaces(text: &[u8]) -> &[u8]
         }
     }
     &text[text.len()..]
+}
+
+// a text without the spaces at its end
+pub fn trim_end(text: &[u8]) -> &[u8]
+    ensures { result.now ≡ trimmed text.now }
+{
+    let mut end = text.len();
+    while end > 0 && text[end - 1] == b' ' {
+        end -= 1;
+    }
+    &text[..end]
 }
 
 // how many bytes stand before the first space
@@ -32,7 +43,8 @@ pub fn length_to_space(text: &[u8]) -> usize
 // the first word of a text, and what stands behind it
 pub fn next_word(text: &[u8]) -> Option<(&[u8], &[u8])>
     ensures words { MatchOption result (words text.now ≡ []) (λ found. words text.now ≡ found.0.now ∷ words found.1.now) }
-    ensures rest { MatchOption result (behind_word text.now ≡ []) (λ found. behind_word text.now ≡ found.1.now) }
+    ensures rest { IfSome result (λ found. behind_word text.now ≡ found.1.now) }
+    ensures filled { IfSome result (λ found. 1 ≤ length found.0.now) }
 {
     let text = skip_spaces(text);
     if text.is_empty() {
@@ -60,4 +72,15 @@ pub fn two_words(text: &[u8]) -> Option<(&[u8], &[u8])>
     let (first, rest) = next_word(text)?;
     let second = one_word(rest)?;
     Some((first, second))
+}
+
+// the five words of a text
+pub fn five_words(text: &[u8]) -> Option<(&[u8], &[u8], &[u8], &[u8], &[u8])>
+    ensures { MatchOption result (length (words text.now) ≢ 5) (λ five. words text.now ≡ five.0.now ∷ five.1.now ∷ five.2.now ∷ five.3.now ∷ five.4.now ∷ []) }
+{
+    let (first, rest) = next_word(text)?;
+    let (second, rest) = next_word(rest)?;
+    let (third, rest) = next_word(rest)?;
+    let (fourth, fifth) = two_words(rest)?;
+    Some((first, second, third, fourth, fifth))
 }
