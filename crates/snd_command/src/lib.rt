@@ -4,6 +4,15 @@
 mod command;
 mod forms;
 mod frames;
+mod line;
+mod numbers;
 mod opens;
+mod refusal;
+mod sets;
 mod tables;
 mod words;
+
+pub use command::{Command, MOST_CUES, MOST_SAMPLES};
+pub use line::parse_line;
+pub use refusal::ScriptRefusal;
+pub use tables::{BextWord, CodecWord, InfoWord, KindWord, TapWord};

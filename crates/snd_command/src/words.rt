@@ -1,6 +1,6 @@
 //! The words of a line. Only the space separates words.
 
-ghost use Rattle.std.specs.Prelude.{◌≡◌, ◌≢◌, ◌≤◌, length, [], ◌∷◌, IfSome, MatchOption};
+ghost use Rattle.std.specs.Prelude.{◌≡◌, ◌≢◌, ◌+◌, ◌≤◌, length, [], ◌∷◌, IfSome, MatchOption};
 ghost use Rattle.std.specs.List.{position_or_len};
 ghost use Rattle.snd_command.specs.Words.{behind_word, is_space, trimmed, without_spaces, words};
 
@@ -45,6 +45,7 @@ pub fn next_word(text: &[u8]) -> Option<(&[u8], &[u8])>
     ensures words { MatchOption result (words text.now ≡ []) (λ found. words text.now ≡ found.0.now ∷ words found.1.now) }
     ensures rest { IfSome result (λ found. behind_word text.now ≡ found.1.now) }
     ensures filled { IfSome result (λ found. 1 ≤ length found.0.now) }
+    ensures shorter { IfSome result (λ found. length found.0.now + length found.1.now ≤ length text.now) }
 {
     let text = skip_spaces(text);
     if text.is_empty() {
