@@ -33,8 +33,8 @@ pub cut_at : (text : List ℕ) → CutAt text (position_or_len is_space text)
 cut_at [] = record { pieces = []; cut = refl; rest = refl }
 cut_at (c ∷ cs) =
     elim (cases_Bool (is_space c)) [
-      inl space ↦ rw space (none_more c cs space)
-    | inr other ↦ rw other (one_more c _ cs other (cut_at cs))
+      | inl space ↦ rw space (none_more c cs space)
+      | inr other ↦ rw other (one_more c _ cs other (cut_at cs))
     ]
 
 one_plus : (n : ℕ) → 1 + n ≡ suc n
@@ -46,10 +46,10 @@ unfolding words
 words-without_spaces [] = refl
 words-without_spaces (c ∷ cs) =
     elim (cases_Bool (is_space c)) [
-      inl space ↦ rw (space, one_plus (prefix_len is_space cs)) (words-without_spaces cs)
-    | inr other ↦
-        let same : without_spaces (c ∷ cs) ≡ c ∷ cs = rw other refl in
-        ap words (sym same)
+      | inl space ↦ rw (space, one_plus (prefix_len is_space cs)) (words-without_spaces cs)
+      | inr other ↦
+          let same : without_spaces (c ∷ cs) ≡ c ∷ cs = rw other refl in
+          ap words (sym same)
     ]
 
 nothing_in : (xs : List ℕ) → length xs ≡ 0 → xs ≡ []

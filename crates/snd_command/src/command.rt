@@ -11,7 +11,7 @@ pub const MOST_SAMPLES: usize = 2048;
 pub const MOST_CUES: usize = 100;
 
 /// One line of a script. Names, texts and hex digits are slices of the line.
-#[derive(Drop)]
+#[derive(Debug, PartialEq, Eq, Drop)]
 pub enum Command<'a> {
     /// `open r NAME`
     OpenRead {
