@@ -262,49 +262,57 @@ fn refuses_other_lines(rt: HostRuntime) -> Result<(), Fail> {
     Ok(())
 }
 
+// a line that begins with a text
+fn begin(line: &mut [u8], text: &[u8]) {
+    for (x, c) in line.iter_mut().zip(text) {
+        *x = *c;
+    }
+}
+
+// and has a digit at each second byte behind the text
+fn fill(line: &mut [u8], text: &[u8]) {
+    begin(line, text);
+    for (i, x) in line.iter_mut().enumerate() {
+        if i > text.len() && (i - text.len()) % 2 == 1 {
+            *x = b'7';
+        }
+    }
+}
+
 #[test]
 fn counts_every_byte_of_a_line(rt: HostRuntime) -> Result<(), Fail> {
     let lines: [&[u8]; 5] = [b"", b"  ", b"#", b"  # open", b"#\t"];
     for line in lines {
         assert!(rt; parse_line(line) == Ok(None));
     }
-    let mut line = [b' '; 4097];
-    assert!(rt; parse_line(&line[..4096]) == Ok(None));
-    assert!(rt; parse_line(&line) == Err(ScriptRefusal::LineTooLong));
-    line[0] = b'w';
-    line[1] = b'r';
-    line[2] = b'i';
-    line[3] = b't';
-    line[4] = b'e';
-    for i in 0..2045 {
-        line[2 * i + 6] = b'7';
-    }
-    let Ok(Some(Command::Write(samples))) = parse_line(&line[..4096]) else {
+    let mut full = [b' '; 4096];
+    let mut over = [b' '; 4097];
+    assert!(rt; parse_line(&full) == Ok(None));
+    assert!(rt; parse_line(&over) == Err(ScriptRefusal::LineTooLong));
+    fill(&mut full, b"write");
+    fill(&mut over, b"write");
+    assert!(rt; parse_line(&over) == Err(ScriptRefusal::LineTooLong));
+    let Ok(Some(Command::Write(samples))) = parse_line(&full) else {
         return Err("no command".into());
     };
     assert_eq!(rt; samples.len(), 2045);
     assert!(rt; samples.iter().all(|x| *x == 7));
-    assert!(rt; parse_line(&line) == Err(ScriptRefusal::LineTooLong));
     Ok(())
 }
 
 #[test]
 fn bounds_names_and_cues(rt: HostRuntime) -> Result<(), Fail> {
-    let mut line = [b'a'; 263];
-    line[..7].copy_from_slice(b"open r ");
-    assert!(rt;
-        parse_line(&line[..262])
-            == Ok(Some(Command::OpenRead {
-                name: &line[7..262]
-            }))
-    );
-    assert!(rt; parse_line(&line) == Err(BAD));
-    let mut cues = [b' '; 209];
-    cues[..7].copy_from_slice(b"set cue");
-    for i in 0..101 {
-        cues[2 * i + 8] = b'0';
-    }
-    assert!(rt; parse_line(&cues[..207]) != Err(BAD));
-    assert!(rt; parse_line(&cues) == Err(BAD));
+    let mut long = [b'a'; 262];
+    let mut longer = [b'a'; 263];
+    begin(&mut long, b"open r ");
+    begin(&mut longer, b"open r ");
+    assert!(rt; parse_line(&long) == Ok(Some(Command::OpenRead { name: &[b'a'; 255] })));
+    assert!(rt; parse_line(&longer) == Err(BAD));
+    let mut many = [b' '; 207];
+    let mut more = [b' '; 209];
+    fill(&mut many, b"set cue");
+    fill(&mut more, b"set cue");
+    assert!(rt; parse_line(&many) != Err(BAD));
+    assert!(rt; parse_line(&more) == Err(BAD));
     Ok(())
 }
