@@ -1,9 +1,9 @@
 -- The commands on frames and on meters.
-use Rattle.std.specs.Prelude.{ℕ, ℤ, List, [], ◌∷◌, Option, None, Some, option_map, codes, if◌then◌else◌}
+use Rattle.std.specs.Prelude.{ℕ, List, [], ◌∷◌, Option, None, Some, option_map, codes, if◌then◌else◌}
 use Rattle.std.specs.Option.{option_and_then}
 use Rattle.std.specs.Str.{bytes_eq}
 use Rattle.snd_fields.specs.Decimal.{decimal}
-use Rattle.snd_command.specs.Forms.{at_most, signed}
+use Rattle.snd_command.specs.Forms.{at_most}
 use Rattle.snd_command.specs.Tables.{switch_of, tap_of}
 use Rattle.snd_command.specs.Said.{Said}
 

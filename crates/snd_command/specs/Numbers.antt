@@ -1,5 +1,5 @@
 -- The commands with a list of numbers.
-use Rattle.std.specs.Prelude.{ℕ, ◌-◌, ◌^◌, ℤ, ◌&&◌, List, [], ◌∷◌, Option, None, Some, option_map, length, nat_le, if◌then◌else◌}
+use Rattle.std.specs.Prelude.{ℕ, ◌-◌, ◌^◌, ◌&&◌, List, [], ◌∷◌, Option, None, Some, option_map, length, nat_le, if◌then◌else◌}
 use Rattle.std.specs.Option.{option_and_then}
 use Rattle.snd_fields.specs.Decimal.{decimal}
 use Rattle.snd_command.specs.Forms.{at_most, signed}

@@ -1,9 +1,8 @@
 -- The commands that set a chunk of a file that is being made.
-use Rattle.std.specs.Prelude.{ℕ, Bool, true, ◌&&◌, List, [], ◌∷◌, Option, None, Some, option_map, is_some, codes, drop, if◌then◌else◌}
+use Rattle.std.specs.Prelude.{ℕ, Bool, List, [], ◌∷◌, Option, None, Some, option_map, is_some, codes, drop, if◌then◌else◌}
 use Rattle.std.specs.Option.{option_and_then}
 use Rattle.std.specs.Str.{bytes_eq}
 use Rattle.snd_fields.specs.Decimal.{decimal}
-use Rattle.snd_command.specs.declared.tables.InfoWord.{InfoWord}
 use Rattle.snd_command.specs.declared.tables.BextWord.{BextWord}
 use Rattle.snd_command.specs.declared.tables.BextWord.TheVariants.{TimeRef}
 use Rattle.snd_command.specs.Forms.{hex, ident, is_text}

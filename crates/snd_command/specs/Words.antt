@@ -1,5 +1,5 @@
 -- The words of a line of a script. Only the space, 0x20, separates words.
-use Rattle.std.specs.Prelude.{ℕ, Bool, true, false, ◌==◌, List, [], ◌∷◌, Option, None, Some, ◌-◌, drop, length, take}
+use Rattle.std.specs.Prelude.{ℕ, Bool, true, false, ◌==◌, List, [], ◌∷◌, ◌-◌, drop, length, take}
 use Rattle.std.specs.List.{filter, slice_split, prefix_len, suffix_len, position_or_len}
 
 abbrev pub is_space : ℕ → Bool

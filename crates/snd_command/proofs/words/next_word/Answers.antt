@@ -1,7 +1,7 @@
-use Rattle.std.proofs.Common.{rules, ◌≡◌, [], ◌∷◌, ◌+◌, ◌-◌, ◌≤◌, ◌<◌, length, take, drop, refl, sym, ap, ◌∙◌, arith}
+use Rattle.std.proofs.Common.{rules, ◌≡◌, ◌<◌, length, refl, arith}
 use Rattle.std.proofs.lemmas.List.{take_rest, length-take}
 use Rattle.std.specs.List.{position_or_len}
-use Rattle.snd_command.specs.Words.{behind_word, is_space, without_spaces, words}
+use Rattle.snd_command.specs.Words.{behind_word, is_space, without_spaces}
 use Rattle.snd_command.proofs.Cuts.{no_words, words-next, word_there}
 use Rattle.snd_command.proofs.words.next_word.Goals as goal
 
