@@ -1,0 +1,9 @@
+pub mod Forms
+pub mod Frames
+pub mod Line
+pub mod Numbers
+pub mod Open
+pub mod Said
+pub mod Set
+pub mod Tables
+pub mod Words
