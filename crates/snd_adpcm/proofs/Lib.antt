@@ -6,4 +6,5 @@ pub mod MsWritten
 pub mod Numbers
 pub mod Pairs
 pub mod Pushes
+pub mod Reached
 pub mod Steps

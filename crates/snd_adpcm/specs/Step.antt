@@ -48,6 +48,13 @@ distance_bits step distance =
     let after_half = rest_after (step / 2) after_step in
     bit_if_fits step distance 4 + bit_if_fits (step / 2) after_step 2 + bit_if_fits (step / 4) after_half 1
 
+-- what is left of a distance once its bits' parts are taken
+abbrev pub distance_rest : ℕ → ℕ → ℕ
+distance_rest step distance =
+    let after_step = rest_after step distance in
+    let after_half = rest_after (step / 2) after_step in
+    rest_after (step / 4) after_half
+
 -- the code for the way from the predictor to a target
 abbrev pub code_for : ℕ → ℤ → ℕ
 code_for step way = (if is_negative way then 8 else 0) + distance_bits step (unsigned_abs way)

@@ -7,7 +7,7 @@ ghost use Rattle.snd_adpcm.specs.Ima.{ima_predictor, ima_index, ima_code, ima_fi
 
 use crate::BadBlock;
 use crate::number::{high_code, low_code, number_of};
-use crate::step::{change_at, code_of, next_index_at, step_at};
+use crate::step::{change_at, code_of, next_index_at, reached, step_at};
 use arrayvec::ArrayVec;
 
 /// Where one channel stands between two codes.
@@ -56,7 +56,10 @@ impl ImaState {
         ensures index { result.1.index ≡ ima_index self.index (ima_code self.predictor self.index sample) }
     {
         let code = self.code_of(sample);
-        (code, self.after(code))
+        let way = sample - self.predictor;
+        let predictor = reached(step_at(self.index), way, sample).clamp(-32768, 32767);
+        let index = next_index_at(self.index, code);
+        (code, ImaState { predictor, index })
     }
 
     /// The state that a channel's head gives.
