@@ -227,7 +227,7 @@ pub fn index_after(first: usize, last: usize, index: usize, code: u8) -> usize
 
 /// A bit of a code, where its part of the step is within what is left of the distance.
 #[inline]
-fn bit_if_within(part: u32, rest: u32, bit: u8) -> u8
+pub fn bit_if_within(part: u32, rest: u32, bit: u8) -> u8
     ensures { result ≡ bit_if_fits part rest bit }
 {
     if part <= rest { bit } else { 0 }
@@ -235,7 +235,7 @@ fn bit_if_within(part: u32, rest: u32, bit: u8) -> u8
 
 /// What is left of the distance then.
 #[inline]
-fn rest_of(part: u32, rest: u32) -> u32
+pub fn rest_of(part: u32, rest: u32) -> u32
     ensures { result ≡ rest_after part rest }
 {
     // where the part does not fit, the difference wraps around, and is greater

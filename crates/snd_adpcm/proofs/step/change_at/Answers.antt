@@ -1,4 +1,3 @@
-use Rattle.std.proofs.Common.{negsuc, pos, ◌≤ℤ◌, subst, sym}
 use Rattle.snd_adpcm.specs.Step.{change, step_size, step_sizes}
 use Rattle.snd_adpcm.proofs.Steps.{change_entry, entry_least, entry_most}
 use Rattle.snd_adpcm.proofs.step.change_at.Goals as goal
