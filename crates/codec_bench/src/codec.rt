@@ -1,14 +1,33 @@
 ghost use Rattle.std.specs.Prelude.{◌≡◌, ◌≤◌, All, FitsSigned, length};
 ghost use Rattle.std.specs.Int.{w16};
+ghost use Rattle.snd_adpcm.specs.Frames.{Is16Bit};
 ghost use Rattle.codec_bench.specs.Codec.{block_size};
 
 use arrayvec::ArrayVec;
 use snd_adpcm::{ImaBlock, ImaWriter, MsBlock, MsWriter};
 use snd_fields::Order;
 use snd_g711::{alaw_decode_all, alaw_encode_all, mulaw_decode_all, mulaw_encode_all};
-use snd_pcm::{Linear, in_range, put_samples, read_samples};
+use snd_pcm::{Linear, put_samples, read_samples};
 
 const LINEAR: Linear = Linear::S16(Order::Little);
+
+/// Room for what a block becomes on the way, which is kept from block to block.
+#[derive(Drop)]
+pub struct Room {
+    numbers: [i32; 16384],
+    samples: ArrayVec<i32, 16384>,
+    bytes: ArrayVec<u8, 8192>,
+}
+
+impl Room {
+    pub fn new() -> Room {
+        Room {
+            numbers: [0; 16384],
+            samples: ArrayVec::new(),
+            bytes: ArrayVec::new(),
+        }
+    }
+}
 
 /// One codec, one way. A writer of ADPCM keeps what is carried from block to block.
 #[derive(Drop)]
@@ -53,36 +72,35 @@ impl Codec {
     }
 
     /// Turns a block, and answers how many bytes it became.
-    pub fn turn(&mut self, input: &[u8], output: &mut [u8]) -> usize
+    pub fn turn(&mut self, input: &[u8], room: &mut Room, output: &mut [u8]) -> usize
         requires whole { length input.now ≡ block_size self.old }
         requires room { length output.old ≡ 32768 }
         ensures { result ≤ 32768 }
     {
         match self {
-            Codec::MulawDecode => decode_law(input, output, false),
-            Codec::AlawDecode => decode_law(input, output, true),
-            Codec::MulawEncode => encode_law(input, output, false),
-            Codec::AlawEncode => encode_law(input, output, true),
-            Codec::ImaDecode => decode_ima(input, output),
-            Codec::MsDecode => decode_ms(input, output),
-            Codec::ImaEncode(writer) => encode_ima(writer, input, output),
-            Codec::MsEncode(writer) => encode_ms(writer, input, output),
+            Codec::MulawDecode => decode_law(input, &mut room.numbers, output, false),
+            Codec::AlawDecode => decode_law(input, &mut room.numbers, output, true),
+            Codec::MulawEncode => encode_law(input, &mut room.numbers, output, false),
+            Codec::AlawEncode => encode_law(input, &mut room.numbers, output, true),
+            Codec::ImaDecode => decode_ima(input, &mut room.samples, output),
+            Codec::MsDecode => decode_ms(input, &mut room.samples, output),
+            Codec::ImaEncode(writer) => encode_ima(writer, input, &mut room.bytes, output),
+            Codec::MsEncode(writer) => encode_ms(writer, input, &mut room.bytes, output),
         }
     }
 }
 
-fn decode_law(input: &[u8], output: &mut [u8], is_alaw: bool) -> usize
+fn decode_law(input: &[u8], samples: &mut [i32; 16384], output: &mut [u8], is_alaw: bool) -> usize
     requires whole { length input.now ≡ 16384 }
     requires room { length output.old ≡ 32768 }
     ensures { result ≤ 32768 }
 {
-    let mut samples = [0; 16384];
     if is_alaw {
-        alaw_decode_all(input, &mut samples);
+        alaw_decode_all(input, samples);
     } else {
-        mulaw_decode_all(input, &mut samples);
+        mulaw_decode_all(input, samples);
     }
-    put_samples(LINEAR, &samples, output);
+    put_samples(LINEAR, samples, output);
     32768
 }
 
@@ -103,50 +121,45 @@ fn put_encoded(samples: &[i32], output: &mut [u8], is_alaw: bool) -> usize
     count
 }
 
-fn encode_law(input: &[u8], output: &mut [u8], is_alaw: bool) -> usize
+fn encode_law(input: &[u8], samples: &mut [i32; 16384], output: &mut [u8], is_alaw: bool) -> usize
     requires whole { length input.now ≡ 32768 }
     requires room { length output.old ≡ 32768 }
     ensures { result ≤ 32768 }
 {
-    let mut samples = [0; 16384];
-    read_samples(LINEAR, input, &mut samples);
-    put_encoded(&samples, output, is_alaw)
+    read_samples(LINEAR, input, samples);
+    put_encoded(samples, output, is_alaw)
 }
 
-/// Puts samples as bytes, where they have 16 bits, as those of a block do.
+/// Puts samples as bytes to the front.
 fn put_decoded(samples: &[i32], output: &mut [u8]) -> usize
+    requires range { All Is16Bit samples.now }
     requires few { length samples.now ≤ 16384 }
     requires room { length output.old ≡ 32768 }
     ensures { result ≤ 32768 }
 {
-    if !in_range(LINEAR, samples) {
-        return 0;
-    }
     let size = 2 * samples.len();
     put_samples(LINEAR, samples, &mut output[..size]);
     size
 }
 
-fn decode_ima(input: &[u8], output: &mut [u8]) -> usize
+fn decode_ima(input: &[u8], samples: &mut ArrayVec<i32, 16384>, output: &mut [u8]) -> usize
     requires whole { length input.now ≡ 1024 }
     requires room { length output.old ≡ 32768 }
     ensures { result ≤ 32768 }
 {
-    let mut samples = ArrayVec::new();
-    match ImaBlock::decode(input, 1, &mut samples) {
-        Ok(()) => put_decoded(&samples, output),
+    match ImaBlock::decode(input, 1, samples) {
+        Ok(()) => put_decoded(samples, output),
         Err(_) => 0,
     }
 }
 
-fn decode_ms(input: &[u8], output: &mut [u8]) -> usize
+fn decode_ms(input: &[u8], samples: &mut ArrayVec<i32, 16384>, output: &mut [u8]) -> usize
     requires whole { length input.now ≡ 1024 }
     requires room { length output.old ≡ 32768 }
     ensures { result ≤ 32768 }
 {
-    let mut samples = ArrayVec::new();
-    match MsBlock::decode(input, 1, &mut samples) {
-        Ok(()) => put_decoded(&samples, output),
+    match MsBlock::decode(input, 1, samples) {
+        Ok(()) => put_decoded(samples, output),
         Err(_) => 0,
     }
 }
@@ -161,26 +174,34 @@ fn put_block(bytes: &[u8], output: &mut [u8]) -> usize
     bytes.len()
 }
 
-fn encode_ima(writer: &mut ImaWriter, input: &[u8], output: &mut [u8]) -> usize
+fn encode_ima(
+    writer: &mut ImaWriter,
+    input: &[u8],
+    bytes: &mut ArrayVec<u8, 8192>,
+    output: &mut [u8],
+) -> usize
     requires whole { length input.now ≡ 4082 }
     requires room { length output.old ≡ 32768 }
     ensures { result ≤ 32768 }
 {
     let mut samples = [0; 2041];
     read_samples(LINEAR, input, &mut samples);
-    let mut bytes = ArrayVec::new();
-    writer.encode(&samples, 1, &mut bytes);
-    put_block(&bytes, output)
+    writer.encode(&samples, 1, bytes);
+    put_block(bytes, output)
 }
 
-fn encode_ms(writer: &mut MsWriter, input: &[u8], output: &mut [u8]) -> usize
+fn encode_ms(
+    writer: &mut MsWriter,
+    input: &[u8],
+    bytes: &mut ArrayVec<u8, 8192>,
+    output: &mut [u8],
+) -> usize
     requires whole { length input.now ≡ 4072 }
     requires room { length output.old ≡ 32768 }
     ensures { result ≤ 32768 }
 {
     let mut samples = [0; 2036];
     read_samples(LINEAR, input, &mut samples);
-    let mut bytes = ArrayVec::new();
-    writer.encode(&samples, 1, &mut bytes);
-    put_block(&bytes, output)
+    writer.encode(&samples, 1, bytes);
+    put_block(bytes, output)
 }

@@ -1,6 +1,6 @@
 ghost use Rattle.std.specs.Prelude.{◌≤◌, IfSome, length};
 
-use crate::codec::Codec;
+use crate::codec::{Codec, Room};
 use snd_disk::{Sink, Source};
 
 const BLOCK: usize = 32768;
@@ -24,6 +24,7 @@ fn fill<R: Source>(source: &mut R, into: &mut [u8]) -> Option<usize>
 pub fn turn_all<R: Source, O: Sink>(codec: &mut Codec, source: &mut R, sink: &mut O) -> u8 {
     let mut input = [0; BLOCK];
     let mut output = [0; BLOCK];
+    let mut room = Room::new();
     for _ in 0..u64::MAX {
         let size = codec.block_size();
         let Some(count) = fill(source, &mut input[..size]) else {
@@ -32,7 +33,7 @@ pub fn turn_all<R: Source, O: Sink>(codec: &mut Codec, source: &mut R, sink: &mu
         if count < size {
             return 0;
         }
-        let made = codec.turn(&input[..size], &mut output);
+        let made = codec.turn(&input[..size], &mut room, &mut output);
         if sink.put(&output[..made]).is_err() {
             return 3;
         }
@@ -44,12 +45,13 @@ pub fn turn_all<R: Source, O: Sink>(codec: &mut Codec, source: &mut R, sink: &mu
 pub fn turn_again<R: Source>(codec: &mut Codec, source: &mut R, turns: u64) -> u8 {
     let mut input = [0; BLOCK];
     let mut output = [0; BLOCK];
+    let mut room = Room::new();
     if fill(source, &mut input).is_none() {
         return 3;
     }
     for _ in 0..turns {
         let size = codec.block_size();
-        let _ = codec.turn(&input[..size], &mut output);
+        let _ = codec.turn(&input[..size], &mut room, &mut output);
     }
     0
 }

@@ -6,4 +6,6 @@ pub mod MsWritten
 pub mod Numbers
 pub mod Pairs
 pub mod Pushes
+pub mod Quotients
+pub mod Reached
 pub mod Steps

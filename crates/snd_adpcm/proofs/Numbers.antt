@@ -1,7 +1,6 @@
 -- Bounds of signed numbers.
-use Rattle.std.proofs.Common.{◌≡◌, refl, ℕ, ◌+◌, ◌≤◌, ℤ, pos, negsuc, unsigned_abs, ◌≤ℤ◌, arith}
+use Rattle.std.proofs.Common.{ℕ, ◌+◌, ◌≤◌, ℤ, pos, negsuc, unsigned_abs, ◌≤ℤ◌, arith}
 use Rattle.std.proofs.lemmas.Int.{ints}
-use Rattle.std.specs.Int.{int_div_euclid}
 use Rattle.snd_adpcm.specs.Frames.{floor_div}
 
 -- a number between two bounds has at most their magnitude, and the other way round
@@ -21,9 +20,3 @@ abs_most (negsuc a) n le = omega (arith, ints)
 pub floor_bounds : (z : ℤ) → negsuc 1610612735 ≤ℤ z → z ≤ℤ pos 1610612736 → (negsuc 6291455 ≤ℤ floor_div z 256) × (floor_div z 256 ≤ℤ pos 6291456)
 floor_bounds (pos a) low high = (omega (arith, ints), omega (arith, ints))
 floor_bounds (negsuc a) low high = (omega (arith, ints), omega (arith, ints))
-
--- a quotient by a positive number, as the division of signed numbers gives it
-pub quotient_is : (z : ℤ) (d : ℤ) → pos 1 ≤ℤ d → int_div_euclid z d ≡ floor_div z (unsigned_abs d)
-quotient_is (pos a) (pos b) le = refl
-quotient_is (negsuc a) (pos b) le = refl
-quotient_is z (negsuc b) le = absurd (omega (arith, ints))

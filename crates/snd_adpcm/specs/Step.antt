@@ -25,6 +25,10 @@ distance step code = step / 8 + part_if code 4 step + part_if code 2 (step / 2) 
 abbrev pub moved : ℤ → ℕ → ℕ → ℤ
 moved predictor step code = if bit_and code 8 == 0 then predictor +ℤ pos (distance step code) else predictor -ℤ pos (distance step code)
 
+-- the change of the predictor by a code at an index, before it is clamped
+unfoldable pub change : ℕ → ℕ → ℤ
+change index code = if bit_and code 8 == 0 then pos (distance (step_size index) code) else pos 0 -ℤ pos (distance (step_size index) code)
+
 -- the index moved by a code: by -1 -1 -1 -1 2 4 6 8 for the low three bits 0 to 7, and kept from `first` to `last`
 abbrev pub next_index : ℕ → ℕ → ℕ → ℕ → ℕ
 next_index first last index code = max first (min last (if nat_lt (code % 8) 4 then index - 1 else index + 2 * (code % 8 - 3)))
@@ -43,6 +47,13 @@ distance_bits step distance =
     let after_step = rest_after step distance in
     let after_half = rest_after (step / 2) after_step in
     bit_if_fits step distance 4 + bit_if_fits (step / 2) after_step 2 + bit_if_fits (step / 4) after_half 1
+
+-- what is left of a distance once its bits' parts are taken
+abbrev pub distance_rest : ℕ → ℕ → ℕ
+distance_rest step distance =
+    let after_step = rest_after step distance in
+    let after_half = rest_after (step / 2) after_step in
+    rest_after (step / 4) after_half
 
 -- the code for the way from the predictor to a target
 abbrev pub code_for : ℕ → ℤ → ℕ

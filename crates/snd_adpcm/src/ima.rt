@@ -7,7 +7,7 @@ ghost use Rattle.snd_adpcm.specs.Ima.{ima_predictor, ima_index, ima_code, ima_fi
 
 use crate::BadBlock;
 use crate::number::{high_code, low_code, number_of};
-use crate::step::{code_of, index_after, moved_by, step_at};
+use crate::step::{change_at, code_of, next_index_at, reached, step_at};
 use arrayvec::ArrayVec;
 
 /// Where one channel stands between two codes.
@@ -23,13 +23,14 @@ pub(crate) struct ImaState {
 impl ImaState {
     /// The state after a code. Its predictor is the code's sample.
     #[inline]
-    #[tactic(auto, unfolding(crate::specs::Ima::ima_predictor, crate::specs::Ima::ima_index))]
+    #[tactic(auto, unfolding(crate::specs::Ima::ima_index))]
     pub(crate) fn after(self, code: u8) -> ImaState
+        requires { code < 16 }
         ensures predictor { result.predictor ≡ ima_predictor self.predictor self.index code }
         ensures index { result.index ≡ ima_index self.index code }
     {
-        let predictor = moved_by(self.predictor, step_at(self.index), code).clamp(-32768, 32767);
-        let index = index_after(0, 88, self.index, code);
+        let predictor = (self.predictor + change_at(self.index, code)).clamp(-32768, 32767);
+        let index = next_index_at(self.index, code);
         ImaState { predictor, index }
     }
 
@@ -55,7 +56,10 @@ impl ImaState {
         ensures index { result.1.index ≡ ima_index self.index (ima_code self.predictor self.index sample) }
     {
         let code = self.code_of(sample);
-        (code, self.after(code))
+        let way = sample - self.predictor;
+        let predictor = reached(step_at(self.index), way, sample).clamp(-32768, 32767);
+        let index = next_index_at(self.index, code);
+        (code, ImaState { predictor, index })
     }
 
     /// The state that a channel's head gives.

@@ -6,6 +6,7 @@ ghost use Rattle.snd_adpcm.specs.Microsoft.{newer_weight, older_weight, ms_error
 
 use crate::microsoft::{MsState, newer_weight_of, older_weight_of, prediction};
 use crate::number::put_number;
+use crate::step::{bit_if_within, rest_of};
 use arrayvec::ArrayVec;
 
 /// How far a sample is from what a predictor foretells from the two before.
@@ -93,16 +94,37 @@ fn choose(samples: &[i32]) -> Choice
     best
 }
 
+/// A quotient below 16, bit by bit, as a division takes longer.
+#[inline]
+#[tactic(auto, using(crate::proofs::Quotients::bits_are))]
+fn quotient_of(whole: u32, part: u32) -> u8
+    requires part { part ≤ 2097152 }
+    requires few { whole < 16 * part }
+    ensures value { result ≡ whole / part }
+    ensures bound { result < 16 }
+{
+    let after_8 = rest_of(8 * part, whole);
+    let after_4 = rest_of(4 * part, after_8);
+    let after_2 = rest_of(2 * part, after_4);
+    bit_if_within(8 * part, whole, 8)
+        + bit_if_within(4 * part, after_8, 4)
+        + bit_if_within(2 * part, after_4, 2)
+        + bit_if_within(part, after_2, 1)
+}
+
 /// How many deltas a way is, rounded to the nearest, from -8 to 7: `doubled` is twice the way, and a delta more.
 #[inline]
 fn deltas_in(doubled: i32, delta: i32) -> i32
+    requires low { negsuc 13697023 ≤ℤ doubled }
+    requires high { doubled ≤ℤ pos 13697024 }
     requires least { pos 16 ≤ℤ delta }
     requires bound { unsigned_abs delta ≤ 1048576 }
     ensures value { result ≡ clamp (negsuc 7) (pos 7) (floor_div doubled (2 * unsigned_abs delta)) }
     ensures low { negsuc 7 ≤ℤ result }
     ensures high { result ≤ℤ pos 7 }
 {
-    doubled.div_euclid(2 * delta).clamp(-8, 7)
+    let above = (doubled + 16 * delta).clamp(0, 30 * delta);
+    i32::from(quotient_of(above as u32, 2 * delta as u32)) - 8
 }
 
 /// Twice the way from a prediction to a sample, and a delta more.
@@ -112,7 +134,9 @@ fn doubled_way(foretold: i32, sample: i32, delta: i32) -> i32
     requires most { foretold ≤ℤ pos 6291456 }
     requires sample { Is16Bit sample }
     requires delta { unsigned_abs delta ≤ 1048576 }
-    ensures { result ≡ pos 2 *ℤ (sample -ℤ foretold) +ℤ delta }
+    ensures value { result ≡ pos 2 *ℤ (sample -ℤ foretold) +ℤ delta }
+    ensures low { negsuc 13697023 ≤ℤ result }
+    ensures high { result ≤ℤ pos 13697024 }
 {
     2 * (sample - foretold) + delta
 }

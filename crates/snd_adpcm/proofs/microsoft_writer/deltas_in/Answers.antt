@@ -1,15 +1,22 @@
-use Rattle.std.proofs.Common.{◌≡◌, ◌*◌, ◌*ℤ◌, ◌≤ℤ◌, pos, unsigned_abs, arith, rules, FitsSigned, w32, to_z, of_z, ap, ◌∙◌}
-use Rattle.std.proofs.lemmas.Int.{to_z-of_z, unsigned_abs-mul, ints}
-use Rattle.std.specs.Int.{int_div_euclid}
-use Rattle.snd_adpcm.specs.Frames.{floor_div}
-use Rattle.snd_adpcm.proofs.Numbers.{quotient_is}
+use Rattle.std.proofs.Common.{◌≡◌, ◌*◌, ◌/◌, ◌<◌, ◌+ℤ◌, ◌-ℤ◌, ◌*ℤ◌, ◌∙◌, w32, to_z, of_z, pos, negsuc, unsigned_abs, arith, rules}
+use Rattle.std.proofs.lemmas.Int.{ints}
+use Rattle.snd_adpcm.specs.Frames.{clamp, floor_div}
+use Rattle.snd_adpcm.proofs.Quotients.{clamped, clamp_same}
 use Rattle.snd_adpcm.proofs.microsoft_writer.deltas_in.Goals as goal
 
 pub returns-clause-value : goal.returns-clause-value
 returns-clause-value c =
-    let fits : FitsSigned w32 (pos 2 *ℤ c.args.delta) = search rules in
-    let double : to_z w32 (of_z w32 (pos 2 *ℤ c.args.delta)) ≡ pos 2 *ℤ c.args.delta = to_z-of_z w32 (pos 2 *ℤ c.args.delta) fits in
-    let above : pos 1 ≤ℤ (pos 2 *ℤ c.args.delta) = omega (arith, ints) in
-    let quotient : int_div_euclid c.args.doubled (pos 2 *ℤ c.args.delta) ≡ floor_div c.args.doubled (2 * unsigned_abs c.args.delta) =
-    quotient_is c.args.doubled (pos 2 *ℤ c.args.delta) above ∙ ap (floor_div c.args.doubled) (unsigned_abs-mul (pos 2) c.args.delta) in
-    grind (arith, to_z-of_z, double, quotient)
+    let s = 2 * unsigned_abs c.args.delta in
+    let w = unsigned_abs c.clamp-above.result in
+    let some : 0 < s = omega (arith, ints) in
+    let whole : pos w ≡ c.clamp-above.result = omega (arith, ints) in
+    let r_is : c.clamp-above.result ≡ clamp (pos 0) (pos (15 * s)) (c.args.doubled +ℤ pos (8 * s)) =
+    clamp_same c.clamp-above.result (to_z w32 (of_z w32 (c.args.doubled +ℤ pos 16 *ℤ c.args.delta))) (c.args.doubled +ℤ pos (8 * s)) (to_z w32 (of_z w32 (pos 30 *ℤ c.args.delta))) (pos (15 * s))
+    (search rules) (omega (arith, ints)) (omega (arith, ints)) in
+    let w_is : pos w ≡ clamp (pos 0) (pos (15 * s)) (c.args.doubled +ℤ pos (8 * s)) = whole ∙ r_is in
+    let q : c.quotient_of.result ≡ w / s = search rules in
+    let is : clamp (negsuc 7) (pos 7) (floor_div c.args.doubled s) ≡ pos (w / s) -ℤ pos 8 = clamped c.args.doubled w s some w_is in
+    omega (arith, ints)
+
+pub returns-clause-high : goal.returns-clause-high
+returns-clause-high c = omega (arith, ints)

@@ -1,0 +1,13 @@
+use Rattle.std.proofs.Common.{◌≡◌, ◌+ℤ◌, pos, negsuc, arith}
+use Rattle.std.proofs.lemmas.Int.{to_z-of_z}
+use Rattle.snd_adpcm.specs.Frames.{clamp}
+use Rattle.snd_adpcm.specs.Ima.{ima_predictor}
+use Rattle.snd_adpcm.specs.Step.{change}
+use Rattle.snd_adpcm.proofs.Steps.{predictor_is}
+use Rattle.snd_adpcm.proofs.ima.ImaState.after.Goals as goal
+
+pub returns-clause-predictor : goal.returns-clause-predictor
+returns-clause-predictor c =
+    let is : ima_predictor c.args.self.predictor c.args.self.index c.args.code ≡ clamp (negsuc 32767) (pos 32767) (c.args.self.predictor +ℤ change c.args.self.index c.args.code) =
+    predictor_is c.args.self.predictor c.args.self.index c.args.code in
+    grind (arith, to_z-of_z)
