@@ -117,9 +117,9 @@ clamped_between z w s some is le =
 clamped-at : (z y : ℤ) (w s : ℕ) → 0 < s → z +ℤ pos (8 * s) ≡ y → pos w ≡ clamp (pos 0) (pos (15 * s)) y → clamp (negsuc 7) (pos 7) (floor_div z s) ≡ pos (w / s) -ℤ pos 8
 clamped-at z (negsuc n) w s some y_is w_is = clamped_low z w s some (omega (arith, ints)) (clamp_neg (15 * s) n w w_is)
 clamped-at z (pos n) w s some y_is w_is = elim (cases_lt n (15 * s)) [
-    | inl lt ↦ let same : w ≡ n = clamp_less (15 * s) n w lt w_is in clamped_between z w s some (y_is ∙ sym (ap pos same)) (omega arith)
-    | inr le ↦ clamped_high z w s some (omega (arith, ints)) (clamp_more (15 * s) n w le w_is)
-  ]
+  | inl lt ↦ let same : w ≡ n = clamp_less (15 * s) n w lt w_is in clamped_between z w s some (y_is ∙ sym (ap pos same)) (omega arith)
+  | inr le ↦ clamped_high z w s some (omega (arith, ints)) (clamp_more (15 * s) n w le w_is)
+]
 
 pub clamped : (z : ℤ) (w s : ℕ) → 0 < s → pos w ≡ clamp (pos 0) (pos (15 * s)) (z +ℤ pos (8 * s)) → clamp (negsuc 7) (pos 7) (floor_div z s) ≡ pos (w / s) -ℤ pos 8
 clamped z w s some is = clamped-at z (z +ℤ pos (8 * s)) w s some refl is
