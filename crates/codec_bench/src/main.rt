@@ -9,9 +9,13 @@ mod codec;
 mod stream;
 
 use codec::Codec;
-use snd_disk::{ReaderSource, WriterSink};
+use snd_disk::ReaderSource;
 use std::env;
+use std::io::{BufReader, BufWriter};
 use std::process::ExitCode;
+
+/// How many bytes are read and written at a time.
+const GATHERED: usize = 131_072;
 
 /// What is to be done, by the words.
 fn asked(rt: &HostRuntime) -> Option<(Codec, u64)> {
@@ -30,10 +34,16 @@ fn main(rt: HostRuntime) -> ExitCode {
     let Some((mut codec, turns)) = asked(&rt) else {
         return ExitCode::from(2);
     };
-    let mut source = ReaderSource::new(rt.stdin());
-    let mut sink = WriterSink::new(rt.stdout());
+    let alloc = rt.alloc();
+    let (Ok(reader), Ok(mut writer)) = (
+        BufReader::with_capacity(alloc, GATHERED, rt.stdin()),
+        BufWriter::with_capacity(alloc, GATHERED, rt.stdout()),
+    ) else {
+        return ExitCode::from(4);
+    };
+    let mut source = ReaderSource::new(reader);
     if turns == 0 {
-        ExitCode::from(stream::turn_all(&mut codec, &mut source, &mut sink))
+        ExitCode::from(stream::turn_all(&mut codec, &mut source, &mut writer))
     } else {
         ExitCode::from(stream::turn_again(&mut codec, &mut source, turns))
     }

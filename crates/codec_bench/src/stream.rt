@@ -1,7 +1,8 @@
 ghost use Rattle.std.specs.Prelude.{◌≤◌, IfSome, length};
 
 use crate::codec::{Codec, Room};
-use snd_disk::{Sink, Source};
+use snd_disk::Source;
+use std::io;
 
 const BLOCK: usize = 32768;
 
@@ -21,7 +22,7 @@ fn fill<R: Source>(source: &mut R, into: &mut [u8]) -> Option<usize>
 }
 
 /// Turns all whole blocks of a source, and answers 0, or 3 at a fault.
-pub fn turn_all<R: Source, O: Sink>(codec: &mut Codec, source: &mut R, sink: &mut O) -> u8 {
+pub fn turn_all<R: Source, W: io::Write>(codec: &mut Codec, source: &mut R, writer: &mut W) -> u8 {
     let mut input = [0; BLOCK];
     let mut output = [0; BLOCK];
     let mut room = Room::new();
@@ -31,14 +32,14 @@ pub fn turn_all<R: Source, O: Sink>(codec: &mut Codec, source: &mut R, sink: &mu
             return 3;
         };
         if count < size {
-            return 0;
+            break;
         }
         let made = codec.turn(&input[..size], &mut room, &mut output);
-        if sink.put(&output[..made]).is_err() {
+        if writer.write_all(&output[..made]).is_err() {
             return 3;
         }
     }
-    0
+    if writer.flush().is_ok() { 0 } else { 3 }
 }
 
 /// Turns the first block of a source many times.
