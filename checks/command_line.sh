@@ -51,5 +51,5 @@ else
     expect "a file without permission to read" 3 "" "" "$program" info sub/b.wav
 fi
 cmp -s bell.wav "$top/examples/bell.wav" || { failed=$((failed + 1)); echo "FAILED: a file was changed"; }
-echo "command line: $passed passed, $failed failed"
+echo "command_line: $passed passed, $failed failed"
 [ "$failed" = 0 ]

@@ -39,5 +39,5 @@ done
 strace -o trace.txt -e trace=openat,fsync "$program" a.bin
 grep -q 'O_CREAT' trace.txt && { echo "a file that is there was made"; failed=$((failed + 1)); }
 [ "$(grep -c '^fsync' trace.txt)" = 3 ] || { echo "other syncs"; failed=$((failed + 1)); }
-echo "disk calls: $failed failed"
+echo "disk_calls: $((6 - failed)) passed, $failed failed"
 [ "$failed" = 0 ]
