@@ -2,6 +2,7 @@ pub mod Blocks
 pub mod Fit
 pub mod Format
 pub mod Names
+pub mod Opened
 pub mod Params
 pub mod Refusals
 pub mod Sector

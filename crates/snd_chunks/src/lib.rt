@@ -1,0 +1,6 @@
+//! Chunks that lie one behind the other in a file: walks over their heads.
+#![tactic(auto)]
+
+mod chunk;
+
+pub use chunk::Chunk;

@@ -1,0 +1,2 @@
+pub mod Recognised
+pub mod Sound

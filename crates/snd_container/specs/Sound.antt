@@ -1,0 +1,70 @@
+-- The layout of a file of any kind, and its sound.
+use Rattle.std.specs.Prelude.{ℕ, ℤ, Bool, ◌+◌, ◌*◌, List, [], ◌∷◌, Option, None, Some, Result, Ok, Err, take, drop, map}
+use Rattle.snd_layout.specs.declared.codec.Codec.{Codec}
+use Rattle.snd_layout.specs.declared.codec.Codec.TheVariants.{U8, S8, S16, S24, S32}
+use Rattle.snd_layout.specs.declared.kind.Kind.{Kind}
+use Rattle.snd_layout.specs.declared.kind.Kind.TheVariants.{Wave}
+use Rattle.snd_layout.specs.declared.piece.Piece.{Piece}
+use Rattle.snd_layout.specs.declared.refusal.OpenRefusal.{OpenRefusal}
+use Rattle.snd_layout.specs.declared.refusal.OpenRefusal.TheVariants.{NotBuilt}
+use Rattle.snd_layout.specs.Params.{Parameters, data_bytes}
+use Rattle.snd_layout.specs.Shape.{Shape}
+use Rattle.snd_pcm.specs.Groups.{groups}
+use Rattle.snd_pcm.specs.Pcm.{samples}
+use Rattle.snd_pcm.specs.declared.linear.Linear as linear
+use Rattle.snd_pcm.specs.declared.linear.Linear.{Linear}
+use Rattle.snd_wave.specs.Layout.{wave_layout}
+use Rattle.snd_container.specs.Recognised.{recognised}
+
+-- the layout of a file of a kind, or its first refusal; the other kinds are not built yet
+abbrev pub layout_of_kind : Result Kind OpenRefusal → List ℕ → Result Shape OpenRefusal
+layout_of_kind (Err refusal) b = Err refusal
+layout_of_kind (Ok Wave) b = wave_layout b
+layout_of_kind (Ok kind) b = Err NotBuilt
+
+unfoldable pub layout_of : List ℕ → Result Shape OpenRefusal
+layout_of b = layout_of_kind (recognised (take 40 b)) b
+
+-- the linear form of a codec's samples, where it has one
+abbrev pub linear_of : Codec → Option Linear
+linear_of U8 = Some linear.TheVariants.U8
+linear_of S8 = Some linear.TheVariants.S8
+linear_of (S16 order) = Some (linear.TheVariants.S16 order)
+linear_of (S24 order) = Some (linear.TheVariants.S24 order)
+linear_of (S32 order) = Some (linear.TheVariants.S32 order)
+linear_of codec = None
+
+-- the frames that data bytes stand for: a number for each channel, in turn. Those of laws and ADPCM are not read yet.
+abbrev pub decoded_as : Option Linear → ℕ → List ℕ → List (List ℤ)
+decoded_as None channels bytes = []
+decoded_as (Some form) channels bytes = groups channels (samples form bytes)
+
+abbrev pub decoded : Parameters → List ℕ → List (List ℤ)
+decoded p bytes = decoded_as (linear_of p.codec) p.channels bytes
+
+-- a chunk that a file keeps, with its body
+pub record Kept : Type 0 where
+  pub id : List ℕ
+  pub body : List ℕ
+  pub after : Bool
+
+-- the sound of a file: its kind, parameters, frames and further chunks
+pub record Sound : Type 0 where
+  pub kind : Kind
+  pub params : Parameters
+  pub frames : List (List ℤ)
+  pub pieces : List Kept
+
+-- the data bytes of the frames that a layout counts
+abbrev pub sound_bytes : List ℕ → Shape → List ℕ
+sound_bytes b s = take (data_bytes s.params s.frames) (drop s.start b)
+
+abbrev pub kept_of : List ℕ → Piece → Kept
+kept_of b piece = record { id = piece.id.0; body = take piece.len (drop piece.at b); after = piece.after }
+
+abbrev pub sound_in : List ℕ → Result Shape OpenRefusal → Result Sound OpenRefusal
+sound_in b (Err refusal) = Err refusal
+sound_in b (Ok s) = Ok (record { kind = s.kind; params = s.params; frames = decoded s.params (sound_bytes b s); pieces = map (kept_of b) s.pieces })
+
+abbrev pub sound_of : List ℕ → Result Sound OpenRefusal
+sound_of b = sound_in b (layout_of b)

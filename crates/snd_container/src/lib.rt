@@ -1,0 +1,6 @@
+//! Sound files of every kind, by one call: which container a file is, and what it says of itself.
+#![tactic(auto)]
+
+mod open;
+
+pub use open::open_layout;
