@@ -1,0 +1,40 @@
+-- An open file, as whoever reads it sees it: its bytes, what they say, its frames, and the frame to read next. None of the
+-- frames is held by the code.
+use Rattle.std.specs.Prelude.{◌≡◌, ℕ, ℤ, ◌+◌, ◌-◌, ◌/◌, List, Option, None, Some, Result, Ok, Err, length, take, drop, min, is_none, if◌then◌else◌}
+use Rattle.snd_layout.specs.declared.refusal.OpenRefusal.{OpenRefusal}
+use Rattle.snd_layout.specs.declared.refusal.OpenRefusal.TheVariants.{NotBuilt}
+use Rattle.snd_layout.specs.Shape.{Shape}
+use Rattle.snd_container.specs.Sound.{decoded, layout_of, linear_of, sound_bytes}
+
+pub record Editing : Type 0 where
+  pub bytes : List ℕ
+  pub shape : Shape
+  pub frames : List (List ℤ)
+  -- the frame to read next
+  pub place : ℕ
+
+abbrev pub opening : List ℕ → Shape → Editing
+opening b s = record { bytes = b; shape = s; frames = decoded s.params (sound_bytes b s); place = 0 }
+
+-- linear codecs are opened; the laws and ADPCM are not built yet
+abbrev pub opened_as : List ℕ → Result Shape OpenRefusal → Result Editing OpenRefusal
+opened_as b (Err refusal) = Err refusal
+opened_as b (Ok s) = if is_none (linear_of s.params.codec) then Err NotBuilt else Ok (opening b s)
+
+-- a file's bytes opened for reading, or the first reason why not
+unfoldable pub opened : List ℕ → Result Editing OpenRefusal
+opened b = opened_as b (layout_of b)
+
+-- how many of n wanted frames there are from the place on, and which
+abbrev pub frames_left : Editing → ℕ → ℕ
+frames_left e n = min n (length e.frames - e.place)
+
+abbrev pub frames_read : Editing → ℕ → List (List ℤ)
+frames_read e n = take n (drop e.place e.frames)
+
+-- the place after so many frames, and the place that was sought
+abbrev pub moved_by : ℕ → Editing → Editing
+moved_by n e = record e { place = e.place + n }
+
+abbrev pub moved_to : ℕ → Editing → Editing
+moved_to n e = record e { place = n }
