@@ -1,0 +1,4 @@
+pub mod Edit
+pub mod Replies
+pub mod Script
+pub mod Served

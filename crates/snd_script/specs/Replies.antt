@@ -1,0 +1,68 @@
+-- The replies of a script.
+use Rattle.std.specs.Prelude.{ℕ, ℤ, List, [], ◌∷◌, ◌++◌, Bool, true, false, length, codes, decimal}
+use Rattle.std.specs.Fmt.{signed_decimal}
+use Rattle.std.specs.List.{flat_map}
+use Rattle.snd_layout.specs.Names.{codec_name, kind_name, refusal_name as open_name, refusal_number as open_number}
+use Rattle.snd_layout.specs.Shape.{Shape}
+use Rattle.snd_script.specs.declared.refusal.Refusal.{Refusal}
+use Rattle.snd_script.specs.declared.refusal.Refusal.TheVariants.{Open, SeekRange, BadCommand, LineTooLong, NotOpen, AlreadyOpen, MissingFile, NotBuilt}
+
+abbrev pub refusal_number : Refusal → ℕ
+refusal_number (Open refusal) = open_number refusal
+refusal_number SeekRange = 24
+refusal_number BadCommand = 40
+refusal_number LineTooLong = 41
+refusal_number NotOpen = 42
+refusal_number AlreadyOpen = 43
+refusal_number MissingFile = 56
+refusal_number NotBuilt = 99
+
+abbrev pub refusal_name : Refusal → List ℕ
+refusal_name (Open refusal) = open_name refusal
+refusal_name SeekRange = codes "SeekRange"
+refusal_name BadCommand = codes "BadCommand"
+refusal_name LineTooLong = codes "LineTooLong"
+refusal_name NotOpen = codes "NotOpen"
+refusal_name AlreadyOpen = codes "AlreadyOpen"
+refusal_name MissingFile = codes "MissingFile"
+refusal_name NotBuilt = codes "NotBuilt"
+
+-- what a line is answered: a text of whole lines, or a refusal; or nothing at all
+pub data Answer : Type 0 where
+  nothing : Answer
+  says : List ℕ → Answer
+  refuses : Refusal → Answer
+
+-- `error NUMBER NAME`
+abbrev pub error_line : Refusal → List ℕ
+error_line refusal = codes "error " ++ decimal (refusal_number refusal) ++ 32 ∷ [] ++ refusal_name refusal ++ 10 ∷ []
+
+-- `ok N`
+abbrev pub ok_line : ℕ → List ℕ
+ok_line n = codes "ok " ++ decimal n ++ 10 ∷ []
+
+-- `ok FRAMES CHANNELS RATE KIND CODEC`
+abbrev pub file_line : Shape → List ℕ
+file_line s = codes "ok " ++ decimal s.frames ++ 32 ∷ [] ++ decimal s.params.channels ++ 32 ∷ [] ++ decimal s.params.rate ++ 32 ∷ []
+    ++ kind_name s.kind ++ 32 ∷ [] ++ codec_name s.params.codec ++ 10 ∷ []
+
+-- a frame: its numbers with a space between them
+abbrev pub spaced : ℤ → List ℕ
+spaced x = 32 ∷ signed_decimal x
+
+abbrev pub frame_line : List ℤ → List ℕ
+frame_line [] = 10 ∷ []
+frame_line (x ∷ xs) = signed_decimal x ++ flat_map spaced xs ++ 10 ∷ []
+
+-- `ok K` and the lines of K frames
+abbrev pub frames_text : List (List ℤ) → List ℕ
+frames_text frames = ok_line (length frames) ++ flat_map frame_line frames
+
+abbrev pub text_of : Answer → List ℕ
+text_of nothing = []
+text_of (says text) = text
+text_of (refuses refusal) = error_line refusal
+
+abbrev pub is_refusal : Answer → Bool
+is_refusal (refuses refusal) = true
+is_refusal answer = false

@@ -1,0 +1,8 @@
+//! Scripts of commands on sound files: one line each, with exact replies.
+#![tactic(auto)]
+
+mod refusal;
+mod serving;
+
+pub use refusal::Refusal;
+pub use serving::{ScriptEnd, serve};
