@@ -1,5 +1,5 @@
 -- The layout of a file of any kind, and its sound.
-use Rattle.std.specs.Prelude.{ℕ, ℤ, Bool, ◌+◌, ◌*◌, List, [], ◌∷◌, Option, None, Some, Result, Ok, Err, take, drop, map}
+use Rattle.std.specs.Prelude.{ℕ, ℤ, Bool, true, false, ◌+◌, ◌*◌, List, [], ◌∷◌, Option, None, Some, Result, Ok, Err, take, drop, map}
 use Rattle.snd_layout.specs.declared.codec.Codec.{Codec}
 use Rattle.snd_layout.specs.declared.codec.Codec.TheVariants.{U8, S8, S16, S24, S32}
 use Rattle.snd_layout.specs.declared.kind.Kind.{Kind}
@@ -16,7 +16,12 @@ use Rattle.snd_pcm.specs.declared.linear.Linear.{Linear}
 use Rattle.snd_wave.specs.Layout.{wave_layout}
 use Rattle.snd_container.specs.Recognised.{recognised}
 
--- the layout of a file of a kind, or its first refusal; the other kinds are not built yet
+-- the other kinds are not built yet
+abbrev pub is_built : Kind → Bool
+is_built Wave = true
+is_built kind = false
+
+-- the layout of a file of a kind, or its first refusal
 abbrev pub layout_of_kind : Result Kind OpenRefusal → List ℕ → Result Shape OpenRefusal
 layout_of_kind (Err refusal) b = Err refusal
 layout_of_kind (Ok Wave) b = wave_layout b

@@ -2,5 +2,7 @@
 #![tactic(auto)]
 
 mod open;
+mod recognition;
 
 pub use open::open_layout;
+pub use recognition::recognise;

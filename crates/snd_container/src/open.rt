@@ -1,16 +1,37 @@
 //! The layout of a file of any kind.
 
-ghost use Rattle.std.specs.Prelude.{◌≡◌, ◌≤◌, List, ℕ, Some, All, IfOk, IfErr, Ok, Err};
-ghost use Rattle.snd_disk.specs.State.{AtMost, OnlyReads};
+ghost use Rattle.std.specs.Prelude.{◌≡◌, ◌≤◌, List, ℕ, Some, All, IfOk, IfErr, OnOk, OnErr, Ok, Err, take};
+ghost use Rattle.snd_disk.specs.State.{AtMost, OnlyReads, Rises};
 ghost use Rattle.snd_layout.specs.Opened.{EndsIn, IsCause, IsCalm};
 ghost use Rattle.snd_layout.specs.Shape.{end};
 ghost use Rattle.snd_layout.specs.declared.refusal.OpenRefusal.{OpenRefusal as refusal};
 ghost use Rattle.snd_layout.specs.declared.error.OpenError.TheVariants.{Refused};
-ghost use Rattle.snd_container.specs.Sound.{layout_of};
+ghost use Rattle.snd_container.specs.Recognised.{recognised};
+ghost use Rattle.snd_container.specs.Sound.{is_built, layout_of};
 
-use snd_disk::Disk;
-use snd_layout::{Layout, OpenError};
+use crate::recognition::recognise;
+use snd_disk::{Disk, Step};
+use snd_layout::{Kind, Layout, OpenError, OpenRefusal};
 use std::alloc::Global;
+
+/// How many bytes tell the kind.
+const MARK_BYTES: usize = 40;
+
+// The kind of the file that a disk holds, by its first bytes.
+fn kind_on<D: Disk>(disk: &mut D) -> Result<Result<Kind, OpenRefusal>, Step>
+    ensures found { IfOk result (λ kind. (b : List ℕ) → (D.state disk.old).contents ≡ Some b → kind ≡ recognised (take 40 b)) }
+    ensures failed { OnErr result (Rises (D.state disk.old).faults (D.state disk.new).faults) }
+    ensures calm { OnOk result ((D.state disk.new).faults ≡ (D.state disk.old).faults) }
+    ensures later { (D.state disk.old).faults ≤ (D.state disk.new).faults }
+    ensures reads { OnlyReads (D.state disk.old) (D.state disk.new) (D.may_leave disk.old) (D.may_leave disk.new) (D.left_between disk.old) (D.left_between disk.new) }
+    ensures asked { AtMost (D.state disk.old).asked 40 (D.state disk.new).asked }
+{
+    let mut head = [0; MARK_BYTES];
+    let Ok(count) = disk.read_at(0, &mut head) else {
+        return Err(Step::Read);
+    };
+    Ok(recognise(&head[..count]))
+}
 
 /// Reads what a sound file says of itself. It reads heads and the format alone, at most 16384 bytes, and
 /// never writes.
@@ -27,5 +48,20 @@ pub fn open_layout<D: Disk>(alloc: Global, disk: &mut D) -> Result<Layout, OpenE
     ensures reads { OnlyReads (D.state disk.old) (D.state disk.new) (D.may_leave disk.old) (D.may_leave disk.new) (D.left_between disk.old) (D.left_between disk.new) }
     ensures asked { AtMost (D.state disk.old).asked 16384 (D.state disk.new).asked }
 {
-    Err(OpenError::Memory)
+    let kind = match kind_on(disk) {
+        Ok(Ok(kind)) => kind,
+        Ok(Err(refusal)) => return Err(OpenError::Refused(refusal)),
+        Err(step) => return Err(OpenError::DiskFault(step)),
+    };
+    if !is_built(kind) {
+        return Err(OpenError::Refused(OpenRefusal::NotBuilt));
+    }
+    snd_wave::open_layout(alloc, disk)
+}
+
+// Whether files of a kind are read yet.
+fn is_built(kind: Kind) -> bool
+    ensures { result ≡ is_built kind }
+{
+    matches!(kind, Kind::Wave)
 }
