@@ -1,8 +1,8 @@
-//! The program: `snd_app`'s run over the current folder, standard output and standard error.
+//! The program: `snd_app`'s run over the current folder, standard input, output and error.
 #![tactic(auto)]
 
 use snd_app::run;
-use snd_disk::{FolderShelf, WriterSink};
+use snd_disk::{FolderShelf, ReaderSource, WriterSink};
 use snd_fields::Words;
 use std::process::ExitCode;
 use std::{env, io};
@@ -29,8 +29,16 @@ fn main(rt: HostRuntime) -> ExitCode {
         }
         Err(_) => Words::new(Vec::new(alloc)),
     };
+    let mut script = ReaderSource::new(rt.stdin());
     let mut out = WriterSink::new(rt.stdout());
     let mut err = WriterSink::new(rt.stderr());
     let mut shelf = FolderShelf::new(rt);
-    ExitCode::from(run(alloc, &words, &mut shelf, &mut out, &mut err))
+    ExitCode::from(run(
+        alloc,
+        &words,
+        &mut shelf,
+        &mut script,
+        &mut out,
+        &mut err,
+    ))
 }

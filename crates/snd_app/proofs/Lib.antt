@@ -1,3 +1,4 @@
 mod Looks
 mod Outcomes
+mod Scripts
 mod Words

@@ -1,11 +1,10 @@
 -- From what was put to the outcome.
-use Rattle.std.proofs.Common.{◌≡◌, ◌⊎◌, inl, inr, ℕ, List, [], ◌∷◌, ◌++◌, Bool, true, false, Option, Some, None, length, take, refl, sym, ◌∙◌, ap, subst, append-nil, arith}
+use Rattle.std.proofs.Common.{◌≡◌, ◌⊎◌, inl, inr, ℕ, ◌≤◌, List, [], ◌∷◌, ◌++◌, Bool, true, false, Option, Some, None, length, take, refl, sym, ◌∙◌, ap, subst, append-nil, arith}
 use Rattle.snd_disk.specs.State.{Rises}
 use Rattle.snd_disk.specs.Streams.{AppendsFront}
-use Rattle.snd_disk.specs.Shelf.{Files}
 use Rattle.snd_app.specs.declared.look.Found.{Found}
-use Rattle.snd_app.specs.declared.look.Found.TheVariants.{Missing, Other, Plain}
-use Rattle.snd_app.specs.Outcome.{Outcome, bad_words, outcome, outcome_of, info, info_name, text_of, is_refused, found_in}
+use Rattle.snd_app.specs.declared.look.Found.TheVariants.{Missing, Refused, Sound}
+use Rattle.snd_app.specs.Outcome.{Outcome, info, text_of, is_refused}
 use Rattle.snd_app.specs.Run.{Faults, Told, Appends, Prints, PrintsFront, AnyRises, IsOutcome, PutsText}
 
 -- nothing is put to a sink
@@ -19,40 +18,37 @@ pub no_front_put : (o : Outcome) (out err : Told) → out.after ≡ out.before �
 no_front_put o out err same_out same_err = record { on_out = no_front out o.out same_out; on_err = no_front err o.err same_err }
 
 -- a text that is put to `out`, or to `err`, is the outcome that has this text alone
-put_out : (result : ℕ) (text : List ℕ) (old new : Faults) (out err : Told) → new.shelf ≡ old.shelf → new.err ≡ old.err → err.after ≡ err.before
+put_out : (result : ℕ) (text : List ℕ) (old new : Faults) (out err : Told) → new.shelf ≡ old.shelf → new.script ≡ old.script → new.err ≡ old.err → err.after ≡ err.before
     → PutsText result 0 text old.out new.out out → IsOutcome result (record { out = text; err = []; status = 0 }) old new out err
-put_out result text old new out err shelf other same (inl done) =
-    inl (done.0, record { shelf = shelf; out = done.1; err = other }, record { on_out = done.2; on_err = none_put err same })
-put_out result text old new out err shelf other same (inr failed) =
-    inr (inl (failed.0, inr (inl failed.1), record { on_out = failed.2; on_err = no_front err [] same }))
+put_out result text old new out err shelf script other same (inl done) =
+    inl (done.0, record { shelf = shelf; script = script; out = done.1; err = other }, record { on_out = done.2; on_err = none_put err same })
+put_out result text old new out err shelf script other same (inr failed) =
+    inr (inl (failed.0, inr (inr (inl failed.1)), record { on_out = failed.2; on_err = no_front err [] same }))
 
-put_err : (result status : ℕ) (text : List ℕ) (old new : Faults) (out err : Told) → new.shelf ≡ old.shelf → new.out ≡ old.out → out.after ≡ out.before
+put_err : (result status : ℕ) (text : List ℕ) (old new : Faults) (out err : Told) → new.shelf ≡ old.shelf → new.script ≡ old.script → new.out ≡ old.out → out.after ≡ out.before
     → PutsText result status text old.err new.err err → IsOutcome result (record { out = []; err = text; status = status }) old new out err
-put_err result status text old new out err shelf other same (inl done) =
-    inl (done.0, record { shelf = shelf; out = other; err = done.1 }, record { on_out = none_put out same; on_err = done.2 })
-put_err result status text old new out err shelf other same (inr failed) =
-    inr (inl (failed.0, inr (inr failed.1), record { on_out = no_front out [] same; on_err = failed.2 }))
+put_err result status text old new out err shelf script other same (inl done) =
+    inl (done.0, record { shelf = shelf; script = script; out = other; err = done.1 }, record { on_out = none_put out same; on_err = done.2 })
+put_err result status text old new out err shelf script other same (inr failed) =
+    inr (inl (failed.0, inr (inr (inr failed.1)), record { on_out = no_front out [] same; on_err = failed.2 }))
 
 pub refused_is : (name : List ℕ) (found : Found) → is_refused found ≡ true → record { out = []; err = text_of name found; status = 1 } ≡ info name found
 refused_is name Missing is = refl
-refused_is name Other is = refl
-refused_is name (Plain p) is = absurd (cc)
+refused_is name (Refused why) is = refl
+refused_is name (Sound layout) is = absurd (cc)
 
 pub described_is : (name : List ℕ) (found : Found) → is_refused found ≡ false → record { out = text_of name found; err = []; status = 0 } ≡ info name found
 described_is name Missing is = absurd (cc)
-described_is name Other is = absurd (cc)
-described_is name (Plain p) is = refl
-
--- the outcome of words that name a file
-pub outcome_is : (words : List (List ℕ)) (files : Files) (name : List ℕ) (found : Found) → info_name words ≡ Some name → found ≡ found_in (files name) → info name found ≡ outcome words files
-outcome_is words files name found named is = ap (info name) is ∙ sym (ap (λ n. outcome_of n files) named)
-
-pub bad_words_are : (words : List (List ℕ)) (files : Files) → None ≡ info_name words → bad_words ≡ outcome words files
-bad_words_are words files none = ap (λ n. outcome_of n files) none
+described_is name (Refused why) is = absurd (cc)
+described_is name (Sound layout) is = refl
 
 module _ (result : ℕ) (old new : Faults) (out err : Told) (o : Outcome) where
-  pub is_put_out : (text : List ℕ) → record { out = text; err = []; status = 0 } ≡ o → new.shelf ≡ old.shelf → new.err ≡ old.err → err.after ≡ err.before → PutsText result 0 text old.out new.out out → IsOutcome result o old new out err
-  is_put_out text is shelf other same puts = subst (λ (o : Outcome). IsOutcome result o old new out err) is (put_out result text old new out err shelf other same puts)
+  pub is_put_out : (text : List ℕ) → record { out = text; err = []; status = 0 } ≡ o → new.shelf ≡ old.shelf → new.script ≡ old.script → new.err ≡ old.err → err.after ≡ err.before → PutsText result 0 text old.out new.out out → IsOutcome result o old new out err
+  is_put_out text is shelf script other same puts = subst (λ (o : Outcome). IsOutcome result o old new out err) is (put_out result text old new out err shelf script other same puts)
 
-  pub is_put_err : (status : ℕ) (text : List ℕ) → record { out = []; err = text; status = status } ≡ o → new.shelf ≡ old.shelf → new.out ≡ old.out → out.after ≡ out.before → PutsText result status text old.err new.err err → IsOutcome result o old new out err
-  is_put_err status text is shelf other same puts = subst (λ (o : Outcome). IsOutcome result o old new out err) is (put_err result status text old new out err shelf other same puts)
+  pub is_put_err : (status : ℕ) (text : List ℕ) → record { out = []; err = text; status = status } ≡ o → new.shelf ≡ old.shelf → new.script ≡ old.script → new.out ≡ old.out → out.after ≡ out.before → PutsText result status text old.err new.err err → IsOutcome result o old new out err
+  is_put_err status text is shelf script other same puts = subst (λ (o : Outcome). IsOutcome result o old new out err) is (put_err result status text old new out err shelf script other same puts)
+
+  -- the outcome, told otherwise
+  pub as_outcome : (o' : Outcome) → o ≡ o' → IsOutcome result o old new out err → IsOutcome result o' old new out err
+  as_outcome o' is done = subst (λ (o : Outcome). IsOutcome result o old new out err) is done

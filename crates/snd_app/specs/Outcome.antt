@@ -1,23 +1,22 @@
--- What a run of the program prints and answers: a function of the words and of the files that are there.
-use Rattle.std.specs.Prelude.{ℕ, ◌≤◌, ⊤, Bool, true, false, ◌&&◌, ◌==◌, not, List, [], ◌∷◌, Option, Some, None, length, slice_index, codes, nat_le, if◌then◌else◌}
+-- What a run of the program prints and answers: a function of the words, the files that are there, and the script.
+use Rattle.std.specs.Prelude.{ℕ, Bool, true, false, ◌&&◌, ◌==◌, not, List, [], ◌∷◌, Option, Some, None, Result, Ok, Err, length, slice_index, codes, nat_le, if◌then◌else◌}
 use Rattle.std.specs.List.{list_all}
 use Rattle.std.specs.Str.{bytes_eq}
+use Rattle.snd_container.specs.Sound.{layout_of}
 use Rattle.snd_disk.specs.Shelf.{Files}
-use Rattle.snd_wave.specs.Plain.{plain}
-use Rattle.snd_wave.specs.declared.plain.Plain as plain_file
+use Rattle.snd_layout.specs.Names.{refusal_name, refusal_number}
+use Rattle.snd_layout.specs.Shape.{Shape}
+use Rattle.snd_layout.specs.declared.refusal.OpenRefusal.{OpenRefusal}
+use Rattle.snd_script.specs.Script.{Answered, is_too_long, most_bytes, script_answered}
 use Rattle.snd_app.specs.declared.look.Found.{Found}
-use Rattle.snd_app.specs.declared.look.Found.TheVariants.{Missing, Other, Plain}
-use Rattle.snd_app.specs.Text.{refusal}
+use Rattle.snd_app.specs.declared.look.Found.TheVariants.{Missing, Refused, Sound}
+use Rattle.snd_app.specs.Text.{is_printed, refusal}
 use Rattle.snd_app.specs.Info.{description}
 
 pub record Outcome : Type 0 where
   pub out : List ℕ
   pub err : List ℕ
   pub status : ℕ
-
--- from '!' to '~'
-abbrev pub is_printed : ℕ → Bool
-is_printed c = nat_le 33 c && nat_le c 126
 
 -- a name has 1 to 255 bytes, each of them printed and no space, and does not begin with '-'
 abbrev pub is_name : List ℕ → Bool
@@ -30,43 +29,55 @@ abbrev pub refused : List ℕ → ℕ → List ℕ → Outcome
 refused name number word = record { out = []; err = refusal name number word; status = 1 }
 
 -- what stands under a name
-abbrev pub found_of : Option plain_file.Plain → Found
-found_of None = Other
-found_of (Some p) = Plain p
+abbrev pub found_of : Result Shape OpenRefusal → Found
+found_of (Err refusal) = Refused refusal
+found_of (Ok layout) = Sound layout
 
 abbrev pub found_in : Option (List ℕ) → Found
 found_in None = Missing
-found_in (Some bytes) = found_of (plain bytes)
-
--- a plain file has a rate
-abbrev pub IsPlayable : Found → Type 0
-IsPlayable (Plain p) = 1 ≤ p.rate
-IsPlayable found = ⊤
-
--- a file that is not plain is not built yet
-abbrev pub info : List ℕ → Found → Outcome
-info name Missing = refused name 56 (codes "MissingFile")
-info name Other = refused name 99 (codes "NotBuilt")
-info name (Plain p) = record { out = description name p; err = []; status = 0 }
-
-abbrev pub is_refused : Found → Bool
-is_refused (Plain p) = false
-is_refused found = true
+found_in (Some bytes) = found_of (layout_of bytes)
 
 -- what is printed of it, on whichever stream
 abbrev pub text_of : List ℕ → Found → List ℕ
 text_of name Missing = refusal name 56 (codes "MissingFile")
-text_of name Other = refusal name 99 (codes "NotBuilt")
-text_of name (Plain p) = description name p
+text_of name (Refused why) = refusal name (refusal_number why) (refusal_name why)
+text_of name (Sound layout) = description name layout
 
--- the name in the words `info NAME`
-abbrev pub info_name : List (List ℕ) → Option (List ℕ)
-info_name (command ∷ name ∷ []) = if bytes_eq command (codes "info") && is_name name then Some name else None
-info_name words = None
+abbrev pub info : List ℕ → Found → Outcome
+info name Missing = refused name 56 (codes "MissingFile")
+info name (Refused why) = refused name (refusal_number why) (refusal_name why)
+info name (Sound layout) = record { out = description name layout; err = []; status = 0 }
 
-abbrev pub outcome_of : Option (List ℕ) → Files → Outcome
-outcome_of None files = bad_words
-outcome_of (Some name) files = info name (found_in (files name))
+abbrev pub is_refused : Found → Bool
+is_refused (Sound layout) = false
+is_refused found = true
 
-abbrev pub outcome : List (List ℕ) → Files → Outcome
-outcome words files = outcome_of (info_name words) files
+-- a script's replies stand on `out`
+abbrev pub too_long : Outcome → Outcome
+too_long o = record o { err = codes "snd: script too long\n"; status = 2 }
+
+abbrev pub answers : Answered → Outcome
+answers a = record { out = a.out; err = []; status = if a.refused then 1 else 0 }
+
+abbrev pub script_outcome : Bool → Answered → Outcome
+script_outcome longer a = if longer then too_long (answers a) else answers a
+
+-- what the words ask for: `info NAME`, or `script`
+pub data Asked : Type 0 where
+  info_of : List ℕ → Asked
+  script : Asked
+  nothing : Asked
+
+abbrev pub asked : List (List ℕ) → Asked
+asked (command ∷ name ∷ []) = if bytes_eq command (codes "info") && is_name name then Asked.info_of name else Asked.nothing
+asked (command ∷ []) = if bytes_eq command (codes "script") then Asked.script else Asked.nothing
+asked words = Asked.nothing
+
+abbrev pub outcome_of : Asked → Files → List ℕ → Outcome
+outcome_of Asked.nothing files text = bad_words
+outcome_of (Asked.info_of name) files text = info name (found_in (files name))
+outcome_of Asked.script files text = script_outcome (is_too_long most_bytes text) (script_answered files text)
+
+-- the outcome of the words, over these files and with this script to come
+abbrev pub outcome : List (List ℕ) → Files → List ℕ → Outcome
+outcome words files text = outcome_of (asked words) files text

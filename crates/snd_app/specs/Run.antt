@@ -9,17 +9,19 @@ use Rattle.snd_app.specs.Outcome.{Outcome}
 abbrev pub IsAllIn : ShelfState → Type 0
 IsAllIn shelf = (n : List ℕ) → shelf.out n ≡ false
 
--- the counts of faults of the shelf and of the two sinks
+-- the counts of faults of the shelf, of the script and of the two sinks
 pub record Faults : Type 0 where
   pub shelf : ℕ
+  pub script : ℕ
   pub out : ℕ
   pub err : ℕ
 
 abbrev pub AnyRises : Faults → Faults → Type 0
-AnyRises old new = Rises old.shelf new.shelf ⊎ (Rises old.out new.out ⊎ Rises old.err new.err)
+AnyRises old new = Rises old.shelf new.shelf ⊎ (Rises old.script new.script ⊎ (Rises old.out new.out ⊎ Rises old.err new.err))
 
 pub record SameFaults (old new : Faults) : Type 0 where
   pub shelf : new.shelf ≡ old.shelf
+  pub script : new.script ≡ old.script
   pub out : new.out ≡ old.out
   pub err : new.err ≡ old.err
 

@@ -1,5 +1,9 @@
 -- Printed lines.
-use Rattle.std.specs.Prelude.{ℕ, ◌-◌, List, [], ◌∷◌, ◌++◌, length, replicate, codes, decimal}
+use Rattle.std.specs.Prelude.{ℕ, ◌-◌, Bool, ◌&&◌, List, [], ◌∷◌, ◌++◌, length, replicate, codes, decimal, nat_le}
+
+-- from '!' to '~'
+abbrev pub is_printed : ℕ → Bool
+is_printed c = nat_le 33 c && nat_le c 126
 
 -- a number's decimal digits, with zeros before them up to a width
 abbrev pub padded : ℕ → ℕ → List ℕ

@@ -1,9 +1,10 @@
 ghost use Rattle.std.specs.Prelude.{◌≡◌, ◌*◌, ◌<◌, ◌≤◌, ◌^◌, ◌++◌, OnOk, IfOk, codes, decimal};
-ghost use Rattle.snd_app.specs.Info.{milliseconds, clock, description};
+ghost use Rattle.std.specs.List.{flat_map};
+ghost use Rattle.snd_app.specs.Info.{chunk_line, clock, description, milliseconds, shown};
 ghost use Rattle.snd_app.specs.Text.{refusal, line};
 
-use crate::text::{push_line, push_number, push_padded};
-use snd_wave::Plain;
+use crate::text::{is_printed, push_line, push_number, push_padded};
+use snd_layout::{Layout, Piece};
 use std::alloc::{AllocError, Global};
 
 const HOUR: u128 = 3_600_000;
@@ -48,19 +49,57 @@ fn push_duration(text: &mut Vec<u8>, frames: u64, rate: u32) -> Result<(), Alloc
     Ok(())
 }
 
-/// The lines that describe a plain file.
-pub fn describe(alloc: Global, name: &str, plain: &Plain) -> Result<Vec<u8>, AllocError>
-    requires { 1 ≤ plain.now.rate }
-    ensures { IfOk result (λ text. text.items ≡ description name.now plain.now) }
+/// A byte of an identifier as it is printed: `_` for a space, `?` for what is not printed.
+fn shown(c: u8) -> u8
+    ensures { result ≡ shown c }
 {
+    if c == b' ' {
+        b'_'
+    } else if is_printed(c) {
+        c
+    } else {
+        b'?'
+    }
+}
+
+/// Appends the line on a chunk.
+fn push_chunk(text: &mut Vec<u8>, piece: Piece) -> Result<(), AllocError>
+    ensures { OnOk result (text.new.items ≡ text.old.items ++ chunk_line piece) }
+{
+    let [first, second, third, fourth] = piece.id.0;
+    let id = [shown(first), shown(second), shown(third), shown(fourth)];
+    text.extend_from_slice(b"chunk ")?;
+    text.extend_from_slice(&id)?;
+    text.push(b' ')?;
+    push_number(text, piece.len)?;
+    text.push(b'\n')?;
+    Ok(())
+}
+
+/// Appends a line for each chunk, in the file's order.
+fn push_chunks(text: &mut Vec<u8>, pieces: &[Piece]) -> Result<(), AllocError>
+    ensures { OnOk result (text.new.items ≡ text.old.items ++ flat_map chunk_line pieces.now) }
+{
+    for piece in pieces {
+        push_chunk(text, *piece)?;
+    }
+    Ok(())
+}
+
+/// The lines that describe a file.
+pub fn describe(alloc: Global, name: &str, layout: &Layout) -> Result<Vec<u8>, AllocError>
+    ensures { IfOk result (λ text. text.items ≡ description name.now layout.now) }
+{
+    layout.params.are_good();
     let mut text = Vec::new(alloc);
     push_line(&mut text, b"name", name.as_bytes())?;
-    push_line(&mut text, b"kind", b"wave")?;
-    push_line(&mut text, b"codec", b"pcm_16_le")?;
-    push_number_line(&mut text, b"channels", u64::from(plain.channels))?;
-    push_number_line(&mut text, b"rate", u64::from(plain.rate))?;
-    push_number_line(&mut text, b"frames", plain.frames)?;
-    push_duration(&mut text, plain.frames, plain.rate)?;
+    push_line(&mut text, b"kind", layout.kind.name().as_bytes())?;
+    push_line(&mut text, b"codec", layout.params.codec.name().as_bytes())?;
+    push_number_line(&mut text, b"channels", u64::from(layout.params.channels))?;
+    push_number_line(&mut text, b"rate", u64::from(layout.params.rate))?;
+    push_number_line(&mut text, b"frames", layout.frames)?;
+    push_duration(&mut text, layout.frames, layout.params.rate)?;
+    push_chunks(&mut text, layout.pieces.as_slice())?;
     Ok(text)
 }
 

@@ -1,25 +1,35 @@
-ghost use Rattle.std.specs.Prelude.{◌≡◌, ◌⊎◌, List, ℕ, Option, Some, None, false, IfOk, option_map};
+//! What the program does with its words.
+
+ghost use Rattle.std.specs.Prelude.{◌≡◌, ◌⊎◌, ◌≤◌, ◌+◌, List, ℕ, Option, Some, None, false, IfOk, option_map};
 ghost use Rattle.std.specs.List.{list_all};
 ghost use Rattle.snd_disk.specs.Returned.{KeepsFileImages};
 ghost use Rattle.snd_disk.specs.Shelf.{Files, KeepsFiles};
 ghost use Rattle.snd_disk.specs.State.{Rises};
-ghost use Rattle.snd_app.specs.Outcome.{outcome, info_name, bad_words, is_name, is_printed, text_of, IsPlayable};
-ghost use Rattle.snd_app.specs.Run.{IsOutcome, IsAllIn, PutsText};
+ghost use Rattle.snd_script.specs.Script.{is_too_long, most_bytes, script_answered};
+ghost use Rattle.snd_app.specs.Outcome.{Asked, asked, bad_words, found_in, info, is_name, outcome, script_outcome, text_of};
+ghost use Rattle.snd_app.specs.Run.{IsAllIn, IsOutcome, PutsText};
+ghost use Rattle.snd_app.specs.Text.{is_printed};
+ghost use Rattle.snd_app.specs.Words.{asked_by};
 
 use crate::info::{describe, refuse};
 use crate::look::{Found, Stop, look};
-use snd_disk::{Shelf, Sink};
+use crate::text::is_printed;
+use snd_disk::{Shelf, Sink, Source};
 use snd_fields::Words;
+use snd_script::{ScriptEnd, serve};
 use std::alloc::{AllocError, Global};
 
 const FAULT: u8 = 3;
 
 const NO_MEMORY: u8 = 4;
 
-fn is_printed(c: u8) -> bool
-    ensures { result ≡ is_printed c }
-{
-    33 <= c && c <= 126
+/// What the words ask for.
+#[derive(Clone, Copy, Debug, PartialEq, Eq)]
+enum Request<'a> {
+    /// To describe the file of a name.
+    Info(&'a str),
+    /// To carry out a script.
+    Script,
 }
 
 fn are_printed(word: &[u8]) -> bool
@@ -35,30 +45,35 @@ fn has_name_form(word: &[u8]) -> bool
     1 <= word.len() && word.len() <= 255 && are_printed(word) && word[0] != b'-'
 }
 
-/// The name in the words `info NAME`.
-fn name_to_describe(words: &Words) -> Option<&str>
-    ensures { option_map (λ n. n.now) result ≡ info_name words.now }
+/// What the words ask for, or none where they are refused.
+fn request_of(words: &Words) -> Option<Request<'_>>
+    ensures { asked_by result ≡ asked words.now }
 {
-    if words.len() != 2 {
-        return None;
-    }
     let command = words.get(0)?;
-    let name = words.get(1)?;
-    if command == "info" && has_name_form(name.as_bytes()) {
-        return Some(name);
+    match words.get(1) {
+        None if command == "script" => Some(Request::Script),
+        Some(name) if words.len() == 2 && command == "info" && has_name_form(name.as_bytes()) => {
+            Some(Request::Info(name))
+        }
+        _ => None,
     }
-    None
 }
 
 /// What is printed of what was found.
 fn text_for(alloc: Global, name: &str, found: &Found) -> Result<Vec<u8>, AllocError>
-    requires { IsPlayable found.now }
     ensures { IfOk result (λ text. text.items ≡ text_of name.now found.now) }
 {
     match found {
         Found::Missing => refuse(alloc, name, 56, b"MissingFile"),
-        Found::Other => refuse(alloc, name, 99, b"NotBuilt"),
-        Found::Plain(plain) => describe(alloc, name, plain),
+        Found::Refused(refusal) => {
+            refuse(
+                alloc,
+                name,
+                u64::from(refusal.number()),
+                refusal.name().as_bytes(),
+            )
+        }
+        Found::Sound(layout) => describe(alloc, name, layout),
     }
 }
 
@@ -72,43 +87,25 @@ fn put_text<O: Sink>(sink: &mut O, text: &[u8], status: u8) -> u8
     }
 }
 
-/// Carries out the words of a command line, and answers the status that the program ends with.
-///
-/// The words `info NAME` describe a file; any others are refused. Beside the statuses 0, 1 and 2 that
-/// the outcome has, 3 says that the shelf or a sink failed, and 4 that memory ran out.
-pub fn run<S: Shelf, O: Sink, E: Sink>(
+/// Describes the file of a name on `out`, or says on `err` why not.
+fn run_info<S: Shelf, O: Sink, E: Sink>(
     alloc: Global,
-    words: &Words,
+    name: &str,
     shelf: &mut S,
     out: &mut O,
     err: &mut E,
 ) -> u8
     requires { IsAllIn (S.state shelf.old) }
-
-    // The headline: over files that are told, the run is the outcome of the words and the files.
-    ensures headline { (files : Files) → (S.state shelf.old).files ≡ Some files →
-        IsOutcome result (outcome words.now files)
-        (record { shelf = (S.state shelf.old).faults; out = O.faults out.old; err = E.faults err.old }) (record { shelf = (S.state shelf.new).faults; out = O.faults out.new; err = E.faults err.new })
+    ensures outcome { (files : Files) (script : ℕ) → (S.state shelf.old).files ≡ Some files →
+        IsOutcome result (info name.now (found_in (files name.now)))
+        (record { shelf = (S.state shelf.old).faults; script = script; out = O.faults out.old; err = E.faults err.old }) (record { shelf = (S.state shelf.new).faults; script = script; out = O.faults out.new; err = E.faults err.new })
         (record { before = O.told out.old; after = O.told out.new }) (record { before = E.told err.old; after = E.told err.new }) }
-
-    // Words that are refused need no file.
-    ensures bad_words { info_name words.now ≡ None →
-        IsOutcome result bad_words
-        (record { shelf = (S.state shelf.old).faults; out = O.faults out.old; err = E.faults err.old }) (record { shelf = (S.state shelf.new).faults; out = O.faults out.new; err = E.faults err.new })
-        (record { before = O.told out.old; after = O.told out.new }) (record { before = E.told err.old; after = E.told err.new }) }
-
-    // Also over files that are not told.
     ensures fault { result ≡ 3 → Rises (S.state shelf.old).faults (S.state shelf.new).faults ⊎ (Rises (O.faults out.old) (O.faults out.new) ⊎ Rises (E.faults err.old) (E.faults err.new)) }
-
-    // Every file that was taken is given back, and no file changes, nor what a crash may leave of one.
     ensures back { IsAllIn (S.state shelf.new) }
     ensures files { KeepsFiles (S.state shelf.old) (S.state shelf.new) }
     ensures images { KeepsFileImages (S.state shelf.old) (S.state shelf.old).clock (S.state shelf.new).clock (S.may_leave shelf.old) (S.may_leave shelf.new) (S.left_between shelf.old) (S.left_between shelf.new) }
 {
-    let Some(name) = name_to_describe(words) else {
-        return put_text(err, b"snd: bad words\n", 2);
-    };
-    let found = match look(shelf, name) {
+    let found = match look(alloc, shelf, name) {
         Ok(found) => found,
         Err(Stop::Fault) => return FAULT,
         Err(Stop::Memory) => return NO_MEMORY,
@@ -120,5 +117,78 @@ pub fn run<S: Shelf, O: Sink, E: Sink>(
         put_text(err, &text, 1)
     } else {
         put_text(out, &text, 0)
+    }
+}
+
+/// Carries out a script, with its replies on `out`.
+fn run_script<S: Shelf, R: Source, O: Sink, E: Sink>(
+    alloc: Global,
+    shelf: &mut S,
+    script: &mut R,
+    out: &mut O,
+    err: &mut E,
+) -> u8
+    requires { IsAllIn (S.state shelf.old) }
+    ensures outcome { (files : Files) (text : List ℕ) → (S.state shelf.old).files ≡ Some files → R.left script.old ≡ Some text →
+        IsOutcome result (script_outcome (is_too_long most_bytes text) (script_answered files text))
+        (record { shelf = (S.state shelf.old).faults; script = R.faults script.old; out = O.faults out.old; err = E.faults err.old }) (record { shelf = (S.state shelf.new).faults; script = R.faults script.new; out = O.faults out.new; err = E.faults err.new })
+        (record { before = O.told out.old; after = O.told out.new }) (record { before = E.told err.old; after = E.told err.new }) }
+    ensures fault { result ≡ 3 → Rises (S.state shelf.old).faults (S.state shelf.new).faults ⊎ (Rises (R.faults script.old) (R.faults script.new) ⊎ (Rises (O.faults out.old) (O.faults out.new) ⊎ Rises (E.faults err.old) (E.faults err.new))) }
+    ensures taken { R.given script.new ≤ R.given script.old + 16777217 }
+    ensures back { IsAllIn (S.state shelf.new) }
+    ensures files { KeepsFiles (S.state shelf.old) (S.state shelf.new) }
+    ensures images { KeepsFileImages (S.state shelf.old) (S.state shelf.old).clock (S.state shelf.new).clock (S.may_leave shelf.old) (S.may_leave shelf.new) (S.left_between shelf.old) (S.left_between shelf.new) }
+{
+    match serve(alloc, shelf, script, out) {
+        ScriptEnd::Done { refused } => u8::from(refused),
+        ScriptEnd::TooLong => put_text(err, b"snd: script too long\n", 2),
+        ScriptEnd::Fault => FAULT,
+        ScriptEnd::Memory => NO_MEMORY,
+    }
+}
+
+/// Carries out the words of a command line, and answers the status that the program ends with.
+///
+/// The words `info NAME` describe a file, and `script` carries out the commands that come from
+/// `script`, one a line; any others are refused. Beside the statuses 0, 1 and 2 that the outcome has, 3
+/// says that the shelf, the script or a sink failed, and 4 that memory ran out.
+pub fn run<S: Shelf, R: Source, O: Sink, E: Sink>(
+    alloc: Global,
+    words: &Words,
+    shelf: &mut S,
+    script: &mut R,
+    out: &mut O,
+    err: &mut E,
+) -> u8
+    requires { IsAllIn (S.state shelf.old) }
+
+    // The headline: over files and a script that are told, the run is the outcome of the words, the
+    // files and the script.
+    ensures headline { (files : Files) (text : List ℕ) → (S.state shelf.old).files ≡ Some files → R.left script.old ≡ Some text →
+        IsOutcome result (outcome words.now files text)
+        (record { shelf = (S.state shelf.old).faults; script = R.faults script.old; out = O.faults out.old; err = E.faults err.old }) (record { shelf = (S.state shelf.new).faults; script = R.faults script.new; out = O.faults out.new; err = E.faults err.new })
+        (record { before = O.told out.old; after = O.told out.new }) (record { before = E.told err.old; after = E.told err.new }) }
+
+    // Words that are refused need no file and no script.
+    ensures bad_words { asked words.now ≡ Asked.nothing →
+        IsOutcome result bad_words
+        (record { shelf = (S.state shelf.old).faults; script = R.faults script.old; out = O.faults out.old; err = E.faults err.old }) (record { shelf = (S.state shelf.new).faults; script = R.faults script.new; out = O.faults out.new; err = E.faults err.new })
+        (record { before = O.told out.old; after = O.told out.new }) (record { before = E.told err.old; after = E.told err.new }) }
+
+    // Also over files and scripts that are not told.
+    ensures fault { result ≡ 3 → Rises (S.state shelf.old).faults (S.state shelf.new).faults ⊎ (Rises (R.faults script.old) (R.faults script.new) ⊎ (Rises (O.faults out.old) (O.faults out.new) ⊎ Rises (E.faults err.old) (E.faults err.new))) }
+
+    // A script that never ends is no exception.
+    ensures taken { R.given script.new ≤ R.given script.old + 16777217 }
+
+    // Every file that was taken is given back, and no file changes, nor what a crash may leave of one.
+    ensures back { IsAllIn (S.state shelf.new) }
+    ensures files { KeepsFiles (S.state shelf.old) (S.state shelf.new) }
+    ensures images { KeepsFileImages (S.state shelf.old) (S.state shelf.old).clock (S.state shelf.new).clock (S.may_leave shelf.old) (S.may_leave shelf.new) (S.left_between shelf.old) (S.left_between shelf.new) }
+{
+    match request_of(words) {
+        Some(Request::Info(name)) => run_info(alloc, name, shelf, out, err),
+        Some(Request::Script) => run_script(alloc, shelf, script, out, err),
+        None => put_text(err, b"snd: bad words\n", 2),
     }
 }

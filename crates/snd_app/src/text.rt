@@ -1,5 +1,5 @@
 ghost use Rattle.std.specs.Prelude.{◌≡◌, ◌<◌, ◌++◌, OnOk, decimal};
-ghost use Rattle.snd_app.specs.Text.{padded, line};
+ghost use Rattle.snd_app.specs.Text.{is_printed, padded, line};
 
 use itoa::Buffer;
 use std::alloc::AllocError;
@@ -32,4 +32,11 @@ pub fn push_line(text: &mut Vec<u8>, key: &[u8], value: &[u8]) -> Result<(), All
     text.extend_from_slice(value)?;
     text.push(b'\n')?;
     Ok(())
+}
+
+/// Whether a byte is printed and no space: from `!` to `~`.
+pub fn is_printed(c: u8) -> bool
+    ensures { result ≡ is_printed c }
+{
+    33 <= c && c <= 126
 }

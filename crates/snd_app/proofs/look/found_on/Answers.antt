@@ -1,6 +1,6 @@
-use Rattle.std.proofs.Common.{ap, ◌∙◌}
+use Rattle.std.proofs.Common.{ap, sym, refl}
 use Rattle.snd_app.specs.Outcome.{found_of}
 use Rattle.snd_app.proofs.look.found_on.Goals as goal
 
-pub returns-clause-found : goal.returns-clause-found
-returns-clause-found g c = λ b told. c.as_found.ensures.value ∙ ap found_of (c.in_ok-plain.ensures.found b told)
+pub returns-in-Err-Refused-clause-found : goal.returns-in-Err-Refused-clause-found
+returns-in-Err-Refused-clause-found g c = λ b told. sym (ap found_of (c.in-Err-Refused.ensures.refused c.in-Err-Refused.refusal b c.in-Err-Refused.field-0-is told))

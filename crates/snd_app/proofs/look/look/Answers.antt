@@ -1,29 +1,15 @@
 use Rattle.snd_disk.specs.Returned.{returned_out, returned_files, returned_images, stayed_images}
-use Rattle.snd_app.proofs.Looks.{found_there}
+use Rattle.snd_app.proofs.Looks.{found_there, if_ok}
 use Rattle.snd_app.proofs.look.look.Goals as goal
 
-pub returns-in-Ok-found-clause-found : goal.returns-in-Ok-found-clause-found
-returns-in-Ok-found-clause-found g c = λ files told. found_there _ _ files c.args.name.now _ c.in-Ok-found.found c.in-Ok.ensures.taken told c.in-Ok-found.ensures.found
+pub returns-clause-found : goal.returns-clause-found
+returns-clause-found g c = if_ok c.found_on-found.result _ _ (λ found is files told. found_there _ _ files c.args.name.now _ found c.in-Ok.ensures.taken told is) c.found_on-found.ensures.found
 
-pub returns-in-Ok-found-clause-back : goal.returns-in-Ok-found-clause-back
-returns-in-Ok-found-clause-back g c = returned_out _ _ _ c.args.name.now _ _ c.in-Ok.ensures.taken c.found_on-found.ensures.reads.keeps.contents c.give.ensures.given c.requires
+pub returns-clause-files : goal.returns-clause-files
+returns-clause-files g c = returned_files _ _ _ c.args.name.now _ _ c.in-Ok.ensures.taken c.found_on-found.ensures.reads.keeps.contents c.give.ensures.given
 
-pub returns-in-Ok-found-clause-files : goal.returns-in-Ok-found-clause-files
-returns-in-Ok-found-clause-files g c = returned_files _ _ _ c.args.name.now _ _ c.in-Ok.ensures.taken c.found_on-found.ensures.reads.keeps.contents c.give.ensures.given
-
-pub returns-in-Err-clause-back : goal.returns-in-Err-clause-back
-returns-in-Err-clause-back g c = returned_out _ _ _ c.args.name.now _ _ c.in-Ok.ensures.taken c.found_on-found.ensures.reads.keeps.contents c.give.ensures.given c.requires
-
-pub returns-in-Err-clause-files : goal.returns-in-Err-clause-files
-returns-in-Err-clause-files g c = returned_files _ _ _ c.args.name.now _ _ c.in-Ok.ensures.taken c.found_on-found.ensures.reads.keeps.contents c.give.ensures.given
-
-pub returns-in-Ok-found-clause-images : goal.returns-in-Ok-found-clause-images
-returns-in-Ok-found-clause-images g c =
-    returned_images (g.S.Shelf.state c.args.shelf.now) c.args.name.now _ (g.S.Shelf.state c.take.new.self).clock _ _ (g.S.Shelf.may_leave c.take.new.self) _ _ (g.S.Shelf.left_between c.take.new.self) _ _ _ _ _ _ _
-    c.in-Ok.ensures.images c.found_on-found.ensures.reads.images c.give.ensures.images c.take.ensures.others c.give.ensures.others
-
-pub returns-in-Err-clause-images : goal.returns-in-Err-clause-images
-returns-in-Err-clause-images g c =
+pub returns-clause-images : goal.returns-clause-images
+returns-clause-images g c =
     returned_images (g.S.Shelf.state c.args.shelf.now) c.args.name.now _ (g.S.Shelf.state c.take.new.self).clock _ _ (g.S.Shelf.may_leave c.take.new.self) _ _ (g.S.Shelf.left_between c.take.new.self) _ _ _ _ _ _ _
     c.in-Ok.ensures.images c.found_on-found.ensures.reads.images c.give.ensures.images c.take.ensures.others c.give.ensures.others
 
