@@ -7,6 +7,7 @@ mod error;
 mod file;
 mod handle;
 mod open;
+mod reads;
 
 pub use codec::linear_form;
 pub use error::{DiskFault, ReadError, SeekError};
