@@ -5,6 +5,7 @@
 mod codec;
 mod error;
 mod file;
+mod frames;
 mod handle;
 mod open;
 mod reads;

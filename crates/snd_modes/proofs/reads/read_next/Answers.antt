@@ -1,4 +1,4 @@
-use Rattle.std.proofs.Common.{rules, ◌≡◌, ◌∙◌, ap, List, ℕ, Some, ◌+◌, ◌-◌, ◌*◌, ◌<◌, ◌≤◌, length, take, drop, arith}
+use Rattle.std.proofs.Common.{◌≡◌, ◌∙◌, ap, ℕ, ◌+◌, ◌-◌, ◌*◌, ◌≤◌, length, take, drop, arith}
 use Rattle.std.proofs.lemmas.List.{places}
 use Rattle.snd_pcm.specs.Pcm.{InRange, byte_count, samples}
 use Rattle.snd_modes.proofs.Runs.{all_more, samples_more}

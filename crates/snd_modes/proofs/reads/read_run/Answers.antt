@@ -1,4 +1,4 @@
-use Rattle.std.proofs.Common.{rules, ◌≡◌, ◌∙◌, refl, subst, List, ℕ, Some, All, ◌≤◌, length, take, arith}
+use Rattle.std.proofs.Common.{rules, refl, subst, All, arith}
 use Rattle.std.proofs.lemmas.List.{take_all}
 use Rattle.snd_pcm.specs.Pcm.{InRange}
 use Rattle.snd_modes.proofs.Runs.{no_samples}

@@ -1,4 +1,4 @@
-use Rattle.std.proofs.Common.{◌≡◌, ◌+◌, ◌-◌, ◌*◌, ◌≤◌, ℕ, List, Some, All, take, drop, length}
+use Rattle.std.proofs.Common.{◌≡◌, ◌-◌, ◌*◌, ◌≤◌, ℕ, List, Some, All, take, drop, length}
 use Rattle.snd_disk.specs.State.{AtMost, OnlyReads}
 use Rattle.snd_pcm.specs.Pcm.{InRange, byte_count, samples}
 use Rattle.snd_modes.proofs.reads.read_run.Given as goal
