@@ -16,7 +16,7 @@ agree_from n p x b same i lt = sym (get_or-take n x i 0 lt) ∙ ap (λ (l : List
 pub same_front : (k p : ℕ) (x b : List ℕ) → k ≤ length x → p + k ≤ length b → ((i : ℕ) → i < k → get_or x i 0 ≡ get_or b (p + i) 0) → take k x ≡ take k (drop p b)
 same_front k p x b long within same = same_lists _ _ (grind (arith, places)) (λ i d lt. grind (arith, places, same))
 
-same_number : (order : Order) (k n m p : ℕ) (x b : List ℕ) → m ≡ k + n → ((i : ℕ) → i < m → get_or x i 0 ≡ get_or b (p + i) 0) → number order x k n ≡ number order b (p + k) n
+pub same_number : (order : Order) (k n m p : ℕ) (x b : List ℕ) → m ≡ k + n → ((i : ℕ) → i < m → get_or x i 0 ≡ get_or b (p + i) 0) → number order x k n ≡ number order b (p + k) n
 same_number order k n m p x b sum same = number_same order n k (p + k) x b (λ i q r lt qe re. rw (qe, re, add_assoc) (same (k + i) (omega arith)))
 
 made : (chunk : Chunk) (id : List ℕ) (at len next : ℕ) → chunk.id.0 ≡ id → chunk.at ≡ at → chunk.len ≡ len → chunk.next ≡ next

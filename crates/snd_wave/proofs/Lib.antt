@@ -1,1 +1,3 @@
+mod Bodies
 mod Heads
+pub mod Shapes
