@@ -1,5 +1,5 @@
 -- A format is told by the front of its body, and a WAVE file holds what it states.
-use Rattle.std.proofs.Common.{◌≡◌, ℕ, zero, suc, ◌+◌, ◌*◌, ◌-◌, ◌<◌, ◌≤◌, Bool, true, false, cond, not, ◌&&◌, List, [], ◌∷◌, length, take, drop, get_or, min, Option, None, Some, Ok, Err, refl, sym, ap, ◌∙◌, inl, inr, arith}
+use Rattle.std.proofs.Common.{◌≡◌, ℕ, ◌+◌, ◌*◌, ◌<◌, ◌≤◌, Bool, true, cond, not, ◌&&◌, List, [], ◌∷◌, length, take, get_or, Option, None, Some, Ok, Err, refl, sym, ap, ◌∙◌, inl, inr, arith}
 use Rattle.std.proofs.lemmas.Bool.{cases_Bool, lt-leb, le-leb, ltb-false, cases_lt}
 use Rattle.std.proofs.lemmas.List.{get_or-take, length-take}
 use Rattle.std.specs.Prelude.{◌==◌, Result, nat_le, nat_lt}
@@ -9,7 +9,7 @@ use Rattle.snd_fields.specs.declared.field.Order.{Order}
 use Rattle.snd_fields.specs.declared.field.Order.TheVariants.{Little, Big}
 use Rattle.snd_layout.specs.Blocks.{block_align, is_ima_block, is_ms_block}
 use Rattle.snd_layout.specs.Fit.{fit_refusal}
-use Rattle.snd_layout.specs.Format.{align_of, are_at, bits_of, channels_of, codec_of, coded_format, coding_of, coding_of_sub_tag, coding_of_tag, coding_refusal, coefficients, format_of, format_refusal, format_tag, has_coefficients, has_tag_guid, is_bit_count, law_refusal, linear_codec, parameters, rate_of, samples_per_block}
+use Rattle.snd_layout.specs.Format.{align_of, are_at, bits_of, channels_of, codec_of, coded_format, coding_of, coding_of_sub_tag, coding_of_tag, coding_refusal, coefficients, format_of, format_refusal, has_coefficients, has_tag_guid, is_bit_count, linear_codec, parameters, rate_of, samples_per_block}
 use Rattle.snd_layout.specs.Params.{Parameters, is_channel_count, size_refusal}
 use Rattle.snd_layout.specs.Refusals.{first_refusal, refuse_if, unless}
 use Rattle.snd_layout.specs.declared.codec.Codec.{Codec}

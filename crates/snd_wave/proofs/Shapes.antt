@@ -1,10 +1,10 @@
 -- What a layout owes, from plain facts.
-use Rattle.std.proofs.Common.{◌≡◌, ℕ, ◌+◌, ◌*◌, ◌-◌, ◌/◌, ◌%◌, ◌<◌, ◌≤◌, ◌^◌, Bool, true, false, not, ◌&&◌, ◌||◌, List,  ◌++◌, All, Option, None, Some, refl, ◌∙◌, inl, inr, arith}
+use Rattle.std.proofs.Common.{◌≡◌, ℕ, ◌+◌, ◌*◌, ◌-◌, ◌/◌, ◌<◌, ◌≤◌, ◌^◌, Bool, true, false, not, ◌&&◌, List, ◌++◌, All, Option, None, Some, refl, ◌∙◌, inl, inr, arith}
 use Rattle.std.proofs.lemmas.Bool.{and_parts, cases_Bool, eqb-true, leb-true}
 use Rattle.std.proofs.lemmas.List.Elements.{All-append, All-filter, All-map, All-weaker}
 use Rattle.std.proofs.lemmas.Nat.{div-add-mod', div_below, mul-le}
 use Rattle.std.specs.List.{filter}
-use Rattle.std.specs.Prelude.{◌==◌, IfSome, IsTrue, nat_le, nat_lt}
+use Rattle.std.specs.Prelude.{◌==◌, IfSome, IsTrue, nat_le}
 use Rattle.snd_chunks.specs.declared.chunk.Chunk.{Chunk}
 use Rattle.snd_chunks.specs.Walks.{EndsBy, IsSound}
 use Rattle.snd_layout.specs.declared.codec.Codec.{Codec}
@@ -12,7 +12,7 @@ use Rattle.snd_layout.specs.declared.codec.Codec.TheVariants.{U8, S8, S16, S24, 
 use Rattle.snd_layout.specs.declared.kind.Kind.TheVariants.{Wave}
 use Rattle.snd_layout.specs.Blocks.{block_align, block_frames, is_adpcm, is_ima_block, is_ms_block}
 use Rattle.snd_layout.specs.Fit.{fit_refusal}
-use Rattle.snd_layout.specs.Params.{AreParams, Parameters, block_refusal, data_bytes, size_refusal}
+use Rattle.snd_layout.specs.Params.{AreParams, Parameters, block_refusal, data_bytes}
 use Rattle.snd_layout.specs.Opened.{EndsIn}
 use Rattle.snd_layout.specs.Shape.{IsPlaced, KeepsRule, Shape, is_inner_size, is_side_size}
 use Rattle.snd_layout.specs.declared.field.Field.{Field}

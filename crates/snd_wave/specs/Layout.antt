@@ -8,13 +8,13 @@ use Rattle.snd_fields.specs.declared.field.Order.TheVariants.{Little}
 use Rattle.snd_fields.specs.Field.{number}
 use Rattle.snd_chunks.specs.declared.chunk.Chunk.{Chunk}
 use Rattle.snd_chunks.specs.declared.front.Ending.{Ending}
-use Rattle.snd_chunks.specs.declared.front.Ending.TheVariants.{AtSound, Cut, TooMany}
+use Rattle.snd_chunks.specs.declared.front.Ending.TheVariants.{AtSound, TooMany}
 use Rattle.snd_chunks.specs.declared.front.Front.{Front}
 use Rattle.snd_chunks.specs.Chunks.{chunk_at, front, tail, padded_end}
 use Rattle.snd_layout.specs.Blocks.{block_align, block_frames, is_adpcm}
 use Rattle.snd_layout.specs.Format.{format_of}
 use Rattle.snd_layout.specs.Params.{Parameters}
-use Rattle.snd_layout.specs.Refusals.{first_refusal, refuse_if, unless}
+use Rattle.snd_layout.specs.Refusals.{first_refusal, refuse_if}
 use Rattle.snd_layout.specs.Shape.{Shape}
 use Rattle.snd_layout.specs.declared.field.Field.{Field}
 use Rattle.snd_layout.specs.declared.kind.Kind.TheVariants.{Wave}

@@ -51,7 +51,10 @@ pub(crate) fn read_number<D: Disk>(disk: &mut D, at: u64) -> Result<u32, Step>
 }
 
 /// The parameters that a format states, or why it is refused.
-pub(crate) fn read_format<D: Disk>(disk: &mut D, format: Chunk) -> Result<Result<Params, OpenRefusal>, Step>
+pub(crate) fn read_format<D: Disk>(
+    disk: &mut D,
+    format: Chunk,
+) -> Result<Result<Params, OpenRefusal>, Step>
     requires within { format.at + format.len ≤ (D.state disk.old).size }
     requires long { 16 ≤ format.len }
     ensures told { IfOk result (λ params. (b : List ℕ) → (D.state disk.old).contents ≡ Some b → params ≡ format_of (body_of b format)) }

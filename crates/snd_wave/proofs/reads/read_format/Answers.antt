@@ -1,4 +1,4 @@
-use Rattle.std.proofs.Common.{◌≡◌, ◌∙◌, ℕ, List, Some, drop, take, arith}
+use Rattle.std.proofs.Common.{◌∙◌, drop, take, arith}
 use Rattle.snd_wave.proofs.Bodies.{all_fit, part_tells}
 use Rattle.snd_wave.proofs.reads.read_format.Goals as goal
 

@@ -1,4 +1,4 @@
-use Rattle.std.proofs.Common.{◌≡◌, ◌∙◌, ◌+◌, ◌<◌, ℕ, List, Some, get_or, add-zero, arith, refl}
+use Rattle.std.proofs.Common.{◌∙◌, add-zero, refl}
 use Rattle.snd_chunks.proofs.Heads.{agree_from, same_number}
 use Rattle.snd_fields.specs.declared.field.Order.TheVariants.{Little}
 use Rattle.snd_wave.proofs.reads.read_number.Goals as goal
