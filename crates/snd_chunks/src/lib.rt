@@ -1,6 +1,15 @@
-//! Chunks that lie one behind the other in a file: walks over their heads.
 #![tactic(auto)]
 
 mod chunk;
+mod error;
+mod front;
+mod head;
+mod list;
+mod walk;
 
 pub use chunk::Chunk;
+pub use error::WalkError;
+pub use front::{Ending, Front};
+pub use head::head_at;
+pub use list::ChunkList;
+pub use walk::{walk_front, walk_tail};

@@ -1,8 +1,8 @@
 -- How a file is opened, and why it is not.
-use Rattle.std.specs.Prelude.{◌≡◌, ℕ, ◌+◌, ◌≤◌, ⊤, Result, Ok, Err}
+use Rattle.std.specs.Prelude.{◌≡◌, ℕ, ◌+◌, ◌≤◌, Result, Ok, Err}
 use Rattle.snd_disk.specs.State.{Rises}
 use Rattle.snd_layout.specs.declared.error.OpenError.{OpenError}
-use Rattle.snd_layout.specs.declared.error.OpenError.TheVariants.{Refused, AdpcmUpdate, UnknownLength, DiskFault, Memory}
+use Rattle.snd_layout.specs.declared.error.OpenError.TheVariants.{Refused, DiskFault, Memory}
 use Rattle.snd_layout.specs.declared.piece.Piece.{Piece}
 
 -- a piece ends within so many bytes

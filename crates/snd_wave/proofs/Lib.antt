@@ -1,1 +1,4 @@
+mod Bodies
 mod Heads
+pub mod Layouts
+pub mod Shapes

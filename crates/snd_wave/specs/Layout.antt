@@ -7,11 +7,14 @@ use Rattle.std.specs.Str.{bytes_eq}
 use Rattle.snd_fields.specs.declared.field.Order.TheVariants.{Little}
 use Rattle.snd_fields.specs.Field.{number}
 use Rattle.snd_chunks.specs.declared.chunk.Chunk.{Chunk}
-use Rattle.snd_chunks.specs.Chunks.{Ending, Front, chunk_at, front, tail, padded_end}
+use Rattle.snd_chunks.specs.declared.front.Ending.{Ending}
+use Rattle.snd_chunks.specs.declared.front.Ending.TheVariants.{AtSound, TooMany}
+use Rattle.snd_chunks.specs.declared.front.Front.{Front}
+use Rattle.snd_chunks.specs.Chunks.{chunk_at, front, tail, padded_end}
 use Rattle.snd_layout.specs.Blocks.{block_align, block_frames, is_adpcm}
 use Rattle.snd_layout.specs.Format.{format_of}
 use Rattle.snd_layout.specs.Params.{Parameters}
-use Rattle.snd_layout.specs.Refusals.{first_refusal, refuse_if, unless}
+use Rattle.snd_layout.specs.Refusals.{first_refusal, refuse_if}
 use Rattle.snd_layout.specs.Shape.{Shape}
 use Rattle.snd_layout.specs.declared.field.Field.{Field}
 use Rattle.snd_layout.specs.declared.kind.Kind.TheVariants.{Wave}
@@ -38,11 +41,11 @@ fact_chunk chunks = find is_fact chunks
 
 -- why the walk is refused
 abbrev pub is_too_many : Ending → Bool
-is_too_many Ending.too_many = true
+is_too_many TooMany = true
 is_too_many ending = false
 
 abbrev pub is_at_sound : Ending → Bool
-is_at_sound (Ending.at_sound chunk) = true
+is_at_sound (AtSound chunk) = true
 is_at_sound ending = false
 
 -- a format of 16 bytes or more
@@ -133,7 +136,7 @@ wave_shape b f p sound = record {
 -- the layout of a file, or the first reason that it has none
 abbrev pub with_format : List ℕ → Front → Result Parameters OpenRefusal → Ending → Result Shape OpenRefusal
 with_format b f (Err refusal) ending = Err refusal
-with_format b f (Ok p) (Ending.at_sound sound) = Ok (wave_shape b f p sound)
+with_format b f (Ok p) (AtSound sound) = Ok (wave_shape b f p sound)
 with_format b f (Ok p) ending = Err NoData
 
 abbrev pub with_chunk : List ℕ → Front → Option Chunk → Result Shape OpenRefusal

@@ -1,6 +1,6 @@
 -- Plain WAVE files, after "Multimedia Programming Interface and Data Specifications 1.0" (IBM and Microsoft, 1991),
 -- chapter 3, WAVE: a `RIFF` form `WAVE` that is a `fmt ` chunk of 16 bytes and a `data` chunk, and nothing else.
-use Rattle.std.specs.Prelude.{◌≡◌, ℕ, ◌+◌, ◌*◌, ◌/◌, ◌%◌, ◌==◌, Bool, ◌&&◌, Option, Some, None, List, [], ◌∷◌, length, get_or, codes, nat_le, nat_lt, if◌then◌else◌}
+use Rattle.std.specs.Prelude.{ℕ, ◌+◌, ◌*◌, ◌/◌, ◌%◌, ◌==◌, Bool, ◌&&◌, Option, Some, None, List, [], ◌∷◌, length, get_or, codes, nat_le, if◌then◌else◌}
 use Rattle.std.specs.Str.{bytes_eq}
 use Rattle.snd_fields.specs.Field.{number}
 use Rattle.snd_fields.specs.declared.field.Order.TheVariants.{Little}

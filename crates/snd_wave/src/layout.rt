@@ -1,16 +1,175 @@
 //! What a WAVE file says of itself.
 
-ghost use Rattle.std.specs.Prelude.{◌≡◌, ◌⊎◌, ◌≤◌, List, ℕ, Some, All, IfOk, IfErr, Ok, Err};
+ghost use Rattle.std.specs.Prelude.{◌≡◌, ◌⊎◌, ◌+◌, ◌-◌, ◌^◌, ◌≤◌, ◌++◌, true, false, List, ℕ, None, Some, All, IfSome, IfOk, IfErr, OnOk, Ok, Err, length};
+ghost use Rattle.snd_chunks.specs.Chunks.{chunk_at, tail};
+ghost use Rattle.snd_chunks.specs.Walks.{EndsBy, IsFront, IsSound, IsWalkCause};
 ghost use Rattle.snd_disk.specs.State.{Rises, AtMost, OnlyReads};
-ghost use Rattle.snd_layout.specs.Shape.{end};
+ghost use Rattle.snd_fields.specs.declared.field.Order.TheVariants.{Little};
+ghost use Rattle.snd_layout.specs.Fit.{fit_refusal};
+ghost use Rattle.snd_layout.specs.Format.{format_of};
+ghost use Rattle.snd_layout.specs.Params.{data_bytes};
+ghost use Rattle.snd_layout.specs.Shape.{IsPlaced, end};
+ghost use Rattle.snd_layout.specs.declared.kind.Kind.TheVariants.{Wave};
 ghost use Rattle.snd_layout.specs.declared.refusal.OpenRefusal.{OpenRefusal as refusal};
 ghost use Rattle.snd_layout.specs.declared.error.OpenError.TheVariants.{Refused};
-ghost use Rattle.snd_wave.specs.Layout.{wave_layout};
+ghost use Rattle.snd_wave.specs.Layout.{body_of, pieces_of, wave_layout};
+ghost use Rattle.snd_wave.specs.Parts.{ArePlaced, IsFact, IsHeld, shape_of, with_params};
 ghost use Rattle.snd_layout.specs.Opened.{EndsIn, IsCause, IsCalm};
 
-use snd_disk::Disk;
-use snd_layout::{Layout, OpenError};
+use crate::ends::{Ends, ends_of, frame_count};
+use crate::fields::{inner_field, side_field};
+use crate::parts::{Parts, parts_of};
+use crate::pieces::add_pieces;
+use crate::reads::{read_count, read_format, read_number};
+use snd_chunks::{Chunk, Front, WalkError, walk_front, walk_tail};
+use snd_disk::{Disk, Step};
+use snd_fields::{Id4, Order};
+use snd_layout::{Field, Kind, Layout, OpenError, OpenRefusal, Params, PieceList};
 use std::alloc::Global;
+
+/// The place of the first chunk, behind `RIFF`, its size and `WAVE`.
+const FIRST_CHUNK: u64 = 12;
+
+/// How many chunks a walk sees, but for the data.
+const MOST_CHUNKS: usize = 256;
+
+/// The identifier of the chunk that holds the data.
+const DATA: Id4 = Id4(*b"data");
+
+/// The size of the whole.
+const RIFF_SIZE: Field = Field { at: 4, size: 4 };
+
+// The layout that the parts, the count of the `fact`, the ends and the pieces give.
+fn layout_of(
+    params: Params,
+    parts: Parts,
+    count: Option<u32>,
+    ends: Ends,
+    pieces: PieceList,
+) -> Layout
+    requires fits { fit_refusal Wave params ≡ None }
+    requires fact { IfSome parts.fact (IsFact parts.sound) }
+    requires sound { IsSound (2 ^ 63) 12 257 parts.sound }
+    requires held { ends.held ≤ parts.sound.len }
+    requires pieces { All IsPlaced pieces }
+    ensures value { result ≡ shape_of params parts count ends pieces }
+    ensures short { data_bytes result.params result.frames ≤ ends.held }
+{
+    params.are_good();
+    let frames = frame_count(&params, ends.held, count);
+    let inner = inner_field(&params, parts.fact, parts.sound);
+    let side = side_field(&params, parts.fact);
+    Layout {
+        kind: Kind::Wave,
+        params,
+        start: parts.sound.at,
+        frames,
+        declared: parts.sound.len,
+        inner,
+        outer: Some(RIFF_SIZE),
+        side,
+        trailing: ends.data_end < ends.outer_end,
+        unknown_length: false,
+        reserve: None,
+        pieces,
+    }
+}
+
+// The pieces before the data and behind them.
+fn find_pieces<D: Disk>(
+    alloc: Global,
+    disk: &mut D,
+    size: u64,
+    front: &Front,
+    ends: Ends,
+) -> Result<PieceList, WalkError>
+    requires size { size ≡ (D.state disk.old).size }
+    requires whole { All (EndsBy size) front.now.chunks }
+    requires outer { ends.outer_end ≤ size }
+    ensures told { IfOk result (λ pieces. (b : List ℕ) → (D.state disk.old).contents ≡ Some b →
+        pieces ≡ pieces_of false front.now.chunks ++ pieces_of true (tail (chunk_at Little b) ends.outer_end (256 - length front.now.chunks) ends.data_end)) }
+    ensures held { IfOk result (All (EndsIn size)) }
+    ensures calm { OnOk result ((D.state disk.new).faults ≡ (D.state disk.old).faults) }
+    ensures cause { IfErr result (IsWalkCause (D.state disk.old).faults (D.state disk.new).faults) }
+    ensures later { (D.state disk.old).faults ≤ (D.state disk.new).faults }
+    ensures reads { OnlyReads (D.state disk.old) (D.state disk.new) (D.may_leave disk.old) (D.may_leave disk.new) (D.left_between disk.old) (D.left_between disk.new) }
+    ensures asked { AtMost (D.state disk.old).asked 2048 (D.state disk.new).asked }
+{
+    let most = MOST_CHUNKS.saturating_sub(front.chunks.len());
+    let tail = walk_tail(
+        alloc,
+        disk,
+        Order::Little,
+        size,
+        ends.outer_end,
+        ends.data_end,
+        most,
+    )?;
+    let mut pieces = PieceList::new(alloc);
+    add_pieces(&mut pieces, front.chunks.as_slice(), false)?;
+    add_pieces(&mut pieces, tail.as_slice(), true)?;
+    Ok(pieces)
+}
+
+// The layout of a file with these parts, or why its format is refused.
+fn layout_at<D: Disk>(
+    alloc: Global,
+    disk: &mut D,
+    size: u64,
+    front: &Front,
+    parts: Parts,
+) -> Result<Result<Layout, OpenRefusal>, WalkError>
+    requires size { size ≡ (D.state disk.old).size }
+    requires whole { All (EndsBy size) front.now.chunks }
+    requires placed { ArePlaced size parts }
+    ensures told { IfOk result (λ r. (b : List ℕ) → (D.state disk.old).contents ≡ Some b → r ≡ with_params b front.now parts (format_of (body_of b parts.format))) }
+    ensures held { IfOk result (λ r. IfOk r (IsHeld size)) }
+    ensures calm { OnOk result ((D.state disk.new).faults ≡ (D.state disk.old).faults) }
+    ensures cause { IfErr result (IsWalkCause (D.state disk.old).faults (D.state disk.new).faults) }
+    ensures later { (D.state disk.old).faults ≤ (D.state disk.new).faults }
+    ensures reads { OnlyReads (D.state disk.old) (D.state disk.new) (D.may_leave disk.old) (D.may_leave disk.new) (D.left_between disk.old) (D.left_between disk.new) }
+    ensures asked { AtMost (D.state disk.old).asked 2106 (D.state disk.new).asked }
+{
+    let params = match read_format(disk, parts.format)? {
+        Ok(params) => params,
+        Err(refusal) => return Ok(Err(refusal)),
+    };
+    let count = read_count(disk, parts.fact)?;
+    let riff = read_number(disk, RIFF_SIZE.at)?;
+    let ends = ends_of(size, riff, parts.sound);
+    let pieces = find_pieces(alloc, disk, size, front, ends)?;
+    Ok(Ok(layout_of(params, parts, count, ends, pieces)))
+}
+
+// The layout of a file of this size, or why it is refused.
+fn find_layout<D: Disk>(
+    alloc: Global,
+    disk: &mut D,
+    size: u64,
+) -> Result<Result<Layout, OpenRefusal>, WalkError>
+    requires { size ≡ (D.state disk.old).size }
+    ensures told { IfOk result (λ r. (b : List ℕ) → (D.state disk.old).contents ≡ Some b → r ≡ wave_layout b) }
+    ensures held { IfOk result (λ r. IfOk r (IsHeld size)) }
+    ensures calm { OnOk result ((D.state disk.new).faults ≡ (D.state disk.old).faults) }
+    ensures cause { IfErr result (IsWalkCause (D.state disk.old).faults (D.state disk.new).faults) }
+    ensures later { (D.state disk.old).faults ≤ (D.state disk.new).faults }
+    ensures reads { OnlyReads (D.state disk.old) (D.state disk.new) (D.may_leave disk.old) (D.may_leave disk.new) (D.left_between disk.old) (D.left_between disk.new) }
+    ensures asked { AtMost (D.state disk.old).asked 4162 (D.state disk.new).asked }
+{
+    let front = walk_front(
+        alloc,
+        disk,
+        Order::Little,
+        DATA,
+        size,
+        FIRST_CHUNK,
+        MOST_CHUNKS + 1,
+    )?;
+    match parts_of(&front) {
+        Ok(parts) => layout_at(alloc, disk, size, &front, parts),
+        Err(refusal) => Ok(Err(refusal)),
+    }
+}
 
 /// Reads what a WAVE file says of itself, after the RIFF specification of IBM and Microsoft (1991). It
 /// reads heads and the format alone, at most 8192 bytes, and never writes.
@@ -27,5 +186,13 @@ pub fn open_layout<D: Disk>(alloc: Global, disk: &mut D) -> Result<Layout, OpenE
     ensures reads { OnlyReads (D.state disk.old) (D.state disk.new) (D.may_leave disk.old) (D.may_leave disk.new) (D.left_between disk.old) (D.left_between disk.new) }
     ensures asked { AtMost (D.state disk.old).asked 8192 (D.state disk.new).asked }
 {
-    Err(OpenError::Memory)
+    let Ok(size) = disk.len() else {
+        return Err(OpenError::DiskFault(Step::Len));
+    };
+    match find_layout(alloc, disk, size) {
+        Ok(Ok(layout)) => Ok(layout),
+        Ok(Err(refusal)) => Err(OpenError::Refused(refusal)),
+        Err(WalkError::Fault(step)) => Err(OpenError::DiskFault(step)),
+        Err(WalkError::Memory) => Err(OpenError::Memory),
+    }
 }

@@ -1,7 +1,7 @@
-use Rattle.std.proofs.Common.{◌≡◌, ◌≤◌, ◌+◌, ◌-◌, ℕ, List, Some, length, take, drop, min, rules, refl, sym, ap, ◌∙◌, arith}
+use Rattle.std.proofs.Common.{◌≡◌, Some, length, rules, ◌∙◌, arith}
 use Rattle.snd_disk.specs.State.{OnlyReads}
 use Rattle.snd_disk.specs.Chains.{only_reads_then}
-use Rattle.snd_wave.specs.Plain.{head_of, plain_of}
+use Rattle.snd_wave.specs.Plain.{head_of}
 use Rattle.snd_wave.proofs.Heads.{same_head, agree_below, plain_is}
 use Rattle.snd_wave.proofs.plain.open_plain.Goals as goal
 

@@ -1,0 +1,96 @@
+-- The layout of a file, from its parts.
+use Rattle.std.proofs.Common.{◌≡◌, ℕ, ◌+◌, ◌≤◌, List, [], ◌∷◌, All, Bool, true, Option, None, Some, Ok, Err, length, refl, sym, ap, ◌∙◌, inl, inr, arith}
+use Rattle.std.proofs.lemmas.Bool.{and_parts, cases_Bool, leb-true}
+use Rattle.std.proofs.lemmas.List.Elements.{All-head, All-tail}
+use Rattle.std.specs.List.{find}
+use Rattle.std.specs.Prelude.{IfOk, IfSome, Result, codes, nat_le, option_map}
+use Rattle.snd_chunks.specs.declared.chunk.Chunk.{Chunk}
+use Rattle.snd_chunks.specs.declared.front.Ending.TheVariants.{AtSound}
+use Rattle.snd_chunks.specs.declared.front.Front.{Front}
+use Rattle.snd_chunks.specs.Chunks.{chunk_at, front}
+use Rattle.snd_chunks.specs.Walks.{EndsBy, IsFront}
+use Rattle.snd_fields.specs.Field.{number}
+use Rattle.snd_fields.specs.declared.field.Order.TheVariants.{Little}
+use Rattle.snd_layout.specs.Format.{format_of}
+use Rattle.snd_layout.specs.Opened.{EndsIn}
+use Rattle.snd_layout.specs.Params.{Parameters, data_bytes}
+use Rattle.snd_layout.specs.Shape.{Shape}
+use Rattle.snd_layout.specs.declared.piece.Piece.{Piece}
+use Rattle.snd_layout.specs.declared.refusal.OpenRefusal.{OpenRefusal}
+use Rattle.snd_wave.specs.declared.ends.Ends.{Ends}
+use Rattle.snd_wave.specs.declared.parts.Parts.{Parts}
+use Rattle.snd_wave.specs.Layout.{body_of, fact_chunk, fact_count, front_refusal, held, is_fact, wave_front, wave_layout, with_format}
+use Rattle.snd_wave.specs.Parts.{AreParts, ArePlaced, IsFact, IsHeld, all_pieces, ends_of, shape_of, with_params}
+
+pub built : (b : List ℕ) (front : Front) (parts : Parts) (p : Parameters) (r : Result Parameters OpenRefusal) (count : Option ℕ) (ends : Ends) (pieces : List Piece) (layout : Shape)
+    → Ok p ≡ r → count ≡ option_map (fact_count b) parts.fact → ends ≡ ends_of (length b) (number Little b 4 4) parts.sound → pieces ≡ all_pieces b front ends
+    → layout ≡ shape_of p parts count ends pieces → Ok layout ≡ with_params b front parts r
+built b front parts p r count ends pieces layout params counted ended found is =
+    rw (← params) (ap (λ (s : Shape). Ok s) (is ∙ rw (found, ended, counted) refl))
+
+pub held_few : (size : ℕ) (sound : Chunk) → held size sound ≤ sound.len
+held_few size sound = omega arith
+
+pub is_held : (size : ℕ) (parts : Parts) (p : Parameters) (count : Option ℕ) (riff : ℕ) (pieces : List Piece) (layout : Shape) (ends : Ends) → layout ≡ shape_of p parts count ends pieces → ends ≡ ends_of size riff parts.sound
+    → data_bytes layout.params layout.frames ≤ ends.held → parts.sound.at ≤ size → All (EndsIn size) pieces → IsHeld size layout
+is_held size parts p count riff pieces layout ends is ended short within inside =
+    let start : layout.start ≡ parts.sound.at = ap (λ (s : Shape). s.start) is in
+    let held_is : ends.held ≡ held size parts.sound = ap (λ (e : Ends). e.held) ended in
+    let pieces_are : layout.pieces ≡ pieces = ap (λ (s : Shape). s.pieces) is in
+    record {
+      sound = omega (arith, start, held_is, short, within);
+      pieces = rw pieces_are inside;
+    }
+
+-- what is found has what was looked for, and what all have
+find_has : (test : Chunk → Bool) (P : Chunk → Type 0) (chunks : List Chunk) (x : Chunk) → All P chunks → find test chunks ≡ Some x → P x × (test x ≡ true)
+find_has test P [] x all found = absurd (cc)
+find_has test P (c ∷ chunks) x all found = elim (cases_Bool (test c)) [
+  | inl is ↦
+      let same : c ≡ x = let h = rw is at found in cc in
+      rw (← same) (All-head P c chunks all, is)
+  | inr other ↦ find_has test P chunks x (All-tail P c chunks all) (rw other at found)
+]
+
+fact_placed : (chunks : List Chunk) (sound : Chunk) (fact : Option Chunk) → fact ≡ fact_chunk chunks → All (λ chunk. chunk.at + chunk.len + 8 ≤ sound.at) chunks → IfSome fact (IsFact sound)
+fact_placed chunks sound None is before = tt
+fact_placed chunks sound (Some fact) is before =
+    let found = find_has is_fact (λ chunk. chunk.at + chunk.len + 8 ≤ sound.at) chunks fact before (sym is) in
+    record { count = leb-true 4 fact.len (and_parts _ (nat_le 4 fact.len) found.1).1; before = found.0 }
+
+pub parts_placed : (size : ℕ) (front : Front) (parts : Parts) → IsFront size 12 257 front → AreParts front parts → ArePlaced size parts
+parts_placed size front parts is are = record {
+  format = (find_has _ (EndsBy size) front.chunks parts.format is.whole are.format).0;
+  long = are.long;
+  fact = fact_placed front.chunks parts.sound parts.fact are.fact (is.before parts.sound are.sound);
+  sound = is.sound parts.sound are.sound;
+}
+
+pub same_ends : (size size' riff riff' : ℕ) (sound : Chunk) → size ≡ size' → riff ≡ riff' → ends_of size riff sound ≡ ends_of size' riff' sound
+same_ends size size' riff riff' sound s r = ap (λ n. ends_of n riff sound) s ∙ ap (λ n. ends_of size' n sound) r
+
+pub refusal_is : (b : List ℕ) (front : Front) (refusal : OpenRefusal) → front ≡ wave_front b → front_refusal front ≡ Some refusal → Err refusal ≡ wave_layout b
+unfolding wave_layout
+refusal_is b front refusal walked is = rw (← walked, is) refl
+
+with_sound : (b : List ℕ) (front : Front) (parts : Parts) (r : Result Parameters OpenRefusal) → parts.fact ≡ fact_chunk front.chunks → with_params b front parts r ≡ with_format b front r (AtSound parts.sound)
+with_sound b front parts (Err refusal) fact = refl
+with_sound b front parts (Ok p) fact = rw fact refl
+
+with_ending : (b : List ℕ) (front : Front) (r : Result Parameters OpenRefusal) (sound : Chunk) → front.ending ≡ AtSound sound → with_format b front r (AtSound sound) ≡ with_format b front r front.ending
+with_ending b front r sound is = rw is refl
+
+pub layout_is : (b : List ℕ) (front : Front) (parts : Parts) → front ≡ wave_front b → AreParts front parts → with_params b front parts (format_of (body_of b parts.format)) ≡ wave_layout b
+unfolding wave_layout
+layout_is b front parts walked are =
+    with_sound b front parts (format_of (body_of b parts.format)) are.fact ∙ with_ending b front (format_of (body_of b parts.format)) parts.sound are.sound
+    ∙ rw (← walked, are.no_refusal, are.format) refl
+
+pub walked : (b : List ℕ) (seen : Front) (id : List ℕ) → id ≡ codes "data" → seen ≡ front (chunk_at Little b) id (length b) 257 12 → seen ≡ wave_front b
+unfolding wave_front
+walked b seen id is told = told ∙ ap (λ (i : List ℕ). front (chunk_at Little b) i (length b) 257 12) is
+
+pub told_on : {R E : Type 0} (r : Result R E) (old now : Option (List ℕ)) (f h : List ℕ → R) → now ≡ old → ((b : List ℕ) → old ≡ Some b → f b ≡ h b)
+    → IfOk r (λ x. (b : List ℕ) → now ≡ Some b → x ≡ f b) → IfOk r (λ x. (b : List ℕ) → old ≡ Some b → x ≡ h b)
+told_on (Ok x) old now f h same means told = λ b is. told b (same ∙ is) ∙ means b is
+told_on (Err e) old now f h same means told = tt

@@ -1,0 +1,73 @@
+-- The parts of a WAVE file from which its layout is made, and what holds of them over every disk.
+use Rattle.std.specs.Prelude.{◌≡◌, ℕ, ◌+◌, ◌-◌, ◌≤◌, true, false, min, List, ◌++◌, All, Option, None, Some, IfSome, Result, Ok, Err, option_map, length, nat_lt}
+use Rattle.snd_chunks.specs.declared.chunk.Chunk.{Chunk}
+use Rattle.snd_chunks.specs.declared.front.Ending.TheVariants.{AtSound}
+use Rattle.snd_chunks.specs.declared.front.Front.{Front}
+use Rattle.snd_chunks.specs.Chunks.{chunk_at, padded_end, tail}
+use Rattle.snd_chunks.specs.Walks.{EndsBy, IsSound}
+use Rattle.snd_fields.specs.Field.{number}
+use Rattle.snd_fields.specs.declared.field.Order.TheVariants.{Little}
+use Rattle.snd_layout.specs.Opened.{EndsIn}
+use Rattle.snd_layout.specs.Params.{Parameters}
+use Rattle.snd_layout.specs.Shape.{Shape, end}
+use Rattle.snd_layout.specs.declared.kind.Kind.TheVariants.{Wave}
+use Rattle.snd_layout.specs.declared.piece.Piece.{Piece}
+use Rattle.snd_layout.specs.declared.refusal.OpenRefusal.{OpenRefusal}
+use Rattle.snd_wave.specs.declared.ends.Ends.{Ends}
+use Rattle.snd_wave.specs.declared.parts.Parts.{Parts}
+use Rattle.snd_wave.specs.Layout.{fact_chunk, fact_count, pieces_of, format_chunk, frame_count, front_refusal, held, inner_field, side_field}
+
+-- the chunks that a walk up to the data found, where it is not refused
+pub record AreParts (front : Front) (parts : Parts) : Type 0 where
+  pub no_refusal : front_refusal front ≡ None
+  pub format : format_chunk front.chunks ≡ Some parts.format
+  pub long : 16 ≤ parts.format.len
+  pub fact : parts.fact ≡ fact_chunk front.chunks
+  pub sound : front.ending ≡ AtSound parts.sound
+
+-- a `fact` that has its count, before the head of the data
+pub record IsFact (sound fact : Chunk) : Type 0 where
+  pub count : 4 ≤ fact.len
+  pub before : fact.at + fact.len + 8 ≤ sound.at
+
+-- where the parts lie in a file of so many bytes
+pub record ArePlaced (size : ℕ) (parts : Parts) : Type 0 where
+  pub format : EndsBy size parts.format
+  pub long : 16 ≤ parts.format.len
+  pub fact : IfSome parts.fact (IsFact parts.sound)
+  pub sound : IsSound size 12 257 parts.sound
+
+-- the ends that the data and the whole have in a file of so many bytes with a RIFF size
+abbrev pub ends_of : ℕ → ℕ → Chunk → Ends
+ends_of size riff sound = record { held = held size sound; data_end = padded_end sound.at (held size sound); outer_end = min size (riff + 8) }
+
+-- the pieces before the data, and those behind them
+abbrev pub all_pieces : List ℕ → Front → Ends → List Piece
+all_pieces b front ends = pieces_of false front.chunks ++ pieces_of true (tail (chunk_at Little b) ends.outer_end (256 - length front.chunks) ends.data_end)
+
+-- the shape that the parts, the count of the `fact`, the ends and the pieces give
+abbrev pub shape_of : Parameters → Parts → Option ℕ → Ends → List Piece → Shape
+shape_of p parts count ends pieces = record {
+  kind = Wave;
+  params = p;
+  start = parts.sound.at;
+  frames = frame_count p ends.held count;
+  declared = parts.sound.len;
+  inner = inner_field p parts.fact parts.sound;
+  outer = Some (record { at = 4; size = 4 });
+  side = side_field p parts.fact;
+  trailing = nat_lt ends.data_end ends.outer_end;
+  unknown_length = false;
+  reserve = None;
+  pieces = pieces;
+}
+
+-- the layout with these parts, where the format is not refused
+abbrev pub with_params : List ℕ → Front → Parts → Result Parameters OpenRefusal → Result Shape OpenRefusal
+with_params b front parts (Err refusal) = Err refusal
+with_params b front parts (Ok p) = Ok (shape_of p parts (option_map (fact_count b) parts.fact) (ends_of (length b) (number Little b 4 4) parts.sound) (all_pieces b front (ends_of (length b) (number Little b 4 4) parts.sound)))
+
+-- the data and the pieces end within a file of so many bytes
+pub record IsHeld (size : ℕ) (layout : Shape) : Type 0 where
+  pub sound : end layout layout.frames ≤ size
+  pub pieces : All (EndsIn size) layout.pieces
