@@ -1,4 +1,6 @@
 pub mod Edit
+pub mod Handled
 pub mod Replies
 pub mod Script
 pub mod Served
+pub mod Stepped
