@@ -2,9 +2,11 @@
 #![tactic(auto)]
 
 mod handle;
+mod page;
 mod refusal;
 mod serving;
 mod session;
+mod text;
 
 pub use handle::{Handle, Reply, StepFault};
 pub use refusal::Refusal;
