@@ -1,6 +1,6 @@
 -- A text that is put piece by piece: what was put, what is gathered to be put next, and what is still to come make the whole.
 use Rattle.std.proofs.Common.{◌≡◌, ◌+◌, ◌≤◌, ℕ, List, [], ◌∷◌, ◌++◌, length, take, Option, Some, None, refl, sym, ◌∙◌, ap, arith, append_assoc}
-use Rattle.std.specs.Prelude.{option_map}
+use Rattle.std.specs.Prelude.{option_map, Result, Ok, Err, OnErr}
 use Rattle.std.proofs.Math.Seq.{take-append-add}
 use Rattle.std.proofs.lemmas.List.{append-nil, length-append, take-append-le}
 use Rattle.snd_disk.specs.Streams.{AppendsFront}
@@ -62,3 +62,8 @@ failed before after after' page rest all p part t told =
       front_fits p.done page rest all front.0 front.1 p.text,
       front.2 ∙ ap (λ x. Some x) (same_front t p.done page rest all front.0 front.1 p.text),
     )
+
+-- what holds in any case holds where a call failed
+pub on_err : {T E : Type 0} (r : Result T E) (P : Type 0) → P → OnErr r P
+on_err (Ok v) P p = tt
+on_err (Err e) P p = p
