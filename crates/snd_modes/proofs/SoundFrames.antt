@@ -1,9 +1,10 @@
 -- The frames of a linear sound, and those that a read of some of its bytes gives.
-use Rattle.std.proofs.Common.{◌≡◌, ◌∙◌, ap, sym, subst, refl, ℕ, zero, suc, ◌+◌, ◌-◌, ◌*◌, ◌/◌, ◌<◌, ◌≤◌, List, ◌∷◌, Some, length, take, drop, arith}
+use Rattle.std.proofs.Common.{◌≡◌, ◌∙◌, ap, sym, subst, refl, ℕ, zero, suc, ◌+◌, ◌-◌, ◌*◌, ◌/◌, ◌<◌, ◌≤◌, List, ◌∷◌, Option, Some, length, take, drop, arith}
 use Rattle.std.proofs.Math.Nat.{mul-div_cancel_left}
 use Rattle.std.proofs.lemmas.List.{drop-drop, drop-take, length-drop, length-take-le, take-take}
 use Rattle.snd_layout.specs.Blocks.{block_align, block_frames}
 use Rattle.snd_layout.specs.Params.{Parameters, data_bytes}
+use Rattle.snd_layout.specs.Shape.{Shape, end}
 use Rattle.snd_layout.specs.declared.codec.Codec.{Codec}
 use Rattle.snd_layout.specs.declared.codec.Codec.TheVariants.{U8, S8, S16, S24, S32, Ima, Ms}
 use Rattle.snd_pcm.specs.Groups.{first_groups, groups}
@@ -12,7 +13,7 @@ use Rattle.snd_pcm.specs.declared.linear.Linear as linear
 use Rattle.snd_pcm.specs.declared.linear.Linear.{Linear}
 use Rattle.snd_pcm.proofs.RoundTrips.{samples_of_parts}
 use Rattle.snd_pcm.proofs.Series.{byte_count_pos, length-first_groups, length-samples}
-use Rattle.snd_container.specs.Sound.{linear_of}
+use Rattle.snd_container.specs.Sound.{decoded, decoded_as, linear_of, sound_bytes}
 
 -- ---- the bytes of a frame of a linear codec
 
@@ -35,6 +36,21 @@ linear_bytes p form n is =
     ∙ ap (λ (m : ℕ). (n + 1 - 1) / 1 * m) (linear_align p.codec form p.channels is)
     ∙ ap (λ (m : ℕ). m * (byte_count form * p.channels)) (let e : (n + 1 - 1) / 1 ≡ n = omega arith in e)
     ∙ (let e : n * (byte_count form * p.channels) ≡ byte_count form * (p.channels * n) = omega arith in e)
+
+-- the bytes of the samples of so many frames
+pub frame_bytes : (codec : Codec) (form : Linear) (channels count places : ℕ) → linear_of codec ≡ Some form → places ≡ count * channels → byte_count form * places ≡ count * block_align channels codec
+frame_bytes codec form channels count places is room =
+    ap (λ (m : ℕ). byte_count form * m) room
+    ∙ (let e : byte_count form * (count * channels) ≡ count * (byte_count form * channels) = omega arith in e)
+    ∙ ap (λ (m : ℕ). count * m) (sym (linear_align codec form channels is))
+
+pub span_fits : (w channels place count frames : ℕ) → place + count ≤ frames → w * (channels * place) + w * (count * channels) ≤ w * (channels * frames)
+span_fits w channels place count frames within =
+    let left = frames - place - count in
+    let whole : frames ≡ place + count + left = omega arith in
+    let sum : w * (channels * frames) ≡ w * (channels * place) + w * (count * channels) + w * (channels * left) =
+    ap (λ (m : ℕ). w * (channels * m)) whole ∙ (let e : w * (channels * (place + count + left)) ≡ w * (channels * place) + w * (count * channels) + w * (channels * left) = omega arith in e) in
+    omega (arith, sum)
 
 -- ---- groups of parts of a list
 
@@ -118,3 +134,15 @@ module _ (form : Linear) (b : List ℕ) (start frames channels : ℕ) (fits : st
       ∙ groups_of_front channels count (drop at (samples form held))
       ∙ sym (groups_from channels frames place count (samples form held) within)
       ∙ ap (λ (m : ℕ). take count (drop place (first_groups channels m (samples form held)))) (sym (count_groups some))
+
+-- the frames that a layout counts, from a place on, as a read of their bytes gives them
+pub frames_told : (b : List ℕ) (s : Shape) (form : Linear) (place count : ℕ) → linear_of s.params.codec ≡ Some form → 1 ≤ s.params.channels → place + count ≤ s.frames
+    → end s s.frames ≤ length b
+    → first_groups s.params.channels count (samples form (take (byte_count form * (s.params.channels * count)) (drop (s.start + byte_count form * (s.params.channels * place)) b)))
+    ≡ take count (drop place (decoded s.params (sound_bytes b s)))
+frames_told b s form place count is some within fits =
+    let c = s.params.channels in
+    let size : data_bytes s.params s.frames ≡ byte_count form * (c * s.frames) = linear_bytes s.params form s.frames is in
+    frames_at form b s.start s.frames c (omega (arith, fits, size)) place count (omega (arith, some)) within
+    ∙ ap (λ (n : ℕ). take count (drop place (groups c (samples form (take n (drop s.start b)))))) (sym size)
+    ∙ ap (λ (o : Option Linear). take count (drop place (decoded_as o c (sound_bytes b s)))) (sym is)

@@ -5,8 +5,10 @@
 mod codec;
 mod error;
 mod file;
+mod frames;
 mod handle;
 mod open;
+mod reads;
 
 pub use codec::linear_form;
 pub use error::{DiskFault, ReadError, SeekError};
