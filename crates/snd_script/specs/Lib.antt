@@ -4,3 +4,4 @@ pub mod Replies
 pub mod Script
 pub mod Served
 pub mod Stepped
+pub mod Work
