@@ -19,6 +19,7 @@ use snd_modes::{File, Read, SeekError};
 
 /// Tells of the file.
 pub fn tell<'d, D: Disk, O: Sink>(file: &File<'d, D, Read>, out: &mut O) -> Result<Reply, StepFault>
+    ensures stands { (e : Editing) → Stands D.state file.now e → Leaves result e (tell_edit e) (Stands D.state file.now) }
     ensures said { (e : Editing) → Stands D.state file.now e → IsSaid result (tell_edit e).answer (O.told out.old) (O.told out.new) }
     ensures sent { IsSent result (O.faults out.old) (O.faults out.new) }
 {

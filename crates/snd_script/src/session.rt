@@ -8,7 +8,11 @@ ghost use Rattle.snd_script.specs.Edit.{edit_open};
 ghost use Rattle.snd_script.specs.Handled.{HandleStands, handle_disk, handle_held, handle_loan};
 ghost use Rattle.snd_script.specs.Stepped.{IsHeld, IsSaid, IsSilent, IsStepCause, file_after, is_step, most_asked};
 
+use crate::carry::{read, seek, tell};
 use crate::handle::{Handle, Reply, StepFault};
+use crate::say::refuse;
+use crate::text::PAGE_BYTES;
+use crate::work::{Work, work_of};
 use arrayvec::ArrayVec;
 use snd_command::Command;
 use snd_disk::{Disk, Sink, Step};
@@ -18,7 +22,7 @@ use std::alloc::{AllocError, Global};
 #[derive(Drop)]
 pub struct Session {
     samples: Vec<i32>,
-    page: ArrayVec<u8, 16384>,
+    page: ArrayVec<u8, PAGE_BYTES>,
 }
 
 impl Session {
@@ -54,7 +58,14 @@ impl Session {
         ensures reads { OnlyReads (D.state (handle_disk handle.old)) (D.state (handle_disk handle.new)) (D.may_leave (handle_disk handle.old)) (D.may_leave (handle_disk handle.new)) (D.left_between (handle_disk handle.old)) (D.left_between (handle_disk handle.new)) }
         ensures asked { AtMost (D.state (handle_disk handle.old)).asked (most_asked (said_of command.now)) (D.state (handle_disk handle.new)).asked }
     {
-        Err(StepFault::Memory)
+        match handle {
+            Handle::R(file) => match work_of(command) {
+                Work::Tell => tell(file, out),
+                Work::Seek(to) => seek(file, to, out),
+                Work::Read(count) => read(file, &mut self.samples, &mut self.page, count, out),
+                Work::Refuse(refusal) => refuse(out, refusal),
+            },
+        }
     }
 
     /// Closes a file and gives its disk back, with the number of its frames, or with the step at which
