@@ -1,5 +1,5 @@
 -- What is open after a command.
-use Rattle.std.proofs.Common.{◌≡◌, ℕ, Option, Some, Ok, Err}
+use Rattle.std.proofs.Common.{◌≡◌, ℕ, Some, Ok, Err}
 use Rattle.std.specs.Prelude.{Result}
 use Rattle.snd_modes.specs.Editing.{Editing}
 use Rattle.snd_script.specs.Edit.{Edited}

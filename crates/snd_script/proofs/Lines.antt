@@ -1,5 +1,5 @@
 -- The lines of frames, put one after the other.
-use Rattle.std.proofs.Common.{◌≡◌, ◌⊎◌, ◌+◌, ◌-◌, ◌*◌, ◌<◌, ◌≤◌, ℕ, ℤ, zero, suc, List, [], ◌∷◌, ◌++◌, length, take, drop, Option, refl, sym, ◌∙◌, ap, subst, arith, ⊎_elim}
+use Rattle.std.proofs.Common.{◌≡◌, ◌⊎◌, ◌+◌, ◌*◌, ◌≤◌, ℕ, ℤ, zero, suc, List, [], ◌∷◌, ◌++◌, length, take, drop, Option, refl, sym, ◌∙◌, ap, subst, arith, ⊎_elim}
 use Rattle.std.specs.Prelude.{option_map}
 use Rattle.std.specs.List.{flat_map}
 use Rattle.std.proofs.lemmas.List.{drop-take, length-drop, take-take}
@@ -38,10 +38,7 @@ line_gathered before after page page' all channels k k' rest rest' p more e afte
 pub none_left : (before after : Option (List ℕ)) (page all : List ℕ) (channels k : ℕ) (rest : List ℤ) → Printing before after page (lines channels k rest) all → k ≡ 0 → Printing before after page [] all
 none_left before after page all channels k rest p none = subst (λ (m : ℕ). Printing before after page (lines channels m rest) all) none p
 
--- of n frames one is in the samples, and the others stand behind it
-pub has_frame : (channels n k size : ℕ) → size ≡ n * channels → n ≡ suc k → channels ≤ size
-has_frame channels n k size e more = rw (e, more) (omega arith)
-
+-- one frame fewer stands behind a frame
 pub fewer_frames : (channels n k : ℕ) (rest rest' : List ℤ) → length rest ≡ n * channels → n ≡ suc k → rest' ≡ drop channels rest → length rest' ≡ k * channels
 fewer_frames channels n k rest rest' e more after_frame = rw (after_frame, length-drop, e, more) (omega arith)
 

@@ -1,12 +1,11 @@
 -- What is done for a command on an open file.
-use Rattle.std.specs.Prelude.{◌≡◌, ◌+◌, ◌*◌, ℕ, List, Option, Some, Result, Ok, Err}
-use Rattle.snd_command.specs.Said.{Said}
+use Rattle.std.specs.Prelude.{◌≡◌, ◌+◌, ◌*◌, ℕ, Some, Result, Ok, Err}
 use Rattle.snd_disk.specs.declared.disk.Step.{Step}
 use Rattle.snd_modes.specs.Editing.{Editing, frames_left, frames_read, moved_by}
 use Rattle.snd_modes.specs.Handle.{Held}
 use Rattle.snd_script.specs.Edit.{Edited, refused, said_by, seek_edit}
-use Rattle.snd_script.specs.Replies.{Answer, file_line, frames_text}
-use Rattle.snd_script.specs.Stepped.{IsSaid, Rose, file_left}
+use Rattle.snd_script.specs.Replies.{file_line, frames_text}
+use Rattle.snd_script.specs.Stepped.{Rose, file_left}
 use Rattle.snd_script.specs.declared.handle.Reply.{Reply}
 use Rattle.snd_script.specs.declared.handle.StepFault.{StepFault}
 use Rattle.snd_script.specs.declared.handle.StepFault.TheVariants.{Disk, Out, Memory}

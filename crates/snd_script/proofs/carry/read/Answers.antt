@@ -1,4 +1,4 @@
-use Rattle.std.proofs.Common.{◌≡◌, ◌∙◌, ◌-◌, ◌*◌, ℕ, ℤ, List, take, ap, subst, refl, arith, rules}
+use Rattle.std.proofs.Common.{◌≡◌, ◌∙◌, ◌*◌, ℕ, ℤ, List, take, ap, subst, refl, rules}
 use Rattle.snd_modes.specs.Editing.{frames_left, frames_read, moved_by}
 use Rattle.snd_modes.specs.Handle.{Stands}
 use Rattle.snd_pcm.specs.Groups.{first_groups}
