@@ -1,8 +1,12 @@
 -- The codes of a channel in an IMA block, byte by byte.
-use Rattle.std.proofs.Common.{◌≡◌, ℕ, ℤ, ◌%◌, ◌+◌, ◌-◌, ◌/◌, ◌<◌, ◌≤◌, List, [], ◌∷◌, length, get_or, drop, ap, ◌∙◌, arith}
+use Rattle.std.proofs.Common.{◌≡◌, ℕ, ℤ, ◌%◌, ◌+◌, ◌-◌, ◌/◌, ◌<◌, ◌≤◌, List, [], ◌∷◌, length, get_or, drop, refl, ap, ◌∙◌, arith}
+use Rattle.std.specs.List.{All}
+use Rattle.std.proofs.lemmas.List.Elements.{All-nil, All-cons}
+use Rattle.snd_adpcm.proofs.Numbers.{clamp_least, clamp_most}
 use Rattle.std.proofs.lemmas.List.{drop_more, drop_all}
 use Rattle.std.proofs.lemmas.List.FromFn.{length-map-range_with_len, get_or-map-range_with_len}
-use Rattle.snd_adpcm.specs.Frames.{low_half_first}
+use Rattle.snd_adpcm.specs.Frames.{Is16Bit, low_half_first}
+use Rattle.snd_adpcm.specs.Step.{step_size, moved}
 use Rattle.snd_adpcm.specs.Ima.{ima_code_bytes, ima_place, ima_samples, ima_predictor, ima_index}
 
 pub length-ima_code_bytes : (channels channel : ℕ) (block : List ℕ) → length (ima_code_bytes channels channel block) ≡ length block / channels - 4
@@ -30,3 +34,12 @@ pub ima_samples-byte : (p p1 p2 : ℤ) (i i1 i2 b : ℕ) (bs : List ℕ) →
     p1 ≡ ima_predictor p i (b % 16) → i1 ≡ ima_index i (b % 16) → p2 ≡ ima_predictor p1 i1 (b / 16) → i2 ≡ ima_index i1 (b / 16) →
     ima_samples p i (low_half_first (b ∷ bs)) ≡ p1 ∷ p2 ∷ ima_samples p2 i2 (low_half_first bs)
 ima_samples-byte p p1 p2 i i1 i2 b bs e1 f1 e2 f2 = cc
+
+-- samples have 16 bits
+predictor_range : (p : ℤ) (i code : ℕ) → Is16Bit (ima_predictor p i code)
+unfolding ima_predictor
+predictor_range p i code = record { least = clamp_least _ (moved p (step_size i) code) refl; most = clamp_most _ (moved p (step_size i) code) refl }
+
+pub samples_range : (p : ℤ) (i : ℕ) (codes : List ℕ) → All Is16Bit (ima_samples p i codes)
+samples_range p i [] = All-nil Is16Bit
+samples_range p i (code ∷ codes) = All-cons Is16Bit (ima_predictor p i code) (ima_samples (ima_predictor p i code) (ima_index i code) codes) (predictor_range p i code) (samples_range (ima_predictor p i code) (ima_index i code) codes)

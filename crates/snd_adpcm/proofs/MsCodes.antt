@@ -1,8 +1,11 @@
 -- The codes of a channel in a Microsoft block, one by one.
-use Rattle.std.proofs.Common.{◌≡◌, ℕ, ℤ, ◌*◌, List, ◌∷◌, drop, refl}
+use Rattle.std.proofs.Common.{◌≡◌, ℕ, ℤ, ◌*◌, ◌+ℤ◌, ◌*ℤ◌, List, [], ◌∷◌, drop, refl}
+use Rattle.std.specs.List.{All}
+use Rattle.std.proofs.lemmas.List.Elements.{All-nil, All-cons}
+use Rattle.snd_adpcm.proofs.Numbers.{clamp_least, clamp_most}
 use Rattle.snd_adpcm.specs.declared.microsoft.MsState.{MsState}
-use Rattle.snd_adpcm.specs.Frames.{high_half_first, of_channel}
-use Rattle.snd_adpcm.specs.Microsoft.{ms_samples, ms_sample, ms_delta, ms_channel, ms_newer, ms_older, ms_start_delta, ms_number, newer_weight, older_weight}
+use Rattle.snd_adpcm.specs.Frames.{Is16Bit, high_half_first, of_channel}
+use Rattle.snd_adpcm.specs.Microsoft.{ms_prediction, signed_code, ms_samples, ms_sample, ms_delta, ms_channel, ms_newer, ms_older, ms_start_delta, ms_number, newer_weight, older_weight}
 
 -- what a state makes of the codes still to come
 abbrev pub rest_of : MsState → List ℕ → List ℤ
@@ -20,3 +23,16 @@ pub of_head : (channels channel : ℕ) (block codes : List ℕ) (s : MsState) �
     codes ≡ of_channel channels channel (high_half_first (drop (7 * channels) block)) →
     s.older ∷ s.newer ∷ rest_of s codes ≡ ms_channel channels channel block
 of_head channels channel block codes s newer older delta newer_by older_by codes_are = rw (newer, older, delta, newer_by, older_by, codes_are) refl
+
+-- samples have 16 bits
+sample_range : (newer_by older_by newer older delta : ℤ) (code : ℕ) → Is16Bit (ms_sample newer_by older_by newer older delta code)
+unfolding ms_sample
+sample_range newer_by older_by newer older delta code =
+    let z = ms_prediction newer_by older_by newer older +ℤ signed_code code *ℤ delta in
+    record { least = clamp_least _ z refl; most = clamp_most _ z refl }
+
+pub samples_range : (newer_by older_by newer older delta : ℤ) (codes : List ℕ) → All Is16Bit (ms_samples newer_by older_by newer older delta codes)
+samples_range newer_by older_by newer older delta [] = All-nil Is16Bit
+samples_range newer_by older_by newer older delta (code ∷ codes) =
+    let x = ms_sample newer_by older_by newer older delta code in
+    All-cons Is16Bit x (ms_samples newer_by older_by x newer (ms_delta delta code) codes) (sample_range newer_by older_by newer older delta code) (samples_range newer_by older_by x newer (ms_delta delta code) codes)

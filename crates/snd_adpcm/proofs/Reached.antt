@@ -1,7 +1,7 @@
 -- Where the code that is chosen for a target leads.
-use Rattle.std.proofs.Common.{◌≡◌, ℕ, suc, ℤ, pos, negsuc, ◌+◌, ◌/◌, ◌+ℤ◌, ◌-ℤ◌, ◌≤ℤ◌, ◌<ℤ◌, unsigned_abs, Bool, true, false, refl, sym, ap, ◌∙◌, arith}
+use Rattle.std.proofs.Common.{◌≡◌, ℕ, suc, ℤ, pos, negsuc, ◌+◌, ◌/◌, ◌≤◌, ◌+ℤ◌, ◌-ℤ◌, ◌≤ℤ◌, ◌<ℤ◌, unsigned_abs, Bool, true, false, refl, sym, ap, ◌∙◌, arith}
 use Rattle.std.specs.Prelude.{◌==◌, bit_and, nat_le, if◌then◌else◌}
-use Rattle.std.specs.Int.{is_negative}
+use Rattle.std.specs.Int.{int_min, is_negative}
 use Rattle.std.proofs.lemmas.Int.{ints}
 use Rattle.std.proofs.lemmas.Bool.Decides.{nat_tests}
 use Rattle.snd_adpcm.specs.Step.{step_size, part_if, distance, moved, code_for, distance_bits, distance_rest, rest_after}
@@ -98,10 +98,27 @@ reached_down x (negsuc d) s lt = down x s d
 back : (x p : ℤ) → x -ℤ (x -ℤ p) ≡ p
 back x p = omega (arith, ints)
 
-pub predictor_of_sample : (p x way r target : ℤ) (i s : ℕ) → r ≡ moved (target -ℤ way) s (code_for s way) → s ≡ step_size i → target ≡ x → way ≡ x -ℤ p →
-    ima_predictor p i (ima_code p i x) ≡ clamp (negsuc 32767) (pos 32767) r
+pub predictor_of_sample : (p x way r target : ℤ) (i s : ℕ) → r ≡ clamp (negsuc 32767) (pos 32767) (moved (target -ℤ way) s (code_for s way)) → s ≡ step_size i → target ≡ x → way ≡ x -ℤ p →
+    ima_predictor p i (ima_code p i x) ≡ r
 unfolding ima_predictor ima_code
 predictor_of_sample p x way r target i s r_is step_is target_is way_is =
-    sym (ap (λ z. clamp (negsuc 32767) (pos 32767) z)
-    (r_is ∙ ap (λ y. moved (y -ℤ way) s (code_for s way)) target_is ∙ ap (λ w. moved (x -ℤ w) s (code_for s w)) way_is
+    sym (r_is ∙ ap (λ z. clamp (negsuc 32767) (pos 32767) z)
+    (ap (λ y. moved (y -ℤ way) s (code_for s way)) target_is ∙ ap (λ w. moved (x -ℤ w) s (code_for s w)) way_is
     ∙ ap (λ q. moved q s (code_for s (x -ℤ p))) (back x p) ∙ ap (λ k. moved p k (code_for k (x -ℤ p))) step_is))
+
+-- where there is room past the target for no more
+up_to_room : (x y : ℤ) → x ≤ℤ pos 32767 → negsuc 32767 ≤ℤ (x +ℤ y) → x +ℤ int_min y (pos 32767 -ℤ x) ≡ clamp (negsuc 32767) (pos 32767) (x +ℤ y)
+up_to_room x y most from = grind (arith, ints)
+
+down_to_room : (x y : ℤ) → negsuc 32767 ≤ℤ x → (x -ℤ y) ≤ℤ pos 32767 → x -ℤ int_min y (x +ℤ pos 32768) ≡ clamp (negsuc 32767) (pos 32767) (x -ℤ y)
+down_to_room x y least from = grind (arith, ints)
+
+pub held_up : (x z p : ℤ) (e rest : ℕ) → x ≤ℤ pos 32767 → negsuc 32767 ≤ℤ (x -ℤ z) → pos 0 ≤ℤ z → rest ≤ unsigned_abs z → p ≡ int_min (pos e -ℤ pos rest) (pos 32767 -ℤ x) →
+    x +ℤ p ≡ clamp (negsuc 32767) (pos 32767) (x +ℤ (pos e -ℤ pos rest))
+held_up x (pos d) p e rest most from le few is = rw is (up_to_room x (pos e -ℤ pos rest) most (omega (arith, ints)))
+held_up x (negsuc d) p e rest most from le few is = absurd (omega (arith, ints))
+
+pub held_down : (x z p : ℤ) (e rest : ℕ) → negsuc 32767 ≤ℤ x → (x -ℤ z) ≤ℤ pos 32767 → z <ℤ pos 0 → rest ≤ unsigned_abs z → p ≡ int_min (pos e -ℤ pos rest) (x +ℤ pos 32768) →
+    x -ℤ p ≡ clamp (negsuc 32767) (pos 32767) (x -ℤ (pos e -ℤ pos rest))
+held_down x (pos d) p e rest least from lt few is = absurd (omega (arith, ints))
+held_down x (negsuc d) p e rest least from lt few is = rw is (down_to_room x (pos e -ℤ pos rest) least (omega (arith, ints)))

@@ -3,11 +3,11 @@
 ghost use Rattle.std.specs.Prelude.{◌≡◌, ◌+◌, ◌*◌, ◌-◌, ◌/◌, ◌%◌, ◌<◌, ◌≤◌, ◌≤ℤ◌, All, ◌⊎◌, ◌↔◌, pos, negsuc, length, [], ◌∷◌, ◌++◌, slice_index, IsTrue, OnOk, OnErr, IsErr};
 ghost use Rattle.arrayvec.specs.ArrayVec.{array_vec_len};
 ghost use Rattle.snd_adpcm.specs.Frames.{Is16Bit, alternating};
-ghost use Rattle.snd_adpcm.specs.Ima.{ima_predictor, ima_index, ima_code, ima_first, ima_start_index, is_ima_align, ima_samples_per_block, is_bad_ima_block, ima_channel, ima_block};
+ghost use Rattle.snd_adpcm.specs.Ima.{ima_predictor, ima_index, ima_first, ima_start_index, is_ima_align, ima_samples_per_block, is_bad_ima_block, ima_channel, ima_block};
 
 use crate::BadBlock;
-use crate::number::{high_code, low_code, number_of};
-use crate::step::{change_at, code_of, next_index_at, reached, step_at};
+use crate::number::{high_code, low_code, number_of, put_zeros};
+use crate::step::{change_at, index_after_two, next_index_at};
 use arrayvec::ArrayVec;
 
 /// Where one channel stands between two codes.
@@ -21,45 +21,44 @@ pub(crate) struct ImaState {
 }
 
 impl ImaState {
-    /// The state after a code. Its predictor is the code's sample.
+    /// The predictor after a code, which is the code's sample.
+    #[inline]
+    fn predictor_after(self, code: u8) -> i32
+        requires { code < 16 }
+        ensures value { result ≡ ima_predictor self.predictor self.index code }
+        ensures least { negsuc 32767 ≤ℤ result }
+        ensures most { result ≤ℤ pos 32767 }
+    {
+        (self.predictor + change_at(self.index, code)).clamp(-32768, 32767)
+    }
+
+    /// The state after a code.
     #[inline]
     #[tactic(auto, unfolding(crate::specs::Ima::ima_index))]
-    pub(crate) fn after(self, code: u8) -> ImaState
+    fn after(self, code: u8) -> ImaState
         requires { code < 16 }
         ensures predictor { result.predictor ≡ ima_predictor self.predictor self.index code }
         ensures index { result.index ≡ ima_index self.index code }
     {
-        let predictor = (self.predictor + change_at(self.index, code)).clamp(-32768, 32767);
-        let index = next_index_at(self.index, code);
+        let predictor = self.predictor_after(code);
+        let index = next_index_at(self.index, u32::from(code));
         ImaState { predictor, index }
     }
 
-    /// The code of a sample.
+    /// The sample of a byte's low code, and the state after both of its codes.
     #[inline]
-    fn code_of(self, sample: i32) -> u8
-        requires least { negsuc 32767 ≤ℤ sample }
-        requires most { sample ≤ℤ pos 32767 }
-        ensures value { result ≡ ima_code self.predictor self.index sample }
-        ensures bound { result < 16 }
+    #[tactic(auto, unfolding(crate::specs::Ima::ima_index))]
+    fn after_byte(self, byte: u8) -> (i32, ImaState)
+        ensures first { result.0 ≡ ima_predictor self.predictor self.index (byte % 16) }
+        ensures second { result.1.predictor ≡ ima_predictor result.0 (ima_index self.index (byte % 16)) (byte / 16) }
+        ensures index { result.1.index ≡ ima_index (ima_index self.index (byte % 16)) (byte / 16) }
+        ensures least { negsuc 32767 ≤ℤ result.0 }
+        ensures most { result.0 ≤ℤ pos 32767 }
     {
-        code_of(step_at(self.index), sample - self.predictor)
-    }
-
-    /// The code of a sample, and the state after it.
-    #[inline]
-    pub(crate) fn encode(self, sample: i32) -> (u8, ImaState)
-        requires least { negsuc 32767 ≤ℤ sample }
-        requires most { sample ≤ℤ pos 32767 }
-        ensures code { result.0 ≡ ima_code self.predictor self.index sample }
-        ensures bound { result.0 < 16 }
-        ensures predictor { result.1.predictor ≡ ima_predictor self.predictor self.index (ima_code self.predictor self.index sample) }
-        ensures index { result.1.index ≡ ima_index self.index (ima_code self.predictor self.index sample) }
-    {
-        let code = self.code_of(sample);
-        let way = sample - self.predictor;
-        let predictor = reached(step_at(self.index), way, sample).clamp(-32768, 32767);
-        let index = next_index_at(self.index, code);
-        (code, ImaState { predictor, index })
+        let middle = self.after(low_code(byte));
+        let predictor = middle.predictor_after(high_code(byte));
+        let index = index_after_two(self.index, low_code(byte), high_code(byte));
+        (middle.predictor, ImaState { predictor, index })
     }
 
     /// The state that a channel's head gives.
@@ -77,23 +76,20 @@ impl ImaState {
 }
 
 /// The samples of a block of one channel.
-fn decode_mono(bytes: &[u8], into: &mut ArrayVec<i32, 16384>)
+fn decode_mono(bytes: &[u8], into: &mut [i32])
     requires whole { 4 ≤ length bytes.now }
-    requires room { length bytes.now ≤ 8192 }
+    requires room { length into.old ≡ 2 * (length bytes.now - 4) + 1 }
     requires good { ima_start_index 0 bytes.now ≤ 88 }
-    requires empty { into.old.items ≡ [] }
-    ensures samples { into.new.items ≡ ima_channel 1 0 bytes.now }
-    ensures count { length into.new.items ≡ 2 * (length bytes.now - 4) + 1 }
-    ensures range { All Is16Bit into.new.items }
+    ensures samples { into.new ≡ ima_channel 1 0 bytes.now }
+    ensures range { All Is16Bit into.new }
 {
     let mut state = ImaState::of_head(bytes, 0);
-    into.push(state.predictor);
+    into[0] = state.predictor;
     for n in 0..bytes.len() - 4 {
-        let byte = bytes[4 + n];
-        let middle = state.after(low_code(byte));
-        state = middle.after(high_code(byte));
-        into.push(middle.predictor);
-        into.push(state.predictor);
+        let (middle, end) = state.after_byte(bytes[4 + n]);
+        into[2 * n + 1] = middle;
+        into[2 * n + 2] = end.predictor;
+        state = end;
     }
 }
 
@@ -117,14 +113,14 @@ fn decode_stereo(bytes: &[u8], into: &mut ArrayVec<i32, 16384>)
         let place = 8 + 8 * (n / 4) + n % 4;
         let left_byte = bytes[place];
         let right_byte = bytes[place + 4];
-        let left_middle = left.after(low_code(left_byte));
-        let right_middle = right.after(low_code(right_byte));
-        left = left_middle.after(high_code(left_byte));
-        right = right_middle.after(high_code(right_byte));
-        into.push(left_middle.predictor);
-        into.push(right_middle.predictor);
-        into.push(left.predictor);
-        into.push(right.predictor);
+        let (left_middle, left_end) = left.after_byte(left_byte);
+        let (right_middle, right_end) = right.after_byte(right_byte);
+        into.push(left_middle);
+        into.push(right_middle);
+        into.push(left_end.predictor);
+        into.push(right_end.predictor);
+        left = left_end;
+        right = right_end;
     }
 }
 
@@ -164,7 +160,8 @@ impl ImaBlock {
             return Err(BadBlock);
         }
         if channels == 1 {
-            decode_mono(bytes, into);
+            put_zeros(2 * bytes.len() - 7, into);
+            decode_mono(bytes, into.as_mut_slice());
         } else {
             decode_stereo(bytes, into);
         }

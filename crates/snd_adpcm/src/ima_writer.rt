@@ -1,13 +1,54 @@
 //! IMA ADPCM in WAVE files: a block from its samples.
 
-ghost use Rattle.std.specs.Prelude.{◌≡◌, ◌+◌, ◌*◌, ◌-◌, ◌/◌, ◌%◌, ◌<◌, ◌≤◌, ◌⊎◌, pos, length, ℕ, [], ◌∷◌, ◌++◌, All, slice_index_or};
+ghost use Rattle.std.specs.Prelude.{◌≡◌, ◌+◌, ◌*◌, ◌-◌, ◌/◌, ◌%◌, ◌<◌, ◌≤◌, ◌≤ℤ◌, ◌⊎◌, pos, negsuc, length, ℕ, [], ◌∷◌, ◌++◌, All, slice_index_or};
 ghost use Rattle.snd_adpcm.specs.Frames.{Is16Bit, bytes_16, bytes_low_half_first, firsts, seconds, fours};
-ghost use Rattle.snd_adpcm.specs.Ima.{ima_codes, ima_predictor_after, ima_index_after, ima_head, ima_body, ima_next_index, ima_bytes, ima_next_indices, IsImaBlock};
+ghost use Rattle.snd_adpcm.specs.Step.{step_size};
+ghost use Rattle.snd_adpcm.specs.Ima.{ima_code, ima_predictor, ima_index, ima_codes, ima_predictor_after, ima_index_after, ima_head, ima_body, ima_next_index, ima_bytes, ima_next_indices, IsImaBlock};
 
 use crate::ima::ImaState;
 use crate::number::put_number;
+use crate::step::{code_of, next_index_at, next_step_at, reached, step_at};
 use arrayvec::ArrayVec;
 use std::marker::Model;
+
+/// Where one channel's writer stands between two samples: the state, and the step size of the state's index.
+#[derive(Clone, Copy)]
+struct ImaPlace {
+    state: ImaState,
+    step: u32,
+    ghost stepped: { step ≡ step_size state.index },
+    ghost small: { step ≤ 32767 },
+}
+
+impl ImaPlace {
+    /// The place of a state.
+    #[inline]
+    fn of(state: ImaState) -> ImaPlace
+        ensures { result.state ≡ state }
+    {
+        let step = step_at(state.index);
+        ImaPlace { state, step }
+    }
+
+    /// The code of a sample, and the place after it.
+    #[inline]
+    fn encode(self, sample: i32) -> (u32, ImaPlace)
+        requires least { negsuc 32767 ≤ℤ sample }
+        requires most { sample ≤ℤ pos 32767 }
+        ensures code { result.0 ≡ ima_code self.state.predictor self.state.index sample }
+        ensures bound { result.0 < 16 }
+        ensures predictor { result.1.state.predictor ≡ ima_predictor self.state.predictor self.state.index (ima_code self.state.predictor self.state.index sample) }
+        ensures index { result.1.state.index ≡ ima_index self.state.index (ima_code self.state.predictor self.state.index sample) }
+    {
+        let way = sample - self.state.predictor;
+        let code = code_of(self.step, way);
+        let predictor = reached(self.step, way, sample);
+        let index = next_index_at(self.state.index, code);
+        let step = next_step_at(self.state.index, code);
+        let state = ImaState { predictor, index };
+        (code, ImaPlace { state, step })
+    }
+}
 
 /// Puts the bytes of a channel's samples, two codes in each, and gives the state after them.
 fn encode_run(samples: &[i32], start: ImaState, into: &mut ArrayVec<u8, 8192>) -> ImaState
@@ -19,14 +60,14 @@ fn encode_run(samples: &[i32], start: ImaState, into: &mut ArrayVec<u8, 8192>) -
     ensures predictor { result.predictor ≡ ima_predictor_after start.predictor start.index samples.now }
     ensures index { result.index ≡ ima_index_after start.predictor start.index samples.now }
 {
-    let mut state = start;
+    let mut place = ImaPlace::of(start);
     for n in 0..samples.len() / 2 {
-        let (low, middle) = state.encode(samples[2 * n]);
+        let (low, middle) = place.encode(samples[2 * n]);
         let (high, end) = middle.encode(samples[2 * n + 1]);
-        into.push(low + 16 * high);
-        state = end;
+        into.push((low + 16 * high) as u8);
+        place = end;
     }
-    state
+    place.state
 }
 
 /// Puts a channel's head.

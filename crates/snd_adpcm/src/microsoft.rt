@@ -1,11 +1,11 @@
 //! Microsoft ADPCM in WAVE files: a block's samples.
 
-ghost use Rattle.std.specs.Prelude.{◌≡◌, ◌+◌, ◌*◌, ◌-◌, ◌/◌, ◌%◌, ◌<◌, ◌≤◌, ◌^◌, ◌*ℤ◌, ◌≤ℤ◌, All, ◌⊎◌, ◌↔◌, pos, negsuc, length, [], ◌∷◌, ◌++◌, slice_index, IsTrue, OnOk, OnErr, IsErr, unsigned_abs};
-ghost use Rattle.snd_adpcm.specs.Frames.{Is16Bit, alternating, high_half_first, firsts, seconds, floor_div};
+ghost use Rattle.std.specs.Prelude.{◌≡◌, ◌+◌, ◌*◌, ◌-◌, ◌/◌, ◌%◌, ◌<◌, ◌≤◌, ◌^◌, ◌+ℤ◌, ◌*ℤ◌, ◌≤ℤ◌, All, ◌⊎◌, ◌↔◌, pos, negsuc, length, [], ◌∷◌, ◌++◌, slice_index, IsTrue, OnOk, OnErr, IsErr, unsigned_abs};
+ghost use Rattle.snd_adpcm.specs.Frames.{Is16Bit, alternating, high_half_first, firsts, seconds, floor_div, clamp};
 ghost use Rattle.snd_adpcm.specs.Microsoft.{newer_weight, older_weight, adaptation, ms_prediction, signed_code, ms_sample, ms_delta, ms_samples, number_at, ms_number, ms_start_delta, ms_newer, ms_older, is_ms_align, ms_samples_per_block, is_bad_ms_block, ms_channel, ms_block};
 
 use crate::BadBlock;
-use crate::number::{high_code, low_code, number_of};
+use crate::number::{high_code, low_code, number_of, put_zeros};
 use arrayvec::ArrayVec;
 
 static NEWER_WEIGHTS: [i32; 7] = [256, 512, 0, 192, 240, 460, 392];
@@ -39,12 +39,12 @@ pub(crate) fn older_weight_of(number: usize) -> i32
 /// What a code multiplies the delta by, in parts of 256.
 #[inline]
 #[tactic(auto, unfolding(crate::specs::Microsoft::adaptation, crate::specs::Microsoft::adaptations))]
-fn adaptation_of(code: u8) -> i32
+fn adaptation_of(code: u32) -> i32
     requires { code < 16 }
     ensures value { result ≡ adaptation code }
     ensures bound { unsigned_abs result ≤ 768 }
 {
-    ADAPTATIONS[usize::from(code)]
+    ADAPTATIONS[code as usize]
 }
 
 /// A code as a number from -8 to 7.
@@ -54,11 +54,7 @@ fn signed(code: u8) -> i32
     ensures value { result ≡ signed_code code }
     ensures bound { unsigned_abs result ≤ 8 }
 {
-    if code < 8 {
-        i32::from(code)
-    } else {
-        i32::from(code) - 16
-    }
+    i32::from(code ^ 8) - 8
 }
 
 /// The product of two numbers.
@@ -99,35 +95,71 @@ pub(crate) fn prediction(newer_by: i32, older_by: i32, newer: i32, older: i32) -
     floor_256(product(newer, newer_by) + product(older, older_by))
 }
 
-/// The sample of a code.
+/// The nearest number of 16 bits to one outside of them.
+#[cold]
+#[inline(never)]
+fn nearest_16(x: i32) -> i32
+    ensures { result ≡ clamp (negsuc 32767) (pos 32767) x }
+{
+    x.clamp(-32768, 32767)
+}
+
+/// A number held within 16 bits. Few are outside, so that a test that the processor foresees is quicker than two choices.
 #[inline]
-#[tactic(auto, unfolding(crate::specs::Microsoft::ms_sample), using(crate::proofs::Numbers::abs_within))]
-fn sample_of(newer_by: i32, older_by: i32, newer: i32, older: i32, delta: i32, code: u8) -> i32
+#[tactic(auto, using(crate::proofs::Numbers::abs_within))]
+fn held_16(x: i32) -> i32
+    ensures value { result ≡ clamp (negsuc 32767) (pos 32767) x }
+    ensures range { Is16Bit result }
+    ensures bound { unsigned_abs result ≤ 32768 }
+{
+    if -32768 <= x && x <= 32767 {
+        x
+    } else {
+        nearest_16(x)
+    }
+}
+
+/// The sample that lies so many deltas from what two weights foretell.
+#[inline]
+fn sample_of(newer_by: i32, older_by: i32, newer: i32, older: i32, delta: i32, deltas: i32) -> i32
     requires newer_by { unsigned_abs newer_by ≤ 512 }
     requires older_by { unsigned_abs older_by ≤ 256 }
     requires newer { unsigned_abs newer ≤ 32768 }
     requires older { unsigned_abs older ≤ 32768 }
     requires delta { unsigned_abs delta ≤ 1048576 }
-    requires code { code < 16 }
-    ensures value { result ≡ ms_sample newer_by older_by newer older delta code }
+    requires deltas { unsigned_abs deltas ≤ 8 }
+    ensures value { result ≡ clamp (negsuc 32767) (pos 32767) (ms_prediction newer_by older_by newer older +ℤ deltas *ℤ delta) }
     ensures range { Is16Bit result }
     ensures bound { unsigned_abs result ≤ 32768 }
 {
-    let foretold = prediction(newer_by, older_by, newer, older);
-    (foretold + product(signed(code), delta)).clamp(-32768, 32767)
+    held_16(prediction(newer_by, older_by, newer, older) + product(deltas, delta))
+}
+
+/// The greatest delta.
+#[cold]
+#[inline(never)]
+fn greatest_delta() -> i32
+    ensures { result ≡ pos 1048576 }
+{
+    1048576
 }
 
 /// The delta after a code.
 #[inline]
 #[tactic(auto, unfolding(crate::specs::Microsoft::ms_delta), using(crate::proofs::Numbers::abs_within))]
-fn delta_after(delta: i32, code: u8) -> i32
+fn delta_after(delta: i32, code: u32) -> i32
     requires delta { unsigned_abs delta ≤ 1048576 }
     requires code { code < 16 }
     ensures value { result ≡ ms_delta delta code }
     ensures least { pos 16 ≤ℤ result }
     ensures bound { unsigned_abs result ≤ 1048576 }
 {
-    floor_256(product(delta, adaptation_of(code))).clamp(16, 1048576)
+    let raised = floor_256(product(delta, adaptation_of(code))).max(16);
+    if raised <= 1048576 {
+        raised
+    } else {
+        greatest_delta()
+    }
 }
 
 /// The number in two bytes of a head.
@@ -159,10 +191,12 @@ pub(crate) struct MsState {
 }
 
 impl MsState {
-    /// The state after a code. Its newer sample is the code's.
+    /// The state after a code, which stands for so many deltas. Its newer sample is the code's.
     #[inline]
-    pub(crate) fn after(self, code: u8) -> MsState
-        requires { code < 16 }
+    pub(crate) fn after_deltas(self, deltas: i32, code: u32) -> MsState
+        requires code { code < 16 }
+        requires same { deltas ≡ signed_code code }
+        requires bound { unsigned_abs deltas ≤ 8 }
         ensures newer { result.newer ≡ ms_sample self.newer_by self.older_by self.newer self.older self.delta code }
         ensures older { result.older ≡ self.newer }
         ensures delta { result.delta ≡ ms_delta self.delta code }
@@ -176,7 +210,7 @@ impl MsState {
             self.newer,
             self.older,
             self.delta,
-            code,
+            deltas,
         );
         let delta = delta_after(self.delta, code);
         MsState {
@@ -186,6 +220,19 @@ impl MsState {
             older: self.newer,
             delta,
         }
+    }
+
+    /// The state after a code. Its newer sample is the code's.
+    #[inline]
+    fn after(self, code: u8) -> MsState
+        requires { code < 16 }
+        ensures newer { result.newer ≡ ms_sample self.newer_by self.older_by self.newer self.older self.delta code }
+        ensures older { result.older ≡ self.newer }
+        ensures delta { result.delta ≡ ms_delta self.delta code }
+        ensures newer_by { result.newer_by ≡ self.newer_by }
+        ensures older_by { result.older_by ≡ self.older_by }
+    {
+        self.after_deltas(signed(code), u32::from(code))
     }
 
     /// The state that a channel's head gives.
@@ -216,21 +263,20 @@ impl MsState {
 }
 
 /// The samples of a block of one channel, whose head gives `start`.
-fn decode_mono(codes: &[u8], start: MsState, into: &mut ArrayVec<i32, 16384>)
-    requires room { length codes.now ≤ 8185 }
-    requires empty { into.old.items ≡ [] }
-    ensures samples { into.new.items ≡ start.older ∷ start.newer ∷ ms_samples start.newer_by start.older_by start.newer start.older start.delta (high_half_first codes.now) }
-    ensures count { length into.new.items ≡ 2 + 2 * length codes.now }
-    ensures range { All Is16Bit into.new.items }
+fn decode_mono(codes: &[u8], start: MsState, into: &mut [i32])
+    requires room { length into.old ≡ 2 * length codes.now + 2 }
+    ensures samples { into.new ≡ start.older ∷ start.newer ∷ ms_samples start.newer_by start.older_by start.newer start.older start.delta (high_half_first codes.now) }
+    ensures range { All Is16Bit into.new }
 {
     let mut state = start;
-    into.push(state.older);
-    into.push(state.newer);
-    for byte in codes {
-        let middle = state.after(high_code(*byte));
-        state = middle.after(low_code(*byte));
-        into.push(middle.newer);
-        into.push(state.newer);
+    into[0] = state.older;
+    into[1] = state.newer;
+    for n in 0..codes.len() {
+        let middle = state.after(high_code(codes[n]));
+        let end = middle.after(low_code(codes[n]));
+        into[2 * n + 2] = middle.newer;
+        into[2 * n + 3] = end.newer;
+        state = end;
     }
 }
 
@@ -296,7 +342,8 @@ impl MsBlock {
         }
         let (_, codes) = bytes.split_at(7 * usize::from(channels));
         if channels == 1 {
-            decode_mono(codes, MsState::of_head(bytes, 1, 0), into);
+            put_zeros(2 * codes.len() + 2, into);
+            decode_mono(codes, MsState::of_head(bytes, 1, 0), into.as_mut_slice());
         } else {
             let left = MsState::of_head(bytes, 2, 0);
             let right = MsState::of_head(bytes, 2, 1);

@@ -2,7 +2,7 @@
 
 ghost use Rattle.std.specs.Prelude.{◌≡◌, ◌+◌, ◌*◌, ◌-◌, ◌/◌, ◌%◌, ◌<◌, ◌≤◌, ◌⊎◌, ◌≤ℤ◌, ◌+ℤ◌, ◌-ℤ◌, ◌*ℤ◌, pos, negsuc, unsigned_abs, length, ℕ, [], ◌∷◌, ◌++◌, take, drop, All, slice_index_or, if◌then◌else◌, nat_lt};
 ghost use Rattle.snd_adpcm.specs.Frames.{Is16Bit, bytes_16, bytes_high_half_first, firsts, seconds, alternating, clamp, floor_div};
-ghost use Rattle.snd_adpcm.specs.Microsoft.{newer_weight, older_weight, ms_error, ms_error_sum, ms_start_error, ms_newer_of, ms_older_of, ms_number_for, ms_delta_for, ms_code, code_of_number, ms_codes, ms_codes_for, ms_bytes, ms_sample, ms_delta, IsMsBlock};
+ghost use Rattle.snd_adpcm.specs.Microsoft.{newer_weight, older_weight, ms_error, ms_error_sum, ms_start_error, ms_newer_of, ms_older_of, ms_number_for, ms_delta_for, ms_code, code_of_number, signed_code, ms_codes, ms_codes_for, ms_bytes, ms_sample, ms_delta, IsMsBlock};
 
 use crate::microsoft::{MsState, newer_weight_of, older_weight_of, prediction};
 use crate::number::put_number;
@@ -97,7 +97,7 @@ fn choose(samples: &[i32]) -> Choice
 /// A quotient below 16, bit by bit, as a division takes longer.
 #[inline]
 #[tactic(auto, using(crate::proofs::Quotients::bits_are))]
-fn quotient_of(whole: u32, part: u32) -> u8
+fn quotient_of(whole: u32, part: u32) -> u32
     requires part { part ≤ 2097152 }
     requires few { whole < 16 * part }
     ensures value { result ≡ whole / part }
@@ -124,7 +124,7 @@ fn deltas_in(doubled: i32, delta: i32) -> i32
     ensures high { result ≤ℤ pos 7 }
 {
     let above = (doubled + 16 * delta).clamp(0, 30 * delta);
-    i32::from(quotient_of(above as u32, 2 * delta as u32)) - 8
+    quotient_of(above as u32, 2 * delta as u32) as i32 - 8
 }
 
 /// Twice the way from a prediction to a sample, and a delta more.
@@ -143,34 +143,32 @@ fn doubled_way(foretold: i32, sample: i32, delta: i32) -> i32
 
 /// A number from -8 to 7 as a code.
 #[inline]
-fn code_of(number: i32) -> u8
+fn code_of(number: i32) -> u32
     requires low { negsuc 7 ≤ℤ number }
     requires high { number ≤ℤ pos 7 }
     ensures value { result ≡ code_of_number number }
     ensures bound { result < 16 }
+    ensures back { number ≡ signed_code result }
 {
-    if number < 0 {
-        (number + 16) as u8
-    } else {
-        number as u8
-    }
+    (number + 16) as u32 % 16
 }
 
-/// The code of a sample.
+/// How many deltas lie between what a state foretells and a sample, from -8 to 7.
 #[inline]
-fn code_for(state: MsState, sample: i32) -> u8
+fn deltas_for(state: MsState, sample: i32) -> i32
     requires sample { Is16Bit sample }
     requires delta { pos 16 ≤ℤ state.delta }
-    ensures value { result ≡ ms_code state.newer_by state.older_by state.newer state.older state.delta sample }
-    ensures bound { result < 16 }
+    ensures value { code_of_number result ≡ ms_code state.newer_by state.older_by state.newer state.older state.delta sample }
+    ensures low { negsuc 7 ≤ℤ result }
+    ensures high { result ≤ℤ pos 7 }
 {
     let foretold = prediction(state.newer_by, state.older_by, state.newer, state.older);
-    code_of(deltas_in(doubled_way(foretold, sample, state.delta), state.delta))
+    deltas_in(doubled_way(foretold, sample, state.delta), state.delta)
 }
 
 /// The code of a sample, and the state after it.
 #[inline]
-fn encode(state: MsState, sample: i32) -> (u8, MsState)
+fn encode(state: MsState, sample: i32) -> (u32, MsState)
     requires sample { Is16Bit sample }
     requires delta { pos 16 ≤ℤ state.delta }
     ensures code { result.0 ≡ ms_code state.newer_by state.older_by state.newer state.older state.delta sample }
@@ -182,8 +180,9 @@ fn encode(state: MsState, sample: i32) -> (u8, MsState)
     ensures newer_by { result.1.newer_by ≡ state.newer_by }
     ensures older_by { result.1.older_by ≡ state.older_by }
 {
-    let code = code_for(state, sample);
-    (code, state.after(code))
+    let deltas = deltas_for(state, sample);
+    let code = code_of(deltas);
+    (code, state.after_deltas(deltas, code))
 }
 
 /// Puts the bytes of one channel's samples, two codes in each.
@@ -198,7 +197,7 @@ fn encode_samples(samples: &[i32], start: MsState, into: &mut ArrayVec<u8, 8192>
     for n in 0..samples.len() / 2 {
         let (high, middle) = encode(state, samples[2 * n]);
         let (low, end) = encode(middle, samples[2 * n + 1]);
-        into.push(16 * high + low);
+        into.push((16 * high + low) as u8);
         state = end;
     }
 }
@@ -220,7 +219,7 @@ fn encode_frames(frames: &[i32], first: MsState, second: MsState, into: &mut Arr
     for n in 0..frames.len() / 2 {
         let (high, left_end) = encode(left, frames[2 * n]);
         let (low, right_end) = encode(right, frames[2 * n + 1]);
-        into.push(16 * high + low);
+        into.push((16 * high + low) as u8);
         left = left_end;
         right = right_end;
     }

@@ -1,6 +1,8 @@
 //! One code of IMA ADPCM, by the recommended practices of the Interactive Multimedia Association (revision 3.00, 1992).
 
-ghost use Rattle.std.specs.Prelude.{◌≡◌, ◌+◌, ◌*◌, ◌<◌, ◌≤◌, ◌≤ℤ◌, ◌-ℤ◌, pos, negsuc, unsigned_abs};
+ghost use Rattle.std.specs.Prelude.{◌≡◌, ◌+◌, ◌*◌, ◌-◌, ◌/◌, ◌%◌, ◌<◌, ◌≤◌, ◌≤ℤ◌, ◌<ℤ◌, ◌+ℤ◌, ◌-ℤ◌, pos, negsuc, unsigned_abs, if◌then◌else◌, nat_lt};
+ghost use Rattle.std.specs.Int.{int_min};
+ghost use Rattle.snd_adpcm.specs.Frames.{clamp};
 ghost use Rattle.snd_adpcm.specs.Step.{step_size, change, distance, moved, next_index, part_if, code_for, distance_bits, bit_if_fits, rest_after, distance_rest};
 
 static STEP_SIZES: [u32; 89] = [
@@ -163,6 +165,101 @@ static NEXT_INDICES: [u8; 1424] = [
     88,
 ];
 
+/// The step size after a code, by 16 times the index and the code.
+static NEXT_STEPS: [u16; 1424] = [
+    7, 7, 7, 7, 9, 11, 13, 16, 7, 7, 7, 7, 9, 11, 13, 16, 7, 7, 7, 7, 10, 12, 14, 17, 7, 7, 7, 7,
+    10, 12, 14, 17, 8, 8, 8, 8, 11, 13, 16, 19, 8, 8, 8, 8, 11, 13, 16, 19, 9, 9, 9, 9, 12, 14, 17,
+    21, 9, 9, 9, 9, 12, 14, 17, 21, 10, 10, 10, 10, 13, 16, 19, 23, 10, 10, 10, 10, 13, 16, 19, 23,
+    11, 11, 11, 11, 14, 17, 21, 25, 11, 11, 11, 11, 14, 17, 21, 25, 12, 12, 12, 12, 16, 19, 23, 28,
+    12, 12, 12, 12, 16, 19, 23, 28, 13, 13, 13, 13, 17, 21, 25, 31, 13, 13, 13, 13, 17, 21, 25, 31,
+    14, 14, 14, 14, 19, 23, 28, 34, 14, 14, 14, 14, 19, 23, 28, 34, 16, 16, 16, 16, 21, 25, 31, 37,
+    16, 16, 16, 16, 21, 25, 31, 37, 17, 17, 17, 17, 23, 28, 34, 41, 17, 17, 17, 17, 23, 28, 34, 41,
+    19, 19, 19, 19, 25, 31, 37, 45, 19, 19, 19, 19, 25, 31, 37, 45, 21, 21, 21, 21, 28, 34, 41, 50,
+    21, 21, 21, 21, 28, 34, 41, 50, 23, 23, 23, 23, 31, 37, 45, 55, 23, 23, 23, 23, 31, 37, 45, 55,
+    25, 25, 25, 25, 34, 41, 50, 60, 25, 25, 25, 25, 34, 41, 50, 60, 28, 28, 28, 28, 37, 45, 55, 66,
+    28, 28, 28, 28, 37, 45, 55, 66, 31, 31, 31, 31, 41, 50, 60, 73, 31, 31, 31, 31, 41, 50, 60, 73,
+    34, 34, 34, 34, 45, 55, 66, 80, 34, 34, 34, 34, 45, 55, 66, 80, 37, 37, 37, 37, 50, 60, 73, 88,
+    37, 37, 37, 37, 50, 60, 73, 88, 41, 41, 41, 41, 55, 66, 80, 97, 41, 41, 41, 41, 55, 66, 80, 97,
+    45, 45, 45, 45, 60, 73, 88, 107, 45, 45, 45, 45, 60, 73, 88, 107, 50, 50, 50, 50, 66, 80, 97,
+    118, 50, 50, 50, 50, 66, 80, 97, 118, 55, 55, 55, 55, 73, 88, 107, 130, 55, 55, 55, 55, 73, 88,
+    107, 130, 60, 60, 60, 60, 80, 97, 118, 143, 60, 60, 60, 60, 80, 97, 118, 143, 66, 66, 66, 66,
+    88, 107, 130, 157, 66, 66, 66, 66, 88, 107, 130, 157, 73, 73, 73, 73, 97, 118, 143, 173, 73,
+    73, 73, 73, 97, 118, 143, 173, 80, 80, 80, 80, 107, 130, 157, 190, 80, 80, 80, 80, 107, 130,
+    157, 190, 88, 88, 88, 88, 118, 143, 173, 209, 88, 88, 88, 88, 118, 143, 173, 209, 97, 97, 97,
+    97, 130, 157, 190, 230, 97, 97, 97, 97, 130, 157, 190, 230, 107, 107, 107, 107, 143, 173, 209,
+    253, 107, 107, 107, 107, 143, 173, 209, 253, 118, 118, 118, 118, 157, 190, 230, 279, 118, 118,
+    118, 118, 157, 190, 230, 279, 130, 130, 130, 130, 173, 209, 253, 307, 130, 130, 130, 130, 173,
+    209, 253, 307, 143, 143, 143, 143, 190, 230, 279, 337, 143, 143, 143, 143, 190, 230, 279, 337,
+    157, 157, 157, 157, 209, 253, 307, 371, 157, 157, 157, 157, 209, 253, 307, 371, 173, 173, 173,
+    173, 230, 279, 337, 408, 173, 173, 173, 173, 230, 279, 337, 408, 190, 190, 190, 190, 253, 307,
+    371, 449, 190, 190, 190, 190, 253, 307, 371, 449, 209, 209, 209, 209, 279, 337, 408, 494, 209,
+    209, 209, 209, 279, 337, 408, 494, 230, 230, 230, 230, 307, 371, 449, 544, 230, 230, 230, 230,
+    307, 371, 449, 544, 253, 253, 253, 253, 337, 408, 494, 598, 253, 253, 253, 253, 337, 408, 494,
+    598, 279, 279, 279, 279, 371, 449, 544, 658, 279, 279, 279, 279, 371, 449, 544, 658, 307, 307,
+    307, 307, 408, 494, 598, 724, 307, 307, 307, 307, 408, 494, 598, 724, 337, 337, 337, 337, 449,
+    544, 658, 796, 337, 337, 337, 337, 449, 544, 658, 796, 371, 371, 371, 371, 494, 598, 724, 876,
+    371, 371, 371, 371, 494, 598, 724, 876, 408, 408, 408, 408, 544, 658, 796, 963, 408, 408, 408,
+    408, 544, 658, 796, 963, 449, 449, 449, 449, 598, 724, 876, 1060, 449, 449, 449, 449, 598, 724,
+    876, 1060, 494, 494, 494, 494, 658, 796, 963, 1166, 494, 494, 494, 494, 658, 796, 963, 1166,
+    544, 544, 544, 544, 724, 876, 1060, 1282, 544, 544, 544, 544, 724, 876, 1060, 1282, 598, 598,
+    598, 598, 796, 963, 1166, 1411, 598, 598, 598, 598, 796, 963, 1166, 1411, 658, 658, 658, 658,
+    876, 1060, 1282, 1552, 658, 658, 658, 658, 876, 1060, 1282, 1552, 724, 724, 724, 724, 963,
+    1166, 1411, 1707, 724, 724, 724, 724, 963, 1166, 1411, 1707, 796, 796, 796, 796, 1060, 1282,
+    1552, 1878, 796, 796, 796, 796, 1060, 1282, 1552, 1878, 876, 876, 876, 876, 1166, 1411, 1707,
+    2066, 876, 876, 876, 876, 1166, 1411, 1707, 2066, 963, 963, 963, 963, 1282, 1552, 1878, 2272,
+    963, 963, 963, 963, 1282, 1552, 1878, 2272, 1060, 1060, 1060, 1060, 1411, 1707, 2066, 2499,
+    1060, 1060, 1060, 1060, 1411, 1707, 2066, 2499, 1166, 1166, 1166, 1166, 1552, 1878, 2272, 2749,
+    1166, 1166, 1166, 1166, 1552, 1878, 2272, 2749, 1282, 1282, 1282, 1282, 1707, 2066, 2499, 3024,
+    1282, 1282, 1282, 1282, 1707, 2066, 2499, 3024, 1411, 1411, 1411, 1411, 1878, 2272, 2749, 3327,
+    1411, 1411, 1411, 1411, 1878, 2272, 2749, 3327, 1552, 1552, 1552, 1552, 2066, 2499, 3024, 3660,
+    1552, 1552, 1552, 1552, 2066, 2499, 3024, 3660, 1707, 1707, 1707, 1707, 2272, 2749, 3327, 4026,
+    1707, 1707, 1707, 1707, 2272, 2749, 3327, 4026, 1878, 1878, 1878, 1878, 2499, 3024, 3660, 4428,
+    1878, 1878, 1878, 1878, 2499, 3024, 3660, 4428, 2066, 2066, 2066, 2066, 2749, 3327, 4026, 4871,
+    2066, 2066, 2066, 2066, 2749, 3327, 4026, 4871, 2272, 2272, 2272, 2272, 3024, 3660, 4428, 5358,
+    2272, 2272, 2272, 2272, 3024, 3660, 4428, 5358, 2499, 2499, 2499, 2499, 3327, 4026, 4871, 5894,
+    2499, 2499, 2499, 2499, 3327, 4026, 4871, 5894, 2749, 2749, 2749, 2749, 3660, 4428, 5358, 6484,
+    2749, 2749, 2749, 2749, 3660, 4428, 5358, 6484, 3024, 3024, 3024, 3024, 4026, 4871, 5894, 7132,
+    3024, 3024, 3024, 3024, 4026, 4871, 5894, 7132, 3327, 3327, 3327, 3327, 4428, 5358, 6484, 7845,
+    3327, 3327, 3327, 3327, 4428, 5358, 6484, 7845, 3660, 3660, 3660, 3660, 4871, 5894, 7132, 8630,
+    3660, 3660, 3660, 3660, 4871, 5894, 7132, 8630, 4026, 4026, 4026, 4026, 5358, 6484, 7845, 9493,
+    4026, 4026, 4026, 4026, 5358, 6484, 7845, 9493, 4428, 4428, 4428, 4428, 5894, 7132, 8630,
+    10442, 4428, 4428, 4428, 4428, 5894, 7132, 8630, 10442, 4871, 4871, 4871, 4871, 6484, 7845,
+    9493, 11487, 4871, 4871, 4871, 4871, 6484, 7845, 9493, 11487, 5358, 5358, 5358, 5358, 7132,
+    8630, 10442, 12635, 5358, 5358, 5358, 5358, 7132, 8630, 10442, 12635, 5894, 5894, 5894, 5894,
+    7845, 9493, 11487, 13899, 5894, 5894, 5894, 5894, 7845, 9493, 11487, 13899, 6484, 6484, 6484,
+    6484, 8630, 10442, 12635, 15289, 6484, 6484, 6484, 6484, 8630, 10442, 12635, 15289, 7132, 7132,
+    7132, 7132, 9493, 11487, 13899, 16818, 7132, 7132, 7132, 7132, 9493, 11487, 13899, 16818, 7845,
+    7845, 7845, 7845, 10442, 12635, 15289, 18500, 7845, 7845, 7845, 7845, 10442, 12635, 15289,
+    18500, 8630, 8630, 8630, 8630, 11487, 13899, 16818, 20350, 8630, 8630, 8630, 8630, 11487,
+    13899, 16818, 20350, 9493, 9493, 9493, 9493, 12635, 15289, 18500, 22385, 9493, 9493, 9493,
+    9493, 12635, 15289, 18500, 22385, 10442, 10442, 10442, 10442, 13899, 16818, 20350, 24623,
+    10442, 10442, 10442, 10442, 13899, 16818, 20350, 24623, 11487, 11487, 11487, 11487, 15289,
+    18500, 22385, 27086, 11487, 11487, 11487, 11487, 15289, 18500, 22385, 27086, 12635, 12635,
+    12635, 12635, 16818, 20350, 24623, 29794, 12635, 12635, 12635, 12635, 16818, 20350, 24623,
+    29794, 13899, 13899, 13899, 13899, 18500, 22385, 27086, 32767, 13899, 13899, 13899, 13899,
+    18500, 22385, 27086, 32767, 15289, 15289, 15289, 15289, 20350, 24623, 29794, 32767, 15289,
+    15289, 15289, 15289, 20350, 24623, 29794, 32767, 16818, 16818, 16818, 16818, 22385, 27086,
+    32767, 32767, 16818, 16818, 16818, 16818, 22385, 27086, 32767, 32767, 18500, 18500, 18500,
+    18500, 24623, 29794, 32767, 32767, 18500, 18500, 18500, 18500, 24623, 29794, 32767, 32767,
+    20350, 20350, 20350, 20350, 27086, 32767, 32767, 32767, 20350, 20350, 20350, 20350, 27086,
+    32767, 32767, 32767, 22385, 22385, 22385, 22385, 29794, 32767, 32767, 32767, 22385, 22385,
+    22385, 22385, 29794, 32767, 32767, 32767, 24623, 24623, 24623, 24623, 32767, 32767, 32767,
+    32767, 24623, 24623, 24623, 24623, 32767, 32767, 32767, 32767, 27086, 27086, 27086, 27086,
+    32767, 32767, 32767, 32767, 27086, 27086, 27086, 27086, 32767, 32767, 32767, 32767, 29794,
+    29794, 29794, 29794, 32767, 32767, 32767, 32767, 29794, 29794, 29794, 29794, 32767, 32767,
+    32767, 32767,
+];
+
+/// How far a code moves the index.
+static MOVES: [i32; 16] = [-1, -1, -1, -1, 2, 4, 6, 8, -1, -1, -1, -1, 2, 4, 6, 8];
+
+/// The index that a code leads to from 0, and from 88: the least and the greatest that it leads to at all.
+static LEAST_AFTER: [i32; 16] = [0, 0, 0, 0, 2, 4, 6, 8, 0, 0, 0, 0, 2, 4, 6, 8];
+
+static GREATEST_AFTER: [i32; 16] = [
+    87, 87, 87, 87, 88, 88, 88, 88, 87, 87, 87, 87, 88, 88, 88, 88,
+];
+
 /// The step size of an index.
 #[inline]
 pub fn step_at(index: usize) -> u32
@@ -227,7 +324,7 @@ pub fn index_after(first: usize, last: usize, index: usize, code: u8) -> usize
 
 /// A bit of a code, where its part of the step is within what is left of the distance.
 #[inline]
-pub fn bit_if_within(part: u32, rest: u32, bit: u8) -> u8
+pub fn bit_if_within(part: u32, rest: u32, bit: u32) -> u32
     ensures { result ≡ bit_if_fits part rest bit }
 {
     if part <= rest { bit } else { 0 }
@@ -236,15 +333,20 @@ pub fn bit_if_within(part: u32, rest: u32, bit: u8) -> u8
 /// What is left of the distance then.
 #[inline]
 pub fn rest_of(part: u32, rest: u32) -> u32
+    requires part { part < 2147483648 }
+    requires rest { rest < 2147483648 }
     ensures { result ≡ rest_after part rest }
 {
-    // where the part does not fit, the difference wraps around, and is greater
-    rest.min(rest.wrapping_sub(part))
+    // where the part does not fit, the difference wraps around into the upper half: one test of its sign
+    let less = rest.wrapping_sub(part);
+    if less < 2147483648 { less } else { rest }
 }
 
 /// The low three bits of the code for a distance.
 #[inline]
-fn distance_bits_of(step: u32, distance: u32) -> u8
+fn distance_bits_of(step: u32, distance: u32) -> u32
+    requires step { step ≤ 32767 }
+    requires distance { distance ≤ 65535 }
     ensures value { result ≡ distance_bits step distance }
     ensures bound { result < 8 }
 {
@@ -257,7 +359,9 @@ fn distance_bits_of(step: u32, distance: u32) -> u8
 
 /// The code for the way from the predictor to a target.
 #[inline]
-pub fn code_of(step: u32, way: i32) -> u8
+pub fn code_of(step: u32, way: i32) -> u32
+    requires step { step ≤ 32767 }
+    requires way { unsigned_abs way ≤ 65535 }
     ensures value { result ≡ code_for step way }
     ensures bound { result < 16 }
 {
@@ -268,6 +372,8 @@ pub fn code_of(step: u32, way: i32) -> u8
 /// What is left of a distance once the parts of its code are taken.
 #[inline]
 fn distance_rest_of(step: u32, distance: u32) -> u32
+    requires step { step ≤ 32767 }
+    requires distance { distance ≤ 65535 }
     ensures value { result ≡ distance_rest step distance }
     ensures most { result ≤ distance }
 {
@@ -276,17 +382,53 @@ fn distance_rest_of(step: u32, distance: u32) -> u32
     rest_of(step >> 2, after_half)
 }
 
-/// Where the code for the way to a target leads: past the target by an eighth of the step, less what is left of the distance.
+/// The room that 16 bits leave past a target.
+#[inline]
+fn room_past(way: i32, target: i32) -> i32
+    requires least { negsuc 32767 ≤ℤ target }
+    requires most { target ≤ℤ pos 32767 }
+    ensures down { way <ℤ pos 0 → result ≡ target +ℤ pos 32768 }
+    ensures up { pos 0 ≤ℤ way → result ≡ pos 32767 -ℤ target }
+    ensures least { pos 0 ≤ℤ result }
+    ensures most { result ≤ℤ pos 65535 }
+{
+    if way < 0 {
+        target + 32768
+    } else {
+        32767 - target
+    }
+}
+
+/// How far past a target a code leads, if there is the room: an eighth of the step, less what is left of the distance.
+#[inline]
+fn past_target(step: u32, rest: u32, room: i32) -> i32
+    requires step { step ≤ 32767 }
+    requires rest { rest ≤ 65535 }
+    requires least { pos 0 ≤ℤ room }
+    requires most { room ≤ℤ pos 65535 }
+    ensures value { result ≡ int_min (pos (step / 8) -ℤ pos rest) room }
+    ensures least { negsuc 65534 ≤ℤ result }
+    ensures most { result ≤ℤ pos 65535 }
+{
+    ((step >> 3) as i32 - rest as i32).min(room)
+}
+
+/// Where the code for the way to a target leads, in 16 bits.
 #[inline]
 pub fn reached(step: u32, way: i32, target: i32) -> i32
     requires step { step ≤ 32767 }
     requires way { unsigned_abs way ≤ 65535 }
     requires least { negsuc 32767 ≤ℤ target }
     requires most { target ≤ℤ pos 32767 }
-    ensures { result ≡ moved (target -ℤ way) step (code_for step way) }
+    requires from_least { negsuc 32767 ≤ℤ (target -ℤ way) }
+    requires from_most { (target -ℤ way) ≤ℤ pos 32767 }
+    ensures value { result ≡ clamp (negsuc 32767) (pos 32767) (moved (target -ℤ way) step (code_for step way)) }
+    ensures least { negsuc 32767 ≤ℤ result }
+    ensures most { result ≤ℤ pos 32767 }
 {
-    let rest = distance_rest_of(step, way.unsigned_abs()) as i32;
-    let past = (step >> 3) as i32 - rest;
+    // it can leave 16 bits only past the target: on this side of it, it comes no farther back than the way's start
+    let rest = distance_rest_of(step, way.unsigned_abs());
+    let past = past_target(step, rest, room_past(way, target));
     if way < 0 {
         target - past
     } else {
@@ -308,10 +450,62 @@ pub fn change_at(index: usize, code: u8) -> i32
 
 /// The index after a code, from 0 to 88.
 #[inline]
-pub fn next_index_at(index: usize, code: u8) -> usize
+pub fn next_index_at(index: usize, code: u32) -> usize
     requires index { index ≤ 88 }
     requires code { code < 16 }
     ensures { result ≡ next_index 0 88 index code }
 {
-    usize::from(NEXT_INDICES[16 * index + usize::from(code)])
+    usize::from(NEXT_INDICES[16 * index + code as usize])
+}
+
+/// The step size after a code.
+#[inline]
+pub fn next_step_at(index: usize, code: u32) -> u32
+    requires index { index ≤ 88 }
+    requires code { code < 16 }
+    ensures value { result ≡ step_size (next_index 0 88 index code) }
+    ensures most { result ≤ 32767 }
+{
+    u32::from(NEXT_STEPS[16 * index + code as usize])
+}
+
+/// How far a code moves the index.
+#[inline]
+fn move_of(code: u8) -> i32
+    requires { code < 16 }
+    ensures value { result ≡ (if nat_lt (code % 8) 4 then negsuc 0 else pos (2 * (code % 8 - 3))) }
+    ensures least { negsuc 0 ≤ℤ result }
+    ensures most { result ≤ℤ pos 8 }
+{
+    MOVES[usize::from(code)]
+}
+
+/// The least index that a code leads to.
+#[inline]
+fn least_after(code: u8) -> i32
+    requires { code < 16 }
+    ensures { result ≡ pos (next_index 0 88 0 code) }
+{
+    LEAST_AFTER[usize::from(code)]
+}
+
+/// The greatest index that a code leads to.
+#[inline]
+fn greatest_after(code: u8) -> i32
+    requires { code < 16 }
+    ensures { result ≡ pos (next_index 0 88 88 code) }
+{
+    GREATEST_AFTER[usize::from(code)]
+}
+
+/// The index after two codes, from 0 to 88. One move and one pair of bounds are as good as two of each.
+#[inline]
+pub fn index_after_two(index: usize, first: u8, second: u8) -> usize
+    requires index { index ≤ 88 }
+    requires first { first < 16 }
+    requires second { second < 16 }
+    ensures { result ≡ next_index 0 88 (next_index 0 88 index first) second }
+{
+    let moved = index as i32 + (move_of(first) + move_of(second));
+    moved.max(least_after(second)).min(greatest_after(second)) as usize
 }

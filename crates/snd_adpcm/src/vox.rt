@@ -67,7 +67,7 @@ impl Place {
         ensures value { result ≡ vox_code self.predictor self.index sample }
         ensures bound { result < 16 }
     {
-        code_of(step_at(self.index), target_of(sample) - self.predictor)
+        code_of(step_at(self.index), target_of(sample) - self.predictor) as u8
     }
 }
 

@@ -1,26 +1,47 @@
-use Rattle.std.proofs.Common.{◌≡◌, ◌+◌, [], ◌∷◌, ◌++◌, drop, get_or, arith, rules}
+use Rattle.std.proofs.Common.{◌≡◌, ◌+◌, ◌*◌, ◌%◌, [], ◌∷◌, drop, get_or, w32, to_z, of_z, arith, rules, refl, ap, subst, ◌∙◌}
 use Rattle.std.proofs.lemmas.Grind.{common_steps}
-use Rattle.snd_adpcm.specs.Frames.{Is16Bit}
-use Rattle.snd_adpcm.specs.Ima.{ima_code_bytes}
-use Rattle.snd_adpcm.proofs.ImaCodes.{ima_code_bytes-more_at, ima_code_bytes-end}
-use Rattle.snd_adpcm.proofs.Pushes.{range_of_two}
+use Rattle.std.proofs.lemmas.List.Elements.{All-same, All-cons}
+use Rattle.snd_adpcm.specs.Frames.{Is16Bit, low_half_first}
+use Rattle.snd_adpcm.specs.Ima.{ima_samples, ima_code_bytes, ima_index, ima_first, ima_start_index}
+use Rattle.snd_adpcm.proofs.ImaCodes.{ima_code_bytes-more_at, ima_code_bytes-end, ima_samples-byte, samples_range}
+use Rattle.snd_adpcm.proofs.Pushes.{one_begins, two_put, all_put}
 use Rattle.snd_adpcm.proofs.ima.decode_mono.Goals as goal
+
+pub loop-n-init : goal.loop-n-init
+loop-n-init c =
+    let s = c.of_head-state.result in
+    let first : to_z w32 (of_z w32 s.predictor) ≡ s.predictor = search rules in
+    record { so_far = one_begins c.args.into.now _ _ _ (omega arith) first ∙ rw (c.of_head-state.ensures.predictor, c.of_head-state.ensures.index) refl; room = grind (arith, common_steps) }
 
 pub loop-n-preserved : goal.loop-n-preserved
 loop-n-preserved c =
-    let more : drop c.loop-n.n (ima_code_bytes 1 0 c.args.bytes.now) ≡ get_or c.args.bytes.now (4 + c.loop-n.n) 0 ∷ drop (c.loop-n.n + 1) (ima_code_bytes 1 0 c.args.bytes.now) =
-    ima_code_bytes-more_at 1 0 c.args.bytes.now c.loop-n.n (4 + c.loop-n.n) (omega arith) (omega arith) in
-    let one : c.push-in-loop-n.new.self.items ≡ c.loop-n.into.items ++ c.after-middle.result.predictor ∷ [] = search rules in
-    let two : c.push-in-loop-n-2.new.self.items ≡ c.push-in-loop-n.new.self.items ++ c.after-state.result.predictor ∷ [] = search rules in
-    let middle : Is16Bit c.after-middle.result.predictor = record { least = c.after-middle.result.low; most = c.after-middle.result.high } in
-    let end : Is16Bit c.after-state.result.predictor = record { least = c.after-state.result.low; most = c.after-state.result.high } in
+    let n = c.loop-n.n in
+    let s = c.loop-n.state in
+    let middle = c.after_byte-middle.result.0 in
+    let end = c.after_byte-middle.result.1 in
+    let b = get_or c.args.bytes.now (4 + n) 0 in
+    let after = drop (n + 1) (ima_code_bytes 1 0 c.args.bytes.now) in
+    let more : drop n (ima_code_bytes 1 0 c.args.bytes.now) ≡ b ∷ after = ima_code_bytes-more_at 1 0 c.args.bytes.now n (4 + n) (omega arith) (omega arith) in
+    let first : to_z w32 (of_z w32 middle) ≡ middle = search rules in
+    let second : to_z w32 (of_z w32 end.predictor) ≡ end.predictor = search rules in
+    let samples : ima_samples s.predictor s.index (low_half_first (drop n (ima_code_bytes 1 0 c.args.bytes.now))) ≡ to_z w32 (of_z w32 middle) ∷ to_z w32 (of_z w32 end.predictor) ∷ ima_samples end.predictor end.index (low_half_first after) =
+    ap (λ bytes. ima_samples s.predictor s.index (low_half_first bytes)) more
+    ∙ ima_samples-byte s.predictor middle end.predictor s.index (ima_index s.index (b % 16)) end.index b after (search rules) refl (search rules) (search rules)
+    ∙ rw (first, second) refl in
     record {
-      so_far = grind (arith, common_steps, more);
-      count = grind (arith, common_steps);
-      range = range_of_two _ _ _ _ _ one two c.loop-n.invariant.range middle end;
+      so_far = two_put c.loop-n.into _ _ _ (2 * n + 1) (2 * n + 2) (2 * (n + 1) + 1) _ _ (omega arith) (omega arith) (omega arith) samples c.loop-n.invariant.so_far;
+      room = grind (arith, common_steps);
     }
 
 pub returns-clause-samples : goal.returns-clause-samples
 returns-clause-samples c =
+    let s = c.loop-n.state in
     let past : drop c.loop-n.n (ima_code_bytes 1 0 c.args.bytes.now) ≡ [] = ima_code_bytes-end 1 0 c.args.bytes.now c.loop-n.n (omega arith) in
-    grind (arith, common_steps, past)
+    all_put c.loop-n.into _ _ (2 * c.loop-n.n + 1) (omega arith) (ap (λ bytes. ima_samples s.predictor s.index (low_half_first bytes)) past) c.loop-n.invariant.so_far
+
+pub returns-clause-range : goal.returns-clause-range
+returns-clause-range c =
+    let s = c.of_head-state.result in
+    let first : Is16Bit (ima_first 0 c.args.bytes.now) = subst (λ x. Is16Bit x) c.of_head-state.ensures.predictor (record { least = s.low; most = s.high }) in
+    All-same Is16Bit c.loop-n.into _ (returns-clause-samples c)
+    (All-cons Is16Bit (ima_first 0 c.args.bytes.now) _ first (samples_range (ima_first 0 c.args.bytes.now) (ima_start_index 0 c.args.bytes.now) (low_half_first (ima_code_bytes 1 0 c.args.bytes.now))))

@@ -8,9 +8,9 @@ use Rattle.snd_adpcm.proofs.ima_writer.encode_run.Goals as goal
 pub loop-n-preserved : goal.loop-n-preserved
 loop-n-preserved c =
     let n = c.loop-n.n in
-    let s = c.loop-n.state in
-    let middle = c.encode-low.result.1 in
-    let end = c.encode-high.result.1 in
+    let s = c.loop-n.place.state in
+    let middle = c.encode-low.result.1.state in
+    let end = c.encode-high.result.1.state in
     let x = get_or c.args.samples.now (2 * n) (pos 0) in
     let y = get_or c.args.samples.now (2 * n + 1) (pos 0) in
     let rest = drop (2 * (n + 1)) c.args.samples.now in

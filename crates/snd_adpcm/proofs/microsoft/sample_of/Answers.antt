@@ -1,8 +1,6 @@
 use Rattle.std.proofs.Common.{arith}
 use Rattle.std.proofs.lemmas.Int.{to_z-of_z}
-use Rattle.snd_adpcm.specs.Microsoft.{ms_sample}
 use Rattle.snd_adpcm.proofs.microsoft.sample_of.Goals as goal
 
 pub returns-clause-value : goal.returns-clause-value
-unfolding ms_sample
 returns-clause-value c = grind (arith, to_z-of_z)

@@ -1,8 +1,8 @@
-use Rattle.std.proofs.Common.{◌≡◌, ◌*◌, drop, sym, ap, ◌∙◌, arith}
+use Rattle.std.proofs.Common.{◌≡◌, ◌*◌, drop, sym, ap, ◌∙◌, length, arith, rules}
 use Rattle.snd_adpcm.specs.Frames.{high_half_first, firsts, seconds}
 use Rattle.snd_adpcm.specs.Microsoft.{ms_block}
 use Rattle.snd_adpcm.proofs.MsCodes.{of_head}
-use Rattle.snd_adpcm.proofs.Pushes.{alternating-same}
+use Rattle.snd_adpcm.proofs.Pushes.{alternating-same, written_over}
 use Rattle.snd_adpcm.proofs.microsoft.MsBlock.decode.Goals as goal
 
 pub returns-then-channels-eq1-clause-samples : goal.returns-then-channels-eq1-clause-samples
@@ -10,7 +10,8 @@ returns-then-channels-eq1-clause-samples c =
     let one : c.args.channels ≡ 1 = c.if-channels-eq1.true in
     let codes : c.split_at.result.1.now ≡ drop (7 * 1) c.args.bytes.now = c.split_at.ensures.back ∙ ap (λ k. drop (7 * k) c.args.bytes.now) (c.from.ensures ∙ one) in
     let s = c.of_head.ensures in
-    c.decode_mono.ensures.samples ∙ of_head 1 0 c.args.bytes.now _ c.of_head.result s.newer s.older s.delta s.newer_by s.older_by (ap high_half_first codes) ∙ ap (λ k. ms_block k c.args.bytes.now) (sym one)
+    let same : length c.decode_mono.new.into ≡ length c.put_zeros.new.into.items = search rules in
+    written_over c.put_zeros.new.into.items c.decode_mono.new.into same ∙ c.decode_mono.ensures.samples ∙ of_head 1 0 c.args.bytes.now _ c.of_head.result s.newer s.older s.delta s.newer_by s.older_by (ap high_half_first codes) ∙ ap (λ k. ms_block k c.args.bytes.now) (sym one)
 
 pub returns-else-channels-eq1-clause-samples : goal.returns-else-channels-eq1-clause-samples
 returns-else-channels-eq1-clause-samples c =

@@ -4,10 +4,10 @@ use Rattle.snd_adpcm.specs.Frames.{clamp}
 use Rattle.snd_adpcm.specs.Ima.{ima_predictor}
 use Rattle.snd_adpcm.specs.Step.{change}
 use Rattle.snd_adpcm.proofs.Steps.{predictor_is}
-use Rattle.snd_adpcm.proofs.ima.ImaState.after.Goals as goal
+use Rattle.snd_adpcm.proofs.ima.ImaState.predictor_after.Goals as goal
 
-pub returns-clause-predictor : goal.returns-clause-predictor
-returns-clause-predictor c =
+pub returns-clause-value : goal.returns-clause-value
+returns-clause-value c =
     let is : ima_predictor c.args.self.predictor c.args.self.index c.args.code ≡ clamp (negsuc 32767) (pos 32767) (c.args.self.predictor +ℤ change c.args.self.index c.args.code) =
     predictor_is c.args.self.predictor c.args.self.index c.args.code in
     grind (arith, to_z-of_z)

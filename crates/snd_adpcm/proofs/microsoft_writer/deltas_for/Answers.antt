@@ -1,6 +1,6 @@
 use Rattle.std.proofs.Common.{rules}
 use Rattle.snd_adpcm.specs.Microsoft.{ms_code}
-use Rattle.snd_adpcm.proofs.microsoft_writer.code_for.Goals as goal
+use Rattle.snd_adpcm.proofs.microsoft_writer.deltas_for.Goals as goal
 
 pub returns-clause-value : goal.returns-clause-value
 unfolding ms_code
