@@ -3,7 +3,7 @@ ghost use Rattle.snd_app.specs.Outcome.{outcome};
 ghost use Rattle.snd_rows.specs.Memory.{one_file, IsPrinted};
 
 use snd_app::run;
-use snd_disk::{MemoryDisk, MemoryShelf, MemorySink};
+use snd_disk::{MemoryDisk, MemoryShelf, MemorySink, MemorySource};
 use snd_fields::Words;
 use std::alloc::{AllocError, Global};
 
@@ -15,21 +15,26 @@ pub struct Printed {
     pub status: u8,
 }
 
-/// Runs the words over a shelf with one file, with streams that do not fail.
+/// How many bytes of the script come at a time.
+const PIECE: usize = 4096;
+
+/// Runs the words over a shelf with one file, with streams that do not fail, and a script to come.
 pub fn run_in_memory(
     alloc: Global,
     words: &Words,
     name: &str,
     bytes: Vec<u8>,
+    script: Vec<u8>,
 ) -> Result<Printed, AllocError>
-    ensures { IfOk result (IsPrinted (outcome words.now (one_file name.now bytes.items))) }
+    ensures { IfOk result (IsPrinted (outcome words.now (one_file name.now bytes.items) script.items)) }
 {
     let disk = MemoryDisk::new(alloc, bytes, Vec::new(alloc))?;
     let mut shelf = MemoryShelf::new(alloc);
     shelf.put(name, disk)?;
+    let mut script = MemorySource::new(script, PIECE, Vec::new(alloc));
     let mut out = MemorySink::new(alloc, Vec::new(alloc));
     let mut err = MemorySink::new(alloc, Vec::new(alloc));
-    let status = run(alloc, words, &mut shelf, &mut out, &mut err);
+    let status = run(alloc, words, &mut shelf, &mut script, &mut out, &mut err);
     Ok(Printed {
         out: out.bytes().to_vec(alloc)?,
         err: err.bytes().to_vec(alloc)?,
