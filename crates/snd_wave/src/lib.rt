@@ -9,6 +9,8 @@ mod parts;
 mod pieces;
 mod plain;
 mod reads;
+#[cfg(test)]
+mod tests;
 
 pub use laws::{count_is_stated, layouts_agree, no_piece_behind};
 pub use layout::open_layout;
