@@ -1,9 +1,8 @@
 -- The layout of a file, from its parts.
-use Rattle.std.proofs.Common.{◌≡◌, ℕ, ◌+◌, ◌≤◌, List, [], ◌∷◌, All, Bool, true, Option, None, Some, Ok, Err, length, refl, sym, ap, ◌∙◌, inl, inr, arith}
-use Rattle.std.proofs.lemmas.Bool.{and_parts, cases_Bool, leb-true}
-use Rattle.std.proofs.lemmas.List.Elements.{All-head, All-tail}
-use Rattle.std.specs.List.{find}
+use Rattle.std.proofs.Common.{◌≡◌, ℕ, ◌+◌, ◌≤◌, List, All, Option, None, Some, Ok, Err, length, refl, sym, ap, ◌∙◌, arith}
+use Rattle.std.proofs.lemmas.Bool.{and_parts, leb-true}
 use Rattle.std.specs.Prelude.{IfOk, IfSome, Result, codes, nat_le, option_map}
+use Rattle.snd_chunks.proofs.Chains.{find_has}
 use Rattle.snd_chunks.specs.declared.chunk.Chunk.{Chunk}
 use Rattle.snd_chunks.specs.declared.front.Ending.TheVariants.{AtSound}
 use Rattle.snd_chunks.specs.declared.front.Front.{Front}
@@ -41,16 +40,6 @@ is_held size parts p count riff pieces layout ends is ended short within inside 
       sound = omega (arith, start, held_is, short, within);
       pieces = rw pieces_are inside;
     }
-
--- what is found has what was looked for, and what all have
-find_has : (test : Chunk → Bool) (P : Chunk → Type 0) (chunks : List Chunk) (x : Chunk) → All P chunks → find test chunks ≡ Some x → P x × (test x ≡ true)
-find_has test P [] x all found = absurd (cc)
-find_has test P (c ∷ chunks) x all found = elim (cases_Bool (test c)) [
-  | inl is ↦
-      let same : c ≡ x = let h = rw is at found in cc in
-      rw (← same) (All-head P c chunks all, is)
-  | inr other ↦ find_has test P chunks x (All-tail P c chunks all) (rw other at found)
-]
 
 fact_placed : (chunks : List Chunk) (sound : Chunk) (fact : Option Chunk) → fact ≡ fact_chunk chunks → All (λ chunk. chunk.at + chunk.len + 8 ≤ sound.at) chunks → IfSome fact (IsFact sound)
 fact_placed chunks sound None is before = tt

@@ -1,4 +1,7 @@
 mod Bodies
 mod Heads
+pub mod Agreements
+pub mod Counts
 pub mod Layouts
+pub mod Opens
 pub mod Shapes

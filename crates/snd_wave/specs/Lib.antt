@@ -1,3 +1,4 @@
 pub mod Layout
 pub mod Plain
 pub mod Parts
+pub mod Laws

@@ -1,0 +1,25 @@
+//! The laws of WAVE files' layouts, proved of every file. The functions do nothing: their contracts are
+//! the laws.
+
+ghost use Rattle.snd_wave.specs.Laws.{CountIsStated, LayoutsAgree, NoPieceBehind, NumbersStandBefore};
+
+/// A file that has the bytes of another before its data, but for the numbers that change as the sound
+/// grows, has its layout, but for how long the sound is and what stands behind it.
+#[tactic(auto, using(crate::proofs::Agreements::layouts_agree))]
+pub fn layouts_agree()
+    ensures { LayoutsAgree }
+{}
+
+/// Where the file holds all whole blocks of the declared data, the frames are those that its numbers
+/// state: the data size, which stands right before the data, and in ADPCM the count of the `fact`.
+#[tactic(auto, using(crate::proofs::Counts::count_is_stated))]
+pub fn count_is_stated()
+    ensures count { CountIsStated }
+    ensures numbers { NumbersStandBefore }
+{}
+
+/// Where the padded data reach the end of the whole, no piece stands behind them.
+#[tactic(auto, using(crate::proofs::Counts::no_piece_behind))]
+pub fn no_piece_behind()
+    ensures { NoPieceBehind }
+{}

@@ -1,0 +1,66 @@
+//! Whole files, written out by hand from the format's specification.
+use super::*;
+use snd_disk::MemoryDisk;
+use snd_layout::{OpenError, OpenRefusal};
+use std::alloc::Global;
+use std::test::Fail;
+
+/// The start, the frames, how many pieces there are, and whether the file goes on behind its data.
+type Said = (u64, u64, usize, bool);
+
+static FILES: [(&'static [u8], Result<Said, OpenRefusal>); 6] = [
+    (
+        b"RIFF\x28\0\0\0WAVEfmt \x10\0\0\0\x01\0\x01\0\x40\x1f\0\0\x80\x3e\0\0\x02\0\x10\0data\x04\0\0\0\x01\0\xff\xff",
+        Ok((44, 2, 0, false)),
+    ),
+    // the format's tag is FFFE, in a body of 16 bytes
+    (
+        b"RIFF\x28\0\0\0WAVEfmt \x10\0\0\0\xfe\xff\x01\0\x40\x1f\0\0\x80\x3e\0\0\x02\0\x10\0data\x04\0\0\0\x01\0\xff\xff",
+        Err(OpenRefusal::UnknownCodec),
+    ),
+    // the align is 16
+    (
+        b"RIFF\x28\0\0\0WAVEfmt \x10\0\0\0\x01\0\x01\0\x40\x1f\0\0\x80\x3e\0\0\x10\0\x10\0data\x04\0\0\0\x01\0\xff\xff",
+        Err(OpenRefusal::BadAlign),
+    ),
+    // there are no channels
+    (
+        b"RIFF\x28\0\0\0WAVEfmt \x10\0\0\0\x01\0\0\0\x40\x1f\0\0\x80\x3e\0\0\x02\0\x10\0data\x04\0\0\0\x01\0\xff\xff",
+        Err(OpenRefusal::BadChannels),
+    ),
+    // the data have 100 bytes, of which 5 are there
+    (
+        b"RIFF\x28\0\0\0WAVEfmt \x10\0\0\0\x01\0\x01\0\x40\x1f\0\0\x80\x3e\0\0\x02\0\x10\0data\x64\0\0\0\x01\0\xff\xff\0",
+        Ok((44, 2, 0, false)),
+    ),
+    // a chunk stands behind the data
+    (
+        b"RIFF\x34\0\0\0WAVEfmt \x10\0\0\0\x01\0\x01\0\x40\x1f\0\0\x80\x3e\0\0\x02\0\x10\0data\x04\0\0\0\x01\0\xff\xffLIST\x04\0\0\0INFO",
+        Ok((44, 2, 1, true)),
+    ),
+];
+
+fn said(alloc: Global, bytes: &[u8]) -> Result<Result<Said, OpenRefusal>, Fail> {
+    let mut disk = MemoryDisk::new(alloc, bytes.to_vec(alloc)?, Vec::new(alloc))?;
+    match open_layout(alloc, &mut disk) {
+        Ok(layout) => Ok(Ok((
+            layout.start,
+            layout.frames,
+            layout.pieces.len(),
+            layout.trailing,
+        ))),
+        Err(OpenError::Refused(refusal)) => Ok(Err(refusal)),
+        Err(_) => Err(Fail::from("there was a fault")),
+    }
+}
+
+#[test]
+fn reads_layouts(rt: HostRuntime) -> Result<(), Fail> {
+    layouts_agree();
+    count_is_stated();
+    no_piece_behind();
+    for (i, (bytes, says)) in FILES.iter().enumerate() {
+        assert_eq!(rt; said(rt.alloc(), bytes)?, *says, "file {i}");
+    }
+    Ok(())
+}
