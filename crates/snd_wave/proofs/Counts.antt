@@ -1,12 +1,12 @@
 -- The count of the frames, and the numbers that state it.
 use Rattle.std.proofs.Common.{◌≡◌, ℕ, zero, suc, ◌+◌, ◌*◌, ◌-◌, ◌/◌, ◌%◌, ◌<◌, ◌≤◌, List, [], ◌++◌, All, true, false, not, ◌&&◌, Option, None, Some, length, refl, sym, ap, ◌∙◌, inl, inr, arith}
 use Rattle.std.proofs.Math.Nat.{div-zero, mod-lt}
-use Rattle.std.proofs.lemmas.Bool.{cases_Bool, ltb-false}
+use Rattle.std.proofs.lemmas.Bool.{cases_Bool}
 use Rattle.std.proofs.lemmas.List.{append-nil}
 use Rattle.std.proofs.lemmas.List.Elements.{All-map}
 use Rattle.std.proofs.lemmas.Nat.{div-add-mod', div_below, le-div}
 use Rattle.std.specs.List.{filter}
-use Rattle.std.specs.Prelude.{codes, min, nat_lt, option_map}
+use Rattle.std.specs.Prelude.{codes, min, option_map}
 use Rattle.snd_chunks.proofs.Chains.{IsHead, Reaches, is_head, no_tail, reaches}
 use Rattle.snd_chunks.specs.declared.chunk.Chunk.{Chunk}
 use Rattle.snd_chunks.specs.declared.front.Ending.TheVariants.{AtSound}
@@ -19,7 +19,7 @@ use Rattle.snd_layout.specs.Params.{Parameters}
 use Rattle.snd_layout.specs.Shape.{Shape}
 use Rattle.snd_layout.specs.declared.piece.Piece.{Piece}
 use Rattle.snd_wave.specs.Layout.{data_end, fact_chunk, fact_count, frame_count, held, inner_field, is_joined, is_own, outer_end, piece_of, pieces_of, wave_front, wave_shape, wave_tail, whole_frames}
-use Rattle.snd_wave.specs.Laws.{CountIsStated, HoldsBlocks, NoPieceBehind, NumbersStandBefore, count_of}
+use Rattle.snd_wave.specs.Laws.{CountIsStated, HoldsBlocks, NoPieceBehind, NumbersStandBefore, TrailingIsStated, count_of}
 use Rattle.snd_wave.proofs.Opens.{Opens, opens}
 
 -- as many whole blocks are in a part that has all of them
@@ -85,11 +85,16 @@ before_all chunks = All-map (λ (piece : Piece). piece.after ≡ false) (piece_o
 none_behind : (b : List ℕ) (front : Front) (sound : Chunk) → outer_end b ≤ data_end b sound → wave_tail b front sound ≡ []
 none_behind b front sound reached = no_tail Little b (outer_end b) _ (data_end b sound) reached
 
-pub no_piece_behind : NoPieceBehind
-no_piece_behind b h is ends =
+pub trailing_is_stated : TrailingIsStated
+trailing_is_stated b h is =
     let from : Opens b (wave_front b) h = opens b h is in
-    let ends_too : nat_lt (data_end b from.sound) (outer_end b) ≡ false = rw from.shape at ends in
-    let none : wave_tail b (wave_front b) from.sound ≡ [] = none_behind b (wave_front b) from.sound (ltb-false (data_end b from.sound) (outer_end b) ends_too) in
+    rw from.shape refl
+
+pub no_piece_behind : NoPieceBehind
+no_piece_behind b h is reached =
+    let from : Opens b (wave_front b) h = opens b h is in
+    let reached_too : outer_end b ≤ data_end b from.sound = rw from.shape at reached in
+    let none : wave_tail b (wave_front b) from.sound ≡ [] = none_behind b (wave_front b) from.sound reached_too in
     let pieces : h.pieces ≡ pieces_of false (wave_front b).chunks =
     ap (λ (s : Shape). s.pieces) from.shape ∙ ap (λ (l : List Chunk). pieces_of false (wave_front b).chunks ++ pieces_of true l) none ∙ append-nil (pieces_of false (wave_front b).chunks) in
     rw pieces (before_all (wave_front b).chunks)

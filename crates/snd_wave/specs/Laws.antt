@@ -1,13 +1,14 @@
 -- What the layouts of WAVE files owe one another and their files.
-use Rattle.std.specs.Prelude.{◌≡◌, ℕ, ◌+◌, ◌-◌, ◌*◌, ◌/◌, ◌^◌, ◌<◌, ◌≤◌, Bool, false, not, ◌&&◌, ◌||◌, List, Option, None, Some, Ok, All, option_map, length, get_or, nat_le, nat_lt}
+use Rattle.std.specs.Prelude.{◌≡◌, ℕ, ◌+◌, ◌-◌, ◌*◌, ◌/◌, ◌^◌, ◌<◌, ◌≤◌, Bool, false, not, ◌&&◌, ◌||◌, List, Option, None, Some, Ok, All, option_map, length, min, get_or, nat_le, nat_lt}
 use Rattle.std.specs.List.{filter}
+use Rattle.snd_chunks.specs.Chunks.{padded_end}
 use Rattle.snd_fields.specs.Field.{number}
 use Rattle.snd_fields.specs.declared.field.Order.TheVariants.{Little}
 use Rattle.snd_layout.specs.Blocks.{block_align}
 use Rattle.snd_layout.specs.Shape.{Shape}
 use Rattle.snd_layout.specs.declared.field.Field.{Field}
 use Rattle.snd_layout.specs.declared.piece.Piece.{Piece}
-use Rattle.snd_wave.specs.Layout.{fact_chunk, fact_count, frame_count, wave_front, wave_layout}
+use Rattle.snd_wave.specs.Layout.{fact_chunk, fact_count, frame_count, outer_end, wave_front, wave_layout}
 
 -- a place is one of so many from another on
 abbrev pub is_in : ℕ → ℕ → ℕ → Bool
@@ -63,6 +64,14 @@ abbrev pub NumbersStandBefore : Type 0
 NumbersStandBefore = (b : List ℕ) (h : Shape) → wave_layout b ≡ Ok h →
     (h.declared ≡ number Little b (h.start - 4) 4) × (h.inner.size ≡ 12 → count_of b ≡ Some (number Little b h.inner.at 4))
 
--- Where the padded data reach the end of the whole, no piece stands behind them.
+-- the place behind the data that a file of so many bytes holds, with their pad
+abbrev pub padded_data_end : Shape → ℕ → ℕ
+padded_data_end h size = padded_end h.start (min h.declared (min size (2 ^ 63 - 8) - h.start))
+
+-- The file goes on behind its data where these end before the whole does.
+abbrev pub TrailingIsStated : Type 0
+TrailingIsStated = (b : List ℕ) (h : Shape) → wave_layout b ≡ Ok h → h.trailing ≡ nat_lt (padded_data_end h (length b)) (outer_end b)
+
+-- Where they reach the end of the whole, no piece stands behind them.
 abbrev pub NoPieceBehind : Type 0
-NoPieceBehind = (b : List ℕ) (h : Shape) → wave_layout b ≡ Ok h → h.trailing ≡ false → All (λ piece. piece.after ≡ false) h.pieces
+NoPieceBehind = (b : List ℕ) (h : Shape) → wave_layout b ≡ Ok h → outer_end b ≤ padded_data_end h (length b) → All (λ piece. piece.after ≡ false) h.pieces

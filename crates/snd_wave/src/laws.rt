@@ -1,7 +1,7 @@
 //! The laws of WAVE files' layouts, proved of every file. The functions do nothing: their contracts are
 //! the laws.
 
-ghost use Rattle.snd_wave.specs.Laws.{CountIsStated, LayoutsAgree, NoPieceBehind, NumbersStandBefore};
+ghost use Rattle.snd_wave.specs.Laws.{CountIsStated, LayoutsAgree, NoPieceBehind, NumbersStandBefore, TrailingIsStated};
 
 /// A file that has the bytes of another before its data, but for the numbers that change as the sound
 /// grows, has its layout, but for how long the sound is and what stands behind it.
@@ -18,8 +18,10 @@ pub fn count_is_stated()
     ensures numbers { NumbersStandBefore }
 {}
 
-/// Where the padded data reach the end of the whole, no piece stands behind them.
-#[tactic(auto, using(crate::proofs::Counts::no_piece_behind))]
+/// The file goes on behind its data where these, with their pad, end before the whole does. Where they
+/// reach its end, no piece stands behind them.
+#[tactic(auto, using(crate::proofs::Counts::trailing_is_stated, crate::proofs::Counts::no_piece_behind))]
 pub fn no_piece_behind()
-    ensures { NoPieceBehind }
+    ensures trailing { TrailingIsStated }
+    ensures pieces { NoPieceBehind }
 {}
