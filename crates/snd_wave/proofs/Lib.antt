@@ -1,5 +1,4 @@
 mod Bodies
-mod Heads
 pub mod Agreements
 pub mod Counts
 pub mod Layouts

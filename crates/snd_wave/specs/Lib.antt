@@ -1,4 +1,3 @@
 pub mod Layout
-pub mod Plain
 pub mod Parts
 pub mod Laws

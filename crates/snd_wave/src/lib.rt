@@ -7,11 +7,9 @@ mod laws;
 mod layout;
 mod parts;
 mod pieces;
-mod plain;
 mod reads;
 #[cfg(test)]
 mod tests;
 
 pub use laws::{count_is_stated, layouts_agree, no_piece_behind};
 pub use layout::open_layout;
-pub use plain::{Plain, open_plain};
