@@ -73,3 +73,8 @@ IsHeld (Ok reply) old new = (new.broken ≡ None) × (new.shape ≡ old.shape)
 abbrev pub most_asked : Said → ℕ
 most_asked (Said.read n) = 1024 * n + 16384
 most_asked said = 0
+
+-- only a read takes memory: for its samples
+abbrev pub takes_memory : Said → Bool
+takes_memory (Said.read n) = true
+takes_memory said = false

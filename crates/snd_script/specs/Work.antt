@@ -1,5 +1,5 @@
 -- What is done for a command on an open file.
-use Rattle.std.specs.Prelude.{◌≡◌, ◌+◌, ◌*◌, ℕ, Some, Result, Ok, Err}
+use Rattle.std.specs.Prelude.{◌≡◌, ◌+◌, ◌*◌, ℕ, Bool, true, false, Some, Result, Ok, Err}
 use Rattle.snd_disk.specs.declared.disk.Step.{Step}
 use Rattle.snd_modes.specs.Editing.{Editing, frames_left, frames_read, moved_by}
 use Rattle.snd_modes.specs.Handle.{Held}
@@ -27,6 +27,10 @@ work_edit (Refuse refusal) e = refused refusal (Some e)
 abbrev pub work_asks : Work → ℕ
 work_asks (Read n) = 1024 * n + 16384
 work_asks work = 0
+
+abbrev pub work_takes_memory : Work → Bool
+work_takes_memory (Read n) = true
+work_takes_memory work = false
 
 -- the handle stands for the state that is left
 abbrev pub Leaves : Result Reply StepFault → Editing → Edited → (Editing → Type 0) → Type 0

@@ -4,8 +4,8 @@ ghost use Rattle.std.specs.Prelude.{◌≡◌, true};
 ghost use Rattle.snd_command.specs.Said.{said_of};
 ghost use Rattle.snd_modes.specs.Editing.{Editing};
 ghost use Rattle.snd_script.specs.Edit.{edit_open};
-ghost use Rattle.snd_script.specs.Stepped.{is_step, most_asked};
-ghost use Rattle.snd_script.specs.Work.{work_asks, work_edit};
+ghost use Rattle.snd_script.specs.Stepped.{is_step, most_asked, takes_memory};
+ghost use Rattle.snd_script.specs.Work.{work_asks, work_edit, work_takes_memory};
 
 use crate::refusal::Refusal;
 use snd_command::Command;
@@ -28,6 +28,7 @@ pub fn work_of(command: &Command<'_>) -> Work
     requires { is_step (said_of command.now) ≡ true }
     ensures edit { (e : Editing) → edit_open e (said_of command.now) ≡ work_edit result e }
     ensures asks { most_asked (said_of command.now) ≡ work_asks result }
+    ensures memory { takes_memory (said_of command.now) ≡ work_takes_memory result }
 {
     match command {
         Command::Info => Work::Tell,
