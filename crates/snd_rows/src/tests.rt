@@ -1,11 +1,11 @@
 use crate::{Printed, run_in_memory};
 use snd_app::run;
-use snd_disk::{FailingCall, FailingPut, MemoryDisk, MemoryShelf, MemorySink};
+use snd_disk::{FailingCall, FailingPut, MemoryDisk, MemoryShelf, MemorySink, MemorySource};
 use snd_fields::Words;
 use std::alloc::{AllocError, Global};
 use std::test::Fail;
 
-/// A plain file of one channel and two frames, 1 and -1, at 8000 frames a second.
+/// A file of one channel and two frames of 16 bits, 1 and -1, at 8000 frames a second.
 const PLAIN: &[u8; 48] =
     b"RIFF\x28\x00\x00\x00WAVEfmt \x10\x00\x00\x00\x01\x00\x01\x00\x40\x1f\x00\x00\x80\x3e\x00\x00\x02\x00\x10\x00data\x04\x00\x00\x00\x01\x00\xff\xff";
 
@@ -20,157 +20,260 @@ fn words_of(alloc: Global, words: &[&str]) -> Result<Words, AllocError> {
     Ok(Words::new(list))
 }
 
-/// What `words` print over a shelf that holds these bytes as `a.wav`.
-fn printed(alloc: Global, words: &[&str], bytes: &[u8]) -> Result<Printed, AllocError> {
+/// What `words` print over a shelf that holds these bytes as `a.wav`, with a script to come.
+fn printed(
+    alloc: Global,
+    words: &[&str],
+    bytes: &[u8],
+    script: &[u8],
+) -> Result<Printed, AllocError> {
     let words = words_of(alloc, words)?;
-    run_in_memory(alloc, &words, "a.wav", bytes.to_vec(alloc)?)
+    run_in_memory(
+        alloc,
+        &words,
+        "a.wav",
+        bytes.to_vec(alloc)?,
+        script.to_vec(alloc)?,
+    )
 }
+
+static BAD_WORDS: [&[&str]; 9] = [
+    &[],
+    &["info"],
+    &["info", "a.wav", "a.wav"],
+    &["Info", "a.wav"],
+    &["info", "-a.wav"],
+    &["info", "a b"],
+    &["info", ""],
+    &["script", "a.wav"],
+    &["scripts"],
+];
 
 #[test]
 fn words_have_their_answers(rt: HostRuntime) -> Result<(), Fail> {
-    let rows: [(&[&str], &str, &str, u8); 9] = [
-        (&["info", "a.wav"], DESCRIPTION, "", 0),
-        (
-            &["info", "no.wav"],
-            "",
-            "snd: no.wav: error 56 MissingFile\n",
-            1,
-        ),
-        (&[], "", "snd: bad words\n", 2),
-        (&["info"], "", "snd: bad words\n", 2),
-        (&["info", "a.wav", "a.wav"], "", "snd: bad words\n", 2),
-        (&["Info", "a.wav"], "", "snd: bad words\n", 2),
-        (&["info", "-a.wav"], "", "snd: bad words\n", 2),
-        (&["info", "a b"], "", "snd: bad words\n", 2),
-        (&["info", ""], "", "snd: bad words\n", 2),
-    ];
-    for (words, out, err, status) in rows {
-        let found = printed(rt.alloc(), words, PLAIN)?;
-        assert_eq!(rt; found.status, status, "of {out} {err}");
-        assert_eq!(rt; found.out.as_slice(), out.as_bytes());
-        assert_eq!(rt; found.err.as_slice(), err.as_bytes());
+    let found = printed(rt.alloc(), &["info", "a.wav"], PLAIN, b"")?;
+    assert_eq!(rt; found.out.as_slice(), DESCRIPTION.as_bytes());
+    assert_eq!(rt; found.status, 0);
+    let found = printed(rt.alloc(), &["info", "no.wav"], PLAIN, b"")?;
+    assert_eq!(rt;
+        found.err.as_slice(),
+        b"snd: no.wav: error 56 MissingFile\n".as_slice()
+    );
+    assert_eq!(rt; found.status, 1);
+    for words in BAD_WORDS.iter() {
+        let found = printed(rt.alloc(), words, PLAIN, b"info\n")?;
+        assert_eq!(rt; found.err.as_slice(), b"snd: bad words\n".as_slice());
+        assert_eq!(rt; found.status, 2);
     }
     Ok(())
 }
+
+/// Up to so many bytes of a file, the reason why it is refused.
+static PREFIXES: [(usize, &str); 3] = [
+    (11, "snd: a.wav: error 1 NotSound\n"),
+    (35, "snd: a.wav: error 6 NoFormat\n"),
+    (43, "snd: a.wav: error 7 NoData\n"),
+];
+
+/// A place, the byte that stands there in the place of the right one, and what is printed.
+static DAMAGES: [(usize, u8, &str); 14] = [
+    (0, b'r', "snd: a.wav: error 1 NotSound\n"),
+    (11, b'A', "snd: a.wav: error 1 NotSound\n"),
+    (15, b't', "snd: a.wav: error 6 NoFormat\n"),
+    (16, 15, "snd: a.wav: error 6 NoFormat\n"),
+    (16, 18, "snd: a.wav: error 7 NoData\n"),
+    (36, b'D', "snd: a.wav: error 7 NoData\n"),
+    (20, 0, "snd: a.wav: error 9 UnknownCodec\n"),
+    (20, 3, "snd: a.wav: error 10 FloatSamples\n"),
+    (22, 0, "snd: a.wav: error 11 BadChannels\n"),
+    (23, 1, "snd: a.wav: error 11 BadChannels\n"),
+    (34, 12, "snd: a.wav: error 13 BadBits\n"),
+    (32, 4, "snd: a.wav: error 14 BadAlign\n"),
+    (34, 8, "snd: a.wav: error 14 BadAlign\n"),
+    (3, b'X', "snd: a.wav: error 1 NotSound\n"),
+];
 
 #[test]
 fn damaged_heads_are_refused(rt: HostRuntime) -> Result<(), Fail> {
-    let refused = b"snd: a.wav: error 99 NotBuilt\n";
-    for size in 0..PLAIN.len() {
-        let found = printed(rt.alloc(), &["info", "a.wav"], &PLAIN[..size])?;
-        assert_eq!(rt; found.err.as_slice(), refused.as_slice(), "of {size} bytes");
-        assert_eq!(rt; found.status, 1);
-    }
-    // a place, and the byte that stands there in the place of the right one
-    let damages: [(usize, u8); 14] = [
-        (0, b'r'),
-        (3, b'X'),
-        (4, 0x29),
-        (4, 0x27),
-        (11, b'A'),
-        (15, b't'),
-        (16, 18),
-        (20, 3),
-        (22, 0),
-        (23, 1),
-        (32, 4),
-        (34, 8),
-        (40, 3),
-        (40, 6),
-    ];
-    for (at, byte) in damages {
-        let mut bytes = *PLAIN;
-        if let Some(place) = bytes.get_mut(at) {
-            *place = byte;
+    let mut from = 0;
+    for (last, message) in PREFIXES.iter() {
+        for size in from..last.saturating_add(1).min(PLAIN.len()) {
+            let found = printed(rt.alloc(), &["info", "a.wav"], &PLAIN[..size], b"")?;
+            assert_eq!(rt; found.err.as_slice(), message.as_bytes(), "of {size} bytes");
         }
-        let found = printed(rt.alloc(), &["info", "a.wav"], &bytes)?;
+        from = last.saturating_add(1);
+    }
+    for (at, byte, message) in DAMAGES.iter() {
+        let mut bytes = *PLAIN;
+        if let Some(place) = bytes.get_mut(*at) {
+            *place = *byte;
+        }
+        let found = printed(rt.alloc(), &["info", "a.wav"], &bytes, b"")?;
         assert_eq!(rt;
             found.err.as_slice(),
-            refused.as_slice(),
+            message.as_bytes(),
             "with {byte} at {at}"
         );
-        assert_eq!(rt; found.out.len(), 0);
+        assert_eq!(rt; found.status, 1);
     }
     Ok(())
 }
 
-/// A head with these channels and this rate, and so many bytes of samples behind it.
-fn silence(alloc: Global, channels: u8, rate: u8, size: u32) -> Result<Vec<u8>, AllocError> {
-    let mut bytes = PLAIN[..44].to_vec(alloc)?;
-    for (at, byte) in [
-        (22, channels),
-        (24, rate),
-        (25, 0),
-        (32, channels.saturating_mul(2)),
-    ] {
-        if at < bytes.len() {
-            bytes[at] = byte;
-        }
-    }
-    let mut sizes = Vec::new(alloc);
-    sizes.extend_from_slice(&size.saturating_add(36).to_le_bytes())?;
-    sizes.extend_from_slice(&size.to_le_bytes())?;
-    for i in 0..4usize {
-        if i + 40 < bytes.len() && i + 4 < sizes.len() {
-            bytes[i + 4] = sizes[i];
-            bytes[i + 40] = sizes[i + 4];
-        }
-    }
-    bytes.resize(44 + (size as usize), 0)?;
-    Ok(bytes)
-}
+/// Scripts over the file above, and what they are answered.
+static SCRIPTS: [(&str, &str, u8); 12] = [
+    ("", "", 0),
+    ("\n  \n# open r a.wav\n", "", 0),
+    (
+        "open r a.wav\nread 1024\nread 1\nclose\n",
+        "ok 2 1 8000 wave pcm_16_le\nok 2\n1\n-1\nok 0\nok 2\n",
+        0,
+    ),
+    (
+        "open r a.wav\ninfo\nseek r 1\nread 1",
+        "ok 2 1 8000 wave pcm_16_le\nok 2 1 8000 wave pcm_16_le\nok 1\nok 1\n-1\n",
+        0,
+    ),
+    (
+        "open r a.wav\nseek rw 2\nseek r 3\nread 1\nseek r 007\n",
+        "ok 2 1 8000 wave pcm_16_le\nok 2\nerror 24 SeekRange\nok 0\nerror 24 SeekRange\n",
+        1,
+    ),
+    (
+        "read 1\ninfo\nclose\nseek r 0\n",
+        "error 42 NotOpen\nerror 42 NotOpen\nerror 42 NotOpen\nerror 42 NotOpen\n",
+        1,
+    ),
+    (
+        "open r a.wav\nopen r a.wav\nclose\nclose\n",
+        "ok 2 1 8000 wave pcm_16_le\nerror 43 AlreadyOpen\nok 2\nerror 42 NotOpen\n",
+        1,
+    ),
+    (
+        "open r no.wav\nopen r -\n",
+        "error 56 MissingFile\nerror 56 MissingFile\n",
+        1,
+    ),
+    (
+        "read 1025\nseek r 9223372036854775808\nopen r\ninfo\t\nseek r -1\nseek r 00000000000000000000\n",
+        "error 40 BadCommand\nerror 40 BadCommand\nerror 40 BadCommand\nerror 40 BadCommand\nerror 40 BadCommand\nerror 40 BadCommand\n",
+        1,
+    ),
+    (
+        "open u a.wav\nwrite 1\ntap peak\nget chunks\nseek w 0\n",
+        "error 99 NotBuilt\nerror 99 NotBuilt\nerror 99 NotBuilt\nerror 99 NotBuilt\nerror 99 NotBuilt\n",
+        1,
+    ),
+    (
+        "open r a.wav\nseek r 9223372036854775807\nseek r 0000000000000000001\nread 2\n",
+        "ok 2 1 8000 wave pcm_16_le\nerror 24 SeekRange\nok 1\nok 1\n-1\n",
+        1,
+    ),
+    (
+        "  open   r  a.wav  \n info \n",
+        "ok 2 1 8000 wave pcm_16_le\nok 2 1 8000 wave pcm_16_le\n",
+        0,
+    ),
+];
 
 #[test]
-fn hours_have_any_length(rt: HostRuntime) -> Result<(), Fail> {
-    // 363,723 frames, one a second: 101 hours, 2 minutes and 3 seconds; and 2 of 3 frames a second
-    let rows = [
-        (1u8, 1u8, 727_446u32, "duration 101:02:03.000\n"),
-        (2, 3, 8, "duration 00:00:00.666\n"),
-    ];
-    for (channels, rate, size, line) in rows {
-        let bytes = silence(rt.alloc(), channels, rate, size)?;
-        let found = printed(rt.alloc(), &["info", "a.wav"], &bytes)?;
-        assert_eq!(rt; found.status, 0, "for {line}");
-        assert!(rt; found.out.ends_with(line.as_bytes()), "for {line}");
+fn scripts_have_their_answers(rt: HostRuntime) -> Result<(), Fail> {
+    for (script, out, status) in SCRIPTS.iter() {
+        let found = printed(rt.alloc(), &["script"], PLAIN, script.as_bytes())?;
+        assert_eq!(rt; found.out.as_slice(), out.as_bytes());
+        assert_eq!(rt; found.status, *status);
     }
     Ok(())
+}
+
+/// A comment of so many bytes, and what it is answered.
+static LINES: [(usize, &str); 4] = [
+    (4096, ""),
+    (4097, "error 41 LineTooLong\n"),
+    (20000, "error 41 LineTooLong\n"),
+    (16_777_216, "error 41 LineTooLong\n"),
+];
+
+#[test]
+fn long_lines_and_scripts_are_refused(rt: HostRuntime) -> Result<(), Fail> {
+    let alloc = rt.alloc();
+    for (length, out) in LINES.iter() {
+        let mut script = Vec::new(alloc);
+        script.resize(*length, b'#')?;
+        let found = printed(alloc, &["script"], PLAIN, &script)?;
+        assert_eq!(rt; found.out.as_slice(), out.as_bytes(), "of {length} bytes");
+    }
+    let mut script = b"open r a.wav\n".to_vec(alloc)?;
+    script.resize(16_777_216, b'\n')?;
+    let found = printed(alloc, &["script"], PLAIN, &script)?;
+    assert_eq!(rt; found.status, 0);
+    script.push(b'\n')?;
+    let found = printed(alloc, &["script"], PLAIN, &script)?;
+    assert_eq!(rt; found.status, 2);
+    assert_eq!(rt;
+        found.out.as_slice(),
+        b"ok 2 1 8000 wave pcm_16_le\n".as_slice()
+    );
+    assert_eq!(rt; found.err.as_slice(), b"snd: script too long\n".as_slice());
+    Ok(())
+}
+
+const SCRIPT: &[u8] = b"open r a.wav\nread 2\nclose\n";
+
+const ANSWERS: &str = "ok 2 1 8000 wave pcm_16_le\nok 2\n1\n-1\nok 2\n";
+
+/// Runs the script above where a call of the disk, of the script or of the output fails: the status,
+/// and what was printed.
+fn run_failing(
+    alloc: Global,
+    disk_call: u64,
+    script_call: u64,
+    put: u64,
+    bytes: u64,
+) -> Result<(u8, Vec<u8>), AllocError> {
+    let words = words_of(alloc, &["script"])?;
+    let mut failing = Vec::new(alloc);
+    failing.push(FailingCall {
+        number: disk_call,
+        sectors: 0,
+    })?;
+    let mut shelf = MemoryShelf::new(alloc);
+    shelf.put(
+        "a.wav",
+        MemoryDisk::new(alloc, PLAIN.to_vec(alloc)?, failing)?,
+    )?;
+    let mut failing = Vec::new(alloc);
+    failing.push(script_call)?;
+    let mut script = MemorySource::new(SCRIPT.to_vec(alloc)?, 8, failing);
+    let mut failing = Vec::new(alloc);
+    failing.push(FailingPut { number: put, bytes })?;
+    let mut out = MemorySink::new(alloc, failing);
+    let mut err = MemorySink::new(alloc, Vec::new(alloc));
+    let status = run(alloc, &words, &mut shelf, &mut script, &mut out, &mut err);
+    Ok((status, out.bytes().to_vec(alloc)?))
 }
 
 #[test]
 fn failing_devices_end_the_run(rt: HostRuntime) -> Result<(), Fail> {
     let alloc = rt.alloc();
-    let words = words_of(alloc, &["info", "a.wav"])?;
-    // the disk is asked twice: for its length, and for its head
-    for (number, status) in [(1u64, 3u8), (2, 3), (3, 0)] {
-        let mut failing = Vec::new(alloc);
-        failing.push(FailingCall { number, sectors: 0 })?;
-        let mut shelf = MemoryShelf::new(alloc);
-        shelf.put(
-            "a.wav",
-            MemoryDisk::new(alloc, PLAIN.to_vec(alloc)?, failing)?,
-        )?;
-        let mut out = MemorySink::new(alloc, Vec::new(alloc));
-        let mut err = MemorySink::new(alloc, Vec::new(alloc));
-        let answer = run(alloc, &words, &mut shelf, &mut out, &mut err);
-        assert_eq!(rt; answer, status, "where call {number} fails");
-        assert_eq!(rt; out.bytes().is_empty(), status == 3);
+    // no call fails
+    let (status, out) = run_failing(alloc, 0, 0, 0, 0)?;
+    assert_eq!(rt; status, 0);
+    assert_eq!(rt; out.as_slice(), ANSWERS.as_bytes());
+    // the disk is read for its head, and then for its frames
+    for call in 1..6u64 {
+        let (status, out) = run_failing(alloc, call, 0, 0, 0)?;
+        assert_eq!(rt; status, 3, "where call {call} of the disk fails");
+        assert!(rt; ANSWERS.as_bytes().starts_with(out.as_slice()));
     }
-    for bytes in 0..DESCRIPTION.len() {
-        let mut failing = Vec::new(alloc);
-        failing.push(FailingPut {
-            number: 1,
-            bytes: bytes as u64,
-        })?;
-        let mut shelf = MemoryShelf::new(alloc);
-        shelf.put(
-            "a.wav",
-            MemoryDisk::new(alloc, PLAIN.to_vec(alloc)?, Vec::new(alloc))?,
-        )?;
-        let mut out = MemorySink::new(alloc, failing);
-        let mut err = MemorySink::new(alloc, Vec::new(alloc));
-        assert_eq!(rt; run(alloc, &words, &mut shelf, &mut out, &mut err), 3);
-        assert_eq!(rt; out.bytes(), &DESCRIPTION.as_bytes()[..bytes]);
-        assert!(rt; err.bytes().is_empty());
+    for call in 1..4u64 {
+        let (status, out) = run_failing(alloc, 0, call, 0, 0)?;
+        assert_eq!(rt; status, 3, "where call {call} of the script fails");
+        assert!(rt; ANSWERS.as_bytes().starts_with(out.as_slice()));
+    }
+    for put in 1..4u64 {
+        let (status, out) = run_failing(alloc, 0, 0, put, 2)?;
+        assert_eq!(rt; status, 3, "where put {put} fails");
+        assert!(rt; ANSWERS.as_bytes().starts_with(out.as_slice()));
     }
     Ok(())
 }

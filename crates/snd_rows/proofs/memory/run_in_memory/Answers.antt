@@ -14,5 +14,5 @@ returns c =
     let p : Printed = record { out = c.in_ok-to_vec.field-0; err = c.in_ok-to_vec-2.field-0; status = c.run-status.result } in
     let out : p.out.items ≡ c.bytes.result.now = search rules in
     let err : p.err.items ≡ c.bytes-2.result.now = search rules in
-    subst (λ (o : Outcome). IsPrinted o p) (outcome_same c.args.words.now (one_file c.args.name.now c.args.bytes.items) there.0 there.2)
-    (printed (outcome c.args.words.now there.0) _ _ _ _ p c.bytes.result.now c.bytes-2.result.now c.new-out.ensures.told c.new-err.ensures.told c.bytes.ensures c.bytes-2.ensures out err (c.run-status.ensures.headline there.0 there.1))
+    subst (λ (o : Outcome). IsPrinted o p) (outcome_same (one_file c.args.name.now c.args.bytes.items) there.0 there.2 c.args.words.now c.args.script.items)
+    (printed (outcome c.args.words.now there.0 c.args.script.items) _ _ _ _ p c.bytes.result.now c.bytes-2.result.now c.new-out.ensures.told c.new-err.ensures.told c.bytes.ensures c.bytes-2.ensures out err (c.run-status.ensures.headline there.0 c.args.script.items there.1 c.new-script.ensures.left))
