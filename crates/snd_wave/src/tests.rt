@@ -8,7 +8,7 @@ use std::test::Fail;
 /// The start, the frames, how many pieces there are, and whether the file goes on behind its data.
 type Said = (u64, u64, usize, bool);
 
-static FILES: [(&'static [u8], Result<Said, OpenRefusal>); 6] = [
+static FILES: [(&'static [u8], Result<Said, OpenRefusal>); 10] = [
     (
         b"RIFF\x28\0\0\0WAVEfmt \x10\0\0\0\x01\0\x01\0\x40\x1f\0\0\x80\x3e\0\0\x02\0\x10\0data\x04\0\0\0\x01\0\xff\xff",
         Ok((44, 2, 0, false)),
@@ -35,8 +35,28 @@ static FILES: [(&'static [u8], Result<Said, OpenRefusal>); 6] = [
     ),
     // a chunk stands behind the data
     (
-        b"RIFF\x34\0\0\0WAVEfmt \x10\0\0\0\x01\0\x01\0\x40\x1f\0\0\x80\x3e\0\0\x02\0\x10\0data\x04\0\0\0\x01\0\xff\xffLIST\x04\0\0\0INFO",
+        b"RIFF\x3e\0\0\0WAVEfmt \x10\0\0\0\x01\0\x01\0\x40\x1f\0\0\x80\x3e\0\0\x02\0\x10\0data\x04\0\0\0\x01\0\xff\xffLIST\x0e\0\0\0INFOINAM\x02\0\0\0A\0",
         Ok((44, 2, 1, true)),
+    ),
+    // it does not end by the end of the whole
+    (
+        b"RIFF\x3d\0\0\0WAVEfmt \x10\0\0\0\x01\0\x01\0\x40\x1f\0\0\x80\x3e\0\0\x02\0\x10\0data\x04\0\0\0\x01\0\xff\xffLIST\x0e\0\0\0INFOINAM\x02\0\0\0A\0",
+        Ok((44, 2, 0, true)),
+    ),
+    // the whole ends before it
+    (
+        b"RIFF\x28\0\0\0WAVEfmt \x10\0\0\0\x01\0\x01\0\x40\x1f\0\0\x80\x3e\0\0\x02\0\x10\0data\x04\0\0\0\x01\0\xff\xffLIST\x0e\0\0\0INFOINAM\x02\0\0\0A\0",
+        Ok((44, 2, 0, false)),
+    ),
+    // the size of the whole is 0
+    (
+        b"RIFF\0\0\0\0WAVEfmt \x10\0\0\0\x01\0\x01\0\x40\x1f\0\0\x80\x3e\0\0\x02\0\x10\0data\x02\0\0\0\x01\0\xff\xff",
+        Ok((44, 1, 0, false)),
+    ),
+    // an odd number of bytes without their pad
+    (
+        b"RIFF\x28\0\0\0WAVEfmt \x10\0\0\0\x01\0\x01\0\x40\x1f\0\0\x40\x1f\0\0\x01\0\x08\0data\x03\0\0\0\x80\x81\x7f",
+        Ok((44, 3, 0, false)),
     ),
 ];
 
