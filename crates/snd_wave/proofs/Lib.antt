@@ -2,6 +2,7 @@ mod Bodies
 mod Heads
 pub mod Agreements
 pub mod Counts
+pub mod Standing
 pub mod Layouts
 pub mod Opens
 pub mod Shapes

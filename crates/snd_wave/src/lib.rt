@@ -12,6 +12,6 @@ mod reads;
 #[cfg(test)]
 mod tests;
 
-pub use laws::{count_is_stated, layouts_agree, no_piece_behind};
+pub use laws::{count_is_stated, fields_are_apart, layouts_agree, no_piece_behind};
 pub use layout::open_layout;
 pub use plain::{Plain, open_plain};
