@@ -164,6 +164,15 @@ module _ (order : Order) (b id : List ℕ) (end : ℕ) where
             All-cons (IsApart found) chunk chunks (inr (inl (omega (arith, between.after, head.next)))) (apart chunk.next q chunks test found chain.1 found_later)
       ]
 
+-- each chunk of a chain says where the next one begins
+abbrev pub SaysNext : Chunk → Type 0
+SaysNext chunk = chunk.next ≡ padded_end chunk.at chunk.len
+
+pub say_next : (order : Order) (b id : List ℕ) (end p q : ℕ) (chunks : List Chunk) → IsChain (chunk_at order b) id end p chunks q → All SaysNext chunks
+say_next order b id end p q [] chain = All-nil SaysNext
+say_next order b id end p q (chunk ∷ chunks) chain =
+    All-cons SaysNext chunk chunks (is_head order b p chunk chain.0.at).next (say_next order b id end chunk.next q chunks chain.1)
+
 -- a chain in one file is one in another with the same heads
 pub same_chain : (order : Order) (x y id : List ℕ) (p q : ℕ) (chunks : List Chunk) → IsChain (chunk_at order y) id (length y) p chunks q → q ≤ length x → All (SameHead x y) chunks
     → IsChain (chunk_at order x) id (length x) p chunks q

@@ -1,5 +1,5 @@
 -- What the layouts of WAVE files owe one another and their files.
-use Rattle.std.specs.Prelude.{◌≡◌, ℕ, ◌+◌, ◌-◌, ◌*◌, ◌/◌, ◌^◌, ◌<◌, ◌≤◌, Bool, false, not, ◌&&◌, ◌||◌, List, Option, None, Some, Ok, All, option_map, length, min, get_or, nat_le, nat_lt}
+use Rattle.std.specs.Prelude.{◌≡◌, ℕ, ◌+◌, ◌-◌, ◌*◌, ◌/◌, ◌^◌, ◌<◌, ◌≤◌, Bool, false, not, ◌&&◌, ◌||◌, List, Option, None, Some, Ok, All, IfSome, option_map, length, min, get_or, nat_le, nat_lt}
 use Rattle.std.specs.List.{filter}
 use Rattle.snd_chunks.specs.Chunks.{padded_end}
 use Rattle.snd_fields.specs.Field.{number}
@@ -75,3 +75,14 @@ TrailingIsStated = (b : List ℕ) (h : Shape) → wave_layout b ≡ Ok h → h.t
 -- Where they reach the end of the whole, no piece stands behind them.
 abbrev pub NoPieceBehind : Type 0
 NoPieceBehind = (b : List ℕ) (h : Shape) → wave_layout b ≡ Ok h → outer_end b ≤ padded_data_end h (length b) → All (λ piece. piece.after ≡ false) h.pieces
+
+-- The fields stand apart and in order: the size of the whole, the count that is not read, and right before the data the
+-- field that decides the count
+pub record FieldsStandApart (h : Shape) : Type 0 where
+  pub outer : h.outer ≡ Some (record { at = 4; size = 4 })
+  pub side : IfSome h.side (λ field. (field.size ≡ 4) × (20 ≤ field.at) × (field.at + 4 ≤ h.inner.at))
+  pub inner : 16 ≤ h.inner.at
+  pub start : h.inner.at + h.inner.size ≡ h.start
+
+abbrev pub FieldsAreApart : Type 0
+FieldsAreApart = (b : List ℕ) (h : Shape) → wave_layout b ≡ Ok h → FieldsStandApart h

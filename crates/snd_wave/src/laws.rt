@@ -1,13 +1,18 @@
 //! The laws of WAVE files' layouts, proved of every file. The functions do nothing: their contracts are
 //! the laws.
 
-ghost use Rattle.snd_wave.specs.Laws.{CountIsStated, LayoutsAgree, NoPieceBehind, NumbersStandBefore, TrailingIsStated};
+ghost use Rattle.snd_wave.specs.Laws.{CountIsStated, FieldsAreApart, LayoutsAgree, NoPieceBehind, NumbersStandBefore, TrailingIsStated};
 
 /// A file that has the bytes of another before its data, but for the numbers that change as the sound
 /// grows, has its layout, but for how long the sound is and what stands behind it.
 #[tactic(auto, using(crate::proofs::Agreements::layouts_agree))]
 pub fn layouts_agree()
     ensures { LayoutsAgree }
+{}
+
+/// The fields of a layout stand apart, and the one that decides the count ends where the data begin.
+pub fn fields_are_apart()
+    ensures { FieldsAreApart }
 {}
 
 /// Where the file holds all whole blocks of the declared data, the frames are those that its numbers

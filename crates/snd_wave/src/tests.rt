@@ -77,6 +77,7 @@ fn said(alloc: Global, bytes: &[u8]) -> Result<Result<Said, OpenRefusal>, Fail> 
 #[test]
 fn reads_layouts(rt: HostRuntime) -> Result<(), Fail> {
     layouts_agree();
+    fields_are_apart();
     count_is_stated();
     no_piece_behind();
     for (i, (bytes, says)) in FILES.iter().enumerate() {
