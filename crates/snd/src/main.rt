@@ -33,12 +33,5 @@ fn main(rt: HostRuntime) -> ExitCode {
     let mut out = WriterSink::new(rt.stdout());
     let mut err = WriterSink::new(rt.stderr());
     let mut shelf = FolderShelf::new(rt);
-    ExitCode::from(run(
-        alloc,
-        &words,
-        &mut shelf,
-        &mut script,
-        &mut out,
-        &mut err,
-    ))
+    ExitCode::from(run(alloc, &words, &mut shelf, &mut script, &mut out, &mut err))
 }
