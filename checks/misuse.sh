@@ -1,16 +1,16 @@
 #!/usr/bin/env bash
 # Uses of the library that must not compile. Each file of misuse/ has the message that its code must give; the code is
-# tried as a crate of its own, in a copy beside links to this repository's crates, and the message is the only error.
+# tried as a crate of its own, beside copies of the crates that it uses, and the message is the only error.
 set -u
 top=$(dirname "$(dirname "$(readlink -f "${BASH_SOURCE[0]}")")")
 folder=$(mktemp -d)
 trap 'rm -rf "$folder"' EXIT
 mkdir "$folder/crates"
-for crate in "$top"/crates/*; do
-    ln -s "$crate" "$folder/crates/"
-done
-cp "$top/crates.txt" "$folder/crates.txt"
 libraries=$(sed -n 's/^snd_modes: *//p' "$top/crates.txt")
+for crate in $libraries snd_modes; do
+    [ ! -d "$top/crates/$crate" ] || cp -r "$top/crates/$crate" "$folder/crates/"
+done
+grep -E "^($(echo "$libraries snd_modes" | tr ' ' '|')):" "$top/crates.txt" >"$folder/crates.txt"
 echo "misuse: $libraries snd_modes" >>"$folder/crates.txt"
 mkdir -p "$folder/crates/misuse/src"
 passed=0

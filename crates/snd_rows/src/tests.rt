@@ -54,6 +54,12 @@ fn words_have_their_answers(rt: HostRuntime) -> Result<(), Fail> {
     let found = printed(rt.alloc(), &["info", "a.wav"], PLAIN, b"")?;
     assert_eq!(rt; found.out.as_slice(), DESCRIPTION.as_bytes());
     assert_eq!(rt; found.status, 0);
+    let found = printed(rt.alloc(), &["info", "a.wav"], TITLED, b"")?;
+    assert!(rt;
+        found
+            .out
+            .ends_with(b"duration 00:00:00.000\nchunk LIST 14\n")
+    );
     let found = printed(rt.alloc(), &["info", "no.wav"], PLAIN, b"")?;
     assert_eq!(rt;
         found.err.as_slice(),
@@ -67,6 +73,14 @@ fn words_have_their_answers(rt: HostRuntime) -> Result<(), Fail> {
     }
     Ok(())
 }
+
+/// A file of one channel and three frames of 8 bits, 0, 1 and -1, without its pad byte.
+const BYTES: &[u8; 47] =
+    b"RIFF\x28\x00\x00\x00WAVEfmt \x10\x00\x00\x00\x01\x00\x01\x00\x40\x1f\x00\x00\x40\x1f\x00\x00\x01\x00\x08\x00data\x03\x00\x00\x00\x80\x81\x7f";
+
+/// The first file with a title behind its data.
+const TITLED: &[u8; 70] =
+    b"RIFF\x3e\x00\x00\x00WAVEfmt \x10\x00\x00\x00\x01\x00\x01\x00\x40\x1f\x00\x00\x80\x3e\x00\x00\x02\x00\x10\x00data\x04\x00\x00\x00\x01\x00\xff\xffLIST\x0e\x00\x00\x00INFOINAM\x02\x00\x00\x00A\x00";
 
 /// Up to so many bytes of a file, the reason why it is refused.
 static PREFIXES: [(usize, &str); 3] = [
@@ -93,16 +107,47 @@ static DAMAGES: [(usize, u8, &str); 14] = [
     (3, b'X', "snd: a.wav: error 1 NotSound\n"),
 ];
 
+/// What is said of the first bytes of a file, where it is refused.
+fn message_of(size: usize) -> Option<&'static str> {
+    for (last, message) in PREFIXES.iter() {
+        if size <= *last {
+            return Some(message);
+        }
+    }
+    None
+}
+
+#[test]
+fn cut_files_are_answered(rt: HostRuntime) -> Result<(), Fail> {
+    let files: [&[u8]; 3] = [PLAIN, BYTES, TITLED];
+    for bytes in files {
+        for size in 0..bytes.len() {
+            let found = printed(rt.alloc(), &["info", "a.wav"], &bytes[..size], b"")?;
+            let message = message_of(size).unwrap_or("");
+            assert_eq!(rt; found.err.as_slice(), message.as_bytes(), "of {size} bytes");
+            assert_eq!(rt; found.status == 0, size >= 44, "of {size} bytes");
+        }
+    }
+    Ok(())
+}
+
+/// Every byte of a head in turn is another: the file is described or refused.
+#[test]
+fn changed_heads_are_answered(rt: HostRuntime) -> Result<(), Fail> {
+    for at in 0..44usize {
+        for change in [1u8, 0x80, 0xff] {
+            let mut bytes = *PLAIN;
+            bytes[at] ^= change;
+            let found = printed(rt.alloc(), &["info", "a.wav"], &bytes, b"")?;
+            assert!(rt; found.status <= 1, "with a change of {change} at {at}");
+            assert_eq!(rt; found.out.is_empty(), found.status == 1);
+        }
+    }
+    Ok(())
+}
+
 #[test]
 fn damaged_heads_are_refused(rt: HostRuntime) -> Result<(), Fail> {
-    let mut from = 0;
-    for (last, message) in PREFIXES.iter() {
-        for size in from..last.saturating_add(1).min(PLAIN.len()) {
-            let found = printed(rt.alloc(), &["info", "a.wav"], &PLAIN[..size], b"")?;
-            assert_eq!(rt; found.err.as_slice(), message.as_bytes(), "of {size} bytes");
-        }
-        from = last.saturating_add(1);
-    }
     for (at, byte, message) in DAMAGES.iter() {
         let mut bytes = *PLAIN;
         if let Some(place) = bytes.get_mut(*at) {
@@ -177,6 +222,11 @@ static SCRIPTS: [(&str, &str, u8); 12] = [
 
 #[test]
 fn scripts_have_their_answers(rt: HostRuntime) -> Result<(), Fail> {
+    let found = printed(rt.alloc(), &["script"], BYTES, b"open r a.wav\nread 3\n")?;
+    assert_eq!(rt;
+        found.out.as_slice(),
+        b"ok 3 1 8000 wave pcm_u8\nok 3\n0\n1\n-1\n".as_slice()
+    );
     for (script, out, status) in SCRIPTS.iter() {
         let found = printed(rt.alloc(), &["script"], PLAIN, script.as_bytes())?;
         assert_eq!(rt; found.out.as_slice(), out.as_bytes());
