@@ -43,13 +43,13 @@ expect "a word that is no text" 2 "" "snd: bad words" "$program" info $'\xff.wav
 expect "a full standard output" 3 "" "" bash -c "'$program' info bell.wav >/dev/full"
 expect "a closed standard output" 3 "" "" bash -c "'$program' info bell.wav >&-"
 expect "a full standard error" 3 "" "" bash -c "'$program' info no.wav 2>/dev/full"
-expect "a script" 0 "ok 2000 2 16000 wave pcm_16_le" "" bash -c "printf 'open r bell.wav\nclose\n' | '$program' script"
+expect "a script" 0 "ok 4000 1 8000 wave pcm_16_le" "" bash -c "printf 'open r bell.wav\nclose\n' | '$program' script"
 expect "a script from a file" 1 "error 42 NotOpen" "" bash -c "echo 'read 1' >script; '$program' script <script"
-expect "a script of a folder" 3 "ok 2000 2 16000 wave pcm_16_le" "" bash -c "printf 'open r bell.wav\nclose\nopen r sub\ninfo\n' | '$program' script"
+expect "a script of a folder" 3 "ok 4000 1 8000 wave pcm_16_le" "" bash -c "printf 'open r bell.wav\nclose\nopen r sub\ninfo\n' | '$program' script"
 expect "an endless script" 2 "" "snd: script too long" bash -c "yes '' | '$program' script"
 expect "a script that cannot be read" 3 "" "" bash -c "'$program' script <."
 expect "a script with a full output" 3 "" "" bash -c "echo info | '$program' script >/dev/full"
-expect "a reply before the next line" 0 "ok 2000 2 16000 wave pcm_16_le" "" python3 -c "
+expect "a reply before the next line" 0 "ok 4000 1 8000 wave pcm_16_le" "" python3 -c "
 import select, subprocess, sys
 snd = subprocess.Popen(['$program', 'script'], stdin=subprocess.PIPE, stdout=subprocess.PIPE)
 snd.stdin.write(b'open r bell.wav\n')
