@@ -11,10 +11,10 @@ mod stream;
 use codec::Codec;
 use snd_disk::ReaderSource;
 use std::env;
-use std::io::{BufReader, BufWriter};
+use std::io::BufReader;
 use std::process::ExitCode;
 
-/// How many bytes are read and written at a time.
+/// How many bytes are read at a time.
 const GATHERED: usize = 131_072;
 
 /// What is to be done, by the words.
@@ -34,14 +34,11 @@ fn main(rt: HostRuntime) -> ExitCode {
     let Some((mut codec, turns)) = asked(&rt) else {
         return ExitCode::from(2);
     };
-    let alloc = rt.alloc();
-    let (Ok(reader), Ok(mut writer)) = (
-        BufReader::with_capacity(alloc, GATHERED, rt.stdin()),
-        BufWriter::with_capacity(alloc, GATHERED, rt.stdout()),
-    ) else {
+    let Ok(reader) = BufReader::with_capacity(rt.alloc(), GATHERED, rt.stdin()) else {
         return ExitCode::from(4);
     };
     let mut source = ReaderSource::new(reader);
+    let mut writer = rt.stdout();
     if turns == 0 {
         ExitCode::from(stream::turn_all(&mut codec, &mut source, &mut writer))
     } else {

@@ -6,7 +6,7 @@ ghost use Rattle.snd_adpcm.specs.Frames.{Is16Bit, alternating};
 ghost use Rattle.snd_adpcm.specs.Ima.{ima_predictor, ima_index, ima_first, ima_start_index, is_ima_align, ima_samples_per_block, is_bad_ima_block, ima_channel, ima_block};
 
 use crate::BadBlock;
-use crate::number::{high_code, low_code, number_of, make_room};
+use crate::number::{high_code, low_code, make_room, number_of};
 use crate::step::{change_at, index_after_two, next_index_at};
 use arrayvec::ArrayVec;
 

@@ -5,12 +5,14 @@ ghost use Rattle.snd_adpcm.specs.Frames.{Is16Bit, alternating, high_half_first, 
 ghost use Rattle.snd_adpcm.specs.Microsoft.{newer_weight, older_weight, adaptation, ms_prediction, signed_code, ms_sample, ms_delta, ms_samples, number_at, ms_number, ms_start_delta, ms_newer, ms_older, is_ms_align, ms_samples_per_block, is_bad_ms_block, ms_channel, ms_block};
 
 use crate::BadBlock;
-use crate::number::{high_code, low_code, number_of, make_room};
+use crate::number::{high_code, low_code, make_room, number_of};
 use arrayvec::ArrayVec;
 
 static NEWER_WEIGHTS: [i32; 7] = [256, 512, 0, 192, 240, 460, 392];
 
 static OLDER_WEIGHTS: [i32; 7] = [0, -256, 0, 64, 0, -208, -232];
+
+static NUMBERS: [i32; 16] = [0, 1, 2, 3, 4, 5, 6, 7, -8, -7, -6, -5, -4, -3, -2, -1];
 
 static ADAPTATIONS: [i32; 16] = [
     230, 230, 230, 230, 307, 409, 512, 614, 768, 614, 512, 409, 307, 230, 230, 230,
@@ -54,7 +56,7 @@ fn signed(code: u8) -> i32
     ensures value { result ≡ signed_code code }
     ensures bound { unsigned_abs result ≤ 8 }
 {
-    i32::from(code ^ 8) - 8
+    NUMBERS[usize::from(code)]
 }
 
 /// The product of two numbers.
@@ -159,9 +161,11 @@ fn delta_after(delta: i32, code: u32) -> i32
     ensures least { pos 16 ≤ℤ result }
     ensures bound { unsigned_abs result ≤ 1048576 }
 {
-    let raised = floor_256(product(delta, adaptation_of(code))).max(16);
-    if raised <= 1048576 {
-        raised
+    let moved = floor_256(product(delta, adaptation_of(code)));
+    if 16 <= moved && moved <= 1048576 {
+        moved
+    } else if moved < 16 {
+        16
     } else {
         held_delta(delta, code)
     }
