@@ -11,11 +11,7 @@ mod stream;
 use codec::Codec;
 use snd_disk::ReaderSource;
 use std::env;
-use std::io::BufReader;
 use std::process::ExitCode;
-
-/// How many bytes are read at a time.
-const GATHERED: usize = 131_072;
 
 /// What is to be done, by the words.
 fn asked(rt: &HostRuntime) -> Option<(Codec, u64)> {
@@ -34,10 +30,7 @@ fn main(rt: HostRuntime) -> ExitCode {
     let Some((mut codec, turns)) = asked(&rt) else {
         return ExitCode::from(2);
     };
-    let Ok(reader) = BufReader::with_capacity(rt.alloc(), GATHERED, rt.stdin()) else {
-        return ExitCode::from(4);
-    };
-    let mut source = ReaderSource::new(reader);
+    let mut source = ReaderSource::new(rt.stdin());
     let mut writer = rt.stdout();
     if turns == 0 {
         ExitCode::from(stream::turn_all(&mut codec, &mut source, &mut writer))
