@@ -76,6 +76,7 @@ impl ImaState {
 }
 
 /// The samples of a block of one channel.
+// by itself it has registers enough
 #[inline(never)]
 fn decode_mono(bytes: &[u8], into: &mut [i32])
     requires whole { 4 ≤ length bytes.now }

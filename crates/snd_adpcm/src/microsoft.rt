@@ -12,6 +12,7 @@ static NEWER_WEIGHTS: [i32; 7] = [256, 512, 0, 192, 240, 460, 392];
 
 static OLDER_WEIGHTS: [i32; 7] = [0, -256, 0, 64, 0, -208, -232];
 
+/// How many deltas each code stands for.
 static NUMBERS: [i32; 16] = [0, 1, 2, 3, 4, 5, 6, 7, -8, -7, -6, -5, -4, -3, -2, -1];
 
 static ADAPTATIONS: [i32; 16] = [
@@ -137,7 +138,7 @@ fn sample_of(newer_by: i32, older_by: i32, newer: i32, older: i32, delta: i32, d
     held_16(prediction(newer_by, older_by, newer, older) + product(deltas, delta))
 }
 
-/// The delta after a code, where it would be above the greatest.
+/// The delta after a code, for the few that would be above the greatest.
 #[cold]
 #[inline(never)]
 #[tactic(auto, unfolding(crate::specs::Microsoft::ms_delta), using(crate::proofs::Numbers::abs_within))]
@@ -272,6 +273,7 @@ impl MsState {
 }
 
 /// The samples of a block of one channel, whose head gives `start`.
+// by itself it has registers enough
 #[inline(never)]
 fn decode_mono(codes: &[u8], start: MsState, into: &mut [i32])
     requires room { length into.old ≡ 2 * length codes.now + 2 }
