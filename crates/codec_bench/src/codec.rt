@@ -1,4 +1,4 @@
-ghost use Rattle.std.specs.Prelude.{◌≡◌, ◌≤◌, All, FitsSigned, length};
+ghost use Rattle.std.specs.Prelude.{◌≡◌, ◌<◌, ◌≤◌, All, FitsSigned, length};
 ghost use Rattle.std.specs.Int.{w16};
 ghost use Rattle.snd_adpcm.specs.Frames.{Is16Bit};
 ghost use Rattle.codec_bench.specs.Codec.{block_size};
@@ -60,6 +60,7 @@ impl Codec {
     /// How many bytes are turned at a time.
     pub fn block_size(&self) -> usize
         ensures value { result ≡ block_size self.now }
+        ensures some { 0 < result }
         ensures room { result ≤ 32768 }
     {
         match self {
@@ -84,8 +85,12 @@ impl Codec {
             Codec::AlawEncode => encode_law(input, &mut room.numbers, output, true),
             Codec::ImaDecode => decode_ima(input, &mut room.samples, output),
             Codec::MsDecode => decode_ms(input, &mut room.samples, output),
-            Codec::ImaEncode(writer) => encode_ima(writer, input, &mut room.bytes, output),
-            Codec::MsEncode(writer) => encode_ms(writer, input, &mut room.bytes, output),
+            Codec::ImaEncode(writer) => {
+                encode_ima(writer, input, &mut room.numbers, &mut room.bytes, output)
+            }
+            Codec::MsEncode(writer) => {
+                encode_ms(writer, input, &mut room.numbers, &mut room.bytes, output)
+            }
         }
     }
 }
@@ -177,6 +182,7 @@ fn put_block(bytes: &[u8], output: &mut [u8]) -> usize
 fn encode_ima(
     writer: &mut ImaWriter,
     input: &[u8],
+    numbers: &mut [i32; 16384],
     bytes: &mut ArrayVec<u8, 8192>,
     output: &mut [u8],
 ) -> usize
@@ -184,15 +190,16 @@ fn encode_ima(
     requires room { length output.old ≡ 32768 }
     ensures { result ≤ 32768 }
 {
-    let mut samples = [0; 2041];
-    read_samples(LINEAR, input, &mut samples);
-    writer.encode(&samples, 1, bytes);
+    let samples = &mut numbers[..2041];
+    read_samples(LINEAR, input, samples);
+    writer.encode(samples, 1, bytes);
     put_block(bytes, output)
 }
 
 fn encode_ms(
     writer: &mut MsWriter,
     input: &[u8],
+    numbers: &mut [i32; 16384],
     bytes: &mut ArrayVec<u8, 8192>,
     output: &mut [u8],
 ) -> usize
@@ -200,8 +207,8 @@ fn encode_ms(
     requires room { length output.old ≡ 32768 }
     ensures { result ≤ 32768 }
 {
-    let mut samples = [0; 2036];
-    read_samples(LINEAR, input, &mut samples);
-    writer.encode(&samples, 1, bytes);
+    let samples = &mut numbers[..2036];
+    read_samples(LINEAR, input, samples);
+    writer.encode(samples, 1, bytes);
     put_block(bytes, output)
 }

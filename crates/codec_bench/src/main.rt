@@ -11,11 +11,7 @@ mod stream;
 use codec::Codec;
 use snd_disk::ReaderSource;
 use std::env;
-use std::io::{BufReader, BufWriter};
 use std::process::ExitCode;
-
-/// How many bytes are read and written at a time.
-const GATHERED: usize = 131_072;
 
 /// What is to be done, by the words.
 fn asked(rt: &HostRuntime) -> Option<(Codec, u64)> {
@@ -34,14 +30,8 @@ fn main(rt: HostRuntime) -> ExitCode {
     let Some((mut codec, turns)) = asked(&rt) else {
         return ExitCode::from(2);
     };
-    let alloc = rt.alloc();
-    let (Ok(reader), Ok(mut writer)) = (
-        BufReader::with_capacity(alloc, GATHERED, rt.stdin()),
-        BufWriter::with_capacity(alloc, GATHERED, rt.stdout()),
-    ) else {
-        return ExitCode::from(4);
-    };
-    let mut source = ReaderSource::new(reader);
+    let mut source = ReaderSource::new(rt.stdin());
+    let mut writer = rt.stdout();
     if turns == 0 {
         ExitCode::from(stream::turn_all(&mut codec, &mut source, &mut writer))
     } else {

@@ -1,7 +1,8 @@
 -- Bounds of signed numbers.
-use Rattle.std.proofs.Common.{◌≡◌, ℕ, ◌+◌, ◌≤◌, ℤ, pos, negsuc, unsigned_abs, ◌≤ℤ◌, arith}
+use Rattle.std.proofs.Common.{◌≡◌, ℕ, ◌+◌, ◌<◌, ◌≤◌, ℤ, pos, negsuc, unsigned_abs, ◌≤ℤ◌, arith}
 use Rattle.std.proofs.lemmas.Int.{ints}
 use Rattle.snd_adpcm.specs.Frames.{clamp, floor_div}
+use Rattle.snd_adpcm.specs.Microsoft.{signed_code}
 
 -- a number between two bounds has at most their magnitude, and the other way round
 pub abs_within : (z : ℤ) (n : ℕ) → negsuc n ≤ℤ z → z ≤ℤ pos (n + 1) → unsigned_abs z ≤ n + 1
@@ -27,3 +28,6 @@ clamp_least r z is = rw is (grind (arith, ints))
 
 pub clamp_most : (r z : ℤ) → r ≡ clamp (negsuc 32767) (pos 32767) z → r ≤ℤ pos 32767
 clamp_most r z is = rw is (grind (arith, ints))
+
+pub abs_of_code : (code : ℕ) (z : ℤ) → code < 16 → z ≡ signed_code code → unsigned_abs z ≤ 8
+abs_of_code code z lt is = rw is (grind (arith, ints))

@@ -6,7 +6,7 @@ ghost use Rattle.snd_adpcm.specs.Frames.{Is16Bit, alternating};
 ghost use Rattle.snd_adpcm.specs.Ima.{ima_predictor, ima_index, ima_first, ima_start_index, is_ima_align, ima_samples_per_block, is_bad_ima_block, ima_channel, ima_block};
 
 use crate::BadBlock;
-use crate::number::{high_code, low_code, number_of, put_zeros};
+use crate::number::{high_code, low_code, make_room, number_of};
 use crate::step::{change_at, index_after_two, next_index_at};
 use arrayvec::ArrayVec;
 
@@ -76,6 +76,8 @@ impl ImaState {
 }
 
 /// The samples of a block of one channel.
+// by itself it has registers enough
+#[inline(never)]
 fn decode_mono(bytes: &[u8], into: &mut [i32])
     requires whole { 4 ≤ length bytes.now }
     requires room { length into.old ≡ 2 * (length bytes.now - 4) + 1 }
@@ -155,14 +157,15 @@ impl ImaBlock {
         ensures bad { IsErr result ↔ IsTrue (is_bad_ima_block channels bytes.now) }
         ensures empty { OnErr result (into.new.items ≡ []) }
     {
-        into.clear();
         if has_bad_head(bytes, channels) {
+            into.clear();
             return Err(BadBlock);
         }
         if channels == 1 {
-            put_zeros(2 * bytes.len() - 7, into);
+            make_room(2 * bytes.len() - 7, into);
             decode_mono(bytes, into.as_mut_slice());
         } else {
+            into.clear();
             decode_stereo(bytes, into);
         }
         Ok(())

@@ -51,6 +51,8 @@ impl ImaPlace {
 }
 
 /// Puts the bytes of a channel's samples, two codes in each, and gives the state after them.
+// by itself it has registers enough
+#[inline(never)]
 fn encode_run(samples: &[i32], start: ImaState, into: &mut ArrayVec<u8, 8192>) -> ImaState
     requires even { length samples.now % 2 ≡ 0 }
     requires range { All Is16Bit samples.now }

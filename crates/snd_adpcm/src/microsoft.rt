@@ -5,12 +5,15 @@ ghost use Rattle.snd_adpcm.specs.Frames.{Is16Bit, alternating, high_half_first, 
 ghost use Rattle.snd_adpcm.specs.Microsoft.{newer_weight, older_weight, adaptation, ms_prediction, signed_code, ms_sample, ms_delta, ms_samples, number_at, ms_number, ms_start_delta, ms_newer, ms_older, is_ms_align, ms_samples_per_block, is_bad_ms_block, ms_channel, ms_block};
 
 use crate::BadBlock;
-use crate::number::{high_code, low_code, number_of, put_zeros};
+use crate::number::{high_code, low_code, make_room, number_of};
 use arrayvec::ArrayVec;
 
 static NEWER_WEIGHTS: [i32; 7] = [256, 512, 0, 192, 240, 460, 392];
 
 static OLDER_WEIGHTS: [i32; 7] = [0, -256, 0, 64, 0, -208, -232];
+
+/// How many deltas each code stands for.
+static NUMBERS: [i32; 16] = [0, 1, 2, 3, 4, 5, 6, 7, -8, -7, -6, -5, -4, -3, -2, -1];
 
 static ADAPTATIONS: [i32; 16] = [
     230, 230, 230, 230, 307, 409, 512, 614, 768, 614, 512, 409, 307, 230, 230, 230,
@@ -54,7 +57,7 @@ fn signed(code: u8) -> i32
     ensures value { result ≡ signed_code code }
     ensures bound { unsigned_abs result ≤ 8 }
 {
-    i32::from(code ^ 8) - 8
+    NUMBERS[usize::from(code)]
 }
 
 /// The product of two numbers.
@@ -135,13 +138,18 @@ fn sample_of(newer_by: i32, older_by: i32, newer: i32, older: i32, delta: i32, d
     held_16(prediction(newer_by, older_by, newer, older) + product(deltas, delta))
 }
 
-/// The greatest delta.
+/// The delta after a code, for the few that would be above the greatest.
 #[cold]
 #[inline(never)]
-fn greatest_delta() -> i32
-    ensures { result ≡ pos 1048576 }
+#[tactic(auto, unfolding(crate::specs::Microsoft::ms_delta), using(crate::proofs::Numbers::abs_within))]
+fn held_delta(delta: i32, code: u32) -> i32
+    requires delta { unsigned_abs delta ≤ 1048576 }
+    requires code { code < 16 }
+    ensures value { result ≡ ms_delta delta code }
+    ensures least { pos 16 ≤ℤ result }
+    ensures bound { unsigned_abs result ≤ 1048576 }
 {
-    1048576
+    floor_256(product(delta, adaptation_of(code))).clamp(16, 1048576)
 }
 
 /// The delta after a code.
@@ -154,11 +162,13 @@ fn delta_after(delta: i32, code: u32) -> i32
     ensures least { pos 16 ≤ℤ result }
     ensures bound { unsigned_abs result ≤ 1048576 }
 {
-    let raised = floor_256(product(delta, adaptation_of(code))).max(16);
-    if raised <= 1048576 {
-        raised
+    let moved = floor_256(product(delta, adaptation_of(code)));
+    if 16 <= moved && moved <= 1048576 {
+        moved
+    } else if moved < 16 {
+        16
     } else {
-        greatest_delta()
+        held_delta(delta, code)
     }
 }
 
@@ -263,6 +273,8 @@ impl MsState {
 }
 
 /// The samples of a block of one channel, whose head gives `start`.
+// by itself it has registers enough
+#[inline(never)]
 fn decode_mono(codes: &[u8], start: MsState, into: &mut [i32])
     requires room { length into.old ≡ 2 * length codes.now + 2 }
     ensures samples { into.new ≡ start.older ∷ start.newer ∷ ms_samples start.newer_by start.older_by start.newer start.older start.delta (high_half_first codes.now) }
@@ -336,17 +348,18 @@ impl MsBlock {
         ensures bad { IsErr result ↔ IsTrue (is_bad_ms_block channels bytes.now) }
         ensures empty { OnErr result (into.new.items ≡ []) }
     {
-        into.clear();
         if has_bad_head(bytes, channels) {
+            into.clear();
             return Err(BadBlock);
         }
         let (_, codes) = bytes.split_at(7 * usize::from(channels));
         if channels == 1 {
-            put_zeros(2 * codes.len() + 2, into);
+            make_room(2 * codes.len() + 2, into);
             decode_mono(codes, MsState::of_head(bytes, 1, 0), into.as_mut_slice());
         } else {
             let left = MsState::of_head(bytes, 2, 0);
             let right = MsState::of_head(bytes, 2, 1);
+            into.clear();
             decode_stereo(codes, left, right, into);
         }
         Ok(())

@@ -186,6 +186,8 @@ fn encode(state: MsState, sample: i32) -> (u32, MsState)
 }
 
 /// Puts the bytes of one channel's samples, two codes in each.
+// by itself it has registers enough
+#[inline(never)]
 fn encode_samples(samples: &[i32], start: MsState, into: &mut ArrayVec<u8, 8192>)
     requires even { length samples.now % 2 ≡ 0 }
     requires range { All Is16Bit samples.now }

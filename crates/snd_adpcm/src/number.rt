@@ -1,6 +1,6 @@
 //! Numbers of 16 bits and the two codes of a byte.
 
-ghost use Rattle.std.specs.Prelude.{◌≡◌, ◌+◌, ◌/◌, ◌%◌, ◌≤◌, ◌≤ℤ◌, ◌++◌, length, pos, negsuc, []};
+ghost use Rattle.std.specs.Prelude.{◌≡◌, ◌+◌, ◌/◌, ◌%◌, ◌≤◌, ◌≤ℤ◌, ◌++◌, length, pos, negsuc};
 ghost use Rattle.snd_adpcm.specs.Frames.{number_16, bytes_16, Is16Bit};
 
 use arrayvec::ArrayVec;
@@ -44,13 +44,15 @@ pub fn put_number(number: i32, into: &mut ArrayVec<u8, 8192>)
     into.push(high);
 }
 
-/// Puts so many zeros into an empty list, to be written over.
-pub fn put_zeros(count: usize, into: &mut ArrayVec<i32, 16384>)
+/// Makes a list so long, whatever it holds. Where it is that long already, as after a block of the same size, nothing is done.
+pub fn make_room(count: usize, into: &mut ArrayVec<i32, 16384>)
     requires room { count ≤ 16384 }
-    requires empty { into.old.items ≡ [] }
     ensures { length into.new.items ≡ count }
 {
-    for _n in 0..count {
-        into.push(0);
+    if into.len() != count {
+        into.clear();
+        for _ in 0..count {
+            into.push(0);
+        }
     }
 }

@@ -507,5 +507,6 @@ pub fn index_after_two(index: usize, first: u8, second: u8) -> usize
     ensures { result ≡ next_index 0 88 (next_index 0 88 index first) second }
 {
     let moved = index as i32 + (move_of(first) + move_of(second));
-    moved.max(least_after(second)).min(greatest_after(second)) as usize
+    let held = moved.max(least_after(second)).min(greatest_after(second));
+    held as u32 as usize
 }

@@ -10,8 +10,8 @@ returns-then-channels-eq1-clause-samples c =
     let one : c.args.channels ≡ 1 = c.if-channels-eq1.true in
     let codes : c.split_at.result.1.now ≡ drop (7 * 1) c.args.bytes.now = c.split_at.ensures.back ∙ ap (λ k. drop (7 * k) c.args.bytes.now) (c.from.ensures ∙ one) in
     let s = c.of_head.ensures in
-    let same : length c.decode_mono.new.into ≡ length c.put_zeros.new.into.items = search rules in
-    written_over c.put_zeros.new.into.items c.decode_mono.new.into same ∙ c.decode_mono.ensures.samples ∙ of_head 1 0 c.args.bytes.now _ c.of_head.result s.newer s.older s.delta s.newer_by s.older_by (ap high_half_first codes) ∙ ap (λ k. ms_block k c.args.bytes.now) (sym one)
+    let same : length c.decode_mono.new.into ≡ length c.make_room.new.into.items = search rules in
+    written_over c.make_room.new.into.items c.decode_mono.new.into same ∙ c.decode_mono.ensures.samples ∙ of_head 1 0 c.args.bytes.now _ c.of_head.result s.newer s.older s.delta s.newer_by s.older_by (ap high_half_first codes) ∙ ap (λ k. ms_block k c.args.bytes.now) (sym one)
 
 pub returns-else-channels-eq1-clause-samples : goal.returns-else-channels-eq1-clause-samples
 returns-else-channels-eq1-clause-samples c =
