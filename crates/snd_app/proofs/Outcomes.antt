@@ -1,11 +1,10 @@
 -- From what was put to the outcome.
-use Rattle.std.proofs.Common.{◌≡◌, ◌⊎◌, inl, inr, ℕ, ◌≤◌, List, [], ◌∷◌, ◌++◌, Bool, true, false, Option, Some, None, length, take, refl, sym, ◌∙◌, ap, subst, append-nil, arith}
-use Rattle.snd_disk.specs.State.{Rises}
+use Rattle.std.proofs.Common.{◌≡◌, inl, inr, ℕ, List, [], true, false, Some, refl, sym, ◌∙◌, ap, subst, append-nil, arith}
 use Rattle.snd_disk.specs.Streams.{AppendsFront}
 use Rattle.snd_app.specs.declared.look.Found.{Found}
 use Rattle.snd_app.specs.declared.look.Found.TheVariants.{Missing, Refused, Sound}
 use Rattle.snd_app.specs.Outcome.{Outcome, info, text_of, is_refused}
-use Rattle.snd_app.specs.Run.{Faults, Told, Appends, Prints, PrintsFront, AnyRises, IsOutcome, PutsText}
+use Rattle.snd_app.specs.Run.{Faults, Told, Appends, PrintsFront, IsOutcome, PutsText}
 
 -- nothing is put to a sink
 pub none_put : (sink : Told) → sink.after ≡ sink.before → Appends sink []

@@ -1,15 +1,13 @@
 -- From a script that was served to the outcome.
-use Rattle.std.proofs.Common.{◌≡◌, ◌⊎◌, inl, inr, ⊎_elim, ℕ, ◌≤◌, List, [], ◌∷◌, ◌++◌, Bool, true, false, Option, Some, None, length, take, refl, sym, ◌∙◌, ap, subst, append-nil, codes, arith}
+use Rattle.std.proofs.Common.{◌≡◌, inl, inr, ℕ, List, ◌++◌, Bool, true, false, Some, length, refl, sym, ◌∙◌, ap, codes, arith}
 use Rattle.std.proofs.lemmas.List.{take_all}
-use Rattle.snd_disk.specs.State.{Rises}
 use Rattle.snd_disk.specs.Streams.{AppendsFront}
-use Rattle.snd_script.specs.declared.serving.ScriptEnd.{ScriptEnd}
-use Rattle.snd_script.specs.declared.serving.ScriptEnd.TheVariants.{Done, TooLong, Fault, Memory}
+use Rattle.snd_script.specs.declared.serving.ScriptEnd.TheVariants.{TooLong, Fault}
 use Rattle.snd_script.specs.Script.{Answered}
-use Rattle.snd_script.specs.Served.{Counts, IsServed, AnyCountRises, SameCounts, end_of}
-use Rattle.snd_app.specs.Outcome.{Outcome, script_outcome}
-use Rattle.snd_app.specs.Run.{Faults, Told, Appends, Prints, PrintsFront, AnyRises, IsOutcome, PutsText}
-use Rattle.snd_app.proofs.Outcomes.{no_front, none_put}
+use Rattle.snd_script.specs.Served.{Counts, IsServed, AnyCountRises, SameCounts}
+use Rattle.snd_app.specs.Outcome.{script_outcome}
+use Rattle.snd_app.specs.Run.{Faults, Told, Appends, AnyRises, IsOutcome, PutsText}
+use Rattle.snd_app.proofs.Outcomes.{no_front}
 
 -- the counts that serving sees
 abbrev pub counts_of : Faults → Counts

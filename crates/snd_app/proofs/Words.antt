@@ -1,5 +1,5 @@
 -- The form of a name.
-use Rattle.std.proofs.Common.{◌≡◌, ℕ, List, length, Bool, true, not, refl}
+use Rattle.std.proofs.Common.{◌≡◌, ℕ, List, length, true, not, refl}
 use Rattle.std.specs.Prelude.{nat_le, ◌==◌, slice_index}
 use Rattle.std.specs.List.{list_all}
 use Rattle.snd_app.specs.Outcome.{is_name}

@@ -4,9 +4,9 @@ use Rattle.std.specs.List.{list_all}
 use Rattle.std.specs.Str.{bytes_eq}
 use Rattle.snd_container.specs.Sound.{layout_of}
 use Rattle.snd_disk.specs.Shelf.{Files}
-use Rattle.snd_layout.specs.Names.{refusal_name, refusal_number}
 use Rattle.snd_layout.specs.Shape.{Shape}
 use Rattle.snd_layout.specs.declared.refusal.OpenRefusal.{OpenRefusal}
+use Rattle.snd_script.specs.declared.refusal.Refusal.TheVariants.{MissingFile, Open}
 use Rattle.snd_script.specs.Script.{Answered, is_too_long, most_bytes, script_answered}
 use Rattle.snd_app.specs.declared.look.Found.{Found}
 use Rattle.snd_app.specs.declared.look.Found.TheVariants.{Missing, Refused, Sound}
@@ -25,9 +25,6 @@ is_name n = nat_le 1 (length n) && nat_le (length n) 255 && list_all is_printed 
 abbrev pub bad_words : Outcome
 bad_words = record { out = []; err = codes "snd: bad words\n"; status = 2 }
 
-abbrev pub refused : List ℕ → ℕ → List ℕ → Outcome
-refused name number word = record { out = []; err = refusal name number word; status = 1 }
-
 -- what stands under a name
 abbrev pub found_of : Result Shape OpenRefusal → Found
 found_of (Err refusal) = Refused refusal
@@ -37,20 +34,18 @@ abbrev pub found_in : Option (List ℕ) → Found
 found_in None = Missing
 found_in (Some bytes) = found_of (layout_of bytes)
 
--- what is printed of it, on whichever stream
+-- what is printed of it: a description on `out`, or on `err` why there is none
 abbrev pub text_of : List ℕ → Found → List ℕ
-text_of name Missing = refusal name 56 (codes "MissingFile")
-text_of name (Refused why) = refusal name (refusal_number why) (refusal_name why)
+text_of name Missing = refusal name MissingFile
+text_of name (Refused why) = refusal name (Open why)
 text_of name (Sound layout) = description name layout
-
-abbrev pub info : List ℕ → Found → Outcome
-info name Missing = refused name 56 (codes "MissingFile")
-info name (Refused why) = refused name (refusal_number why) (refusal_name why)
-info name (Sound layout) = record { out = description name layout; err = []; status = 0 }
 
 abbrev pub is_refused : Found → Bool
 is_refused (Sound layout) = false
 is_refused found = true
+
+abbrev pub info : List ℕ → Found → Outcome
+info name found = if is_refused found then record { out = []; err = text_of name found; status = 1 } else record { out = text_of name found; err = []; status = 0 }
 
 -- a script's replies stand on `out`
 abbrev pub too_long : Outcome → Outcome

@@ -1,7 +1,7 @@
 -- How a run leaves the shelf and the two streams.
-use Rattle.std.specs.Prelude.{◌≡◌, ◌⊎◌, ℕ, List, ◌++◌, Bool, false, Option, Some}
+use Rattle.std.specs.Prelude.{◌≡◌, ◌⊎◌, ℕ, List, ◌++◌, false, Option, Some}
 use Rattle.snd_disk.specs.State.{Rises}
-use Rattle.snd_disk.specs.Shelf.{Files, ShelfState, SameFiles}
+use Rattle.snd_disk.specs.Shelf.{ShelfState}
 use Rattle.snd_disk.specs.Streams.{AppendsFront}
 use Rattle.snd_app.specs.Outcome.{Outcome}
 

@@ -1,5 +1,7 @@
 -- Printed lines.
 use Rattle.std.specs.Prelude.{ℕ, ◌-◌, Bool, ◌&&◌, List, [], ◌∷◌, ◌++◌, length, replicate, codes, decimal, nat_le}
+use Rattle.snd_script.specs.Replies.{refusal_name, refusal_number}
+use Rattle.snd_script.specs.declared.refusal.Refusal.{Refusal}
 
 -- from '!' to '~'
 abbrev pub is_printed : ℕ → Bool
@@ -14,5 +16,5 @@ abbrev pub line : List ℕ → List ℕ → List ℕ
 line key value = key ++ 32 ∷ [] ++ value ++ 10 ∷ []
 
 -- the message that a file is refused
-abbrev pub refusal : List ℕ → ℕ → List ℕ → List ℕ
-refusal name number word = codes "snd: " ++ name ++ codes ": error " ++ decimal number ++ 32 ∷ [] ++ word ++ 10 ∷ []
+abbrev pub refusal : List ℕ → Refusal → List ℕ
+refusal name why = codes "snd: " ++ name ++ codes ": error " ++ decimal (refusal_number why) ++ 32 ∷ [] ++ refusal_name why ++ 10 ∷ []

@@ -1,10 +1,11 @@
 ghost use Rattle.std.specs.Prelude.{◌≡◌, ◌*◌, ◌<◌, ◌≤◌, ◌^◌, ◌++◌, OnOk, IfOk, codes, decimal};
 ghost use Rattle.std.specs.List.{flat_map};
 ghost use Rattle.snd_app.specs.Info.{chunk_line, clock, description, milliseconds, shown};
-ghost use Rattle.snd_app.specs.Text.{refusal, line};
+ghost use Rattle.snd_app.specs.Text.{line, refusal as message};
 
 use crate::text::{is_printed, push_line, push_number, push_padded};
 use snd_layout::{Layout, Piece};
+use snd_script::Refusal;
 use std::alloc::{AllocError, Global};
 
 const HOUR: u128 = 3_600_000;
@@ -104,15 +105,15 @@ pub fn describe(alloc: Global, name: &str, layout: &Layout) -> Result<Vec<u8>, A
 }
 
 /// The message that a file is refused.
-pub fn refuse(alloc: Global, name: &str, number: u64, word: &[u8]) -> Result<Vec<u8>, AllocError>
-    ensures { IfOk result (λ text. text.items ≡ refusal name.now number word.now) }
+pub fn refuse(alloc: Global, name: &str, refusal: Refusal) -> Result<Vec<u8>, AllocError>
+    ensures { IfOk result (λ text. text.items ≡ message name.now refusal) }
 {
     let mut text = Vec::from_slice(alloc, b"snd: ")?;
     text.extend_from_slice(name.as_bytes())?;
     text.extend_from_slice(b": error ")?;
-    push_number(&mut text, number)?;
+    push_number(&mut text, u64::from(refusal.number()))?;
     text.push(b' ')?;
-    text.extend_from_slice(word)?;
+    text.extend_from_slice(refusal.name().as_bytes())?;
     text.push(b'\n')?;
     Ok(text)
 }

@@ -16,7 +16,7 @@ use crate::look::{Found, Stop, look};
 use crate::text::is_printed;
 use snd_disk::{Shelf, Sink, Source};
 use snd_fields::Words;
-use snd_script::{ScriptEnd, serve};
+use snd_script::{Refusal, ScriptEnd, serve};
 use std::alloc::{AllocError, Global};
 
 const FAULT: u8 = 3;
@@ -64,15 +64,8 @@ fn text_for(alloc: Global, name: &str, found: &Found) -> Result<Vec<u8>, AllocEr
     ensures { IfOk result (λ text. text.items ≡ text_of name.now found.now) }
 {
     match found {
-        Found::Missing => refuse(alloc, name, 56, b"MissingFile"),
-        Found::Refused(refusal) => {
-            refuse(
-                alloc,
-                name,
-                u64::from(refusal.number()),
-                refusal.name().as_bytes(),
-            )
-        }
+        Found::Missing => refuse(alloc, name, Refusal::MissingFile),
+        Found::Refused(refusal) => refuse(alloc, name, Refusal::Open(*refusal)),
         Found::Sound(layout) => describe(alloc, name, layout),
     }
 }

@@ -1,12 +1,9 @@
 -- The layout of a file whose kind is known.
-use Rattle.std.proofs.Common.{◌≡◌, ℕ, List, take, Bool, true, false, Result, Ok, Err, Some, Option, IfOk, IfErr, sym, ap, refl, ◌∙◌}
-use Rattle.snd_layout.specs.declared.error.OpenError.{OpenError}
-use Rattle.snd_layout.specs.declared.error.OpenError.TheVariants.{Refused}
+use Rattle.std.proofs.Common.{◌≡◌, ℕ, List, take, true, false, Result, Ok, Err, IfOk, IfErr, sym, ap, refl, ◌∙◌}
 use Rattle.snd_layout.specs.declared.kind.Kind.{Kind}
 use Rattle.snd_layout.specs.declared.kind.Kind.TheVariants.{Wave, Rf64, W64, Au, Dns, Voc, Svx, Sphere}
 use Rattle.snd_layout.specs.declared.refusal.OpenRefusal.{OpenRefusal}
 use Rattle.snd_layout.specs.declared.refusal.OpenRefusal.TheVariants.{NotBuilt}
-use Rattle.snd_layout.specs.Shape.{Shape}
 use Rattle.snd_wave.specs.Layout.{wave_layout}
 use Rattle.snd_container.specs.Recognised.{recognised}
 use Rattle.snd_container.specs.Sound.{is_built, layout_of, layout_of_kind}

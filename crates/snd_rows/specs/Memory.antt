@@ -1,5 +1,5 @@
 -- A run over one file in memory.
-use Rattle.std.specs.Prelude.{◌≡◌, ◌⊎◌, ℕ, List, [], Some, None}
+use Rattle.std.specs.Prelude.{◌≡◌, ◌⊎◌, ℕ, List, Some, None}
 use Rattle.snd_disk.specs.Shelf.{Files, put}
 use Rattle.snd_app.specs.Outcome.{Outcome}
 use Rattle.snd_rows.specs.declared.memory.Printed.{Printed}

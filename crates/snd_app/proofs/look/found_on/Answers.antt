@@ -1,4 +1,4 @@
-use Rattle.std.proofs.Common.{ap, sym, refl}
+use Rattle.std.proofs.Common.{ap, sym}
 use Rattle.snd_app.specs.Outcome.{found_of}
 use Rattle.snd_app.proofs.look.found_on.Goals as goal
 

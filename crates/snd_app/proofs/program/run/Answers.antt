@@ -1,4 +1,4 @@
-use Rattle.std.proofs.Common.{◌≡◌, ◌∙◌, ap, refl, rules}
+use Rattle.std.proofs.Common.{◌≡◌, ap, refl, rules}
 use Rattle.snd_app.specs.Outcome.{Asked, asked, outcome, outcome_of}
 use Rattle.snd_app.proofs.Outcomes.{as_outcome, is_put_err}
 use Rattle.snd_app.proofs.program.run.Goals as goal

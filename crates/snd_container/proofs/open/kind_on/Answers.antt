@@ -1,11 +1,5 @@
-use Rattle.std.proofs.Common.{rules, ap, ◌∙◌, ◌≡◌, ◌≤◌, List, ℕ, Some, All, IfOk, IfErr, OnOk, OnErr, Ok, Err, take, ◌+◌, ◌-◌, ◌*◌, ◌<◌, length, ◌/◌, ◌%◌, Bool, true, false, nat_eq, nat_lt, [], ◌∷◌, ◌++◌, slice_index_or, slice_set, bit_and, bit_or, Fits, w8, w32, w64, Bor, MutBor}
-use Rattle.snd_disk.specs.State.{AtMost, OnlyReads, Rises}
-use Rattle.snd_layout.specs.Opened.{EndsIn, IsCause, IsCalm}
-use Rattle.snd_layout.specs.Shape.{end}
-use Rattle.snd_layout.specs.declared.refusal.OpenRefusal.{OpenRefusal as refusal}
-use Rattle.snd_layout.specs.declared.error.OpenError.TheVariants.{Refused}
+use Rattle.std.proofs.Common.{ap, ◌∙◌}
 use Rattle.snd_container.specs.Recognised.{recognised}
-use Rattle.snd_container.specs.Sound.{layout_of}
 use Rattle.snd_container.proofs.Fronts.{front_of}
 use Rattle.snd_container.proofs.open.kind_on.Goals as goal
 

@@ -1,8 +1,5 @@
-use Rattle.std.proofs.Common.{◌≡◌, ◌∙◌, ap, subst, sym, refl, rules, Some, None, List, ℕ}
-use Rattle.snd_disk.specs.Shelf.{Files}
-use Rattle.snd_disk.specs.MemoryStreams.{bytes_told}
+use Rattle.std.proofs.Common.{◌≡◌, ap, subst, rules, None}
 use Rattle.snd_app.specs.Outcome.{Outcome, outcome}
-use Rattle.snd_app.specs.Run.{IsOutcome}
 use Rattle.snd_rows.specs.Memory.{one_file, IsPrinted}
 use Rattle.snd_rows.proofs.Runs.{outcome_same, printed}
 use Rattle.snd_rows.specs.declared.memory.Printed.{Printed}
