@@ -1,4 +1,5 @@
 pub mod Edit
+pub mod Lines
 pub mod Replies
 pub mod Script
 pub mod Served
