@@ -1,6 +1,6 @@
 -- An open file, as whoever reads it sees it: its bytes, what they say, its frames, and the frame to read next. None of the
 -- frames is held by the code.
-use Rattle.std.specs.Prelude.{◌≡◌, ℕ, ℤ, ◌+◌, ◌-◌, ◌/◌, List, Option, None, Some, Result, Ok, Err, length, take, drop, min, is_none, if◌then◌else◌}
+use Rattle.std.specs.Prelude.{ℕ, ℤ, ◌+◌, ◌-◌, List, Result, Ok, Err, length, take, drop, min, is_none, if◌then◌else◌}
 use Rattle.snd_layout.specs.declared.refusal.OpenRefusal.{OpenRefusal}
 use Rattle.snd_layout.specs.declared.refusal.OpenRefusal.TheVariants.{NotBuilt}
 use Rattle.snd_layout.specs.Shape.{Shape}

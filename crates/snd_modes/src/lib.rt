@@ -1,6 +1,16 @@
-//! Open sound files.
+//! One open sound file: a handle that holds a disk, in the mode in which it was opened. While it lives
+//! nothing else reaches the disk, and it is closed to give the disk back.
 #![tactic(auto)]
 
-mod linear;
+mod codec;
+mod error;
+mod file;
+mod frames;
+mod handle;
+mod open;
+mod reads;
 
-pub use linear::linear_form;
+pub use codec::linear_form;
+pub use error::{DiskFault, ReadError, SeekError};
+pub use handle::{CanRead, File, Read};
+pub use open::open_read;

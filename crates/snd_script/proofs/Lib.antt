@@ -1,3 +1,6 @@
+pub mod Lines
+pub mod Names
 pub mod Parts
+pub mod Printing
 pub mod Ways
 pub mod WholeScript

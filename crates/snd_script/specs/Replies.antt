@@ -3,7 +3,9 @@ use Rattle.std.specs.Prelude.{ℕ, ℤ, List, [], ◌∷◌, ◌++◌, Bool, tru
 use Rattle.std.specs.Fmt.{signed_decimal}
 use Rattle.std.specs.List.{flat_map}
 use Rattle.snd_layout.specs.Names.{codec_name, kind_name, refusal_name as open_name, refusal_number as open_number}
+use Rattle.snd_layout.specs.Params.{Parameters}
 use Rattle.snd_layout.specs.Shape.{Shape}
+use Rattle.snd_layout.specs.declared.kind.Kind.{Kind}
 use Rattle.snd_script.specs.declared.refusal.Refusal.{Refusal}
 use Rattle.snd_script.specs.declared.refusal.Refusal.TheVariants.{Open, SeekRange, BadCommand, LineTooLong, NotOpen, AlreadyOpen, MissingFile, NotBuilt}
 
@@ -42,9 +44,12 @@ abbrev pub ok_line : ℕ → List ℕ
 ok_line n = codes "ok " ++ decimal n ++ 10 ∷ []
 
 -- `ok FRAMES CHANNELS RATE KIND CODEC`
+abbrev pub described : ℕ → Parameters → Kind → List ℕ
+described frames params kind = codes "ok " ++ decimal frames ++ 32 ∷ [] ++ decimal params.channels ++ 32 ∷ [] ++ decimal params.rate ++ 32 ∷ []
+    ++ kind_name kind ++ 32 ∷ [] ++ codec_name params.codec ++ 10 ∷ []
+
 abbrev pub file_line : Shape → List ℕ
-file_line s = codes "ok " ++ decimal s.frames ++ 32 ∷ [] ++ decimal s.params.channels ++ 32 ∷ [] ++ decimal s.params.rate ++ 32 ∷ []
-    ++ kind_name s.kind ++ 32 ∷ [] ++ codec_name s.params.codec ++ 10 ∷ []
+file_line s = described s.frames s.params s.kind
 
 -- a frame: its numbers with a space between them
 abbrev pub spaced : ℤ → List ℕ

@@ -1,0 +1,39 @@
+-- What opening a file gives.
+use Rattle.std.proofs.Common.{◌≡◌, ◌∙◌, ap, sym, refl, ℕ, ◌*◌, ◌≤◌, List, Bool, true, false, Option, None, Some, Ok, Err, length, take, drop, arith, if◌then◌else◌}
+use Rattle.std.specs.Prelude.{is_none}
+use Rattle.snd_layout.specs.declared.refusal.OpenRefusal.{OpenRefusal}
+use Rattle.snd_layout.specs.declared.refusal.OpenRefusal.TheVariants.{NotBuilt}
+use Rattle.snd_layout.specs.Params.{data_bytes}
+use Rattle.snd_layout.specs.Shape.{Shape, end}
+use Rattle.snd_pcm.specs.Groups.{groups}
+use Rattle.snd_pcm.specs.Pcm.{byte_count, samples}
+use Rattle.snd_pcm.specs.declared.linear.Linear.{Linear}
+use Rattle.snd_container.specs.Sound.{decoded, decoded_as, layout_of, linear_of, sound_bytes}
+use Rattle.snd_modes.specs.Editing.{opened, opened_as, opening}
+use Rattle.snd_modes.proofs.SoundFrames.{count_frames, linear_bytes}
+
+pub opened_ok : (b : List ℕ) (s : Shape) → layout_of b ≡ Ok s → is_none (linear_of s.params.codec) ≡ false → opened b ≡ Ok (opening b s)
+unfolding opened
+opened_ok b s is linear = ap (opened_as b) is ∙ ap (λ (t : Bool). if t then Err NotBuilt else Ok (opening b s)) linear
+
+pub opened_refused : (b : List ℕ) (r : OpenRefusal) → layout_of b ≡ Err r → opened b ≡ Err r
+unfolding opened
+opened_refused b r is = ap (opened_as b) is
+
+pub opened_not_built : (b : List ℕ) (s : Shape) → layout_of b ≡ Ok s → is_none (linear_of s.params.codec) ≡ true → opened b ≡ Err NotBuilt
+unfolding opened
+opened_not_built b s is other = ap (opened_as b) is ∙ ap (λ (t : Bool). if t then Err NotBuilt else Ok (opening b s)) other
+
+count_as : (b : List ℕ) (s : Shape) (o : Option Linear) → linear_of s.params.codec ≡ o → is_none o ≡ false → 1 ≤ s.params.channels → end s s.frames ≤ length b
+    → s.frames ≡ length (decoded s.params (sound_bytes b s))
+count_as b s None is linear some fits = absurd (cc)
+count_as b s (Some form) is linear some fits =
+    let size : data_bytes s.params s.frames ≡ byte_count form * (s.params.channels * s.frames) = linear_bytes s.params form s.frames is in
+    sym (ap (λ (o : Option Linear). length (decoded_as o s.params.channels (sound_bytes b s))) is
+    ∙ ap (λ (n : ℕ). length (groups s.params.channels (samples form (take n (drop s.start b))))) size
+    ∙ count_frames form b s.start s.frames s.params.channels (omega (arith, fits, size)) (omega (arith, some)))
+
+-- the frames that a layout counts are those that its bytes give
+pub count_opened : (b : List ℕ) (s : Shape) → is_none (linear_of s.params.codec) ≡ false → 1 ≤ s.params.channels → end s s.frames ≤ length b
+    → s.frames ≡ length (decoded s.params (sound_bytes b s))
+count_opened b s linear some fits = count_as b s (linear_of s.params.codec) refl linear some fits

@@ -1,0 +1,69 @@
+//! Frames read from a disk, by a layout.
+
+ghost use Rattle.std.specs.Prelude.{◌≡◌, ◌+◌, ◌-◌, ◌*◌, ◌≤◌, List, ℕ, Some, false, All, OnOk, is_none, length, take, drop, min};
+ghost use Rattle.snd_disk.specs.State.{AtMost, Counts, OnlyReads};
+ghost use Rattle.snd_pcm.specs.Groups.{first_groups};
+ghost use Rattle.snd_pcm.specs.Pcm.{byte_count};
+ghost use Rattle.snd_pcm.specs.declared.linear.Linear.{Linear as linear};
+ghost use Rattle.snd_pcm.specs.Pcm.{InRange};
+ghost use Rattle.snd_layout.specs.Blocks.{block_align};
+ghost use Rattle.snd_layout.specs.Shape.{end};
+ghost use Rattle.snd_container.specs.Sound.{decoded, linear_of, sound_bytes};
+
+use crate::codec::form_of;
+use crate::reads::read_run;
+use snd_disk::{Disk, Failed};
+use snd_layout::Layout;
+use snd_pcm::Linear;
+
+// The numbers of a frame.
+pub(crate) fn channels_of(layout: &Layout) -> usize
+    ensures value { result ≡ layout.now.params.channels }
+    ensures some { 1 ≤ result }
+{
+    layout.params.are_good();
+    usize::from(layout.params.channels)
+}
+
+// How many of the wanted frames there are from a place on.
+pub(crate) fn frames_ahead(layout: &Layout, place: u64, wanted: usize) -> usize
+    requires { place ≤ layout.now.frames }
+    ensures { result ≡ min wanted (layout.now.frames - place) }
+{
+    (layout.frames - place).min(wanted as u64) as usize
+}
+
+// The place of a frame's first byte.
+fn place_of(layout: &Layout, form: Linear, frame: u64) -> u64
+    requires linear { linear_of layout.now.params.codec ≡ Some form }
+    requires within { frame ≤ layout.now.frames }
+    ensures { result ≡ layout.now.start + byte_count form * (layout.now.params.channels * frame) }
+{
+    layout.keeps_rule();
+    layout.start + frame * u64::from(layout.params.block_align())
+}
+
+// Reads frames that the layout counts, from a place on.
+pub(crate) fn read_from<D: Disk>(
+    disk: &mut D,
+    layout: &Layout,
+    place: u64,
+    count: usize,
+    into: &mut [i32],
+) -> Result<(), Failed>
+    requires linear { is_none (linear_of layout.now.params.codec) ≡ false }
+    requires held { end layout.now layout.now.frames ≤ (D.state disk.old).size }
+    requires within { place + count ≤ layout.now.frames }
+    requires room { length into.old ≡ count * layout.now.params.channels }
+    ensures told { OnOk result ((b : List ℕ) → (D.state disk.old).contents ≡ Some b → first_groups layout.now.params.channels count into.new ≡ take count (drop place (decoded layout.now.params (sound_bytes b layout.now)))) }
+    ensures in_range { OnOk result ((form : linear) → linear_of layout.now.params.codec ≡ Some form → All (InRange form) into.new) }
+    ensures faults { Counts (D.state disk.old).faults (D.state disk.new).faults result }
+    ensures reads { OnlyReads (D.state disk.old) (D.state disk.new) (D.may_leave disk.old) (D.may_leave disk.new) (D.left_between disk.old) (D.left_between disk.new) }
+    ensures asked { AtMost (D.state disk.old).asked (count * block_align layout.now.params.channels layout.now.params.codec) (D.state disk.new).asked }
+{
+    let Some(form) = form_of(layout) else {
+        unreachable!()
+    };
+    read_run(disk, form, place_of(layout, form, place), into)?;
+    Ok(())
+}

@@ -1,0 +1,68 @@
+-- No word that is printed has more than 16 bytes.
+use Rattle.std.proofs.Common.{◌≤◌, length, lit≤}
+use Rattle.snd_fields.specs.declared.field.Order.TheVariants.{Little, Big}
+use Rattle.snd_layout.specs.declared.codec.Codec.{Codec}
+use Rattle.snd_layout.specs.declared.codec.Codec.TheVariants.{U8, S8, S16, S24, S32, MuLaw, ALaw, Ima, Ms}
+use Rattle.snd_layout.specs.declared.kind.Kind.{Kind}
+use Rattle.snd_layout.specs.declared.kind.Kind.TheVariants.{Wave, Rf64, W64, Au, Dns, Voc, Svx, Sphere}
+use Rattle.snd_layout.specs.declared.refusal.OpenRefusal.{OpenRefusal}
+use Rattle.snd_layout.specs.declared.refusal.OpenRefusal.TheVariants as chunk
+use Rattle.snd_layout.specs.Names.{codec_name, kind_name, refusal_name as open_name}
+use Rattle.snd_script.specs.declared.refusal.Refusal.{Refusal}
+use Rattle.snd_script.specs.declared.refusal.Refusal.TheVariants.{Open, SeekRange, BadCommand, LineTooLong, NotOpen, AlreadyOpen, MissingFile, NotBuilt}
+use Rattle.snd_script.specs.Replies.{refusal_name}
+
+pub short_kind : (kind : Kind) → length (kind_name kind) ≤ 16
+short_kind Wave = lit≤ tt
+short_kind Rf64 = lit≤ tt
+short_kind W64 = lit≤ tt
+short_kind Au = lit≤ tt
+short_kind Dns = lit≤ tt
+short_kind Voc = lit≤ tt
+short_kind Svx = lit≤ tt
+short_kind Sphere = lit≤ tt
+
+pub short_codec : (codec : Codec) → length (codec_name codec) ≤ 16
+short_codec U8 = lit≤ tt
+short_codec S8 = lit≤ tt
+short_codec (S16 Little) = lit≤ tt
+short_codec (S16 Big) = lit≤ tt
+short_codec (S24 Little) = lit≤ tt
+short_codec (S24 Big) = lit≤ tt
+short_codec (S32 Little) = lit≤ tt
+short_codec (S32 Big) = lit≤ tt
+short_codec MuLaw = lit≤ tt
+short_codec ALaw = lit≤ tt
+short_codec (Ima align per_block) = lit≤ tt
+short_codec (Ms align per_block) = lit≤ tt
+
+pub short_open : (refusal : OpenRefusal) → length (open_name refusal) ≤ 16
+short_open chunk.NotSound = lit≤ tt
+short_open chunk.FloatRate = lit≤ tt
+short_open chunk.ShortHeader = lit≤ tt
+short_open chunk.BadField = lit≤ tt
+short_open chunk.TooManyChunks = lit≤ tt
+short_open chunk.NoFormat = lit≤ tt
+short_open chunk.NoData = lit≤ tt
+short_open chunk.LeadingBlock = lit≤ tt
+short_open chunk.UnknownCodec = lit≤ tt
+short_open chunk.FloatSamples = lit≤ tt
+short_open chunk.BadChannels = lit≤ tt
+short_open chunk.BadRate = lit≤ tt
+short_open chunk.BadBits = lit≤ tt
+short_open chunk.BadAlign = lit≤ tt
+short_open chunk.BlockTooLarge = lit≤ tt
+short_open chunk.OtherCoefs = lit≤ tt
+short_open chunk.PackedBody = lit≤ tt
+short_open chunk.BadPair = lit≤ tt
+short_open chunk.NotBuilt = lit≤ tt
+
+pub short_refusal : (refusal : Refusal) → length (refusal_name refusal) ≤ 16
+short_refusal (Open refusal) = short_open refusal
+short_refusal SeekRange = lit≤ tt
+short_refusal BadCommand = lit≤ tt
+short_refusal LineTooLong = lit≤ tt
+short_refusal NotOpen = lit≤ tt
+short_refusal AlreadyOpen = lit≤ tt
+short_refusal MissingFile = lit≤ tt
+short_refusal NotBuilt = lit≤ tt

@@ -1,0 +1,30 @@
+//! The handle of one open file in whichever mode, and how a command on it ends.
+
+use snd_disk::Disk;
+use snd_modes::{File, Read};
+
+/// An open file, by its mode.
+pub enum Handle<'d, D: Disk> {
+    /// Opened to be read.
+    R(File<'d, D, Read>),
+}
+
+/// What a command is replied.
+#[derive(Clone, Copy, Debug, PartialEq, Eq)]
+pub enum Reply {
+    /// It was carried out.
+    Ok,
+    /// It was refused, with this number.
+    Refused(u8),
+}
+
+/// Why a command has no reply, or not all of it.
+#[derive(Clone, Copy, Debug, PartialEq, Eq)]
+pub enum StepFault {
+    /// A call of the disk failed.
+    Disk,
+    /// The sink failed.
+    Out,
+    /// There was no memory.
+    Memory,
+}
