@@ -1,8 +1,8 @@
 -- The lines of a script, one after the other, as they come.
 use Rattle.std.specs.Prelude.{◌≡◌, ◌≢◌, ◌⊎◌, ℕ, ◌+◌, ◌-◌, ◌<◌, List, [], ◌∷◌, ◌++◌, Bool, true, false, length, take}
 use Rattle.std.specs.List.{All}
-use Rattle.snd_script.specs.declared.lines.NextLine.{NextLine}
-use Rattle.snd_script.specs.declared.lines.NextLine.TheVariants.{Line, End, TooLong}
+use Rattle.snd_script.specs.declared.reader.NextLine.{NextLine}
+use Rattle.snd_script.specs.declared.reader.NextLine.TheVariants.{Line, End, TooLong}
 use Rattle.snd_script.specs.Script.{is_feed}
 
 -- what a reader of lines has in hand: the bytes that were taken and are served in no line yet, and how many bytes of the

@@ -2,11 +2,15 @@
 #![tactic(auto)]
 
 mod handle;
-mod lines;
+mod kind;
+mod opened;
 mod page;
+mod reader;
 mod refusal;
+mod run;
 mod serving;
 mod session;
+mod stop;
 mod text;
 
 pub use handle::{Handle, Reply, StepFault};

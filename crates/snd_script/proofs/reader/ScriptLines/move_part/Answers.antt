@@ -1,6 +1,6 @@
 use Rattle.std.proofs.Common.{sym, ap, take, drop}
 use Rattle.snd_script.proofs.Parts.{found_moves, none_moves, past_start}
-use Rattle.snd_script.proofs.lines.ScriptLines.move_part.Goals as goal
+use Rattle.snd_script.proofs.reader.ScriptLines.move_part.Goals as goal
 
 pub returns-in-Some-clause-moved : goal.returns-in-Some-clause-moved
 returns-in-Some-clause-moved c =

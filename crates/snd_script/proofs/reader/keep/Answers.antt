@@ -2,7 +2,7 @@ use Rattle.std.proofs.Common.{◌≡◌, ◌+◌, ◌∙◌, take, length, arith
 use Rattle.std.proofs.lemmas.List.{length-take}
 use Rattle.snd_script.specs.Lines.{most_kept}
 use Rattle.snd_script.proofs.Parts.{kept_front, most_kept-is, on_ok}
-use Rattle.snd_script.proofs.lines.keep.Goals as goal
+use Rattle.snd_script.proofs.reader.keep.Goals as goal
 
 pub returns : goal.returns
 returns c =

@@ -1,7 +1,7 @@
 use Rattle.std.proofs.Common.{drop, length, take, arith}
 use Rattle.std.proofs.lemmas.List.{length-take}
 use Rattle.snd_script.proofs.Parts.{taken_front}
-use Rattle.snd_script.proofs.lines.fill.Goals as goal
+use Rattle.snd_script.proofs.reader.fill.Goals as goal
 
 pub returns-clause-told : goal.returns-clause-told
 returns-clause-told g c = λ s told.
