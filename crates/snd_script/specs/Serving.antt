@@ -11,9 +11,10 @@ use Rattle.snd_layout.specs.declared.error.OpenError.TheVariants as cause
 use Rattle.snd_modes.specs.Editing.{Editing}
 use Rattle.snd_script.specs.Edit.{Edited, edit_open}
 use Rattle.snd_script.specs.Lines.{Reading}
-use Rattle.snd_script.specs.Replies.{Answer, text_of, is_refusal}
+use Rattle.snd_script.specs.Replies.{Answer, refuses, text_of, is_refusal}
 use Rattle.snd_script.specs.Script.{Answered, answered, answered_first, lines_within, is_too_long}
 use Rattle.snd_script.specs.Served.{Counts, SameCounts, AnyCountRises}
+use Rattle.snd_script.specs.declared.refusal.Refusal.TheVariants.{Open}
 use Rattle.snd_script.specs.declared.stop.Next.{Next}
 use Rattle.snd_script.specs.declared.stop.Next.TheVariants as next
 use Rattle.snd_script.specs.declared.stop.Stop.{Stop}
@@ -142,3 +143,10 @@ abbrev pub IsReadError : OpenError → Type 0
 IsReadError cause.AdpcmUpdate = ⊥
 IsReadError cause.UnknownLength = ⊥
 IsReadError error = Unit {0}
+
+-- a file was not opened: it is refused, or there was a fault, or no memory
+abbrev pub IsNotOpened : {T : Type 0} → OpenError → Result T Stop → Bool → Bool → Option (List ℕ) → Option (List ℕ) → ℕ → ℕ → Type 0
+IsNotOpened (cause.Refused refusal) result refused refused' before after faults faults' = IsAnswered result (refuses (Open refusal)) refused refused' before after × IsCountedOnce result faults faults'
+IsNotOpened (cause.DiskFault step) result refused refused' before after faults faults' = (result ≡ Err Fault) × (after ≡ before) × (faults' ≡ faults)
+IsNotOpened cause.Memory result refused refused' before after faults faults' = (result ≡ Err Memory) × (after ≡ before) × (faults' ≡ faults)
+IsNotOpened error result refused refused' before after faults faults' = Unit {0}

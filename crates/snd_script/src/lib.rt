@@ -4,6 +4,7 @@
 mod handle;
 mod kind;
 mod opened;
+mod opening;
 mod page;
 mod reader;
 mod refusal;

@@ -1,28 +1,23 @@
 //! The lines of a script while a file is open.
 
-ghost use Rattle.std.specs.Prelude.{◌≡◌, ◌+◌, ◌≤◌, List, ℕ, None, Some, MatchResult, OnOk};
+ghost use Rattle.std.specs.Prelude.{◌≡◌, ◌+◌, ◌≤◌, List, ℕ, None, Some, OnOk};
 ghost use Rattle.snd_command.specs.Said.{said_of};
 ghost use Rattle.snd_disk.specs.Shelf.{Files};
 ghost use Rattle.snd_disk.specs.State.{OnlyReads};
-ghost use Rattle.snd_modes.specs.Editing.{Editing, opened};
-ghost use Rattle.snd_script.specs.Edit.{edit_line, edit_open, open_edit_of};
+ghost use Rattle.snd_modes.specs.Editing.{Editing};
+ghost use Rattle.snd_script.specs.Edit.{edit_line, edit_open};
 ghost use Rattle.snd_script.specs.Handled.{HandleStands, handle_disk, handle_held, handle_loan};
 ghost use Rattle.snd_script.specs.Lines.{to_take};
 ghost use Rattle.snd_script.specs.Served.{Counts};
-ghost use Rattle.snd_script.specs.Serving.{IsCounted, IsLineServed, IsServedOn, IsServedOpen, IsWhole, answers_from, answers_left, is_longer, moment};
+ghost use Rattle.snd_script.specs.Serving.{IsCounted, IsLineServed, IsServedOpen, IsWhole, answers_left, is_longer, moment};
 
 use crate::handle::Handle;
 use crate::kind::{OpenKind, line_refusal, open_kind};
 use crate::reader::LineBytes;
-use crate::refusal::Refusal;
 use crate::run::Run;
 use crate::stop::{Next, Stop};
-use crate::text::put_ok;
 use snd_command::{Command, parse_line};
 use snd_disk::{Disk, Sink, Source};
-use snd_layout::OpenError;
-use snd_modes::open_read;
-use std::alloc::Global;
 
 // One command on an open file. Closing is left to the caller.
 fn open_command<'d, D: Disk, O: Sink>(
@@ -72,8 +67,9 @@ fn open_line<'d, D: Disk, O: Sink>(
     }
 }
 
-// Carries out lines on an open file up to one that closes it.
-fn serve_open<'d, D: Disk, R: Source, O: Sink>(
+/// Carries out lines on an open file up to one that closes it, which is left to the caller, or to
+/// where the run stops.
+pub fn serve_open<'d, D: Disk, R: Source, O: Sink>(
     handle: &mut Handle<'d, D>,
     script: &mut R,
     out: &mut O,
