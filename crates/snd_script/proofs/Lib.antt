@@ -1,8 +1,10 @@
 pub mod Chains
 pub mod Lines
 pub mod Names
+pub mod OpenNames
 pub mod Openings
 pub mod Parts
 pub mod Printing
+pub mod SameFilesServed
 pub mod Ways
 pub mod WholeScript

@@ -1,8 +1,8 @@
 -- What is known of a run once a file was opened, or was not, and once it was closed.
-use Rattle.std.proofs.Common.{◌≡◌, ◌⊎◌, inl, inr, ℕ, List, ◌++◌, Bool, true, false, ◌||◌, Option, None, Some, Result, Ok, Err, length, refl, sym, ◌∙◌, ap, subst}
+use Rattle.std.proofs.Common.{◌≡◌, ◌⊎◌, inl, inr, ⊎_elim, ℕ, ◌+◌, ◌≤◌, ◌<◌, List, ◌++◌, Bool, true, false, ◌||◌, Option, None, Some, Result, Ok, Err, length, refl, sym, ◌∙◌, ap, subst, arith}
 use Rattle.snd_command.specs.Said.{Said}
 use Rattle.snd_disk.specs.Shelf.{Files}
-use Rattle.snd_disk.specs.State.{Rises}
+use Rattle.snd_disk.specs.State.{Adds, Rises}
 use Rattle.snd_disk.specs.Streams.{AppendsFront}
 use Rattle.snd_layout.specs.Opened.{IsCause}
 use Rattle.snd_layout.specs.declared.error.OpenError.{OpenError}
@@ -111,3 +111,34 @@ read_error (cause.DiskFault step) old new is = tt
 read_error cause.Memory old new is = tt
 read_error cause.AdpcmUpdate old new is = is
 read_error cause.UnknownLength old new is = is
+
+-- .. as another definition says it
+pub answered_as : {T : Type 0} (r : Result T Stop) (files : Files) (left : Option (List ℕ)) (reading reading' : Reading) (refused refused' : Bool) (t t' : Option (List ℕ)) (s : List ℕ) (edited edited' : Edited)
+    → edited ≡ edited' → edited'.open_file ≡ None → reading' ≡ reading → left ≡ Some s → IsAnswered r edited'.answer refused refused' t t'
+    → IsServedOn r files (is_longer (moment reading left refused t) s) (answers_from files edited (moment reading left refused t) s) (moment reading left refused t) (moment reading' left refused' t')
+answered_as r files left reading reading' refused refused' t t' s edited edited' is none same here said =
+    subst (λ (d : Edited). IsServedOn r files (is_longer (moment reading left refused t) s) (answers_from files d (moment reading left refused t) s) (moment reading left refused t) (moment reading' left refused' t')) (sym is)
+    (answered_on r files left reading reading' refused refused' t t' s edited' same here none said)
+
+pub served_as : {T : Type 0} (r : Result T Stop) (files : Files) (longer : Bool) (m m' : Moment) (s : List ℕ) (edited edited' : Edited) → edited ≡ edited'
+    → IsServedOn r files longer (answers_from files edited m s) m m' → IsServedOn r files longer (answers_from files edited' m s) m m'
+served_as r files longer m m' s edited edited' is served = subst (λ (d : Edited). IsServedOn r files longer (answers_from files d m s) m m') is served
+
+-- the faults of a disk that was taken and given back are the shelf's
+pub counts_on_disk : (stop : Stop) (shelf shelf' d d' s s' o o' : ℕ) → d ≡ 0 → Adds shelf d' shelf' → CountsAt stop (record { shelf = d; script = s; out = o }) (record { shelf = d'; script = s'; out = o' })
+    → CountsAt stop (record { shelf = shelf; script = s; out = o }) (record { shelf = shelf'; script = s'; out = o' })
+counts_on_disk Ended shelf shelf' d d' s s' o o' fresh adds counts = record { shelf = omega (arith, adds.later, adds.most, counts.shelf); script = counts.script; out = counts.out }
+counts_on_disk TooLong shelf shelf' d d' s s' o o' fresh adds counts = record { shelf = omega (arith, adds.later, adds.most, counts.shelf); script = counts.script; out = counts.out }
+counts_on_disk Memory shelf shelf' d d' s s' o o' fresh adds counts = counts
+counts_on_disk Fault shelf shelf' d d' s s' o o' fresh adds (inr rose) = inr rose
+counts_on_disk Fault shelf shelf' d d' s s' o o' fresh adds (inl rose) = inl (added shelf shelf' d d' fresh adds rose)
+  where
+    added : (shelf shelf' d d' : ℕ) → d ≡ 0 → Adds shelf d' shelf' → Rises d d' → Rises shelf shelf'
+    added shelf shelf' d d' fresh adds (inl rose) = ⊎_elim (λ least. inl (omega (arith, least))) (λ last. inr last) adds.least
+    added shelf shelf' d d' fresh adds (inr top) = ⊎_elim (λ least. inl (omega (arith, least))) (λ last. inr last) adds.least
+
+pub counted_on_disk : {T : Type 0} (r : Result T Stop) (old shelf shelf' d d' s s' o o' : ℕ) → shelf ≡ old → d ≡ 0 → Adds shelf d' shelf' → IsCounted r (record { shelf = d; script = s; out = o }) (record { shelf = d'; script = s'; out = o' })
+    → IsCounted r (record { shelf = old; script = s; out = o }) (record { shelf = shelf'; script = s'; out = o' })
+counted_on_disk (Ok x) old shelf shelf' d d' s s' o o' same fresh adds counts = record { shelf = omega (arith, adds.later, adds.most, counts.shelf); script = counts.script; out = counts.out }
+counted_on_disk (Err stop) old shelf shelf' d d' s s' o o' same fresh adds counts =
+    subst (λ (n : ℕ). CountsAt stop (record { shelf = n; script = s; out = o }) (record { shelf = shelf'; script = s'; out = o' })) same (counts_on_disk stop shelf shelf' d d' s s' o o' fresh adds counts)

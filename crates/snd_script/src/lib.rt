@@ -1,6 +1,7 @@
 //! Scripts of commands on sound files: one line each, with exact replies.
 #![tactic(auto)]
 
+mod closed;
 mod handle;
 mod kind;
 mod opened;

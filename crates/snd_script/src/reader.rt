@@ -82,8 +82,7 @@ fn fill<R: Source>(script: &mut R, block: &mut [u8], most: usize) -> Result<usiz
 impl ScriptLines {
     /// A reader at the start of a script.
     pub fn new() -> ScriptLines
-        ensures rest { result.rest ≡ [] }
-        ensures room { result.room ≡ 16777216 }
+        ensures { result ≡ record { rest = []; room = 16777216 } }
     {
         ScriptLines {
             block: [0; BLOCK_BYTES],
