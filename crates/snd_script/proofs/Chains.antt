@@ -1,21 +1,16 @@
 -- What is known of a run after one step and then another.
-use Rattle.std.proofs.Common.{◌≡◌, ◌⊎◌, inl, inr, ⊎_elim, ℕ, ◌+◌, ◌<◌, ◌≤◌, List, [], ◌∷◌, ◌++◌, Bool, true, false, ◌||◌, Option, None, Some, Result, Ok, Err, length, take, refl, sym, ◌∙◌, ap, subst, append_assoc, arith}
-use Rattle.std.proofs.lemmas.List.{append-nil, length-append, take_all, same_lists, places}
+use Rattle.std.proofs.Common.{◌≡◌, ℕ, ◌+◌, ◌≤◌, List, [], ◌++◌, Bool, true, false, ◌||◌, Option, Some, Ok, length, take, refl, sym, ◌∙◌, ap, subst, append_assoc, arith}
+use Rattle.std.proofs.lemmas.List.{append-nil, length-append, same_lists, places}
 use Rattle.snd_command.specs.Line.{command_of}
-use Rattle.snd_command.specs.Said.{Said}
 use Rattle.snd_disk.specs.Shelf.{Files}
-use Rattle.snd_disk.specs.State.{Rises}
 use Rattle.snd_disk.specs.Streams.{AppendsFront}
-use Rattle.snd_disk.specs.declared.disk.Step.{Step}
 use Rattle.snd_modes.specs.Editing.{Editing}
-use Rattle.snd_script.specs.Edit.{Edited, edit_open, edit_line, line_edit, refused}
+use Rattle.snd_script.specs.Edit.{Edited, edit_line, line_edit, refused}
 use Rattle.snd_script.specs.Lines.{IsLine, Reading, most_kept}
 use Rattle.snd_script.specs.Replies.{Answer, refuses, error_line, text_of, is_refusal}
-use Rattle.snd_script.specs.Script.{Answered, answered, answered_first, lines_within, is_too_long}
-use Rattle.snd_script.specs.Served.{Counts, SameCounts, AnyCountRises}
-use Rattle.snd_script.specs.Serving.{Moment, Serves, Appends, IsStopped, IsServedOn, IsServedOpen, IsCounted, IsCountedOnce, IsWhole, IsAnswered, IsLineServed, CutsShort, Brings, BringsNone, moment, lines_left, is_longer, answers_left, answers_from}
+use Rattle.snd_script.specs.Script.{Answered, answered, answered_first}
+use Rattle.snd_script.specs.Serving.{Moment, Serves, Appends, IsStopped, IsLineServed, CutsShort, Brings, BringsNone, moment, is_longer, answers_left, answers_from}
 use Rattle.snd_script.specs.declared.refusal.Refusal.{Refusal}
-use Rattle.snd_script.specs.declared.stop.Next.{Next}
 use Rattle.snd_script.specs.declared.stop.Next.TheVariants as next
 use Rattle.snd_script.specs.declared.stop.Stop.{Stop}
 use Rattle.snd_script.specs.declared.stop.Stop.TheVariants.{Ended, TooLong, Fault, Memory}
@@ -190,7 +185,7 @@ module _ (files : Files) (a : Answered) (too_long : Bool) (m : Moment) (left : O
       → Serves a (answers_left files file (moment reading' left r' t') s) m (moment reading' left r' t') × (is_longer (moment reading' left r' t') s ≡ too_long)
   at_open edited file at is noted appended = (
     serves_then a (answers_from files edited (moment reading left r t) s) (answers_left files file (moment reading' left r' t') s) m (moment reading left r t) (moment reading' left r' t')
-      at.serves (answered_open files left reading reading' r r' t t' s same edited file is noted appended),
+        at.serves (answered_open files left reading reading' r r' t t' s same edited file is noted appended),
     longer_as files left reading reading' r r' t t' s same ∙ at.longer,
   )
 
@@ -198,6 +193,6 @@ module _ (files : Files) (a : Answered) (too_long : Bool) (m : Moment) (left : O
       → Serves a (answers_from files edited' (moment reading' left r' t') s) m (moment reading' left r' t') × (is_longer (moment reading' left r' t') s ≡ too_long)
   at_close edited edited' at is noted told = (
     serves_then a (answers_from files edited (moment reading left r t) s) (answers_from files edited' (moment reading' left r' t') s) m (moment reading left r t) (moment reading' left r' t')
-      at.serves (answered_not files left reading reading' r r' t t' s same edited edited' is noted told),
+        at.serves (answered_not files left reading reading' r r' t t' s same edited edited' is noted told),
     longer_as files left reading reading' r r' t t' s same ∙ at.longer,
   )

@@ -1,4 +1,5 @@
 pub mod Chains
+pub mod Ends
 pub mod Lines
 pub mod Names
 pub mod OpenNames

@@ -1,8 +1,8 @@
 -- The lines of frames, put one after the other.
-use Rattle.std.proofs.Common.{◌≡◌, ◌⊎◌, ◌+◌, ◌-◌, ◌*◌, ◌<◌, ◌≤◌, ℕ, ℤ, zero, suc, List, [], ◌++◌, length, take, drop, Option, refl, sym, ◌∙◌, ap, subst, arith, ⊎_elim}
+use Rattle.std.proofs.Common.{◌≡◌, ◌⊎◌, ◌*◌, ◌≤◌, ℕ, ℤ, zero, suc, List, [], ◌++◌, length, take, drop, Option, refl, sym, ap, subst, arith, ⊎_elim}
 use Rattle.std.specs.Prelude.{option_map}
 use Rattle.std.specs.List.{flat_map}
-use Rattle.std.proofs.lemmas.List.{length-drop, places}
+use Rattle.std.proofs.lemmas.List.{length-drop}
 use Rattle.snd_pcm.specs.Groups.{first_groups}
 use Rattle.snd_script.specs.Replies.{frame_line, frames_text, ok_line}
 use Rattle.snd_script.proofs.Printing.{Printing, started, gathered, put_page}

@@ -1,5 +1,5 @@
 -- The name that a line opens is a good one.
-use Rattle.std.proofs.Common.{◌≡◌, ◌⊎◌, inl, inr, ℕ, ◌<◌, ◌≤◌, List, [], ◌∷◌, Bool, true, false, ◌&&◌, Option, None, Some, option_map, Result, Ok, Err, length, get_or, nat_le, nat_lt, codes, refl, sym, ◌∙◌, ap, subst, cond, arith}
+use Rattle.std.proofs.Common.{◌≡◌, inl, inr, ℕ, List, [], ◌∷◌, Bool, true, false, ◌&&◌, Option, None, Some, option_map, Result, Ok, Err, length, get_or, nat_le, nat_lt, codes, refl, subst, cond, arith}
 use Rattle.std.specs.Option.{option_and_then}
 use Rattle.std.specs.List.{list_all}
 use Rattle.std.specs.Str.{IsUtf8, IsAscii, bytes_eq}
@@ -7,7 +7,6 @@ use Rattle.std.proofs.lemmas.Str.{IsUtf8-from_ascii}
 use Rattle.std.proofs.lemmas.List.{get_or_past}
 use Rattle.std.proofs.lemmas.List.Sums.{AllPass-from_list_all}
 use Rattle.std.proofs.lemmas.Bool.{cases_lt, leb-true}
-use Rattle.snd_command.specs.declared.tables.BextWord.{BextWord}
 use Rattle.snd_command.specs.declared.tables.CodecWord.{CodecWord}
 use Rattle.snd_command.specs.declared.tables.KindWord.{KindWord}
 use Rattle.snd_command.specs.declared.refusal.ScriptRefusal.{ScriptRefusal}
@@ -153,6 +152,7 @@ name_is_text name is = IsUtf8-from_ascii name ascii
   where
     all : list_all is_printed name ≡ true
     all = and_right (nat_le 1 (length name) && nat_le (length name) 255) (list_all is_printed name) is
+
     ascii : IsAscii name
     ascii i = elim (cases_lt i (length name)) [
       | inl lt ↦

@@ -1,9 +1,8 @@
 -- What is known of a run once a file was opened, or was not, and once it was closed.
-use Rattle.std.proofs.Common.{◌≡◌, ◌⊎◌, inl, inr, ⊎_elim, ℕ, ◌+◌, ◌≤◌, ◌<◌, List, ◌++◌, Bool, true, false, ◌||◌, Option, None, Some, Result, Ok, Err, length, refl, sym, ◌∙◌, ap, subst, arith}
+use Rattle.std.proofs.Common.{◌≡◌, inl, inr, ⊎_elim, ℕ, List, Bool, true, false, ◌||◌, Option, None, Some, Result, Ok, Err, length, refl, sym, ◌∙◌, subst, arith}
 use Rattle.snd_command.specs.Said.{Said}
 use Rattle.snd_disk.specs.Shelf.{Files}
 use Rattle.snd_disk.specs.State.{Adds, Rises}
-use Rattle.snd_disk.specs.Streams.{AppendsFront}
 use Rattle.snd_layout.specs.Opened.{IsCause}
 use Rattle.snd_layout.specs.declared.error.OpenError.{OpenError}
 use Rattle.snd_layout.specs.declared.error.OpenError.TheVariants as cause
@@ -11,10 +10,10 @@ use Rattle.snd_layout.specs.declared.refusal.OpenRefusal.{OpenRefusal}
 use Rattle.snd_modes.specs.Editing.{Editing, opened}
 use Rattle.snd_script.specs.Edit.{Edited, edit_open, open_edit_of}
 use Rattle.snd_script.specs.Lines.{Reading}
-use Rattle.snd_script.specs.Replies.{ok_line, says, text_of}
+use Rattle.snd_script.specs.Replies.{ok_line, says}
 use Rattle.snd_script.specs.Script.{Answered}
 use Rattle.snd_script.specs.Served.{Counts, SameCounts, AnyCountRises}
-use Rattle.snd_script.specs.Serving.{Appends, Moment, Serves, IsServedOn, IsServedOpen, IsCounted, CountsAt, IsAnswered, IsNotOpened, IsReadError, CutsShort, IsStopped, answers_from, answers_left, is_longer, moment}
+use Rattle.snd_script.specs.Serving.{Moment, Serves, IsServedOn, IsServedOpen, IsCounted, CountsAt, IsAnswered, IsNotOpened, IsReadError, answers_from, answers_left, is_longer, moment}
 use Rattle.snd_script.specs.declared.stop.Stop.{Stop}
 use Rattle.snd_script.specs.declared.stop.Stop.TheVariants.{Ended, TooLong, Fault, Memory}
 use Rattle.snd_script.proofs.Chains.{answered_open, cut_stops, longer_as, no_text, serves_then, stopped_as, stopped_then}
@@ -63,7 +62,7 @@ closed_as (Ok x) files longer a m reading left refused t t' s e said here serves
   s,
   here,
   serves_then a (answers_from files (edit_open e Said.close) (moment reading left refused t) s) (answers_left files None (moment reading left refused t') s) m (moment reading left refused t) (moment reading left refused t') serves
-    (answered_open files left reading reading refused refused t t' s refl (edit_open e Said.close) None refl (or_false refused) said.1),
+      (answered_open files left reading reading refused refused t t' s refl (edit_open e Said.close) None refl (or_false refused) said.1),
   long,
 )
 closed_as (Err stop) files longer a m reading left refused t t' s e said here serves long =

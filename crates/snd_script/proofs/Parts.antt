@@ -1,5 +1,5 @@
 -- The parts of a line, as they move from a block.
-use Rattle.std.proofs.Common.{◌≡◌, ◌⊎◌, inl, inr, ℕ, ◌+◌, ◌-◌, ◌<◌, ◌≤◌, List, [], ◌∷◌, ◌++◌, Bool, true, false, None, Some, Result, Ok, Err, IsOk, OnOk, nat_lt, length, get_or, take, drop, min, refl, sym, ◌∙◌, ap, arith}
+use Rattle.std.proofs.Common.{◌≡◌, inl, inr, ℕ, ◌+◌, ◌-◌, ◌<◌, ◌≤◌, List, ◌∷◌, ◌++◌, true, false, None, Some, Result, Ok, Err, IsOk, OnOk, nat_lt, length, get_or, take, drop, min, refl, sym, ◌∙◌, ap, arith}
 use Rattle.std.specs.List.{position, position_or_len}
 use Rattle.std.proofs.lemmas.List.{same_lists, take-append-le, take-append-drop, take-take, get_or-take, get_or_default, length-take, length-drop, places}
 use Rattle.std.proofs.lemmas.List.Quantifiers.{position-Some}

@@ -1,5 +1,5 @@
 -- A script is answered the same from the same files; and what is known of a shelf after one step and then another.
-use Rattle.std.proofs.Common.{◌≡◌, ℕ, List, [], ◌∷◌, Bool, Option, None, Some, Result, Ok, Err, refl, sym, ◌∙◌, ap, subst}
+use Rattle.std.proofs.Common.{◌≡◌, ℕ, List, [], ◌∷◌, Bool, Option, None, Some, Result, Ok, Err, refl, ◌∙◌, ap, subst}
 use Rattle.snd_command.specs.Line.{command_of}
 use Rattle.snd_command.specs.Said.{Said}
 use Rattle.snd_command.specs.declared.refusal.ScriptRefusal.{ScriptRefusal}
@@ -36,10 +36,13 @@ module _ (files files' : Files) (same : SameFiles files files') where
     s',
     left,
     subst (λ (a : Answered). Serves (answers_left files None m s) a m m') (same_answers (lines_left m' s') None)
-      (subst (λ (a : Answered). Serves a (answers_left files' None m' s') m m') (same_answers (lines_left m s) None) serves),
+        (subst (λ (a : Answered). Serves a (answers_left files' None m' s') m m') (same_answers (lines_left m s) None) serves),
     long,
   )
   served_same (Err stop) longer s m m' stops = subst (λ (a : Answered). IsStopped stop longer a m m') (same_answers (lines_left m s) None) stops
+
+  pub stopped_same : (stop : Stop) (longer : Bool) (s : List ℕ) (m m' : Moment) → IsStopped stop longer (answers_left files' None m s) m m' → IsStopped stop longer (answers_left files None m s) m m'
+  stopped_same stop longer s m m' stops = subst (λ (a : Answered). IsStopped stop longer a m m') (same_answers (lines_left m s) None) stops
 
 -- a shelf
 pub same_files_then : (a b c : Files) → SameFiles a b → SameFiles b c → SameFiles a c

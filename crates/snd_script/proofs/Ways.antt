@@ -1,5 +1,5 @@
 -- A line under way.
-use Rattle.std.proofs.Common.{◌≡◌, ◌≢◌, ◌⊎◌, inl, inr, ⊎_elim, ℕ, ◌+◌, ◌<◌, ◌≤◌, List, [], ◌∷◌, ◌++◌, Bool, true, false, IsTrue, length, take, refl, sym, ◌∙◌, ap, subst, append_assoc, arith}
+use Rattle.std.proofs.Common.{◌≡◌, ◌≢◌, ◌⊎◌, inl, inr, ℕ, ◌+◌, ◌<◌, ◌≤◌, List, [], ◌++◌, Bool, true, false, IsTrue, length, take, refl, sym, ◌∙◌, ap, subst, append_assoc, arith}
 use Rattle.std.proofs.lemmas.List.{same_lists, length-take, length-append, take_at, append-nil, nil_from_length, places}
 use Rattle.std.proofs.lemmas.List.Elements.{All-append}
 use Rattle.std.proofs.lemmas.Bool.{cases_lt}

@@ -1,5 +1,5 @@
 -- What a command is, while a file is open and while none is.
-use Rattle.std.specs.Prelude.{◌≡◌, ℕ, List, true, None, Some}
+use Rattle.std.specs.Prelude.{◌≡◌, true, None, Some}
 use Rattle.snd_command.specs.Said.{Said}
 use Rattle.snd_disk.specs.Shelf.{Files}
 use Rattle.snd_modes.specs.Editing.{Editing}

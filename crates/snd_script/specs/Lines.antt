@@ -1,5 +1,5 @@
 -- The lines of a script, one after the other, as they come.
-use Rattle.std.specs.Prelude.{◌≡◌, ◌≢◌, ◌⊎◌, ℕ, ◌+◌, ◌-◌, ◌<◌, List, [], ◌∷◌, ◌++◌, Bool, true, false, length, take}
+use Rattle.std.specs.Prelude.{◌≡◌, ◌⊎◌, ℕ, ◌+◌, ◌-◌, ◌<◌, List, [], ◌∷◌, ◌++◌, Bool, true, false, length, take}
 use Rattle.std.specs.List.{All}
 use Rattle.snd_script.specs.declared.reader.NextLine.{NextLine}
 use Rattle.snd_script.specs.declared.reader.NextLine.TheVariants.{Line, End, TooLong}

@@ -7,7 +7,7 @@ use Rattle.snd_disk.specs.declared.disk.Step.{Step}
 use Rattle.snd_modes.specs.Editing.{Editing}
 use Rattle.snd_modes.specs.Handle.{Held}
 use Rattle.snd_script.specs.Edit.{edit_open}
-use Rattle.snd_script.specs.Replies.{Answer, nothing, says, refuses, refusal_number, text_of}
+use Rattle.snd_script.specs.Replies.{Answer, refuses, refusal_number, text_of}
 use Rattle.snd_script.specs.declared.handle.Reply.{Reply}
 use Rattle.snd_script.specs.declared.handle.Reply.TheVariants as reply
 use Rattle.snd_script.specs.declared.handle.StepFault.{StepFault}

@@ -12,19 +12,19 @@ pub returns-in_err-next-clause-served : goal.returns-in_err-next-clause-served
 returns-in_err-next-clause-served g c =
     let p = err_from_is_err_and c.from_residual.result c.from_residual.ensures.1 in
     rw (p.1, p.2) (λ files e s stands left.
-      let so_far = c.loop-line.invariant.told files e s stands left in
-      stopped_then _ _ _ _ _ _ _ so_far.4 (stopped_as _ _ _ _ _ _ so_far.5 (none_left _ files (Some so_far.0) so_far.1 _ _ (c.in_err-next.ensures.brought so_far.1 so_far.2) c.in_err-next.ensures.noted refl)))
+    let so_far = c.loop-line.invariant.told files e s stands left in
+    stopped_then _ _ _ _ _ _ _ so_far.4 (stopped_as _ _ _ _ _ _ so_far.5 (none_left _ files (Some so_far.0) so_far.1 _ _ (c.in_err-next.ensures.brought so_far.1 so_far.2) c.in_err-next.ensures.noted refl)))
 
 pub returns-in_err-open_line-clause-served : goal.returns-in_err-open_line-clause-served
 returns-in_err-open_line-clause-served g c =
     let p = err_from_is_err_and c.from_residual-in_err-open_line.result c.from_residual-in_err-open_line.ensures.1 in
     rw (p.1, p.2) (λ files e s stands left.
-      let so_far = c.loop-line.invariant.told files e s stands left in
-      let comes = c.in_ok-next.ensures.brought so_far.1 so_far.2 in
-      let m : Moment = moment c.loop-line.run.lines (g.R.Source.left c.loop-line.script) c.loop-line.run.refused (g.O.Sink.told c.loop-line.out) in
-      let m' : Moment = moment c.next.new.self.lines (g.R.Source.left c.next.new.script) c.next.new.self.refused (g.O.Sink.told c.loop-line.out) in
-      let at = comes_at files (Some so_far.0) _ _ c.next.new.line.items so_far.1 comes.0 _ m m' so_far.4 so_far.5 comes.2 c.in_ok-next.ensures.noted refl in
-      at_stops files _ _ _ m' _ _ comes.0 _ at (rw c.as_slice.ensures.value at c.in_err-open_line.ensures.answered files so_far.0 so_far.3))
+    let so_far = c.loop-line.invariant.told files e s stands left in
+    let comes = c.in_ok-next.ensures.brought so_far.1 so_far.2 in
+    let m : Moment = moment c.loop-line.run.lines (g.R.Source.left c.loop-line.script) c.loop-line.run.refused (g.O.Sink.told c.loop-line.out) in
+    let m' : Moment = moment c.next.new.self.lines (g.R.Source.left c.next.new.script) c.next.new.self.refused (g.O.Sink.told c.loop-line.out) in
+    let at = comes_at files (Some so_far.0) _ _ c.next.new.line.items so_far.1 comes.0 _ m m' so_far.4 so_far.5 comes.2 c.in_ok-next.ensures.noted refl in
+    at_stops files _ _ _ m' _ _ comes.0 _ at (rw c.as_slice.ensures.value at c.in_err-open_line.ensures.answered files so_far.0 so_far.3))
 
 pub loop-line-preserved : goal.loop-line-preserved
 loop-line-preserved g c = record {
@@ -52,15 +52,15 @@ loop-line-preserved g c = record {
 
 pub returns-in-Close-clause-served : goal.returns-in-Close-clause-served
 returns-in-Close-clause-served g c = λ files e s stands left.
-      let so_far = c.loop-line.invariant.told files e s stands left in
-      let comes = c.in_ok-next.ensures.brought so_far.1 so_far.2 in
-      let m : Moment = moment c.loop-line.run.lines (g.R.Source.left c.loop-line.script) c.loop-line.run.refused (g.O.Sink.told c.loop-line.out) in
-      let m' : Moment = moment c.next.new.self.lines (g.R.Source.left c.next.new.script) c.next.new.self.refused (g.O.Sink.told c.loop-line.out) in
-      let at = comes_at files (Some so_far.0) _ _ c.next.new.line.items so_far.1 comes.0 _ m m' so_far.4 so_far.5 comes.2 c.in_ok-next.ensures.noted refl in
-      let answered = rw c.as_slice.ensures.value at c.in_ok-open_line.ensures.answered files so_far.0 so_far.3 in
-      let said = rw c.in-Close.is at answered in
-      let next = at_close files _ _ _ _ c.next.new.self.lines c.open_line.new.run.lines _ _ _ _ comes.0 c.in_ok-open_line.ensures.lines (edit_line files (Some so_far.0) c.next.new.line.items) (edit_open so_far.0 Said.close) at said.0 said.2 said.3 in
-      (so_far.0, comes.0, comes.1, said.1, next.0, next.1)
+    let so_far = c.loop-line.invariant.told files e s stands left in
+    let comes = c.in_ok-next.ensures.brought so_far.1 so_far.2 in
+    let m : Moment = moment c.loop-line.run.lines (g.R.Source.left c.loop-line.script) c.loop-line.run.refused (g.O.Sink.told c.loop-line.out) in
+    let m' : Moment = moment c.next.new.self.lines (g.R.Source.left c.next.new.script) c.next.new.self.refused (g.O.Sink.told c.loop-line.out) in
+    let at = comes_at files (Some so_far.0) _ _ c.next.new.line.items so_far.1 comes.0 _ m m' so_far.4 so_far.5 comes.2 c.in_ok-next.ensures.noted refl in
+    let answered = rw c.as_slice.ensures.value at c.in_ok-open_line.ensures.answered files so_far.0 so_far.3 in
+    let said = rw c.in-Close.is at answered in
+    let next = at_close files _ _ _ _ c.next.new.self.lines c.open_line.new.run.lines _ _ _ _ comes.0 c.in_ok-open_line.ensures.lines (edit_line files (Some so_far.0) c.next.new.line.items) (edit_open so_far.0 Said.close) at said.0 said.2 said.3 in
+    (so_far.0, comes.0, comes.1, said.1, next.0, next.1)
 
 pub returns-in-Close-clause-counted : goal.returns-in-Close-clause-counted
 returns-in-Close-clause-counted g c = record {

@@ -4,7 +4,7 @@ use Rattle.snd_disk.specs.State.{OnlyReads}
 use Rattle.snd_modes.specs.Editing.{Editing}
 use Rattle.snd_script.specs.Handled.{HandleStands, handle_disk, handle_held, handle_loan}
 use Rattle.snd_script.specs.Lines.{to_take}
-use Rattle.snd_script.specs.Served.{Counts, SameCounts}
+use Rattle.snd_script.specs.Served.{SameCounts}
 use Rattle.snd_script.specs.Serving.{Serves, answers_left, is_longer, moment}
 use Rattle.snd_script.proofs.opened.serve_open.Given as goal
 

@@ -1,4 +1,4 @@
-use Rattle.std.proofs.Common.{Some, refl}
+use Rattle.std.proofs.Common.{Some}
 use Rattle.snd_command.specs.Said.{Said}
 use Rattle.snd_script.specs.Edit.{edit_open}
 use Rattle.snd_script.proofs.Chains.{answered_open, cut_stops, longer_as}

@@ -1,5 +1,4 @@
-use Rattle.std.proofs.Common.{drop, length, take, arith}
-use Rattle.std.proofs.lemmas.List.{length-take}
+use Rattle.std.proofs.Common.{drop, arith}
 use Rattle.snd_script.proofs.Parts.{taken_front}
 use Rattle.snd_script.proofs.reader.fill.Goals as goal
 

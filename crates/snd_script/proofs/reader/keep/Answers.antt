@@ -1,4 +1,4 @@
-use Rattle.std.proofs.Common.{◌≡◌, ◌+◌, ◌∙◌, take, length, arith}
+use Rattle.std.proofs.Common.{◌≡◌, ◌+◌, ◌∙◌, length, arith}
 use Rattle.std.proofs.lemmas.List.{length-take}
 use Rattle.snd_script.specs.Lines.{most_kept}
 use Rattle.snd_script.proofs.Parts.{kept_front, most_kept-is, on_ok}

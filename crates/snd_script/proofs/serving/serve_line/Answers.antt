@@ -1,7 +1,7 @@
 use Rattle.std.proofs.Common.{None, refl, sym}
 use Rattle.snd_script.specs.Serving.{Moment, moment}
 use Rattle.snd_script.proofs.Chains.{brought_then, none_left}
-use Rattle.snd_script.proofs.Openings.{counted_then, served_on_then}
+use Rattle.snd_script.proofs.Openings.{served_on_then}
 use Rattle.snd_script.proofs.serving.serve_line.Goals as goal
 
 pub returns-in-Err-clause-served : goal.returns-in-Err-clause-served

@@ -2,7 +2,7 @@ use Rattle.std.proofs.Common.{◌≡◌, ◌+◌, ◌≤◌, List, ℕ, None, So
 use Rattle.snd_disk.specs.Returned.{KeepsFileImages}
 use Rattle.snd_disk.specs.Shelf.{Files, KeepsFiles, SameFiles}
 use Rattle.snd_script.specs.Lines.{to_take}
-use Rattle.snd_script.specs.Served.{Counts, SameCounts}
+use Rattle.snd_script.specs.Served.{SameCounts}
 use Rattle.snd_script.specs.Serving.{Serves, answers_left, is_longer, moment}
 use Rattle.snd_script.proofs.serving.serve_lines.Given as goal
 

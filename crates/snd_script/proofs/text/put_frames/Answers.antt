@@ -1,9 +1,7 @@
-use Rattle.std.proofs.Common.{◌≡◌, ◌-◌, ◌+◌, ◌*◌, ◌<◌, suc, zero, length, refl, sym, ◌∙◌, ap, arith, rules}
+use Rattle.std.proofs.Common.{◌-◌, refl, arith, rules}
 use Rattle.std.proofs.lemmas.Result.{on_err_weaker, on_ok_weaker}
-use Rattle.snd_pcm.specs.Groups.{first_groups}
-use Rattle.snd_script.specs.Replies.{frames_text, frame_line, ok_line}
-use Rattle.snd_script.proofs.Lines.{begun, fewer_frames, line_gathered, lines, none_left, roomed}
-use Rattle.snd_script.proofs.Printing.{Printing, ended, failed, on_err}
+use Rattle.snd_script.proofs.Lines.{begun, fewer_frames, line_gathered, none_left, roomed}
+use Rattle.snd_script.proofs.Printing.{ended, failed, on_err}
 use Rattle.snd_script.proofs.text.put_frames.Goals as goal
 
 pub loop-init : goal.loop-init

@@ -1,4 +1,4 @@
-use Rattle.std.proofs.Common.{rules, arith, length, ◌≡◌, ◌<◌, ◌≤◌, ◌+◌, sym, refl}
+use Rattle.std.proofs.Common.{rules, arith, length, ◌<◌, sym, refl}
 use Rattle.std.proofs.lemmas.Bool.{eqb-true, eqb-false}
 use Rattle.snd_script.proofs.Ways.{moved, line_moved, no_more_moved, under_way, nothing_left, last_left, is_none_left, is_some_left, full_then, above_none, fewer_left}
 use Rattle.snd_script.proofs.reader.ScriptLines.next_line.Goals as goal

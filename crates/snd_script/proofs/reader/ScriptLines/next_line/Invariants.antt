@@ -1,5 +1,5 @@
-use Rattle.std.proofs.Common.{◌≡◌, ◌+◌, ◌-◌, ◌<◌, ◌≤◌, List, ℕ, Some, length}
-use Rattle.snd_script.specs.Lines.{Reading, IsUnderWay, to_take}
+use Rattle.std.proofs.Common.{◌≡◌, ◌+◌, ◌-◌, ◌≤◌, List, ℕ, Some, length}
+use Rattle.snd_script.specs.Lines.{IsUnderWay, to_take}
 use Rattle.snd_script.proofs.reader.ScriptLines.next_line.Given as goal
 
 abbrev pub invariant-loop-self : goal.invariant-loop-self
