@@ -1,4 +1,4 @@
--- What opening a file gives.
+-- What opening a file gives, and what its frames are.
 use Rattle.std.proofs.Common.{◌≡◌, ◌∙◌, ap, sym, refl, ℕ, ◌*◌, ◌≤◌, List, Bool, true, false, Option, None, Some, Ok, Err, length, take, drop, arith, if◌then◌else◌}
 use Rattle.std.specs.Prelude.{is_none}
 use Rattle.snd_layout.specs.declared.refusal.OpenRefusal.{OpenRefusal}
@@ -9,7 +9,7 @@ use Rattle.snd_pcm.specs.Groups.{groups}
 use Rattle.snd_pcm.specs.Pcm.{byte_count, samples}
 use Rattle.snd_pcm.specs.declared.linear.Linear.{Linear}
 use Rattle.snd_container.specs.Sound.{decoded, decoded_as, layout_of, linear_of, sound_bytes}
-use Rattle.snd_modes.specs.Editing.{opened, opened_as, opening}
+use Rattle.snd_modes.specs.Editing.{Editing, frames_read, opened, opened_as, opening}
 use Rattle.snd_modes.proofs.SoundFrames.{count_frames, linear_bytes}
 
 pub opened_ok : (b : List ℕ) (s : Shape) → layout_of b ≡ Ok s → is_none (linear_of s.params.codec) ≡ false → opened b ≡ Ok (opening b s)
@@ -37,3 +37,11 @@ count_as b s (Some form) is linear some fits =
 pub count_opened : (b : List ℕ) (s : Shape) → is_none (linear_of s.params.codec) ≡ false → 1 ≤ s.params.channels → end s s.frames ≤ length b
     → s.frames ≡ length (decoded s.params (sound_bytes b s))
 count_opened b s linear some fits = count_as b s (linear_of s.params.codec) refl linear some fits
+
+-- the frames of an editing state are those that its bytes give
+pub frames_of_bytes : (e : Editing) (s : Shape) (place k : ℕ) → s ≡ e.shape → place ≡ e.place → e.frames ≡ decoded e.shape.params (sound_bytes e.bytes e.shape)
+    → take k (drop place (decoded s.params (sound_bytes e.bytes s))) ≡ frames_read e k
+frames_of_bytes e s place k shape at sound =
+    ap (λ (x : Shape). take k (drop place (decoded x.params (sound_bytes e.bytes x)))) shape
+    ∙ ap (λ (m : ℕ). take k (drop m (decoded e.shape.params (sound_bytes e.bytes e.shape)))) at
+    ∙ ap (λ l. take k (drop e.place l)) (sym sound)

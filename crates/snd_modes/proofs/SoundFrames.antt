@@ -1,7 +1,7 @@
 -- The frames of a linear sound, and those that a read of some of its bytes gives.
-use Rattle.std.proofs.Common.{◌≡◌, ◌∙◌, ap, sym, subst, refl, ℕ, zero, suc, ◌+◌, ◌-◌, ◌*◌, ◌/◌, ◌<◌, ◌≤◌, List, ◌∷◌, Option, Some, length, take, drop, arith}
+use Rattle.std.proofs.Common.{◌≡◌, ◌∙◌, ap, sym, subst, refl, ℕ, zero, suc, ◌+◌, ◌-◌, ◌*◌, ◌/◌, ◌<◌, ◌≤◌, List, ◌∷◌, ◌++◌, Option, Some, length, take, drop, arith}
 use Rattle.std.proofs.Math.Nat.{mul-div_cancel_left}
-use Rattle.std.proofs.lemmas.List.{drop-drop, drop-take, length-drop, length-take-le, take-take}
+use Rattle.std.proofs.lemmas.List.{drop-drop, drop-take, length-drop, length-take-le, take-take, take_at}
 use Rattle.snd_layout.specs.Blocks.{block_align, block_frames}
 use Rattle.snd_layout.specs.Params.{Parameters, data_bytes}
 use Rattle.snd_layout.specs.Shape.{Shape, end}
@@ -63,6 +63,10 @@ module _ {X : Type 0} (k : ℕ) where
       ∙ ap (λ l. l ∷ first_groups k n (drop k (take (k + k * n) xs))) (take-take k (k + k * n) xs (omega arith))
       ∙ ap (λ l. take k xs ∷ first_groups k n l) (drop-take k (k * n) xs)
       ∙ ap (λ l. take k xs ∷ l) (groups_of_front n (drop k xs))
+
+  -- groups that stand in front of other items
+  pub groups_of_piece : (n : ℕ) (piece rest : List X) → length piece ≡ k * n → first_groups k n (piece ++ rest) ≡ first_groups k n piece
+  groups_of_piece n piece rest size = sym (groups_of_front n (piece ++ rest)) ∙ ap (first_groups k n) (take_at piece rest (k * n) size)
 
   front_of_groups : (n all : ℕ) (xs : List X) → n ≤ all → take n (first_groups k all xs) ≡ first_groups k n xs
   front_of_groups zero all xs within = refl

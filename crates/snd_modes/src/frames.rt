@@ -3,9 +3,8 @@
 ghost use Rattle.std.specs.Prelude.{◌≡◌, ◌+◌, ◌-◌, ◌*◌, ◌≤◌, List, ℕ, Some, false, All, OnOk, is_none, length, take, drop, min};
 ghost use Rattle.snd_disk.specs.State.{AtMost, Counts, OnlyReads};
 ghost use Rattle.snd_pcm.specs.Groups.{first_groups};
-ghost use Rattle.snd_pcm.specs.Pcm.{byte_count};
+ghost use Rattle.snd_pcm.specs.Pcm.{InRange, byte_count};
 ghost use Rattle.snd_pcm.specs.declared.linear.Linear.{Linear as linear};
-ghost use Rattle.snd_pcm.specs.Pcm.{InRange};
 ghost use Rattle.snd_layout.specs.Blocks.{block_align};
 ghost use Rattle.snd_layout.specs.Shape.{end};
 ghost use Rattle.snd_container.specs.Sound.{decoded, linear_of, sound_bytes};

@@ -1,5 +1,7 @@
+pub mod Asked
 pub mod Chains
 pub mod Ends
+pub mod Left
 pub mod Lines
 pub mod Names
 pub mod OpenNames

@@ -1,8 +1,8 @@
 -- The lines of frames, put one after the other.
-use Rattle.std.proofs.Common.{◌≡◌, ◌⊎◌, ◌*◌, ◌≤◌, ℕ, ℤ, zero, suc, List, [], ◌++◌, length, take, drop, Option, refl, sym, ap, subst, arith, ⊎_elim}
+use Rattle.std.proofs.Common.{◌≡◌, ◌⊎◌, ◌+◌, ◌*◌, ◌≤◌, ℕ, ℤ, zero, suc, List, [], ◌∷◌, ◌++◌, length, take, drop, Option, refl, sym, ◌∙◌, ap, subst, arith, ⊎_elim}
 use Rattle.std.specs.Prelude.{option_map}
 use Rattle.std.specs.List.{flat_map}
-use Rattle.std.proofs.lemmas.List.{length-drop}
+use Rattle.std.proofs.lemmas.List.{drop-take, length-drop, take-take}
 use Rattle.snd_pcm.specs.Groups.{first_groups}
 use Rattle.snd_script.specs.Replies.{frame_line, frames_text, ok_line}
 use Rattle.snd_script.proofs.Printing.{Printing, started, gathered, put_page}
@@ -38,9 +38,16 @@ line_gathered before after page page' all channels k k' rest rest' p more e afte
 pub none_left : (before after : Option (List ℕ)) (page all : List ℕ) (channels k : ℕ) (rest : List ℤ) → Printing before after page (lines channels k rest) all → k ≡ 0 → Printing before after page [] all
 none_left before after page all channels k rest p none = subst (λ (m : ℕ). Printing before after page (lines channels m rest) all) none p
 
--- of n frames one is in the samples, and the others stand behind it
-pub has_frame : (channels n k size : ℕ) → size ≡ n * channels → n ≡ suc k → channels ≤ size
-has_frame channels n k size e more = rw (e, more) (omega arith)
-
+-- one frame fewer stands behind a frame
 pub fewer_frames : (channels n k : ℕ) (rest rest' : List ℤ) → length rest ≡ n * channels → n ≡ suc k → rest' ≡ drop channels rest → length rest' ≡ k * channels
 fewer_frames channels n k rest rest' e more after_frame = rw (after_frame, length-drop, e, more) (omega arith)
+
+-- the groups of a list are those of the front that they fill
+pub front_groups : {X : Type 0} (k n : ℕ) (xs : List X) → first_groups k n (take (n * k) xs) ≡ first_groups k n xs
+front_groups k zero xs = refl
+front_groups k (suc n) xs =
+    let more : suc n * k ≡ k + n * k = omega arith in
+    ap (λ m. first_groups k (suc n) (take m xs)) more
+    ∙ ap (λ l. l ∷ first_groups k n (drop k (take (k + n * k) xs))) (take-take k (k + n * k) xs (omega arith))
+    ∙ ap (λ l. take k xs ∷ first_groups k n l) (drop-take k (n * k) xs)
+    ∙ ap (λ l. take k xs ∷ l) (front_groups k n (drop k xs))

@@ -7,3 +7,4 @@ pub mod Script
 pub mod Served
 pub mod Serving
 pub mod Stepped
+pub mod Work

@@ -1,5 +1,5 @@
 -- A whole script: its lines, and what they are answered.
-use Rattle.std.specs.Prelude.{ℕ, ◌-◌, ◌==◌, List, [], ◌∷◌, ◌++◌, Bool, false, ◌||◌, Option, None, length, take, nat_le, nat_lt, if◌then◌else◌}
+use Rattle.std.specs.Prelude.{ℕ, ◌-◌, ◌==◌, List, [], ◌∷◌, ◌++◌, Bool, true, false, ◌||◌, Option, None, Some, length, take, nat_le, nat_lt, if◌then◌else◌}
 use Rattle.std.specs.List.{slice_split}
 use Rattle.snd_disk.specs.Shelf.{Files}
 use Rattle.snd_modes.specs.Editing.{Editing}

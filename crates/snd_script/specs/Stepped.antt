@@ -6,7 +6,7 @@ use Rattle.snd_disk.specs.Streams.{AppendsFront}
 use Rattle.snd_disk.specs.declared.disk.Step.{Step}
 use Rattle.snd_modes.specs.Editing.{Editing}
 use Rattle.snd_modes.specs.Handle.{Held}
-use Rattle.snd_script.specs.Edit.{edit_open}
+use Rattle.snd_script.specs.Edit.{Edited, edit_open}
 use Rattle.snd_script.specs.Replies.{Answer, refuses, refusal_number, text_of}
 use Rattle.snd_script.specs.declared.handle.Reply.{Reply}
 use Rattle.snd_script.specs.declared.handle.Reply.TheVariants as reply
@@ -28,11 +28,14 @@ reply_of answer = reply.Ok
 
 -- The file that is open afterwards: the one that the command leaves, where it was carried out or refused, also where its
 -- reply did not get out; the same one after a fault of the disk and for want of memory.
+abbrev pub file_left : Result Reply StepFault → Editing → Edited → Option Editing
+file_left (Ok reply) e edited = edited.open_file
+file_left (Err Out) e edited = edited.open_file
+file_left (Err Disk) e edited = Some e
+file_left (Err Memory) e edited = Some e
+
 abbrev pub file_after : Result Reply StepFault → Editing → Said → Option Editing
-file_after (Ok reply) e said = (edit_open e said).open_file
-file_after (Err Out) e said = (edit_open e said).open_file
-file_after (Err Disk) e said = Some e
-file_after (Err Memory) e said = Some e
+file_after result e said = file_left result e (edit_open e said)
 
 -- What was appended: the text of the answer, which the reply is of; a front of it where the sink failed; else nothing.
 abbrev pub IsSaid : Result Reply StepFault → Answer → Option (List ℕ) → Option (List ℕ) → Type 0
@@ -70,3 +73,8 @@ IsHeld (Ok reply) old new = (new.broken ≡ None) × (new.shape ≡ old.shape)
 abbrev pub most_asked : Said → ℕ
 most_asked (Said.read n) = 1024 * n + 16384
 most_asked said = 0
+
+-- only a read takes memory: for its samples
+abbrev pub takes_memory : Said → Bool
+takes_memory (Said.read n) = true
+takes_memory said = false

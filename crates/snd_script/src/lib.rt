@@ -1,6 +1,7 @@
 //! Scripts of commands on sound files: one line each, with exact replies.
 #![tactic(auto)]
 
+mod carry;
 mod closed;
 mod handle;
 mod kind;
@@ -8,12 +9,15 @@ mod opened;
 mod opening;
 mod page;
 mod reader;
+mod reading;
 mod refusal;
 mod run;
+mod say;
 mod serving;
 mod session;
 mod stop;
 mod text;
+mod work;
 
 pub use handle::{Handle, Reply, StepFault};
 pub use refusal::Refusal;

@@ -11,6 +11,7 @@ use itoa::Buffer;
 use snd_layout::{Codec, Kind, Params};
 
 /// Appends a text.
+#[inline]
 pub fn push_text<const N: usize>(page: &mut ArrayVec<u8, N>, text: &[u8])
     requires { length page.old.items + length text.now ≤ N }
     ensures { page.new.items ≡ page.old.items ++ text.now }
@@ -27,24 +28,25 @@ pub fn push_number<const N: usize>(page: &mut ArrayVec<u8, N>, number: u64)
     push_text(page, Buffer::new().format(number).as_bytes());
 }
 
-/// Appends a number's decimal digits, behind a sign where it is negative.
+/// Appends a sample's decimal digits, behind a sign where it is negative.
 #[inline]
-fn push_signed<const N: usize>(page: &mut ArrayVec<u8, N>, number: i32)
+fn push_signed<const N: usize>(page: &mut ArrayVec<u8, N>, sample: i32)
     requires { length page.old.items + 11 ≤ N }
-    ensures text { page.new.items ≡ page.old.items ++ signed_decimal number }
+    ensures text { page.new.items ≡ page.old.items ++ signed_decimal sample }
     ensures count { length page.new.items ≤ length page.old.items + 11 }
 {
-    push_text(page, Buffer::new().format(number).as_bytes());
+    push_text(page, Buffer::new().format(sample).as_bytes());
 }
 
+/// Appends a space and a sample.
 #[inline]
-fn push_spaced<const N: usize>(page: &mut ArrayVec<u8, N>, number: i32)
+fn push_spaced<const N: usize>(page: &mut ArrayVec<u8, N>, sample: i32)
     requires { length page.old.items + 12 ≤ N }
-    ensures text { page.new.items ≡ page.old.items ++ spaced number }
+    ensures text { page.new.items ≡ page.old.items ++ spaced sample }
     ensures count { length page.new.items ≤ length page.old.items + 12 }
 {
     page.push(b' ');
-    push_signed(page, number);
+    push_signed(page, sample);
 }
 
 /// Appends the line of a frame: its numbers, with a space between them.

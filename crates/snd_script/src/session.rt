@@ -1,14 +1,18 @@
 //! Commands on an open file.
 
-ghost use Rattle.std.specs.Prelude.{◌≡◌, ℕ, List, true, length, None, Some, MatchResult, IfOk, IfErr};
+ghost use Rattle.std.specs.Prelude.{◌≡◌, ℕ, List, true, length, None, Some, MatchResult, IfOk, IfErr, IsErrOf};
 ghost use Rattle.snd_command.specs.Said.{said_of};
 ghost use Rattle.snd_disk.specs.State.{AtMost, OnlyReads};
 ghost use Rattle.snd_modes.specs.Editing.{Editing};
 ghost use Rattle.snd_script.specs.Edit.{edit_open};
 ghost use Rattle.snd_script.specs.Handled.{HandleStands, handle_disk, handle_held, handle_loan};
-ghost use Rattle.snd_script.specs.Stepped.{IsHeld, IsSaid, IsSilent, IsStepCause, file_after, is_step, most_asked};
+ghost use Rattle.snd_script.specs.Stepped.{IsHeld, IsSaid, IsSilent, IsStepCause, file_after, is_step, most_asked, takes_memory};
 
+use crate::carry::{read, seek, tell};
 use crate::handle::{Handle, Reply, StepFault};
+use crate::say::refuse;
+use crate::text::PAGE_BYTES;
+use crate::work::{Work, work_of};
 use arrayvec::ArrayVec;
 use snd_command::Command;
 use snd_disk::{Disk, Sink, Step};
@@ -18,7 +22,7 @@ use std::alloc::{AllocError, Global};
 #[derive(Drop)]
 pub struct Session {
     samples: Vec<i32>,
-    page: ArrayVec<u8, 16384>,
+    page: ArrayVec<u8, PAGE_BYTES>,
 }
 
 impl Session {
@@ -35,8 +39,12 @@ impl Session {
     /// none that opens, makes or closes a file.
     ///
     /// `Disk` where a call of the disk failed: then nothing was appended, and the handle is broken.
-    /// `Out` where the sink failed: then the command was carried out, and a front of its reply was
-    /// appended. `Memory` where there was none: then all is as before.
+    /// `Out` where the sink failed: then the command was carried out or refused, and a front of its reply
+    /// was appended. `Memory` where there was none for the samples of a read, which takes it before it
+    /// reads: then all is as before. Other commands take none.
+    ///
+    /// The disk is only read. A read asks at most 1024 bytes of it for each frame that is wanted, and 16384
+    /// more; other commands ask nothing.
     pub fn step<'d, D: Disk, O: Sink>(
         &mut self,
         handle: &mut Handle<'d, D>,
@@ -50,11 +58,19 @@ impl Session {
         ensures said { (e : Editing) → HandleStands D.state handle.old e → IsSaid result (edit_open e (said_of command.now)).answer (O.told out.old) (O.told out.new) }
         ensures silent { IfErr result (λ fault. IsSilent fault (O.told out.old) (O.told out.new)) }
         ensures cause { IsStepCause result (D.state (handle_disk handle.old)).faults (D.state (handle_disk handle.new)).faults (O.faults out.old) (O.faults out.new) }
+        ensures memory { IsErrOf result StepFault.Memory → takes_memory (said_of command.now) ≡ true }
         ensures held { IsHeld result (handle_held handle.old) (handle_held handle.new) }
         ensures reads { OnlyReads (D.state (handle_disk handle.old)) (D.state (handle_disk handle.new)) (D.may_leave (handle_disk handle.old)) (D.may_leave (handle_disk handle.new)) (D.left_between (handle_disk handle.old)) (D.left_between (handle_disk handle.new)) }
         ensures asked { AtMost (D.state (handle_disk handle.old)).asked (most_asked (said_of command.now)) (D.state (handle_disk handle.new)).asked }
     {
-        Err(StepFault::Memory)
+        match handle {
+            Handle::R(file) => match work_of(command) {
+                Work::Tell => tell(file, out),
+                Work::Seek(to) => seek(file, to, out),
+                Work::Read(count) => read(file, &mut self.samples, &mut self.page, count, out),
+                Work::Refuse(refusal) => refuse(out, refusal),
+            },
+        }
     }
 
     /// Closes a file and gives its disk back, with the number of its frames, or with the step at which

@@ -6,7 +6,7 @@ ghost use Rattle.snd_disk.specs.Streams.{AppendsFront};
 ghost use Rattle.snd_pcm.specs.Groups.{first_groups};
 ghost use Rattle.snd_script.specs.Replies.{described, error_line, frames_text, ok_line};
 
-use crate::page::{push_error, push_file, push_frame, push_ok, push_text};
+use crate::page::{push_error, push_file, push_frame, push_ok};
 use crate::refusal::Refusal;
 use arrayvec::ArrayVec;
 use snd_disk::{Failed, Sink};

@@ -1,0 +1,18 @@
+use Rattle.std.proofs.Common.{arith, rules}
+use Rattle.snd_script.proofs.Asked.{asked_for_frames, linear_frame, no_part}
+use Rattle.snd_script.proofs.reading.read_some.Goals as goal
+
+pub returns-in-Ok-read_frames-clause-asked : goal.returns-in-Ok-read_frames-clause-asked
+returns-in-Ok-read_frames-clause-asked g c =
+    asked_for_frames _ _ _ c.min-count.result _ _ _ c.read_frames.ensures.asked (search rules) (search rules) (omega arith)
+    (linear_frame c.args.file.now.layout.params.channels c.args.file.now.layout.params.codec c.args.file.now.linear (search rules))
+
+pub returns-in-Err-DiskFault-clause-asked : goal.returns-in-Err-DiskFault-clause-asked
+returns-in-Err-DiskFault-clause-asked g c =
+    asked_for_frames _ _ _ c.min-count.result _ _ _ c.read_frames.ensures.asked (search rules) (search rules) (omega arith)
+    (linear_frame c.args.file.now.layout.params.channels c.args.file.now.layout.params.codec c.args.file.now.linear (search rules))
+
+pub unreachable-requires-in-Err-PartFrame : goal.unreachable-requires-in-Err-PartFrame
+unreachable-requires-in-Err-PartFrame g c =
+    let cause = rw c.in-Err-PartFrame.field-0-is at c.in-Err-PartFrame.ensures.cause in
+    cause.1 (no_part _ c.min-count.result c.args.file.now.layout.params.channels (search rules))

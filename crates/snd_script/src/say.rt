@@ -1,0 +1,72 @@
+//! Replies to commands on an open file. A reply that does not get out is a fault of the sink, and a front
+//! of it was put.
+
+ghost use Rattle.std.specs.Prelude.{◌≡◌, ◌*◌, ◌≤◌, length};
+ghost use Rattle.snd_pcm.specs.Groups.{first_groups};
+ghost use Rattle.snd_script.specs.Replies.{described, frames_text, ok_line, refuses, says};
+ghost use Rattle.snd_script.specs.Stepped.{IsSaid};
+ghost use Rattle.snd_script.specs.Work.{IsSent};
+
+use crate::handle::{Reply, StepFault};
+use crate::refusal::Refusal;
+use crate::text::{PAGE_BYTES, put_file_line, put_frames, put_ok, put_refusal};
+use arrayvec::ArrayVec;
+use snd_disk::Sink;
+use snd_layout::{Kind, Params};
+
+/// Says that a command was carried out, with a number.
+pub fn say_ok<O: Sink>(out: &mut O, number: u64) -> Result<Reply, StepFault>
+    ensures said { IsSaid result (says (ok_line number)) (O.told out.old) (O.told out.new) }
+    ensures sent { IsSent result (O.faults out.old) (O.faults out.new) }
+{
+    match put_ok(out, number) {
+        Ok(()) => Ok(Reply::Ok),
+        Err(_) => Err(StepFault::Out),
+    }
+}
+
+/// Says what is known of a file.
+pub fn say_file<O: Sink>(
+    out: &mut O,
+    frames: u64,
+    params: Params,
+    kind: Kind,
+) -> Result<Reply, StepFault>
+    ensures said { IsSaid result (says (described frames params kind)) (O.told out.old) (O.told out.new) }
+    ensures sent { IsSent result (O.faults out.old) (O.faults out.new) }
+{
+    match put_file_line(out, frames, params, kind) {
+        Ok(()) => Ok(Reply::Ok),
+        Err(_) => Err(StepFault::Out),
+    }
+}
+
+/// Says that a command is refused.
+pub fn refuse<O: Sink>(out: &mut O, refusal: Refusal) -> Result<Reply, StepFault>
+    ensures said { IsSaid result (refuses refusal) (O.told out.old) (O.told out.new) }
+    ensures sent { IsSent result (O.faults out.old) (O.faults out.new) }
+{
+    match put_refusal(out, refusal) {
+        Ok(()) => Ok(Reply::Refused(refusal.number())),
+        Err(_) => Err(StepFault::Out),
+    }
+}
+
+/// Says frames that were read.
+pub fn say_frames<O: Sink>(
+    page: &mut ArrayVec<u8, PAGE_BYTES>,
+    out: &mut O,
+    samples: &[i32],
+    channels: usize,
+    frames: usize,
+) -> Result<Reply, StepFault>
+    requires channels { channels ≤ 256 }
+    requires whole { length samples.now ≡ frames * channels }
+    ensures said { IsSaid result (says (frames_text (first_groups channels frames samples.now))) (O.told out.old) (O.told out.new) }
+    ensures sent { IsSent result (O.faults out.old) (O.faults out.new) }
+{
+    match put_frames(page, out, samples, channels, frames) {
+        Ok(()) => Ok(Reply::Ok),
+        Err(_) => Err(StepFault::Out),
+    }
+}
