@@ -1,5 +1,7 @@
 -- A line under way.
-use Rattle.std.proofs.Common.{◌≡◌, ◌≢◌, ◌⊎◌, inl, inr, ℕ, ◌+◌, ◌<◌, ◌≤◌, List, [], ◌++◌, Bool, true, false, IsTrue, length, take, refl, sym, ◌∙◌, ap, subst, append_assoc, arith}
+use Rattle.std.proofs.Common.{◌≡◌, ◌≢◌, ◌⊎◌, inl, inr, ⊎_elim, ℕ, ◌+◌, ◌<◌, ◌≤◌, List, [], ◌∷◌, ◌++◌, Bool, true, false, IsTrue, length, get_or, take, refl, sym, ◌∙◌, ap, subst, append_assoc, arith}
+use Rattle.std.proofs.Math.ListN.{get_or-append}
+use Rattle.std.proofs.Math.Seq.{get_or-append_seam}
 use Rattle.std.proofs.lemmas.List.{same_lists, length-take, length-append, take_at, append-nil, nil_from_length, places}
 use Rattle.std.proofs.lemmas.List.Elements.{All-append}
 use Rattle.std.proofs.lemmas.Bool.{cases_lt}
@@ -84,3 +86,14 @@ above_none n some = elim (cases_lt 0 n) [ inl lt ↦ lt | inr le ↦ absurd (som
 
 pub fewer_left : (now mid : Reading) (kept kept' part : List ℕ) (ended : Bool) → Moves now mid kept kept' ended part → length kept' + feeds ended + mid.room ≤ length kept + now.room
 fewer_left now mid kept kept' part ended moves = omega (arith, moves.room, ap length moves.line, length-take most_kept (kept ++ part), length-append kept part)
+
+-- a line feed in hand ends a part
+pub feed_ends : (now mid : Reading) (kept kept' part before after : List ℕ) → Moves now mid kept kept' false part → now.rest ≡ before ++ 10 ∷ after → length before < now.room → ⊥
+feed_ends now mid kept kept' part before after moves is lt =
+    let within : length before < length part = ⊎_elim
+    (λ none. omega (arith, ap length (sym moves.rest ∙ is), length-append part mid.rest, length-append before (10 ∷ after), ap length none))
+    (λ full. omega (arith, moves.room)) (moves.all refl) in
+    let feed : get_or part (length before) 0 ≡ 10 = sym (get_or-append part mid.rest 0 (length before) within) ∙ ap (λ l. get_or l (length before) 0) (sym moves.rest ∙ is) ∙ get_or-append_seam before 10 after 0 in
+    let plain : is_feed (get_or part (length before) 0) ≡ false = moves.no_feed (length before) 0 within in
+    let no_feed : is_feed 10 ≡ false = sym (ap is_feed feed) ∙ plain in
+    cc

@@ -1,6 +1,6 @@
 //! The lines of a script, as they come from a source.
 
-ghost use Rattle.std.specs.Prelude.{◌≡◌, ◌+◌, ◌-◌, ◌<◌, ◌≤◌, ◌↔◌, ◌++◌, List, ℕ, [], true, false, Some, IfOk, OnOk, OnErr, length, take, drop, IsTrue};
+ghost use Rattle.std.specs.Prelude.{◌≡◌, ◌+◌, ◌-◌, ◌<◌, ◌≤◌, ◌↔◌, ◌++◌, ◌∷◌, List, ℕ, [], true, false, Some, IfOk, OnOk, OnErr, length, take, drop, IsTrue};
 ghost use Rattle.std.specs.List.{position};
 ghost use Rattle.snd_disk.specs.State.{Counts};
 ghost use Rattle.snd_script.specs.Lines.{Reading, IsNext, Moves, most_kept, to_take};
@@ -148,6 +148,7 @@ impl ScriptLines {
         line: &mut LineBytes,
     ) -> Result<NextLine, Failed>
         ensures next { IfOk result (λ next. (s : List ℕ) → R.left script.old ≡ Some s → (b : List ℕ) × (R.left script.new ≡ Some b) × IsNext next self.old.room (self.old.rest ++ s) line.new.items self.new.room (self.new.rest ++ b)) }
+        ensures prompt { (before after : List ℕ) → self.old.rest ≡ before ++ 10 ∷ after → length before < self.old.room → script.new ≡ script.old }
         ensures fewer { IfOk result (λ next. next ≡ NextLine.Line → self.new.room < self.old.room) }
         ensures given { R.given script.new + to_take self.new ≤ R.given script.old + to_take self.old }
         ensures faults { Counts (R.faults script.old) (R.faults script.new) result }
