@@ -1,5 +1,13 @@
 pub mod Asked
+pub mod Chains
+pub mod Ends
 pub mod Left
 pub mod Lines
 pub mod Names
+pub mod OpenNames
+pub mod Openings
+pub mod Parts
 pub mod Printing
+pub mod SameFilesServed
+pub mod Ways
+pub mod WholeScript

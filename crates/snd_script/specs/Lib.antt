@@ -1,7 +1,10 @@
 pub mod Edit
 pub mod Handled
+pub mod Kinds
+pub mod Lines
 pub mod Replies
 pub mod Script
 pub mod Served
+pub mod Serving
 pub mod Stepped
 pub mod Work

@@ -2,13 +2,20 @@
 #![tactic(auto)]
 
 mod carry;
+mod closed;
 mod handle;
+mod kind;
+mod opened;
+mod opening;
 mod page;
+mod reader;
 mod reading;
 mod refusal;
+mod run;
 mod say;
 mod serving;
 mod session;
+mod stop;
 mod text;
 mod work;
 

@@ -1,12 +1,19 @@
 //! A whole script.
 
-ghost use Rattle.std.specs.Prelude.{◌≡◌, ◌⊎◌, ◌+◌, ◌≤◌, List, ℕ, Some, false};
+ghost use Rattle.std.specs.Prelude.{◌≡◌, ◌⊎◌, ◌+◌, ◌<◌, ◌≤◌, List, ℕ, None, Some, OnOk, false};
 ghost use Rattle.snd_disk.specs.Returned.{KeepsFileImages};
 ghost use Rattle.snd_disk.specs.Shelf.{Files, KeepsFiles};
 ghost use Rattle.snd_disk.specs.State.{Rises};
+ghost use Rattle.snd_script.specs.Lines.{to_take};
 ghost use Rattle.snd_script.specs.Script.{is_too_long, most_bytes, script_answered};
-ghost use Rattle.snd_script.specs.Served.{IsServed};
+ghost use Rattle.snd_script.specs.Served.{Counts, IsServed};
+ghost use Rattle.snd_script.specs.Serving.{CountsAt, IsCounted, IsServedOn, IsStopped, answers_left, is_longer, moment};
 
+use crate::closed::closed_line;
+use crate::reader::{LineBytes, ScriptLines};
+use crate::run::Run;
+use crate::session::Session;
+use crate::stop::Stop;
 use snd_disk::{Shelf, Sink, Source};
 use std::alloc::Global;
 
@@ -24,6 +31,59 @@ pub enum ScriptEnd {
     Fault,
     /// There was no memory.
     Memory,
+}
+
+// Carries out the next line, while no file is open.
+fn serve_line<S: Shelf, R: Source, O: Sink>(
+    alloc: Global,
+    line: &mut LineBytes,
+    shelf: &mut S,
+    script: &mut R,
+    out: &mut O,
+    run: &mut Run,
+) -> Result<(), Stop>
+    requires { (n : List ℕ) → (S.state shelf.old).out n ≡ false }
+    ensures served { (files : Files) (s : List ℕ) → (S.state shelf.old).files ≡ Some files → R.left script.old ≡ Some s →
+        IsServedOn result files (is_longer (moment run.old.lines (R.left script.old) run.old.refused (O.told out.old)) s) (answers_left files None (moment run.old.lines (R.left script.old) run.old.refused (O.told out.old)) s)
+        (moment run.old.lines (R.left script.old) run.old.refused (O.told out.old)) (moment run.new.lines (R.left script.new) run.new.refused (O.told out.new)) }
+    ensures fewer { OnOk result (run.new.lines.room < run.old.lines.room) }
+    ensures given { R.given script.new + to_take run.new.lines ≤ R.given script.old + to_take run.old.lines }
+    ensures counted { IsCounted result (record { shelf = (S.state shelf.old).faults; script = R.faults script.old; out = O.faults out.old }) (record { shelf = (S.state shelf.new).faults; script = R.faults script.new; out = O.faults out.new }) }
+    ensures back { (n : List ℕ) → (S.state shelf.new).out n ≡ (S.state shelf.old).out n }
+    ensures files { KeepsFiles (S.state shelf.old) (S.state shelf.new) }
+    ensures images { KeepsFileImages (S.state shelf.old) (S.state shelf.old).clock (S.state shelf.new).clock (S.may_leave shelf.old) (S.may_leave shelf.new) (S.left_between shelf.old) (S.left_between shelf.new) }
+{
+    match run.next(script, line) {
+        Ok(()) => closed_line(alloc, line.as_slice(), shelf, script, out, run),
+        Err(stop) => Err(stop),
+    }
+}
+
+// Carries out the lines of a script up to where the run stops.
+fn serve_lines<S: Shelf, R: Source, O: Sink>(
+    alloc: Global,
+    shelf: &mut S,
+    script: &mut R,
+    out: &mut O,
+    run: &mut Run,
+) -> Stop
+    requires { (n : List ℕ) → (S.state shelf.old).out n ≡ false }
+    ensures served { (files : Files) (s : List ℕ) → (S.state shelf.old).files ≡ Some files → R.left script.old ≡ Some s →
+        IsStopped result (is_longer (moment run.old.lines (R.left script.old) run.old.refused (O.told out.old)) s) (answers_left files None (moment run.old.lines (R.left script.old) run.old.refused (O.told out.old)) s)
+        (moment run.old.lines (R.left script.old) run.old.refused (O.told out.old)) (moment run.new.lines (R.left script.new) run.new.refused (O.told out.new)) }
+    ensures given { R.given script.new + to_take run.new.lines ≤ R.given script.old + to_take run.old.lines }
+    ensures counted { CountsAt result (record { shelf = (S.state shelf.old).faults; script = R.faults script.old; out = O.faults out.old }) (record { shelf = (S.state shelf.new).faults; script = R.faults script.new; out = O.faults out.new }) }
+    ensures back { (n : List ℕ) → (S.state shelf.new).out n ≡ (S.state shelf.old).out n }
+    ensures files { KeepsFiles (S.state shelf.old) (S.state shelf.new) }
+    ensures images { KeepsFileImages (S.state shelf.old) (S.state shelf.old).clock (S.state shelf.new).clock (S.may_leave shelf.old) (S.may_leave shelf.new) (S.left_between shelf.old) (S.left_between shelf.new) }
+{
+    let mut line = LineBytes::new();
+    loop {
+        match serve_line(alloc, &mut line, shelf, script, out, run) {
+            Ok(()) => {}
+            Err(stop) => return stop,
+        }
+    }
 }
 
 /// Carries out a script and appends its replies, each line as soon as it has come. A file that is open
@@ -45,5 +105,20 @@ pub fn serve<S: Shelf, R: Source, O: Sink>(
     ensures files { KeepsFiles (S.state shelf.old) (S.state shelf.new) }
     ensures images { KeepsFileImages (S.state shelf.old) (S.state shelf.old).clock (S.state shelf.new).clock (S.may_leave shelf.old) (S.may_leave shelf.new) (S.left_between shelf.old) (S.left_between shelf.new) }
 {
-    ScriptEnd::Memory
+    let Ok(session) = Session::new(alloc) else {
+        return ScriptEnd::Memory;
+    };
+    let mut run = Run {
+        lines: ScriptLines::new(),
+        session,
+        refused: false,
+    };
+    match serve_lines(alloc, shelf, script, out, &mut run) {
+        Stop::Ended => ScriptEnd::Done {
+            refused: run.refused,
+        },
+        Stop::TooLong => ScriptEnd::TooLong,
+        Stop::Fault => ScriptEnd::Fault,
+        Stop::Memory => ScriptEnd::Memory,
+    }
 }

@@ -1,0 +1,152 @@
+-- How a run goes on from one moment to a later one.
+use Rattle.std.specs.Prelude.{◌≡◌, ℕ, List, [], ◌∷◌, ◌++◌, Bool, true, false, ◌||◌, Option, None, Some, Result, Ok, Err}
+use Rattle.snd_command.specs.Line.{command_of}
+use Rattle.snd_command.specs.Said.{Said}
+use Rattle.snd_disk.specs.Shelf.{Files}
+use Rattle.snd_disk.specs.State.{Rises}
+use Rattle.snd_disk.specs.Streams.{AppendsFront}
+use Rattle.snd_disk.specs.declared.disk.Step.{Step}
+use Rattle.snd_layout.specs.declared.error.OpenError.{OpenError}
+use Rattle.snd_layout.specs.declared.error.OpenError.TheVariants as cause
+use Rattle.snd_modes.specs.Editing.{Editing}
+use Rattle.snd_script.specs.Edit.{Edited, edit_open}
+use Rattle.snd_script.specs.Lines.{Reading}
+use Rattle.snd_script.specs.Replies.{Answer, refuses, text_of, is_refusal}
+use Rattle.snd_script.specs.Script.{Answered, answered, answered_first, lines_within, is_too_long}
+use Rattle.snd_script.specs.Served.{Counts, SameCounts, AnyCountRises}
+use Rattle.snd_script.specs.declared.refusal.Refusal.TheVariants.{Open}
+use Rattle.snd_script.specs.declared.stop.Next.{Next}
+use Rattle.snd_script.specs.declared.stop.Next.TheVariants as next
+use Rattle.snd_script.specs.declared.stop.Stop.{Stop}
+use Rattle.snd_script.specs.declared.stop.Stop.TheVariants.{Ended, TooLong, Fault, Memory}
+
+-- a moment of a run: the script's bytes in hand and in the source, how many may be served, whether a line was refused so
+-- far, and what was appended
+pub record Moment : Type 0 where
+  pub room : ℕ
+  pub rest : List ℕ
+  pub left : Option (List ℕ)
+  pub refused : Bool
+  pub told : Option (List ℕ)
+
+abbrev pub moment : Reading → Option (List ℕ) → Bool → Option (List ℕ) → Moment
+moment reading left refused told = record { room = reading.room; rest = reading.rest; left = left; refused = refused; told = told }
+
+-- where the source has the bytes s left: the lines that are not served yet, and whether the script is too long
+abbrev pub lines_left : Moment → List ℕ → List (List ℕ)
+lines_left m s = lines_within m.room (m.rest ++ s)
+
+abbrev pub is_longer : Moment → List ℕ → Bool
+is_longer m s = is_too_long m.room (m.rest ++ s)
+
+-- what they are answered; and that behind the answer of another line
+abbrev pub answers_left : Files → Option Editing → Moment → List ℕ → Answered
+answers_left files file m s = answered files file (lines_left m s)
+
+abbrev pub answers_from : Files → Edited → Moment → List ℕ → Answered
+answers_from files edited m s = answered_first edited (answers_left files edited.open_file m s)
+
+abbrev pub Appends : Option (List ℕ) → Option (List ℕ) → List ℕ → Type 0
+Appends before after text = (t : List ℕ) → before ≡ Some t → after ≡ Some (t ++ text)
+
+-- a is to be answered at first, and a' later: what is missing in a' was appended, and the refusals in it are noted
+pub record Serves (a a' : Answered) (m m' : Moment) : Type 0 where
+  pub text : List ℕ
+  pub out : a.out ≡ text ++ a'.out
+  pub appended : Appends m.told m'.told text
+  pub noted : (m.refused || a.refused) ≡ (m'.refused || a'.refused)
+
+-- a run stops: with all that was to be answered, or with a front of it
+abbrev pub IsStopped : Stop → Bool → Answered → Moment → Moment → Type 0
+IsStopped Ended too_long a m m' = (too_long ≡ false) × ((m.refused || a.refused) ≡ m'.refused) × Appends m.told m'.told a.out
+IsStopped TooLong too_long a m m' = (too_long ≡ true) × Appends m.told m'.told a.out
+IsStopped Fault too_long a m m' = AppendsFront m.told m'.told a.out
+IsStopped Memory too_long a m m' = AppendsFront m.told m'.told a.out
+
+-- it stops, or goes on with no file open
+abbrev pub IsServedOn : {T : Type 0} → Result T Stop → Files → Bool → Answered → Moment → Moment → Type 0
+IsServedOn (Ok x) files too_long a m m' = (s : List ℕ) × (m'.left ≡ Some s) × Serves a (answers_left files None m' s) m m' × (is_longer m' s ≡ too_long)
+IsServedOn (Err stop) files too_long a m m' = IsStopped stop too_long a m m'
+
+-- it stops, or the open file, which stands for a state, is to be closed
+abbrev pub IsServedOpen : {T : Type 0} → Result T Stop → Files → Bool → Answered → Moment → Moment → (Editing → Type 0) → Type 0
+IsServedOpen (Ok x) files too_long a m m' stands =
+    (e : Editing) × (s : List ℕ) × (m'.left ≡ Some s) × stands e × Serves a (answers_from files (edit_open e Said.close) m' s) m m' × (is_longer m' s ≡ too_long)
+IsServedOpen (Err stop) files too_long a m m' stands = IsStopped stop too_long a m m'
+
+-- The counts of faults stay, unless there was a fault; then one of them rises. Nothing is said of want of memory.
+abbrev pub CountsAt : Stop → Counts → Counts → Type 0
+CountsAt Fault old new = AnyCountRises old new
+CountsAt Memory old new = Unit {0}
+CountsAt stop old new = SameCounts old new
+
+abbrev pub IsCounted : {T : Type 0} → Result T Stop → Counts → Counts → Type 0
+IsCounted (Ok x) old new = SameCounts old new
+IsCounted (Err stop) old new = CountsAt stop old new
+
+abbrev pub CountAt : Stop → ℕ → ℕ → Type 0
+CountAt Fault old new = Rises old new
+CountAt Memory old new = Unit {0}
+CountAt stop old new = new ≡ old
+
+abbrev pub IsCountedOnce : {T : Type 0} → Result T Stop → ℕ → ℕ → Type 0
+IsCountedOnce (Ok x) old new = new ≡ old
+IsCountedOnce (Err stop) old new = CountAt stop old new
+
+-- a handle is broken only where there was a fault
+abbrev pub WholeAt : Stop → Option Step → Type 0
+WholeAt Fault broken = Unit {0}
+WholeAt stop broken = broken ≡ None
+
+abbrev pub IsWhole : {T : Type 0} → Result T Stop → Option Step → Type 0
+IsWhole (Ok x) broken = broken ≡ None
+IsWhole (Err stop) broken = WholeAt stop broken
+
+-- a front of an answer was appended, after a fault or for want of memory
+abbrev pub CutsShort : Stop → Answer → Option (List ℕ) → Option (List ℕ) → Type 0
+CutsShort Fault answer before after = AppendsFront before after (text_of answer)
+CutsShort Memory answer before after = AppendsFront before after (text_of answer)
+CutsShort stop answer before after = ⊥
+
+-- one line was answered, or not all of its answer got out
+abbrev pub IsAnswered : {T : Type 0} → Result T Stop → Answer → Bool → Bool → Option (List ℕ) → Option (List ℕ) → Type 0
+IsAnswered (Ok x) answer refused refused' before after = (refused' ≡ (refused || is_refusal answer)) × Appends before after (text_of answer)
+IsAnswered (Err stop) answer refused refused' before after = CutsShort stop answer before after
+
+-- A line while a file is open: it was answered, and the handle stands for the file that it leaves open; or the file is to
+-- be closed, and all is as it was; or not all of its answer got out.
+abbrev pub IsLineServed : Result Next Stop → Edited → Editing → Bool → Bool → Option (List ℕ) → Option (List ℕ) → (Editing → Type 0) → Type 0
+IsLineServed (Ok next.Open) edited e refused refused' before after stands =
+    (e' : Editing) × (edited.open_file ≡ Some e') × stands e' × (refused' ≡ (refused || is_refusal edited.answer)) × Appends before after (text_of edited.answer)
+IsLineServed (Ok next.Close) edited e refused refused' before after stands = (edited ≡ edit_open e Said.close) × stands e × (refused' ≡ refused) × (after ≡ before)
+IsLineServed (Err stop) edited e refused refused' before after stands = CutsShort stop edited.answer before after
+
+-- a line came, of which this is kept
+pub record Brings (room : ℕ) (s kept : List ℕ) (room' : ℕ) (s' : List ℕ) : Type 0 where
+  pub line : List ℕ
+  pub lines : lines_within room s ≡ line ∷ lines_within room' s'
+  pub too_long : is_too_long room s ≡ is_too_long room' s'
+  pub same : command_of kept ≡ command_of line
+
+-- .. or none is left
+abbrev pub BringsNone : Stop → ℕ → List ℕ → Type 0
+BringsNone Ended room s = (lines_within room s ≡ []) × (is_too_long room s ≡ false)
+BringsNone TooLong room s = (lines_within room s ≡ []) × (is_too_long room s ≡ true)
+BringsNone stop room s = Unit {0}
+
+abbrev pub IsBrought : {T : Type 0} → Result T Stop → ℕ → List ℕ → List ℕ → Reading → Option (List ℕ) → Type 0
+IsBrought (Ok x) room s kept reading left = (b : List ℕ) × (left ≡ Some b) × Brings room s kept reading.room (reading.rest ++ b)
+IsBrought (Err stop) room s kept reading left = BringsNone stop room s
+
+-- why a file is not opened for reading
+abbrev pub IsReadError : OpenError → Type 0
+IsReadError cause.AdpcmUpdate = ⊥
+IsReadError cause.UnknownLength = ⊥
+IsReadError error = Unit {0}
+
+-- a file was not opened: it is refused, or there was a fault, or no memory
+abbrev pub IsNotOpened : {T : Type 0} → OpenError → Result T Stop → Bool → Bool → Option (List ℕ) → Option (List ℕ) → ℕ → ℕ → Type 0
+IsNotOpened (cause.Refused refusal) result refused refused' before after faults faults' = IsAnswered result (refuses (Open refusal)) refused refused' before after × IsCountedOnce result faults faults'
+IsNotOpened (cause.DiskFault step) result refused refused' before after faults faults' = (result ≡ Err Fault) × (after ≡ before) × (faults' ≡ faults)
+IsNotOpened cause.Memory result refused refused' before after faults faults' = (result ≡ Err Memory) × (after ≡ before) × (faults' ≡ faults)
+IsNotOpened error result refused refused' before after faults faults' = Unit {0}
