@@ -1,13 +1,8 @@
 -- From the headline to what was printed.
-use Rattle.std.proofs.Common.{◌≡◌, inl, inr, ℕ, List, [], ◌∷◌, ◌++◌, Option, Some, None, Result, Ok, Err, refl, sym, ◌∙◌, ap}
-use Rattle.snd_command.specs.Line.{command_of}
-use Rattle.snd_command.specs.Said.{Said}
-use Rattle.snd_command.specs.declared.refusal.ScriptRefusal.{ScriptRefusal}
-use Rattle.snd_command.specs.declared.refusal.ScriptRefusal.TheVariants.{LineTooLong, BadCommand}
+use Rattle.std.proofs.Common.{◌≡◌, inl, inr, ℕ, List, [], ◌++◌, Some, None, refl, sym, ◌∙◌, ap}
 use Rattle.snd_disk.specs.Shelf.{Files, SameFiles}
-use Rattle.snd_modes.specs.Editing.{Editing}
-use Rattle.snd_script.specs.Edit.{edit, edit_closed, edit_line, line_edit, open_edit}
-use Rattle.snd_script.specs.Script.{answered, answered_first, is_too_long, lines_within, most_bytes, script_answered}
+use Rattle.snd_script.proofs.SameFilesServed.{same_answers}
+use Rattle.snd_script.specs.Script.{is_too_long, lines_within, most_bytes, script_answered}
 use Rattle.snd_app.specs.Outcome.{Asked, Outcome, asked, outcome, outcome_of, info, found_in, script_outcome}
 use Rattle.snd_app.specs.Run.{Faults, Told, IsOutcome}
 use Rattle.snd_rows.specs.declared.memory.Printed.{Printed}
@@ -15,52 +10,9 @@ use Rattle.snd_rows.specs.Memory.{IsPrinted}
 
 -- an outcome depends on the files by their names alone
 module _ (f g : Files) (same : SameFiles f g) where
-  closed_same : (said : Said) → edit_closed g said ≡ edit_closed f said
-  closed_same (Said.open_read name) = ap open_edit (same name)
-  closed_same (Said.open_update a) = refl
-  closed_same (Said.create a b c d e) = refl
-  closed_same Said.info = refl
-  closed_same Said.close = refl
-  closed_same (Said.seek_read a) = refl
-  closed_same (Said.seek_write a) = refl
-  closed_same (Said.seek_both a) = refl
-  closed_same (Said.read a) = refl
-  closed_same (Said.write a) = refl
-  closed_same (Said.truncate a) = refl
-  closed_same Said.trim = refl
-  closed_same Said.update = refl
-  closed_same (Said.auto a) = refl
-  closed_same (Said.set_chunk a b) = refl
-  closed_same (Said.set_string a b) = refl
-  closed_same (Said.set_bext a b) = refl
-  closed_same (Said.set_cue a) = refl
-  closed_same (Said.get_chunk a) = refl
-  closed_same Said.get_chunks = refl
-  closed_same Said.get_strings = refl
-  closed_same Said.get_bext = refl
-  closed_same Said.get_cues = refl
-  closed_same (Said.tap a) = refl
-  closed_same (Said.untap a) = refl
-
-  edit_same : (file : Option Editing) (said : Said) → edit g file said ≡ edit f file said
-  edit_same None said = closed_same said
-  edit_same (Some e) said = refl
-
-  line_same : (file : Option Editing) (said : Result (Option Said) ScriptRefusal) → line_edit g file said ≡ line_edit f file said
-  line_same file (Ok None) = refl
-  line_same file (Ok (Some said)) = edit_same file said
-  line_same file (Err LineTooLong) = refl
-  line_same file (Err BadCommand) = refl
-
-  answered_same : (file : Option Editing) (lines : List (List ℕ)) → answered g file lines ≡ answered f file lines
-  answered_same file [] = refl
-  answered_same file (line ∷ lines) =
-      ap (λ e. answered_first e (answered g e.open_file lines)) (line_same file (command_of line))
-      ∙ ap (answered_first (edit_line f file line)) (answered_same (edit_line f file line).open_file lines)
-
   script_same : (text : List ℕ) → script_answered g text ≡ script_answered f text
   unfolding script_answered
-  script_same text = answered_same None (lines_within most_bytes text)
+  script_same text = same_answers f g same (lines_within most_bytes text) None
 
   by_asked : (a : Asked) (text : List ℕ) → outcome_of a g text ≡ outcome_of a f text
   by_asked Asked.nothing text = refl
