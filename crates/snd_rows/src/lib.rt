@@ -2,6 +2,8 @@
 //! worked examples want it.
 #![tactic(auto)]
 
+#[cfg(test)]
+mod conditions;
 mod memory;
 #[cfg(test)]
 mod tests;
