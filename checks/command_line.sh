@@ -15,7 +15,7 @@ failed=0
 expect() {
     local name=$1 status=$2 out=$3 err=$4
     shift 4
-    timeout 10 "$@" >out.txt 2>err.txt </dev/null
+    timeout 60 "$@" >out.txt 2>err.txt </dev/null
     local got=$?
     if [ "$got" = "$status" ] && [ "$(head -n 1 out.txt)" = "$out" ] && [ "$(head -n 1 err.txt)" = "$err" ]; then
         passed=$((passed + 1))
