@@ -2,12 +2,7 @@
 # The built program against the system: names that are no regular files, files that may not be read or written, streams
 # that are closed or full. No case may wait.
 set -u
-top=$(dirname "$(dirname "$(readlink -f "${BASH_SOURCE[0]}")")")
-"$top/snd" info "$top/examples/bell.wav" >/dev/null || exit 1
-program=$top/crates/snd/out/snd
-folder=$(mktemp -d)
-trap 'rm -rf "$folder"' EXIT
-cd "$folder" || exit 1
+source "$(dirname "$(readlink -f "${BASH_SOURCE[0]}")")/built_program.bash"
 passed=0
 failed=0
 

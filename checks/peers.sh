@@ -3,12 +3,7 @@
 # The samples are compared with those that sox decodes, and where sox is missing with nothing. Programs that are missing
 # are skipped, with a line for each.
 set -u
-top=$(dirname "$(dirname "$(readlink -f "${BASH_SOURCE[0]}")")")
-"$top/snd" info "$top/examples/bell.wav" >/dev/null || exit 1
-program=$top/crates/snd/out/snd
-folder=$(mktemp -d)
-trap 'rm -rf "$folder"' EXIT
-cd "$folder" || exit 1
+source "$(dirname "$(readlink -f "${BASH_SOURCE[0]}")")/built_program.bash"
 has() {
     command -v "$1" >/dev/null && return 0
     echo "peers: skipped what $1 makes: it is not installed"
