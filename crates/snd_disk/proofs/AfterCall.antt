@@ -7,6 +7,7 @@ use Rattle.std.specs.declared.alloc.Global.{Global}
 use Rattle.snd_disk.specs.Bytes.{Mix, over, partly}
 use Rattle.snd_disk.proofs.Lists.{length-over}
 use Rattle.snd_disk.specs.Mixed.{mix_first, mix_partly}
+use Rattle.snd_disk.specs.Device.{IsUnchanged}
 use Rattle.snd_disk.specs.State.{Mixes, MixesAll, Passes, SameImages, KeepsImages, IsBetween}
 use Rattle.snd_disk.specs.Past.{contents_after, contents_by, image_after, image_by, image_of, image_between}
 use Rattle.snd_disk.specs.Memory.{memory_state, memory_left, memory_between, Notes, Stays, MayNote}
@@ -128,6 +129,26 @@ module _ (old new : MemoryDisk) (len : ℕ) (end : End) where
   all_cut notes b y x told left mixed =
       let is : b ≡ old.bytes.items = cc in
       last_called old new (record { call = Cut len; end = end }) notes x (y, left, subst (λ (l : List ℕ). Mix y (take len l) x) is mixed)
+
+module _ (old new : MemoryDisk) (stays : Stays old new) where
+  -- a call that found no memory changes nothing
+  pub unchanged : IsUnchanged memory_state memory_left memory_between old new
+  unchanged = record {
+    keeps = record { size = ap length stays.bytes; contents = ap (λ b. Some b) stays.bytes; name = ap (option_map string_bytes) stays.name };
+    images = keeps_images old new stays;
+  }
+
+-- a failed call leaves all mixes, or all as it was
+module _ (old new : MemoryDisk) (end : End) where
+  pub held_write : (at : ℕ) (copy : Vec ℕ Global) (from : List ℕ) → copy.items ≡ from → MayNote old new (record { call = Write at copy; end = end })
+      → MixesAll (memory_state old).contents (λ b. over b at from) (memory_left old) (memory_left new) ⊎ IsUnchanged memory_state memory_left memory_between old new
+  held_write at copy from same (inl notes) = inl (all_write old new at copy end from same notes)
+  held_write at copy from same (inr stays) = inr (unchanged old new stays)
+
+  pub held_cut : (len : ℕ) → MayNote old new (record { call = Cut len; end = end })
+      → MixesAll (memory_state old).contents (take len) (memory_left old) (memory_left new) ⊎ IsUnchanged memory_state memory_left memory_between old new
+  held_cut len (inl notes) = inl (all_cut old new len end notes)
+  held_cut len (inr stays) = inr (unchanged old new stays)
 
 pub on_err : {T E : Type 0} (r : Result T E) (P : Type 0) → P → OnErr r P
 on_err (Ok x) P h = tt

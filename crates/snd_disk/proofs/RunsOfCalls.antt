@@ -2,6 +2,7 @@
 use Rattle.std.proofs.Common.{◌≡◌, inl, inr, ⊎_elim, ℕ, ◌+◌, ◌≤◌, List, [], ◌∷◌, ◌++◌, length, get_or, Some, refl, sym, ◌∙◌, subst, arith}
 use Rattle.std.specs.List.{All}
 use Rattle.snd_disk.specs.Bytes.{Mix}
+use Rattle.snd_disk.specs.Device.{IsStable}
 use Rattle.snd_disk.specs.State.{State, Keeps, SameImages, KeepsImages, Mixes, Passes}
 use Rattle.snd_disk.specs.Runs.{IsSource, ComesFrom, IsMade, Since, IsInOneSector, HasFieldOf}
 use Rattle.snd_disk.proofs.Sources.{comes_of_mix, comes_itself, byte_from, made_comes, made_front, made_back, same_place, same_field}
@@ -38,9 +39,9 @@ module _ {D : Type 0} (state : D → State) (may_leave : D → List ℕ → Type
     pub failed_sync_is_run : (old new : D) → SameImages (may_leave old) (may_leave new) → Passes (state old).clock (state new).clock (left_between old) (left_between new) (may_leave new) → Since state may_leave left_between old new []
     failed_sync_is_run old new same passes = run_of old new [] (λ x left. left) same.no_more passes
 
-    pub sync_is_run : ((d : D) (b : List ℕ) → (state d).contents ≡ Some b → may_leave d b) → (old new : D) → ((x : List ℕ) → may_leave new x → (state old).contents ≡ Some x)
+    pub sync_is_run : ((d : D) (b : List ℕ) → (state d).contents ≡ Some b → may_leave d b) → (old new : D) → Keeps (state old) (state new) → IsStable state may_leave new
         → Passes (state old).clock (state new).clock (left_between old) (left_between new) (may_leave new) → Since state may_leave left_between old new []
-    sync_is_run is_left old new only passes = run_of old new [] (λ x left. left) (λ x left. is_left old x (only x left)) passes
+    sync_is_run is_left old new keeps only passes = run_of old new [] (λ x left. left) (λ x left. is_left old x (sym keeps.contents ∙ only x left)) passes
 
     pub read_is_run : (old new : D) → KeepsImages (state old).clock (state new).clock (may_leave old) (may_leave new) (left_between old) (left_between new) → Since state may_leave left_between old new []
     read_is_run old new keeps = record {
@@ -66,9 +67,9 @@ module _ {D : Type 0} (state : D → State) (may_leave : D → List ℕ → Type
       second x made = made_back (may_leave a) (may_leave b) h k one.now x made
 
   module _ (is_left : (d : D) (b : List ℕ) → (state d).contents ≡ Some b → may_leave d b) where
-    pub sync_settles : (old new : D) (b : List ℕ) → (state old).contents ≡ Some b → Keeps (state old) (state new) → ((x : List ℕ) → may_leave new x → (state old).contents ≡ Some x)
+    pub sync_settles : (old new : D) (b : List ℕ) → (state old).contents ≡ Some b → Keeps (state old) (state new) → IsStable state may_leave new
         → ((state new).contents ≡ Some b) × may_leave new b × ((x : List ℕ) → may_leave new x → x ≡ b)
-    sync_settles old new b told keeps only = (keeps.contents ∙ told, is_left new b (keeps.contents ∙ told), λ x left. same_some x b (sym (only x left) ∙ told))
+    sync_settles old new b told keeps only = (keeps.contents ∙ told, is_left new b (keeps.contents ∙ told), λ x left. same_some x b (sym (only x left) ∙ keeps.contents ∙ told))
 
     pub place_stays : (old : D) (b : List ℕ) (held : List (List ℕ)) (i : ℕ) → (state old).contents ≡ Some b → All (λ h. get_or h i 0 ≡ get_or b i 0) held
         → (x : List ℕ) → IsMade (may_leave old) held x → (y : List ℕ) × may_leave old y × (get_or x i 0 ≡ get_or y i 0)

@@ -35,3 +35,6 @@ file_only_now d s t x now left = left
 
 pub file_fits : (d : FileDisk) → d.size < 2 ^ 63
 file_fits d = d.fits
+
+pub file_none_to_come : (d : FileDisk) (s t : ℕ) (x : List ℕ) → 0 ≤ t → file_between d s t x → file_between d s 0 x
+file_none_to_come d s t x now left = left

@@ -1,5 +1,5 @@
 -- A folder of real files, as a shelf that tells nothing of them.
-use Rattle.std.specs.Prelude.{◌≡◌, ◌≤◌, ℕ, List, [], ◌∷◌, Bool, true, false, None, Some, if◌then◌else◌}
+use Rattle.std.specs.Prelude.{◌≡◌, ◌<◌, ◌≤◌, ◌^◌, ℕ, length, List, [], ◌∷◌, Bool, true, false, None, Some, if◌then◌else◌}
 use Rattle.std.specs.String.{string_bytes}
 use Rattle.std.specs.Str.{bytes_eq}
 use Rattle.snd_disk.specs.Shelf.{Files, ShelfState}
@@ -35,3 +35,9 @@ folder_counts_now s n t t' x after before left = left
 
 pub folder_only_now : (s : FolderShelf) (n : List ℕ) (t t' : ℕ) (x : List ℕ) → 0 ≤ t → folder_between s n t t' x → folder_left s n x
 folder_only_now s n t t' x now left = left
+
+pub folder_file_fits : (s : FolderShelf) (f : Files) (n b : List ℕ) → (folder_state s).files ≡ Some f → f n ≡ Some b → length b < 2 ^ 63
+folder_file_fits s f n b told is = absurd (cc told)
+
+pub folder_none_to_come : (s : FolderShelf) (n : List ℕ) (t t' : ℕ) (x : List ℕ) → 0 ≤ t' → folder_between s n t t' x → folder_between s n t 0 x
+folder_none_to_come s n t t' x now left = left

@@ -2,40 +2,41 @@
 use Rattle.std.specs.Prelude.{◌≡◌, ◌⊎◌, ◌+◌, ◌≤◌, ℕ, List, [], ◌∷◌, ◌++◌, length, get_or, Some}
 use Rattle.std.specs.List.{All}
 use Rattle.snd_disk.specs.Bytes.{Mix, over}
-use Rattle.snd_disk.specs.State.{State, Keeps, SameImages, KeepsImages, Mixes, Passes}
+use Rattle.snd_disk.specs.State.{State, Keeps, SameImages}
+use Rattle.snd_disk.specs.Device.{IsStable, KeepsImagesOn, MixesOn, PassesOn}
 use Rattle.snd_disk.specs.Runs.{IsSource, IsMade, Since, IsInOneSector, HasFieldOf, IsWriting}
 
 -- a write or a cut is a run that has held what it meant to leave
 abbrev pub ChangeIsRun : {D : Type 0} → (D → State) → (D → List ℕ → Type 0) → (D → ℕ → ℕ → List ℕ → Type 0) → Type 0
 ChangeIsRun {D} state may_leave left_between = (old new : D) (meant : List ℕ → List ℕ) (b : List ℕ) → (state old).contents ≡ Some b
-    → Mixes (state old).contents meant (may_leave old) (may_leave new)
-    → Passes (state old).clock (state new).clock (left_between old) (left_between new) (may_leave new)
+    → MixesOn state may_leave meant old new
+    → PassesOn state may_leave left_between old new
     → Since state may_leave left_between old new (meant b ∷ [])
 
 -- a call that only reads is a run that has held nothing else
 abbrev pub ReadIsRun : {D : Type 0} → (D → State) → (D → List ℕ → Type 0) → (D → ℕ → ℕ → List ℕ → Type 0) → Type 0
 ReadIsRun {D} state may_leave left_between = (old new : D)
-    → KeepsImages (state old).clock (state new).clock (may_leave old) (may_leave new) (left_between old) (left_between new)
+    → KeepsImagesOn state may_leave left_between old new
     → Since state may_leave left_between old new []
 
 -- and so is a sync that fails
 abbrev pub FailedSyncIsRun : {D : Type 0} → (D → State) → (D → List ℕ → Type 0) → (D → ℕ → ℕ → List ℕ → Type 0) → Type 0
 FailedSyncIsRun {D} state may_leave left_between = (old new : D)
     → SameImages (may_leave old) (may_leave new)
-    → Passes (state old).clock (state new).clock (left_between old) (left_between new) (may_leave new)
+    → PassesOn state may_leave left_between old new
     → Since state may_leave left_between old new []
 
 -- and so is a sync that succeeds
 abbrev pub SyncIsRun : {D : Type 0} → (D → State) → (D → List ℕ → Type 0) → (D → ℕ → ℕ → List ℕ → Type 0) → Type 0
 SyncIsRun {D} state may_leave left_between = (old new : D)
-    → ((x : List ℕ) → may_leave new x → (state old).contents ≡ Some x)
-    → Passes (state old).clock (state new).clock (left_between old) (left_between new) (may_leave new)
+    → Keeps (state old) (state new) → IsStable state may_leave new
+    → PassesOn state may_leave left_between old new
     → Since state may_leave left_between old new []
 
 -- .. after which each image is the contents
 abbrev pub SyncSettles : {D : Type 0} → (D → State) → (D → List ℕ → Type 0) → Type 0
 SyncSettles {D} state may_leave = (old new : D) (b : List ℕ) → (state old).contents ≡ Some b
-    → Keeps (state old) (state new) → ((x : List ℕ) → may_leave new x → (state old).contents ≡ Some x)
+    → Keeps (state old) (state new) → IsStable state may_leave new
     → ((state new).contents ≡ Some b) × may_leave new b × ((x : List ℕ) → may_leave new x → x ≡ b)
 
 -- two runs, one after the other, are a run

@@ -1,5 +1,5 @@
 pub mod Bytes
-pub mod Chains
+pub mod Device
 pub mod File
 pub mod Folder
 pub mod Laws
@@ -9,9 +9,9 @@ pub mod MemoryShelf
 pub mod MemoryStreams
 pub mod Mixed
 pub mod Past
-pub mod Returned
 pub mod Runs
 pub mod Shelf
+pub mod Shelves
 pub mod State
 pub mod Steady
 pub mod Streams

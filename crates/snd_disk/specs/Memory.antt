@@ -73,3 +73,6 @@ memory_counts_now d s t x after before left =
 pub memory_only_now : (d : MemoryDisk) (s t : ℕ) (x : List ℕ) → length d.past.items ≤ s → memory_between d s t x → memory_left d x
 memory_only_now d s t x now (k, after, before, within, left) =
     subst (λ (p : List Made). image_of d.first.items p x) (take_all k d.past.items (omega arith)) left
+
+pub memory_none_to_come : (d : MemoryDisk) (s t : ℕ) (x : List ℕ) → length d.past.items ≤ t → memory_between d s t x → memory_between d s (length d.past.items) x
+memory_none_to_come d s t x now (k, after, before, within, left) = (k, after, within, within, left)

@@ -1,11 +1,11 @@
 -- A shelf in memory, as a shelf.
-use Rattle.std.specs.Prelude.{◌≡◌, ◌≤◌, ℕ, suc, List, [], ◌∷◌, Bool, false, Option, Some, None, option_map, is_none, Result, Ok, Err, if◌then◌else◌}
-use Rattle.std.proofs.Common.{ap, ◌∙◌}
+use Rattle.std.specs.Prelude.{◌≡◌, ◌<◌, ◌≤◌, ◌^◌, length, ℕ, suc, List, [], ◌∷◌, Bool, false, Option, Some, None, option_map, is_none, Result, Ok, Err, if◌then◌else◌}
+use Rattle.std.proofs.Common.{ap, ◌∙◌, arith}
 use Rattle.std.specs.String.{string_bytes}
 use Rattle.std.specs.Str.{bytes_eq}
 use Rattle.std.specs.declared.string.String.{String}
 use Rattle.std.specs.declared.alloc.Global.{Global}
-use Rattle.snd_disk.specs.Memory.{memory_state, memory_left, memory_between, memory_is_left, memory_counts_now, memory_only_now}
+use Rattle.snd_disk.specs.Memory.{memory_state, memory_left, memory_between, memory_is_left, memory_counts_now, memory_only_now, memory_told, memory_fits, memory_none_to_come}
 use Rattle.snd_disk.specs.declared.memory.MemoryDisk.{MemoryDisk}
 use Rattle.snd_disk.specs.Shelf.{Files, ShelfState, IsEmptyImage}
 use Rattle.snd_disk.specs.declared.memory_shelf.Entry.{Entry}
@@ -70,6 +70,10 @@ shelf_left s n = left_of (entry_at s.entries.items n)
 abbrev pub shelf_between : MemoryShelf → List ℕ → ℕ → ℕ → List ℕ → Type 0
 shelf_between s n = between_of (entry_at s.entries.items n)
 
+-- no file is there, and none is taken out
+abbrev pub no_files : ShelfState
+no_files = record { out = λ n. false; files = Some (λ n. None); clock = λ n. 0; faults = 0; written = 0; asked = 0 }
+
 -- a new disk that tells this name, with nothing in it
 pub record IsEmptyDisk (disk : MemoryDisk) (name : List ℕ) : Type 0 where
   pub state : memory_state disk ≡ record { size = 0; contents = Some []; name = Some name; faults = 0; written = 0; asked = 0; clock = 0 }
@@ -107,3 +111,19 @@ entry_only_now (Some (Some d)) t t' x now left = memory_only_now d t t' x now le
 
 pub shelf_only_now : (s : MemoryShelf) (n : List ℕ) (t t' : ℕ) (x : List ℕ) → (shelf_state s).clock n ≤ t → shelf_between s n t t' x → shelf_left s n x
 shelf_only_now s n t t' x now left = entry_only_now (entry_at s.entries.items n) t t' x now left
+
+entry_fits : (e : Option (Option MemoryDisk)) (b : List ℕ) → bytes_of e ≡ Some b → length b < 2 ^ 63
+entry_fits None b told = absurd (cc told)
+entry_fits (Some None) b told = absurd (cc told)
+entry_fits (Some (Some d)) b told = let len : length d.bytes.items ≡ length b = memory_told d b told in omega (arith, memory_fits d, len)
+
+pub shelf_file_fits : (s : MemoryShelf) (f : Files) (n b : List ℕ) → (shelf_state s).files ≡ Some f → f n ≡ Some b → length b < 2 ^ 63
+shelf_file_fits s f n b told is = entry_fits (entry_at s.entries.items n) b (ap (λ (h : Files). h n) (same_files (λ n. bytes_of (entry_at s.entries.items n)) f told) ∙ is)
+
+entry_none_to_come : (e : Option (Option MemoryDisk)) (t t' : ℕ) (x : List ℕ) → clock_of e ≤ t' → between_of e t t' x → between_of e t (clock_of e) x
+entry_none_to_come None t t' x now left = left
+entry_none_to_come (Some None) t t' x now left = left
+entry_none_to_come (Some (Some d)) t t' x now left = memory_none_to_come d t t' x now left
+
+pub shelf_none_to_come : (s : MemoryShelf) (n : List ℕ) (t t' : ℕ) (x : List ℕ) → (shelf_state s).clock n ≤ t' → shelf_between s n t t' x → shelf_between s n t ((shelf_state s).clock n) x
+shelf_none_to_come s n t t' x now left = entry_none_to_come (entry_at s.entries.items n) t t' x now left

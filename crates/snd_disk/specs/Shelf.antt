@@ -1,5 +1,5 @@
 -- What is known of a shelf, and how a call may change it.
-use Rattle.std.specs.Prelude.{◌≡◌, ◌⊎◌, ◌≤◌, ℕ, List, [], Bool, true, false, Option, Some, None, unwrap_or, Result, Err, if◌then◌else◌}
+use Rattle.std.specs.Prelude.{◌≡◌, ◌⊎◌, ◌<◌, ◌≤◌, ◌^◌, ℕ, List, [], Bool, true, false, Option, Some, None, unwrap_or, Result, Err, if◌then◌else◌}
 use Rattle.std.specs.Str.{bytes_eq}
 use Rattle.snd_disk.specs.State.{State, Rises, Adds, KeepsImages}
 use Rattle.snd_disk.specs.declared.shelf.ShelfFault.{ShelfFault}
@@ -76,10 +76,12 @@ pub record Gives (old new : ShelfState) (name : List ℕ) (disk : State) : Type 
   pub written : Adds old.written disk.written new.written
   pub asked : Adds old.asked disk.asked new.asked
 
--- nothing changes of what a crash may leave of any other file
-abbrev pub KeepsOthers : List ℕ → (List ℕ → ℕ) → (List ℕ → ℕ) → (List ℕ → List ℕ → Type 0) → (List ℕ → List ℕ → Type 0) → (List ℕ → ℕ → ℕ → List ℕ → Type 0) → (List ℕ → ℕ → ℕ → List ℕ → Type 0) → Type 0
-KeepsOthers name clock clock' before after past since =
-    (n : List ℕ) → bytes_eq n name ≡ false → KeepsImages (clock n) (clock' n) (before n) (after n) (past n) (since n)
+-- the names that are taken out, the files and the counts are those of before
+pub record KeepsShelf (old new : ShelfState) : Type 0 where
+  pub out : (n : List ℕ) → new.out n ≡ old.out n
+  pub files : KeepsFiles old new
+  pub faults : new.faults ≡ old.faults
+  pub bytes : KeepsBytes old new
 
 -- a crash leaves nothing of a file but an empty one
 pub record IsEmptyImage (after : List ℕ → Type 0) (since : ℕ → ℕ → List ℕ → Type 0) : Type 0 where
@@ -90,3 +92,9 @@ pub record IsEmptyImage (after : List ℕ → Type 0) (since : ℕ → ℕ → L
 abbrev pub HandsOver : Option (List ℕ) → ℕ → ℕ → (List ℕ → Type 0) → (List ℕ → Type 0) → (ℕ → ℕ → List ℕ → Type 0) → (ℕ → ℕ → List ℕ → Type 0) → Type 0
 HandsOver (Some b) clock clock' before after past since = KeepsImages clock clock' before after past since
 HandsOver None clock clock' before after past since = IsEmptyImage after since
+
+-- Time has gone on for a file: its clock has not fallen, and what a crash may have left of it at past moments stays.
+pub record GoesOn (clock clock' : ℕ) (past since : ℕ → ℕ → List ℕ → Type 0) : Type 0 where
+  pub later : clock ≤ clock'
+  pub same : (s t : ℕ) (x : List ℕ) → t ≤ clock → since s t x → past s t x
+  pub kept : (s t : ℕ) (x : List ℕ) → past s t x → since s t x

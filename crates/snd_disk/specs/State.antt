@@ -1,7 +1,6 @@
 -- What is known of a disk, and how a call may change it.
-use Rattle.std.specs.Prelude.{◌≡◌, ◌⊎◌, ℕ, ◌+◌, ◌<◌, ◌≤◌, List, take, drop, Option, Some, option_map, Result, OnOk, OnErr}
-use Rattle.snd_disk.specs.Bytes.{Mix}
-use Rattle.snd_disk.specs.declared.disk.Failed.{Failed}
+use Rattle.std.specs.Prelude.{◌≡◌, ◌⊎◌, ℕ, ◌+◌, ◌<◌, ◌≤◌, List, length, take, drop, max, Option, Some, option_map, Result, OnOk, OnErr}
+use Rattle.snd_disk.specs.Bytes.{Mix, over}
 
 pub record State : Type 0 where
   -- the length
@@ -24,7 +23,7 @@ abbrev pub Rises : ℕ → ℕ → Type 0
 Rises old new = (old < new) ⊎ (new ≡ 18446744073709551615)
 
 -- a count rises where a call fails, and there alone
-pub record Counts {T : Type 0} (old new : ℕ) (result : Result T Failed) : Type 0 where
+pub record Counts {T E : Type 0} (old new : ℕ) (result : Result T E) : Type 0 where
   pub later : old ≤ new
   pub ok : OnOk result (new ≡ old)
   pub err : OnErr result (Rises old new)
@@ -58,6 +57,20 @@ pub record IsBetween (end : ℕ) (meant : List ℕ → List ℕ) (old new : Stat
   pub contents : (b : List ℕ) → old.contents ≡ Some b → (x : List ℕ) × (new.contents ≡ Some x) × Mix b (meant b) x
   pub told : (x : List ℕ) → new.contents ≡ Some x → (b : List ℕ) × (old.contents ≡ Some b)
   pub name : new.name ≡ old.name
+
+-- bytes were put at a place; or a call that was to do so has failed
+abbrev pub IsWritten : ℕ → List ℕ → State → State → Type 0
+IsWritten at bytes old new = IsMeant (max old.size (at + length bytes)) (λ b. over b at bytes) old new
+
+abbrev pub IsPartlyWritten : ℕ → List ℕ → State → State → Type 0
+IsPartlyWritten at bytes old new = IsBetween (max old.size (at + length bytes)) (λ b. over b at bytes) old new
+
+-- a disk was shortened to a length; or a call that was to do so has failed
+abbrev pub IsCut : ℕ → State → State → Type 0
+IsCut len old new = IsMeant len (take len) old new
+
+abbrev pub IsPartlyCut : ℕ → State → State → Type 0
+IsPartlyCut len old new = IsBetween len (take len) old new
 
 -- a crash may leave the same
 pub record SameImages (before after : List ℕ → Type 0) : Type 0 where

@@ -1,7 +1,7 @@
 -- A disk in memory that does not fail, as a disk.
 use Rattle.std.specs.Prelude.{◌≡◌, ◌<◌, ◌≤◌, ◌^◌, ℕ, List, length, Some}
 use Rattle.snd_disk.specs.State.{State}
-use Rattle.snd_disk.specs.Memory.{memory_state, memory_left, memory_between, memory_told, memory_fits, memory_is_left, memory_counts_now, memory_only_now}
+use Rattle.snd_disk.specs.Memory.{memory_state, memory_left, memory_between, memory_told, memory_fits, memory_is_left, memory_counts_now, memory_only_now, memory_none_to_come}
 use Rattle.snd_disk.specs.declared.steady.SteadyDisk.{SteadyDisk}
 
 abbrev pub steady_state : SteadyDisk → State
@@ -27,3 +27,6 @@ steady_counts_now d s t x after before left = memory_counts_now d.disk s t x aft
 
 pub steady_only_now : (d : SteadyDisk) (s t : ℕ) (x : List ℕ) → (steady_state d).clock ≤ s → steady_between d s t x → steady_left d x
 steady_only_now d s t x now left = memory_only_now d.disk s t x now left
+
+pub steady_none_to_come : (d : SteadyDisk) (s t : ℕ) (x : List ℕ) → (steady_state d).clock ≤ t → steady_between d s t x → steady_between d s (steady_state d).clock x
+steady_none_to_come d s t x now left = memory_none_to_come d.disk s t x now left

@@ -1,6 +1,7 @@
-ghost use Rattle.std.specs.Prelude.{◌≡◌, ◌⊎◌, ◌+◌, ◌-◌, ◌<◌, ◌≤◌, ◌^◌, List, ℕ, length, min, max, take, drop, Some, IfOk, OnOk, OnErr};
-ghost use Rattle.snd_disk.specs.State.{State, Keeps, Counts, Adds, ReadsFrom, IsMeant, IsBetween, SameImages, KeepsImages, Mixes, MixesAll, Passes};
+ghost use Rattle.std.specs.Prelude.{◌≡◌, ◌⊎◌, ◌+◌, ◌-◌, ◌<◌, ◌≤◌, ◌^◌, List, ℕ, length, min, take, Some, IfOk, OnOk, OnErr};
 ghost use Rattle.snd_disk.specs.Bytes.{over};
+ghost use Rattle.snd_disk.specs.State.{State, Keeps, Adds, ReadsFrom, SameImages, IsWritten, IsPartlyWritten, IsCut, IsPartlyCut};
+ghost use Rattle.snd_disk.specs.Device.{CountsOn, IsStable, IsUnchanged, MixesOn, MixesAllOn, PassesOn, TicksOn, OnlyReadsOn};
 
 /// The answer of a call that failed. The count of faults of the object that was called has risen.
 #[derive(Clone, Copy, Debug, PartialEq, Eq)]
@@ -34,10 +35,8 @@ pub trait Disk {
     /// The length in bytes.
     fn len(&mut self) -> Result<u64, Failed>
         ensures value { IfOk result (λ n. n ≡ (state self.old).size) }
-        ensures same { Keeps (state self.old) (state self.new) }
-        ensures images { KeepsImages (state self.old).clock (state self.new).clock (may_leave self.old) (may_leave self.new) (left_between self.old) (left_between self.new) }
-        ensures faults { Counts (state self.old).faults (state self.new).faults result }
-        ensures written { (state self.new).written ≡ (state self.old).written }
+        ensures reads { OnlyReadsOn state may_leave left_between self.old self.new }
+        ensures faults { CountsOn state self.old self.new result }
         ensures asked { (state self.new).asked ≡ (state self.old).asked };
 
     /// Copies the bytes from a place on into the front of a slice, and leaves the rest of the slice.
@@ -46,46 +45,51 @@ pub trait Disk {
         requires { at + length into.old < 2 ^ 63 }
         ensures value { IfOk result (λ n. n ≡ min (length into.old) ((state self.old).size - at)) }
         ensures bytes { IfOk result (λ n. ReadsFrom (state self.old) at n into.old into.new) }
-        ensures same { Keeps (state self.old) (state self.new) }
-        ensures images { KeepsImages (state self.old).clock (state self.new).clock (may_leave self.old) (may_leave self.new) (left_between self.old) (left_between self.new) }
-        ensures faults { Counts (state self.old).faults (state self.new).faults result }
-        ensures written { (state self.new).written ≡ (state self.old).written }
+        ensures reads { OnlyReadsOn state may_leave left_between self.old self.new }
+        ensures faults { CountsOn state self.old self.new result }
         ensures asked { Adds (state self.old).asked (length into.old) (state self.new).asked };
 
     /// Puts bytes at a place. Between the old end and that place there are zeros.
+    ///
+    /// Where the call fails, any of the sectors that it changes may be new and the others old, or
+    /// nothing was changed.
     fn write_at(&mut self, at: u64, from: &[u8]) -> Result<(), Failed>
         requires { at + length from.now < 2 ^ 63 }
-        ensures done { OnOk result (IsMeant (max (state self.old).size (at + length from.now)) (λ b. over b at from.now) (state self.old) (state self.new)) }
-        ensures broken { OnErr result (IsBetween (max (state self.old).size (at + length from.now)) (λ b. over b at from.now) (state self.old) (state self.new)) }
-        ensures images { Mixes (state self.old).contents (λ b. over b at from.now) (may_leave self.old) (may_leave self.new) }
-        ensures all_images { OnOk result (MixesAll (state self.old).contents (λ b. over b at from.now) (may_leave self.old) (may_leave self.new)) }
-        ensures time { Passes (state self.old).clock (state self.new).clock (left_between self.old) (left_between self.new) (may_leave self.new) }
-        ensures ticks { ((state self.old).clock < (state self.new).clock) ⊎ KeepsImages (state self.old).clock (state self.new).clock (may_leave self.old) (may_leave self.new) (left_between self.old) (left_between self.new) }
-        ensures faults { Counts (state self.old).faults (state self.new).faults result }
+        ensures done { OnOk result (IsWritten at from.now (state self.old) (state self.new)) }
+        ensures broken { OnErr result (IsPartlyWritten at from.now (state self.old) (state self.new)) }
+        ensures images { MixesOn state may_leave (λ b. over b at from.now) self.old self.new }
+        ensures all_images { OnOk result (MixesAllOn state may_leave (λ b. over b at from.now) self.old self.new) }
+        ensures all_or_none { OnErr result (MixesAllOn state may_leave (λ b. over b at from.now) self.old self.new
+            ⊎ IsUnchanged state may_leave left_between self.old self.new) }
+        ensures time { PassesOn state may_leave left_between self.old self.new }
+        ensures ticks { TicksOn state may_leave left_between self.old self.new }
+        ensures faults { CountsOn state self.old self.new result }
         ensures written { Adds (state self.old).written (length from.now) (state self.new).written }
         ensures asked { (state self.new).asked ≡ (state self.old).asked };
 
-    /// Shortens to a length.
+    /// Shortens to a length. A call that fails leaves what one of `write_at` would.
     fn cut(&mut self, len: u64) -> Result<(), Failed>
         requires { len ≤ (state self.old).size }
-        ensures done { OnOk result (IsMeant len (take len) (state self.old) (state self.new)) }
-        ensures broken { OnErr result (IsBetween len (take len) (state self.old) (state self.new)) }
-        ensures images { Mixes (state self.old).contents (take len) (may_leave self.old) (may_leave self.new) }
-        ensures all_images { OnOk result (MixesAll (state self.old).contents (take len) (may_leave self.old) (may_leave self.new)) }
-        ensures time { Passes (state self.old).clock (state self.new).clock (left_between self.old) (left_between self.new) (may_leave self.new) }
-        ensures ticks { ((state self.old).clock < (state self.new).clock) ⊎ KeepsImages (state self.old).clock (state self.new).clock (may_leave self.old) (may_leave self.new) (left_between self.old) (left_between self.new) }
-        ensures faults { Counts (state self.old).faults (state self.new).faults result }
+        ensures done { OnOk result (IsCut len (state self.old) (state self.new)) }
+        ensures broken { OnErr result (IsPartlyCut len (state self.old) (state self.new)) }
+        ensures images { MixesOn state may_leave (take len) self.old self.new }
+        ensures all_images { OnOk result (MixesAllOn state may_leave (take len) self.old self.new) }
+        ensures all_or_none { OnErr result (MixesAllOn state may_leave (take len) self.old self.new
+            ⊎ IsUnchanged state may_leave left_between self.old self.new) }
+        ensures time { PassesOn state may_leave left_between self.old self.new }
+        ensures ticks { TicksOn state may_leave left_between self.old self.new }
+        ensures faults { CountsOn state self.old self.new result }
         ensures written { (state self.new).written ≡ (state self.old).written }
         ensures asked { (state self.new).asked ≡ (state self.old).asked };
 
     /// Makes the contents stable, with the length.
     fn sync(&mut self) -> Result<(), Failed>
         ensures same { Keeps (state self.old) (state self.new) }
-        ensures done { OnOk result ((x : List ℕ) → may_leave self.new x → (state self.old).contents ≡ Some x) }
+        ensures done { OnOk result (IsStable state may_leave self.new) }
         ensures images { OnErr result (SameImages (may_leave self.old) (may_leave self.new)) }
-        ensures time { Passes (state self.old).clock (state self.new).clock (left_between self.old) (left_between self.new) (may_leave self.new) }
-        ensures ticks { ((state self.old).clock < (state self.new).clock) ⊎ KeepsImages (state self.old).clock (state self.new).clock (may_leave self.old) (may_leave self.new) (left_between self.old) (left_between self.new) }
-        ensures faults { Counts (state self.old).faults (state self.new).faults result }
+        ensures time { PassesOn state may_leave left_between self.old self.new }
+        ensures ticks { TicksOn state may_leave left_between self.old self.new }
+        ensures faults { CountsOn state self.old self.new result }
         ensures written { (state self.new).written ≡ (state self.old).written }
         ensures asked { (state self.new).asked ≡ (state self.old).asked };
 
@@ -103,4 +107,7 @@ pub trait Disk {
 
     /// From this moment on there is no other.
     ghost only_now: { (d : Self) (s t : ℕ) (x : List ℕ) → (state d).clock ≤ s → left_between d s t x → may_leave d x };
+
+    /// No moment is to come: up to a value beyond the clock is up to the clock.
+    ghost none_to_come: { (d : Self) (s t : ℕ) (x : List ℕ) → (state d).clock ≤ t → left_between d s t x → left_between d s (state d).clock x };
 }

@@ -78,7 +78,7 @@ impl FileDisk {
 }
 
 impl Disk for FileDisk {
-    ghost use Rattle.snd_disk.specs.File.{file_state, file_left, file_between, file_told, file_fits, file_is_left, file_counts_now, file_only_now};
+    ghost use Rattle.snd_disk.specs.File.{file_state, file_left, file_between, file_told, file_fits, file_is_left, file_counts_now, file_only_now, file_none_to_come};
 
     ghost state = { file_state };
 
@@ -95,6 +95,8 @@ impl Disk for FileDisk {
     ghost counts_now = { file_counts_now };
 
     ghost only_now = { file_only_now };
+
+    ghost none_to_come = { file_none_to_come };
 
     fn len(&mut self) -> Result<u64, Failed> {
         Ok(self.size)

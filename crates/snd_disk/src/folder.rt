@@ -148,7 +148,7 @@ impl FolderShelf {
 impl Shelf for FolderShelf {
     type Disk = FileDisk;
 
-    ghost use Rattle.snd_disk.specs.Folder.{folder_state, folder_left, folder_between, folder_is_left, folder_counts_now, folder_only_now};
+    ghost use Rattle.snd_disk.specs.Folder.{folder_state, folder_left, folder_between, folder_is_left, folder_counts_now, folder_only_now, folder_none_to_come, folder_file_fits};
 
     ghost state = { folder_state };
 
@@ -161,6 +161,10 @@ impl Shelf for FolderShelf {
     ghost counts_now = { folder_counts_now };
 
     ghost only_now = { folder_only_now };
+
+    ghost none_to_come = { folder_none_to_come };
+
+    ghost file_fits = { folder_file_fits };
 
     fn take(&mut self, name: &str, make: bool) -> Result<FileDisk, ShelfFault> {
         let alloc = self.rt.alloc();

@@ -131,7 +131,8 @@ fn read_from(bytes: &[u8], at: usize, into: &mut [u8]) -> usize
 impl MemoryDisk {
     ghost use Rattle.snd_disk.specs.Memory.{memory_state, memory_left, memory_between, past_calls, first_bytes, Notes, Stays, MayNote};
     ghost use Rattle.snd_disk.specs.Past.{contents_of};
-    ghost use Rattle.snd_disk.specs.State.{Rises, KeepsImages};
+    ghost use Rattle.snd_disk.specs.State.{Adds, Counts, Rises};
+    ghost use Rattle.snd_disk.specs.Device.{KeepsImagesOn};
     ghost use Rattle.std.specs.Prelude.{IsErr, Some, None, [], ◌⊎◌};
     ghost use Rattle.std.specs.String.{string_bytes};
 
@@ -162,7 +163,7 @@ impl MemoryDisk {
     /// The same disk, given under a name, with its three counts begun anew.
     pub fn named(self, name: String) -> MemoryDisk
         ensures told { memory_state result ≡ record (memory_state self) { name = Some (string_bytes name); faults = 0; written = 0; asked = 0 } }
-        ensures images { KeepsImages (memory_state self).clock (memory_state result).clock (memory_left self) (memory_left result) (memory_between self) (memory_between result) }
+        ensures images { KeepsImagesOn memory_state memory_left memory_between self result }
     {
         MemoryDisk {
             alloc: self.alloc,
@@ -229,16 +230,55 @@ impl MemoryDisk {
             .map(|call| call.sectors)
     }
 
+    /// The length in bytes.
+    pub(crate) fn length(&self) -> u64
+        ensures { result ≡ (memory_state self.now).size }
+    {
+        self.bytes.len() as u64
+    }
+
+    /// Counts the bytes that are asked for, and copies those that stand there.
+    pub(crate) fn read(&mut self, at: u64, into: &mut [u8]) -> usize
+        ensures value { result ≡ min (length into.old) (length self.old.bytes.items - at) }
+        ensures front { take result into.new ≡ take result (drop at self.old.bytes.items) }
+        ensures rest { drop result into.new ≡ drop result into.old }
+        ensures state { self.new ≡ record self.old { asked = self.new.asked } }
+        ensures asked { Adds self.old.asked (length into.old) self.new.asked }
+    {
+        self.count_asked(into.len());
+        read_from(&self.bytes, at as usize, into)
+    }
+
+    /// Counts bytes that are asked for.
+    fn count_asked(&mut self, count: usize)
+        ensures state { self.new ≡ record self.old { asked = self.new.asked } }
+        ensures asked { Adds self.old.asked count self.new.asked }
+    {
+        self.asked = self.asked.saturating_add(count as u64);
+    }
+
+    /// Counts the bytes of a write, and copies them for the record.
+    pub(crate) fn begin_write(&mut self, from: &[u8]) -> Result<Vec<u8>, Failed>
+        ensures copied { IfOk result (λ copy. copy.items ≡ from.now) }
+        ensures state { self.new ≡ record self.old { written = self.new.written; faults = self.new.faults } }
+        ensures written { Adds self.old.written (length from.now) self.new.written }
+        ensures faults { Counts self.old.faults self.new.faults result }
+    {
+        self.written = self.written.saturating_add(from.len() as u64);
+        match from.to_vec(self.alloc) {
+            Ok(copy) => Ok(copy),
+            Err(_) => self.fail(),
+        }
+    }
+
     /// Carries out a write, and notes it.
-    fn write(&mut self, at: u64, from: &[u8], copy: Vec<u8>) -> Result<(), Failed>
+    pub(crate) fn write(&mut self, at: u64, from: &[u8], copy: Vec<u8>) -> Result<(), Failed>
         requires fits { at + length from.now < 2 ^ 63 }
         requires same { copy.items ≡ from.now }
         ensures noted { MayNote self.old self.new (record { call = Call.Write at copy; end = End.Done }) }
         ensures ok { OnOk result (Notes self.old self.new (record { call = Call.Write at copy; end = End.Done })) }
-        ensures calm { OnOk result (self.new.faults ≡ self.old.faults) }
         ensures err { OnErr result (Stays self.old self.new) }
-        ensures rises { OnErr result (Rises self.old.faults self.new.faults) }
-        ensures later { self.old.faults ≤ self.new.faults }
+        ensures faults { Counts self.old.faults self.new.faults result }
     {
         let Ok(()) = self.past.reserve(1) else {
             return self.fail();
@@ -258,13 +298,11 @@ impl MemoryDisk {
     }
 
     /// Carries out a cut, and notes it.
-    fn shorten(&mut self, len: u64) -> Result<(), Failed>
+    pub(crate) fn shorten(&mut self, len: u64) -> Result<(), Failed>
         ensures noted { MayNote self.old self.new (record { call = Call.Cut len; end = End.Done }) }
         ensures ok { OnOk result (Notes self.old self.new (record { call = Call.Cut len; end = End.Done })) }
-        ensures calm { OnOk result (self.new.faults ≡ self.old.faults) }
         ensures err { OnErr result (Stays self.old self.new) }
-        ensures rises { OnErr result (Rises self.old.faults self.new.faults) }
-        ensures later { self.old.faults ≤ self.new.faults }
+        ensures faults { Counts self.old.faults self.new.faults result }
     {
         let made = Made {
             call: Call::Cut { len },
@@ -278,13 +316,11 @@ impl MemoryDisk {
     }
 
     /// Notes a sync, as one that ended so.
-    fn settle(&mut self, end: End) -> Result<(), Failed>
+    pub(crate) fn settle(&mut self, end: End) -> Result<(), Failed>
         ensures noted { MayNote self.old self.new (record { call = Call.Sync; end = end }) }
         ensures ok { OnOk result (Notes self.old self.new (record { call = Call.Sync; end = end })) }
-        ensures calm { OnOk result (self.new.faults ≡ self.old.faults) }
         ensures err { OnErr result (Stays self.old self.new) }
-        ensures rises { OnErr result (Rises self.old.faults self.new.faults) }
-        ensures later { self.old.faults ≤ self.new.faults }
+        ensures faults { Counts self.old.faults self.new.faults result }
     {
         let made = Made {
             call: Call::Sync,
@@ -314,7 +350,7 @@ impl MemoryDisk {
 }
 
 impl Disk for MemoryDisk {
-    ghost use Rattle.snd_disk.specs.Memory.{memory_state, memory_left, memory_between, memory_told, memory_fits, memory_is_left, memory_counts_now, memory_only_now};
+    ghost use Rattle.snd_disk.specs.Memory.{memory_state, memory_left, memory_between, memory_told, memory_fits, memory_is_left, memory_counts_now, memory_only_now, memory_none_to_come};
 
     ghost state = { memory_state };
 
@@ -332,6 +368,8 @@ impl Disk for MemoryDisk {
 
     ghost only_now = { memory_only_now };
 
+    ghost none_to_come = { memory_none_to_come };
+
     fn len(&mut self) -> Result<u64, Failed> {
         match self.failure() {
             None => Ok(self.bytes.len() as u64),
@@ -340,18 +378,17 @@ impl Disk for MemoryDisk {
     }
 
     fn read_at(&mut self, at: u64, into: &mut [u8]) -> Result<usize, Failed> {
-        self.asked = self.asked.saturating_add(into.len() as u64);
         match self.failure() {
-            None => Ok(read_from(&self.bytes, at as usize, into)),
-            Some(_) => self.fail(),
+            None => Ok(self.read(at, into)),
+            Some(_) => {
+                self.count_asked(into.len());
+                self.fail()
+            }
         }
     }
 
     fn write_at(&mut self, at: u64, from: &[u8]) -> Result<(), Failed> {
-        self.written = self.written.saturating_add(from.len() as u64);
-        let Ok(copy) = from.to_vec(self.alloc) else {
-            return self.fail();
-        };
+        let copy = self.begin_write(from)?;
         match self.failure() {
             None => self.write(at, from, copy),
             Some(sectors) => {

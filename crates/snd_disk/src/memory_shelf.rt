@@ -75,14 +75,18 @@ fn add(entries: &mut Vec<Entry>, name: String, disk: Option<MemoryDisk>) -> Resu
 }
 
 impl MemoryShelf {
-    ghost use Rattle.snd_disk.specs.MemoryShelf.{shelf_state, shelf_left};
-    ghost use Rattle.snd_disk.specs.Memory.{memory_state};
-    ghost use Rattle.snd_disk.specs.Shelf.{Files, Puts, SameFiles};
+    ghost use Rattle.snd_disk.specs.MemoryShelf.{no_files, shelf_between, shelf_left, shelf_state};
+    ghost use Rattle.snd_disk.specs.Memory.{memory_between, memory_left, memory_state};
+    ghost use Rattle.snd_disk.specs.Device.{Tells};
+    ghost use Rattle.snd_disk.specs.Shelf.{KeepsBytes, KeepsShelf, Puts};
+    ghost use Rattle.snd_disk.specs.Shelves.{KeepsImagesOf, KeepsOthers, TakesBack};
+    ghost use Rattle.std.specs.Prelude.{if◌then◌else◌};
+    ghost use Rattle.std.specs.Str.{bytes_eq};
 
     /// A shelf with no files, and with no name taken out.
     pub fn new(alloc: Global) -> MemoryShelf
-        ensures out { (n : List ℕ) → (shelf_state result).out n ≡ false }
-        ensures none { (shelf_state result).files ≡ Some (λ n. None) }
+        ensures state { shelf_state result ≡ no_files }
+        ensures images { (n x : List ℕ) → shelf_left result n x → ⊥ }
     {
         MemoryShelf {
             alloc,
@@ -93,11 +97,17 @@ impl MemoryShelf {
         }
     }
 
-    /// Puts a disk under a name, in the place of one that stands there.
+    /// Puts a disk under a name, in the place of one that stands there. The counts of the disk are not
+    /// added. Where there is no memory all stays.
     pub fn put(&mut self, name: &str, disk: MemoryDisk) -> Result<(), AllocError>
-        ensures put { (b : List ℕ) → (memory_state disk).contents ≡ Some b → OnOk result (Puts (shelf_state self.old) (shelf_state self.new) name.now (Some b)) }
-        ensures out { OnOk result ((n : List ℕ) → (shelf_state self.old).out n ≡ false → (shelf_state self.new).out n ≡ false) }
-        ensures err { OnErr result (self.new.entries.items ≡ self.old.entries.items) }
+        ensures put { (b : List ℕ) → Tells memory_state disk b → OnOk result (Puts (shelf_state self.old) (shelf_state self.new) name.now (Some b)) }
+        ensures out { OnOk result ((n : List ℕ) → (shelf_state self.new).out n ≡ (if bytes_eq n name.now then false else (shelf_state self.old).out n)) }
+        ensures images { OnOk result (TakesBack shelf_state shelf_left shelf_between memory_state memory_left memory_between name.now self.new disk) }
+        ensures others { OnOk result (KeepsOthers shelf_state shelf_left shelf_between name.now self.old self.new) }
+        ensures same { OnErr result (KeepsShelf (shelf_state self.old) (shelf_state self.new)) }
+        ensures same_images { OnErr result ((n : List ℕ) → KeepsImagesOf shelf_state shelf_left shelf_between n self.old self.new) }
+        ensures faults { (shelf_state self.new).faults ≡ (shelf_state self.old).faults }
+        ensures bytes { KeepsBytes (shelf_state self.old) (shelf_state self.new) }
     {
         match exchange(&mut self.entries, name, Some(disk)) {
             Ok(_) => Ok(()),
@@ -128,7 +138,7 @@ impl MemoryShelf {
 impl Shelf for MemoryShelf {
     type Disk = MemoryDisk;
 
-    ghost use Rattle.snd_disk.specs.MemoryShelf.{shelf_state, shelf_left, shelf_between, shelf_is_left, shelf_counts_now, shelf_only_now};
+    ghost use Rattle.snd_disk.specs.MemoryShelf.{shelf_state, shelf_left, shelf_between, shelf_is_left, shelf_counts_now, shelf_only_now, shelf_none_to_come, shelf_file_fits};
 
     ghost state = { shelf_state };
 
@@ -141,6 +151,10 @@ impl Shelf for MemoryShelf {
     ghost counts_now = { shelf_counts_now };
 
     ghost only_now = { shelf_only_now };
+
+    ghost none_to_come = { shelf_none_to_come };
+
+    ghost file_fits = { shelf_file_fits };
 
     fn take(&mut self, name: &str, make: bool) -> Result<MemoryDisk, ShelfFault> {
         let Ok(given) = String::from_str(self.alloc, name) else {

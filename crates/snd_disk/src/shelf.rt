@@ -1,6 +1,6 @@
-ghost use Rattle.std.specs.Prelude.{◌≡◌, ◌≤◌, List, ℕ, true, false, Some, IfOk, IsErrOf, IfErr, OnErr};
-ghost use Rattle.snd_disk.specs.State.{KeepsImages};
-ghost use Rattle.snd_disk.specs.Shelf.{Files, ShelfState, Takes, Stays, Gives, IsMissing, CountsFault, KeepsBytes, KeepsOthers, HandsOver};
+ghost use Rattle.std.specs.Prelude.{◌≡◌, ◌<◌, ◌≤◌, ◌^◌, List, ℕ, length, true, false, Some, IfOk, IsErrOf, OnErr};
+ghost use Rattle.snd_disk.specs.Shelf.{Files, ShelfState, Takes, Stays, Gives, IsMissing, CountsFault, KeepsBytes};
+ghost use Rattle.snd_disk.specs.Shelves.{HandsOut, HandsOutNone, KeepsOthers, TakesBack};
 
 use crate::Disk;
 
@@ -32,10 +32,10 @@ pub trait Shelf {
     fn take(&mut self, name: &str, make: bool) -> Result<Self::Disk, ShelfFault>
         requires { (state self.old).out name.now ≡ false }
         ensures taken { IfOk result (λ d. Takes (state self.old) (state self.new) name.now make (Self.Disk.state d)) }
-        ensures images { IfOk result (λ d. (f : Files) → (state self.old).files ≡ Some f → HandsOver (f name.now) ((state self.old).clock name.now) (Self.Disk.state d).clock (may_leave self.old name.now) (Self.Disk.may_leave d) (left_between self.old name.now) (Self.Disk.left_between d)) }
+        ensures images { IfOk result (HandsOut state may_leave left_between Self.Disk.state Self.Disk.may_leave Self.Disk.left_between name.now self.old) }
         ensures stays { OnErr result (Stays (state self.old) (state self.new) name.now make) }
-        ensures same_images { OnErr result ((f : Files) → (state self.old).files ≡ Some f → HandsOver (f name.now) ((state self.old).clock name.now) ((state self.new).clock name.now) (may_leave self.old name.now) (may_leave self.new name.now) (left_between self.old name.now) (left_between self.new name.now)) }
-        ensures others { KeepsOthers name.now (state self.old).clock (state self.new).clock (may_leave self.old) (may_leave self.new) (left_between self.old) (left_between self.new) }
+        ensures same_images { OnErr result (HandsOutNone state may_leave left_between name.now self.old self.new) }
+        ensures others { KeepsOthers state may_leave left_between name.now self.old self.new }
         ensures missing { IsErrOf result ShelfFault.Missing → IsMissing (state self.old) name.now make }
         ensures faults { CountsFault (state self.old).faults (state self.new).faults result }
         ensures bytes { KeepsBytes (state self.old) (state self.new) };
@@ -45,8 +45,11 @@ pub trait Shelf {
         requires out { (state self.old).out name.now ≡ true }
         requires named { (Self.Disk.state disk).name ≡ Some name.now }
         ensures given { Gives (state self.old) (state self.new) name.now (Self.Disk.state disk) }
-        ensures images { KeepsImages (Self.Disk.state disk).clock ((state self.new).clock name.now) (Self.Disk.may_leave disk) (may_leave self.new name.now) (Self.Disk.left_between disk) (left_between self.new name.now) }
-        ensures others { KeepsOthers name.now (state self.old).clock (state self.new).clock (may_leave self.old) (may_leave self.new) (left_between self.old) (left_between self.new) };
+        ensures images { TakesBack state may_leave left_between Self.Disk.state Self.Disk.may_leave Self.Disk.left_between name.now self.new disk }
+        ensures others { KeepsOthers state may_leave left_between name.now self.old self.new };
+
+    /// No file is longer than a disk can be.
+    ghost file_fits: { (s : Self) (f : Files) (n b : List ℕ) → (state s).files ≡ Some f → f n ≡ Some b → length b < 2 ^ 63 };
 
     /// What is told of a file is itself an image of it.
     ghost is_left: { (s : Self) (f : Files) (n b : List ℕ) → (state s).files ≡ Some f → f n ≡ Some b → may_leave s n b };
@@ -56,4 +59,7 @@ pub trait Shelf {
 
     /// From this moment on there is no other.
     ghost only_now: { (s : Self) (n : List ℕ) (t t' : ℕ) (x : List ℕ) → (state s).clock n ≤ t → left_between s n t t' x → may_leave s n x };
+
+    /// No moment is to come: up to a value beyond the clock is up to the clock.
+    ghost none_to_come: { (s : Self) (n : List ℕ) (t t' : ℕ) (x : List ℕ) → (state s).clock n ≤ t' → left_between s n t t' x → left_between s n t ((state s).clock n) x };
 }

@@ -1,7 +1,8 @@
 //! Two fields changed in an order that a crash cannot hurt: how a change reads off the laws.
 
-ghost use Rattle.std.specs.Prelude.{◌≡◌, ◌⊎◌, ◌+◌, ◌≤◌, [], ◌∷◌, List, ℕ, length, Some, OnOk, OnErr, option_map};
-ghost use Rattle.snd_disk.specs.State.{Keeps, Rises};
+ghost use Rattle.std.specs.Prelude.{◌≡◌, ◌⊎◌, ◌+◌, ◌≤◌, [], ◌∷◌, List, ℕ, length, Some, OnOk, option_map};
+ghost use Rattle.snd_disk.specs.State.{Keeps};
+ghost use Rattle.snd_disk.specs.Device.{CountsOn, IsStable, Tells};
 ghost use Rattle.snd_disk.specs.Bytes.{over};
 ghost use Rattle.snd_disk.specs.Runs.{Since, AreApart, IsPatching};
 
@@ -10,10 +11,9 @@ use crate::{Disk, Failed, Step};
 /// Makes the contents stable.
 fn settle<D: Disk>(disk: &mut D) -> Result<(), Step>
     ensures same { Keeps (D.state disk.old) (D.state disk.new) }
-    ensures durable { OnOk result ((x : List ℕ) → D.may_leave disk.new x → (D.state disk.new).contents ≡ Some x) }
+    ensures durable { OnOk result (IsStable D.state D.may_leave disk.new) }
     ensures run { Since D.state D.may_leave D.left_between disk.old disk.new [] }
-    ensures calm { OnOk result ((D.state disk.new).faults ≡ (D.state disk.old).faults) }
-    ensures cause { OnErr result (Rises (D.state disk.old).faults (D.state disk.new).faults) }
+    ensures faults { CountsOn D.state disk.old disk.new result }
 {
     match disk.sync() {
         Ok(()) => Ok(()),
@@ -26,10 +26,9 @@ fn put_field<D: Disk>(disk: &mut D, at: u64, bytes: &[u8]) -> Result<(), Step>
     requires { at + length bytes.now ≤ (D.state disk.old).size }
     ensures contents { OnOk result ((D.state disk.new).contents ≡ option_map (λ b. over b at bytes.now) (D.state disk.old).contents) }
     ensures size { OnOk result ((D.state disk.new).size ≡ (D.state disk.old).size) }
-    ensures durable { OnOk result ((x : List ℕ) → D.may_leave disk.new x → (D.state disk.new).contents ≡ Some x) }
+    ensures durable { OnOk result (IsStable D.state D.may_leave disk.new) }
     ensures run { (b : List ℕ) → (D.state disk.old).contents ≡ Some b → Since D.state D.may_leave D.left_between disk.old disk.new (over b at bytes.now ∷ []) }
-    ensures calm { OnOk result ((D.state disk.new).faults ≡ (D.state disk.old).faults) }
-    ensures cause { OnErr result (Rises (D.state disk.old).faults (D.state disk.new).faults) }
+    ensures faults { CountsOn D.state disk.old disk.new result }
 {
     match disk.write_at(at, bytes) {
         Ok(()) => {}
@@ -50,11 +49,10 @@ pub fn patch_two<D: Disk>(
     requires first { first_at + length first.now ≤ (D.state disk.old).size }
     requires second { second_at + length second.now ≤ (D.state disk.old).size }
     ensures contents { OnOk result ((D.state disk.new).contents ≡ option_map (λ b. over (over b first_at first.now) second_at second.now) (D.state disk.old).contents) }
-    ensures durable { OnOk result ((x : List ℕ) → D.may_leave disk.new x → (D.state disk.new).contents ≡ Some x) }
+    ensures durable { OnOk result (IsStable D.state D.may_leave disk.new) }
     ensures any_moment { (b : List ℕ) → (D.state disk.old).contents ≡ Some b → AreApart first_at (length first.now) second_at (length second.now)
         → (t : ℕ) (x : List ℕ) → D.left_between disk.new (D.state disk.old).clock t x → D.may_leave disk.old x ⊎ IsPatching b first_at first.now second_at second.now x }
-    ensures calm { OnOk result ((D.state disk.new).faults ≡ (D.state disk.old).faults) }
-    ensures cause { OnErr result (Rises (D.state disk.old).faults (D.state disk.new).faults) }
+    ensures faults { CountsOn D.state disk.old disk.new result }
 {
     settle(disk)?;
     put_field(disk, first_at, first)?;

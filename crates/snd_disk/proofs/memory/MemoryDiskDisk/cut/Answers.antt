@@ -1,10 +1,10 @@
-use Rattle.std.proofs.Common.{subst}
+use Rattle.std.proofs.Common.{subst, ⊎_elim, inl, inr}
 use Rattle.snd_disk.specs.Memory.{Notes, MayNote}
 use Rattle.snd_disk.specs.declared.call.Call.TheVariants.{Cut}
 use Rattle.snd_disk.specs.declared.call.End.TheVariants.{Done, Broken}
 use Rattle.snd_disk.specs.declared.call.Made.{Made}
 use Rattle.snd_disk.specs.declared.memory.MemoryDisk.{MemoryDisk}
-use Rattle.snd_disk.proofs.AfterCall.{mixes_cut, all_cut, passes_may, between_cut, on_err, on_ok}
+use Rattle.snd_disk.proofs.AfterCall.{mixes_cut, all_cut, passes_may, between_cut, held_cut, on_err, on_ok}
 use Rattle.snd_disk.proofs.memory.MemoryDiskDisk.cut.Goals as goal
 
 pub returns-in-None-clause-images : goal.returns-in-None-clause-images
@@ -36,3 +36,10 @@ pub returns-in-Ok-clause-time : goal.returns-in-Ok-clause-time
 returns-in-Ok-clause-time c =
     let made : Made = record { call = Cut c.args.len; end = Broken c.in-Some.sectors } in
     passes_may _ c.break_off.new.self made (subst (λ (d : MemoryDisk). MayNote d c.break_off.new.self made) c.failure.ensures c.break_off.ensures.noted)
+
+pub returns-in-Ok-clause-all_or_none : goal.returns-in-Ok-clause-all_or_none
+returns-in-Ok-clause-all_or_none c =
+    let made : Made = record { call = Cut c.args.len; end = Broken c.in-Some.sectors } in
+    on_err c.break_off.result _ (⊎_elim inl
+    (λ same. inr (record { keeps = record { size = same.keeps.size; contents = same.keeps.contents; name = same.keeps.name }; images = same.images }))
+    (held_cut _ c.break_off.new.self (Broken c.in-Some.sectors) c.args.len (subst (λ (d : MemoryDisk). MayNote d c.break_off.new.self made) c.failure.ensures c.break_off.ensures.noted)))

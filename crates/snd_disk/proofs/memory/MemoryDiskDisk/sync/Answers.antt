@@ -1,4 +1,4 @@
-use Rattle.std.proofs.Common.{◌≡◌, inl, subst, ap, ◌∙◌}
+use Rattle.std.proofs.Common.{◌≡◌, Some, inl, subst, ap, ◌∙◌}
 use Rattle.snd_disk.specs.Memory.{Notes, MayNote}
 use Rattle.snd_disk.specs.declared.call.Call.TheVariants.{Sync}
 use Rattle.snd_disk.specs.declared.call.End.TheVariants.{Done, Broken}
@@ -10,7 +10,7 @@ use Rattle.snd_disk.proofs.memory.MemoryDiskDisk.sync.Goals as goal
 pub returns-in-None-clause-done : goal.returns-in-None-clause-done
 returns-in-None-clause-done c =
     let made : Made = record { call = Sync; end = Done } in
-    on_ok c.settle.result _ _ (λ notes. only_settled _ c.settle.new.self (subst (λ (d : MemoryDisk). Notes d c.settle.new.self made) c.failure.ensures notes)) c.settle.ensures.ok
+    on_ok c.settle.result _ _ (λ notes x left. ap (λ b. Some b) notes.bytes ∙ only_settled _ c.settle.new.self notes x left) c.settle.ensures.ok
 
 pub returns-in-None-clause-time : goal.returns-in-None-clause-time
 returns-in-None-clause-time c =
