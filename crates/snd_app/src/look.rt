@@ -1,9 +1,10 @@
 //! What stands under a name.
 
-ghost use Rattle.std.specs.Prelude.{◌≡◌, ◌≤◌, List, ℕ, Some, false, IfOk, OnOk, OnErr, IsErrOf};
-ghost use Rattle.snd_disk.specs.Returned.{KeepsFileImages};
+ghost use Rattle.std.specs.Prelude.{◌≡◌, ◌≤◌, List, ℕ, false, IfOk, OnOk, IsErrOf};
+ghost use Rattle.snd_disk.specs.Device.{AsksAtMost, OnlyReadsOn, Tells};
+ghost use Rattle.snd_disk.specs.Shelves.{KeepsFileImages, TellsFiles};
 ghost use Rattle.snd_disk.specs.Shelf.{Files, KeepsFiles};
-ghost use Rattle.snd_disk.specs.State.{Rises, AtMost, OnlyReads};
+ghost use Rattle.snd_disk.specs.State.{Rises};
 ghost use Rattle.snd_container.specs.Sound.{layout_of};
 ghost use Rattle.snd_app.specs.Outcome.{found_in, found_of};
 
@@ -42,12 +43,12 @@ impl Found {
 }
 
 fn found_on<D: Disk>(alloc: Global, disk: &mut D) -> Result<Found, Stop>
-    ensures found { IfOk result (λ found. (b : List ℕ) → (D.state disk.old).contents ≡ Some b → found ≡ found_of (layout_of b)) }
+    ensures found { IfOk result (λ found. (b : List ℕ) → Tells D.state disk.old b → found ≡ found_of (layout_of b)) }
     ensures failed { IsErrOf result Stop.Fault → Rises (D.state disk.old).faults (D.state disk.new).faults }
     ensures calm { OnOk result ((D.state disk.new).faults ≡ (D.state disk.old).faults) }
     ensures later { (D.state disk.old).faults ≤ (D.state disk.new).faults }
-    ensures reads { OnlyReads (D.state disk.old) (D.state disk.new) (D.may_leave disk.old) (D.may_leave disk.new) (D.left_between disk.old) (D.left_between disk.new) }
-    ensures asked { AtMost (D.state disk.old).asked 16384 (D.state disk.new).asked }
+    ensures reads { OnlyReadsOn D.state D.may_leave D.left_between disk.old disk.new }
+    ensures asked { AsksAtMost D.state 16384 disk.old disk.new }
 {
     match open_layout(alloc, disk) {
         Ok(layout) => Ok(Found::Sound(layout)),
@@ -60,10 +61,10 @@ fn found_on<D: Disk>(alloc: Global, disk: &mut D) -> Result<Found, Stop>
 /// Looks at the file of a name. The shelf has it back, as it was.
 pub fn look<S: Shelf>(alloc: Global, shelf: &mut S, name: &str) -> Result<Found, Stop>
     requires { (S.state shelf.old).out name.now ≡ false }
-    ensures found { IfOk result (λ found. (files : Files) → (S.state shelf.old).files ≡ Some files → found ≡ found_in (files name.now)) }
+    ensures found { IfOk result (λ found. (files : Files) → TellsFiles S.state shelf.old files → found ≡ found_in (files name.now)) }
     ensures back { (n : List ℕ) → (S.state shelf.new).out n ≡ (S.state shelf.old).out n }
     ensures files { KeepsFiles (S.state shelf.old) (S.state shelf.new) }
-    ensures images { KeepsFileImages (S.state shelf.old) (S.state shelf.old).clock (S.state shelf.new).clock (S.may_leave shelf.old) (S.may_leave shelf.new) (S.left_between shelf.old) (S.left_between shelf.new) }
+    ensures images { KeepsFileImages S.state S.may_leave S.left_between shelf.old shelf.new }
     ensures failed { IsErrOf result Stop.Fault → Rises (S.state shelf.old).faults (S.state shelf.new).faults }
     ensures calm { OnOk result ((S.state shelf.new).faults ≡ (S.state shelf.old).faults) }
 {

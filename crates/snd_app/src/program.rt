@@ -1,8 +1,8 @@
 //! What the program does with its words.
 
-ghost use Rattle.std.specs.Prelude.{◌≡◌, ◌⊎◌, ◌≤◌, ◌+◌, List, ℕ, Option, Some, None, false, IfOk, option_map};
+ghost use Rattle.std.specs.Prelude.{◌≡◌, ◌⊎◌, ◌≤◌, ◌+◌, List, ℕ, Option, Some, None, IfOk};
 ghost use Rattle.std.specs.List.{list_all};
-ghost use Rattle.snd_disk.specs.Returned.{KeepsFileImages};
+ghost use Rattle.snd_disk.specs.Shelves.{KeepsFileImages, TellsFiles};
 ghost use Rattle.snd_disk.specs.Shelf.{Files, KeepsFiles};
 ghost use Rattle.snd_disk.specs.State.{Rises};
 ghost use Rattle.snd_script.specs.Script.{is_too_long, most_bytes, script_answered};
@@ -89,14 +89,14 @@ fn run_info<S: Shelf, O: Sink, E: Sink>(
     err: &mut E,
 ) -> u8
     requires { IsAllIn (S.state shelf.old) }
-    ensures outcome { (files : Files) (script : ℕ) → (S.state shelf.old).files ≡ Some files →
+    ensures outcome { (files : Files) (script : ℕ) → TellsFiles S.state shelf.old files →
         IsOutcome result (info name.now (found_in (files name.now)))
         (record { shelf = (S.state shelf.old).faults; script = script; out = O.faults out.old; err = E.faults err.old }) (record { shelf = (S.state shelf.new).faults; script = script; out = O.faults out.new; err = E.faults err.new })
         (record { before = O.told out.old; after = O.told out.new }) (record { before = E.told err.old; after = E.told err.new }) }
     ensures fault { result ≡ 3 → Rises (S.state shelf.old).faults (S.state shelf.new).faults ⊎ (Rises (O.faults out.old) (O.faults out.new) ⊎ Rises (E.faults err.old) (E.faults err.new)) }
     ensures back { IsAllIn (S.state shelf.new) }
     ensures files { KeepsFiles (S.state shelf.old) (S.state shelf.new) }
-    ensures images { KeepsFileImages (S.state shelf.old) (S.state shelf.old).clock (S.state shelf.new).clock (S.may_leave shelf.old) (S.may_leave shelf.new) (S.left_between shelf.old) (S.left_between shelf.new) }
+    ensures images { KeepsFileImages S.state S.may_leave S.left_between shelf.old shelf.new }
 {
     let found = match look(alloc, shelf, name) {
         Ok(found) => found,
@@ -122,7 +122,7 @@ fn run_script<S: Shelf, R: Source, O: Sink, E: Sink>(
     err: &mut E,
 ) -> u8
     requires { IsAllIn (S.state shelf.old) }
-    ensures outcome { (files : Files) (text : List ℕ) → (S.state shelf.old).files ≡ Some files → R.left script.old ≡ Some text →
+    ensures outcome { (files : Files) (text : List ℕ) → TellsFiles S.state shelf.old files → R.left script.old ≡ Some text →
         IsOutcome result (script_outcome (is_too_long most_bytes text) (script_answered files text))
         (record { shelf = (S.state shelf.old).faults; script = R.faults script.old; out = O.faults out.old; err = E.faults err.old }) (record { shelf = (S.state shelf.new).faults; script = R.faults script.new; out = O.faults out.new; err = E.faults err.new })
         (record { before = O.told out.old; after = O.told out.new }) (record { before = E.told err.old; after = E.told err.new }) }
@@ -130,7 +130,7 @@ fn run_script<S: Shelf, R: Source, O: Sink, E: Sink>(
     ensures taken { R.given script.new ≤ R.given script.old + 16777217 }
     ensures back { IsAllIn (S.state shelf.new) }
     ensures files { KeepsFiles (S.state shelf.old) (S.state shelf.new) }
-    ensures images { KeepsFileImages (S.state shelf.old) (S.state shelf.old).clock (S.state shelf.new).clock (S.may_leave shelf.old) (S.may_leave shelf.new) (S.left_between shelf.old) (S.left_between shelf.new) }
+    ensures images { KeepsFileImages S.state S.may_leave S.left_between shelf.old shelf.new }
 {
     match serve(alloc, shelf, script, out) {
         ScriptEnd::Done { refused } => u8::from(refused),
@@ -157,7 +157,7 @@ pub fn run<S: Shelf, R: Source, O: Sink, E: Sink>(
 
     // The headline: over files and a script that are told, the run is the outcome of the words, the
     // files and the script.
-    ensures headline { (files : Files) (text : List ℕ) → (S.state shelf.old).files ≡ Some files → R.left script.old ≡ Some text →
+    ensures headline { (files : Files) (text : List ℕ) → TellsFiles S.state shelf.old files → R.left script.old ≡ Some text →
         IsOutcome result (outcome words.now files text)
         (record { shelf = (S.state shelf.old).faults; script = R.faults script.old; out = O.faults out.old; err = E.faults err.old }) (record { shelf = (S.state shelf.new).faults; script = R.faults script.new; out = O.faults out.new; err = E.faults err.new })
         (record { before = O.told out.old; after = O.told out.new }) (record { before = E.told err.old; after = E.told err.new }) }
@@ -177,7 +177,7 @@ pub fn run<S: Shelf, R: Source, O: Sink, E: Sink>(
     // Every file that was taken is given back, and no file changes, nor what a crash may leave of one.
     ensures back { IsAllIn (S.state shelf.new) }
     ensures files { KeepsFiles (S.state shelf.old) (S.state shelf.new) }
-    ensures images { KeepsFileImages (S.state shelf.old) (S.state shelf.old).clock (S.state shelf.new).clock (S.may_leave shelf.old) (S.may_leave shelf.new) (S.left_between shelf.old) (S.left_between shelf.new) }
+    ensures images { KeepsFileImages S.state S.may_leave S.left_between shelf.old shelf.new }
 {
     match request_of(words) {
         Some(Request::Info(name)) => run_info(alloc, name, shelf, out, err),

@@ -1,7 +1,7 @@
 -- What holds of the chunks that a walk sees, over every disk, and why a walk stops.
-use Rattle.std.specs.Prelude.{◌≡◌, ℕ, ◌+◌, ◌*◌, ◌^◌, ◌<◌, ◌≤◌, Option, None, Some, All, ⊤, nat_le, if◌then◌else◌, List}
+use Rattle.std.specs.Prelude.{◌≡◌, ℕ, ◌+◌, ◌*◌, ◌^◌, ◌<◌, ◌≤◌, Option, None, Some, All, ⊤, nat_le, if◌then◌else◌, List, Result, Ok, Err}
 use Rattle.std.specs.Str.{bytes_eq}
-use Rattle.snd_disk.specs.State.{Rises}
+use Rattle.snd_disk.specs.State.{Rises, State}
 use Rattle.snd_chunks.specs.declared.chunk.Chunk.{Chunk}
 use Rattle.snd_chunks.specs.declared.error.WalkError.{WalkError}
 use Rattle.snd_chunks.specs.declared.error.WalkError.TheVariants.{Fault, Memory}
@@ -39,6 +39,11 @@ pub record IsFront (size from most : ℕ) (f : Front) : Type 0 where
 abbrev pub IsWalkCause : ℕ → ℕ → WalkError → Type 0
 IsWalkCause old new (Fault step) = (old ≤ new) × Rises old new
 IsWalkCause old new Memory = new ≡ old
+
+-- the count of faults rises where the answer is a fault, and there alone
+abbrev pub CountsWalk : {D T : Type 0} → (D → State) → D → D → Result T WalkError → Type 0
+CountsWalk state old new (Ok found) = (state new).faults ≡ (state old).faults
+CountsWalk state old new (Err error) = IsWalkCause (state old).faults (state new).faults error
 
 -- what a walk up to the sound sees at one place
 abbrev pub seen_of : List ℕ → ℕ → Option Chunk → Seen

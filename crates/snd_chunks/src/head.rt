@@ -1,7 +1,7 @@
 //! The heads of chunks.
 
-ghost use Rattle.std.specs.Prelude.{◌≡◌, ◌+◌, ◌<◌, ◌≤◌, ◌^◌, List, ℕ, Some, IfSome, IfOk, OnOk, OnErr, length, slice_index, take};
-ghost use Rattle.snd_disk.specs.State.{AtMost, OnlyReads, Rises};
+ghost use Rattle.std.specs.Prelude.{◌≡◌, ◌+◌, ◌<◌, ◌≤◌, ◌^◌, List, ℕ, Some, IfSome, IfOk, OnOk, length, slice_index, take};
+ghost use Rattle.snd_disk.specs.Device.{AsksAtMost, CountsOn, OnlyReadsOn, Tells, IfOkTold};
 ghost use Rattle.snd_fields.specs.Field.{number};
 ghost use Rattle.snd_chunks.specs.Chunks.{chunk_at, padded_end};
 ghost use Rattle.snd_chunks.specs.Walks.{HasHeadAt};
@@ -36,13 +36,11 @@ fn chunk_of(order: Order, head: &[u8], place: u64) -> Chunk
 fn read_head<D: Disk>(disk: &mut D, head: &mut [u8], place: u64) -> Result<(), Step>
     requires size { length head.old ≡ 8 }
     requires within { place + 8 ≤ (D.state disk.old).size }
-    ensures told { OnOk result ((b : List ℕ) → (D.state disk.old).contents ≡ Some b → (i : ℕ) → i < 8 → slice_index head.new i ≡ slice_index b (place + i)) }
+    ensures told { OnOk result ((b : List ℕ) → Tells D.state disk.old b → (i : ℕ) → i < 8 → slice_index head.new i ≡ slice_index b (place + i)) }
     ensures len { length head.new ≡ 8 }
-    ensures calm { OnOk result ((D.state disk.new).faults ≡ (D.state disk.old).faults) }
-    ensures failed { OnErr result (Rises (D.state disk.old).faults (D.state disk.new).faults) }
-    ensures later { (D.state disk.old).faults ≤ (D.state disk.new).faults }
-    ensures reads { OnlyReads (D.state disk.old) (D.state disk.new) (D.may_leave disk.old) (D.may_leave disk.new) (D.left_between disk.old) (D.left_between disk.new) }
-    ensures asked { AtMost (D.state disk.old).asked 8 (D.state disk.new).asked }
+    ensures faults { CountsOn D.state disk.old disk.new result }
+    ensures reads { OnlyReadsOn D.state D.may_leave D.left_between disk.old disk.new }
+    ensures asked { AsksAtMost D.state 8 disk.old disk.new }
 {
     let Ok(_) = disk.read_at(place, head) else {
         return Err(Step::Read);
@@ -59,13 +57,11 @@ pub fn head_at<D: Disk>(
     size: u64,
 ) -> Result<Option<Chunk>, Step>
     requires { size ≡ (D.state disk.old).size }
-    ensures told { IfOk result (λ chunk. (b : List ℕ) → (D.state disk.old).contents ≡ Some b → chunk ≡ chunk_at order b place) }
+    ensures told { IfOkTold D.state disk.old result (λ b chunk. chunk ≡ chunk_at order b place) }
     ensures placed { IfOk result (λ chunk. IfSome chunk (HasHeadAt size place)) }
-    ensures calm { OnOk result ((D.state disk.new).faults ≡ (D.state disk.old).faults) }
-    ensures failed { OnErr result (Rises (D.state disk.old).faults (D.state disk.new).faults) }
-    ensures later { (D.state disk.old).faults ≤ (D.state disk.new).faults }
-    ensures reads { OnlyReads (D.state disk.old) (D.state disk.new) (D.may_leave disk.old) (D.may_leave disk.new) (D.left_between disk.old) (D.left_between disk.new) }
-    ensures asked { AtMost (D.state disk.old).asked 8 (D.state disk.new).asked }
+    ensures faults { CountsOn D.state disk.old disk.new result }
+    ensures reads { OnlyReadsOn D.state D.may_leave D.left_between disk.old disk.new }
+    ensures asked { AsksAtMost D.state 8 disk.old disk.new }
 {
     if size < HEAD_SIZE || size - HEAD_SIZE < place {
         return Ok(None);

@@ -1,9 +1,9 @@
 //! Walks over the heads of chunks, each of which begins behind the one before it.
 
-ghost use Rattle.std.specs.Prelude.{◌≡◌, ◌+◌, ◌*◌, ◌≤◌, ◌<◌, ◌^◌, List, ℕ, Some, All, IfSome, IfOk, IfErr, OnOk, OnErr, length};
-ghost use Rattle.snd_disk.specs.State.{AtMost, OnlyReads, Rises};
+ghost use Rattle.std.specs.Prelude.{◌≡◌, ◌+◌, ◌*◌, ◌≤◌, ◌<◌, ◌^◌, Some, All, IfSome, IfOk, length};
+ghost use Rattle.snd_disk.specs.Device.{AsksAtMost, CountsOn, OnlyReadsOn, IfOkTold};
 ghost use Rattle.snd_chunks.specs.Chunks.{chunk_at, front, tail};
-ghost use Rattle.snd_chunks.specs.Walks.{EndsBy, HasHeadAt, IsFront, IsSeen, IsWalkCause, ended_by, seen_of};
+ghost use Rattle.snd_chunks.specs.Walks.{EndsBy, IsFront, IsSeen, ended_by, seen_of, CountsWalk};
 
 use crate::chunk::Chunk;
 use crate::error::WalkError;
@@ -48,13 +48,11 @@ fn look<D: Disk>(
     size: u64,
 ) -> Result<Seen, Step>
     requires { size ≡ (D.state disk.old).size }
-    ensures told { IfOk result (λ seen. (b : List ℕ) → (D.state disk.old).contents ≡ Some b → seen ≡ seen_of sound.0 (length b) (chunk_at order b place)) }
+    ensures told { IfOkTold D.state disk.old result (λ b seen. seen ≡ seen_of sound.0 (length b) (chunk_at order b place)) }
     ensures placed { IfOk result (IsSeen size place) }
-    ensures calm { OnOk result ((D.state disk.new).faults ≡ (D.state disk.old).faults) }
-    ensures failed { OnErr result (Rises (D.state disk.old).faults (D.state disk.new).faults) }
-    ensures later { (D.state disk.old).faults ≤ (D.state disk.new).faults }
-    ensures reads { OnlyReads (D.state disk.old) (D.state disk.new) (D.may_leave disk.old) (D.may_leave disk.new) (D.left_between disk.old) (D.left_between disk.new) }
-    ensures asked { AtMost (D.state disk.old).asked 8 (D.state disk.new).asked }
+    ensures faults { CountsOn D.state disk.old disk.new result }
+    ensures reads { OnlyReadsOn D.state D.may_leave D.left_between disk.old disk.new }
+    ensures asked { AsksAtMost D.state 8 disk.old disk.new }
 {
     let chunk = head_at(disk, order, place, size)?;
     Ok(seen_of(chunk, sound, size))
@@ -73,13 +71,11 @@ pub fn walk_front<D: Disk>(
     most: usize,
 ) -> Result<Front, WalkError>
     requires { size ≡ (D.state disk.old).size }
-    ensures told { IfOk result (λ f. (b : List ℕ) → (D.state disk.old).contents ≡ Some b → f ≡ front (chunk_at order b) sound.0 (length b) most from) }
+    ensures told { IfOkTold D.state disk.old result (λ b f. f ≡ front (chunk_at order b) sound.0 (length b) most from) }
     ensures placed { IfOk result (IsFront size from most) }
-    ensures calm { OnOk result ((D.state disk.new).faults ≡ (D.state disk.old).faults) }
-    ensures cause { IfErr result (IsWalkCause (D.state disk.old).faults (D.state disk.new).faults) }
-    ensures later { (D.state disk.old).faults ≤ (D.state disk.new).faults }
-    ensures reads { OnlyReads (D.state disk.old) (D.state disk.new) (D.may_leave disk.old) (D.may_leave disk.new) (D.left_between disk.old) (D.left_between disk.new) }
-    ensures asked { AtMost (D.state disk.old).asked (8 * most) (D.state disk.new).asked }
+    ensures faults { CountsWalk D.state disk.old disk.new result }
+    ensures reads { OnlyReadsOn D.state D.may_leave D.left_between disk.old disk.new }
+    ensures asked { AsksAtMost D.state (8 * most) disk.old disk.new }
 {
     let mut chunks = ChunkList::new(alloc);
     let mut place = from;
@@ -112,13 +108,11 @@ fn look_behind<D: Disk>(
     to: u64,
 ) -> Result<Option<Chunk>, Step>
     requires { size ≡ (D.state disk.old).size }
-    ensures told { IfOk result (λ chunk. (b : List ℕ) → (D.state disk.old).contents ≡ Some b → chunk ≡ ended_by to (chunk_at order b place)) }
+    ensures told { IfOkTold D.state disk.old result (λ b chunk. chunk ≡ ended_by to (chunk_at order b place)) }
     ensures placed { IfOk result (λ chunk. IfSome chunk (EndsBy to)) }
-    ensures calm { OnOk result ((D.state disk.new).faults ≡ (D.state disk.old).faults) }
-    ensures failed { OnErr result (Rises (D.state disk.old).faults (D.state disk.new).faults) }
-    ensures later { (D.state disk.old).faults ≤ (D.state disk.new).faults }
-    ensures reads { OnlyReads (D.state disk.old) (D.state disk.new) (D.may_leave disk.old) (D.may_leave disk.new) (D.left_between disk.old) (D.left_between disk.new) }
-    ensures asked { AtMost (D.state disk.old).asked 8 (D.state disk.new).asked }
+    ensures faults { CountsOn D.state disk.old disk.new result }
+    ensures reads { OnlyReadsOn D.state D.may_leave D.left_between disk.old disk.new }
+    ensures asked { AsksAtMost D.state 8 disk.old disk.new }
 {
     let chunk = head_at(disk, order, place, size)?;
     Ok(ended_by(chunk, to))
@@ -136,13 +130,11 @@ pub fn walk_tail<D: Disk>(
     most: usize,
 ) -> Result<ChunkList, WalkError>
     requires { size ≡ (D.state disk.old).size }
-    ensures told { IfOk result (λ chunks. (b : List ℕ) → (D.state disk.old).contents ≡ Some b → chunks ≡ tail (chunk_at order b) to most from) }
+    ensures told { IfOkTold D.state disk.old result (λ b chunks. chunks ≡ tail (chunk_at order b) to most from) }
     ensures placed { IfOk result (All (EndsBy to)) }
-    ensures calm { OnOk result ((D.state disk.new).faults ≡ (D.state disk.old).faults) }
-    ensures cause { IfErr result (IsWalkCause (D.state disk.old).faults (D.state disk.new).faults) }
-    ensures later { (D.state disk.old).faults ≤ (D.state disk.new).faults }
-    ensures reads { OnlyReads (D.state disk.old) (D.state disk.new) (D.may_leave disk.old) (D.may_leave disk.new) (D.left_between disk.old) (D.left_between disk.new) }
-    ensures asked { AtMost (D.state disk.old).asked (8 * most) (D.state disk.new).asked }
+    ensures faults { CountsWalk D.state disk.old disk.new result }
+    ensures reads { OnlyReadsOn D.state D.may_leave D.left_between disk.old disk.new }
+    ensures asked { AsksAtMost D.state (8 * most) disk.old disk.new }
 {
     let mut chunks = ChunkList::new(alloc);
     let mut place = from;

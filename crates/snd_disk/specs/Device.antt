@@ -1,11 +1,15 @@
 -- Relations over a whole disk, before and after a call. The first arguments are its meanings: what is known of it, what a
 -- crash may leave of it, and what a crash may have left between two values of its clock.
-use Rattle.std.specs.Prelude.{◌≡◌, ◌⊎◌, ℕ, ◌<◌, List, Some, Result}
+use Rattle.std.specs.Prelude.{◌≡◌, ◌⊎◌, ℕ, ◌<◌, List, Some, Result, IfOk}
 use Rattle.snd_disk.specs.State.{State, Counts, AtMost, Keeps, KeepsImages, Mixes, MixesAll, OnlyReads, Passes}
 
 -- the disk tells these contents
 abbrev pub Tells : {D : Type 0} → (D → State) → D → List ℕ → Type 0
 Tells state disk b = (state disk).contents ≡ Some b
+
+-- what a call that succeeds answers is right by the contents, where the disk tells them
+abbrev pub IfOkTold : {D T E : Type 0} → (D → State) → D → Result T E → (List ℕ → T → Type 0) → Type 0
+IfOkTold state disk result P = IfOk result (λ value. (b : List ℕ) → Tells state disk b → P b value)
 
 -- the count of faults rises where the call fails, and there alone
 abbrev pub CountsOn : {D T E : Type 0} → (D → State) → D → D → Result T E → Type 0

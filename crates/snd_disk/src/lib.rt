@@ -6,6 +6,7 @@
 mod call;
 mod disk;
 mod file;
+mod filling;
 mod folder;
 mod images;
 pub mod laws;
@@ -21,6 +22,7 @@ mod two_fields;
 pub use call::{Call, End, FailingCall, Made};
 pub use disk::{Disk, Failed, Step};
 pub use file::FileDisk;
+pub use filling::fill;
 pub use folder::FolderShelf;
 pub use images::images_between;
 pub use memory::MemoryDisk;

@@ -1,7 +1,7 @@
 //! The calls of an open file.
 
 ghost use Rattle.std.specs.Prelude.{◌≡◌, ◌+◌, ◌-◌, ◌*◌, ◌/◌, ◌%◌, ◌≤◌, None, Some, All, MatchResult, IfOk, OnOk, IfErr, OnErr, length, take, drop, min};
-ghost use Rattle.snd_disk.specs.State.{AtMost, OnlyReads};
+ghost use Rattle.snd_disk.specs.Device.{AsksAtMost, OnlyReadsOn};
 ghost use Rattle.snd_pcm.specs.Groups.{first_groups};
 ghost use Rattle.snd_pcm.specs.Pcm.{InRange};
 ghost use Rattle.snd_pcm.specs.declared.linear.Linear.{Linear as linear};
@@ -78,8 +78,8 @@ impl<'d, D: Disk, M> File<'d, D, M> {
         ensures stands { (e : Editing) → Stands D.state self.old e → MatchResult result (λ k. Stands D.state self.new (moved_by k e)) (λ error. Stands D.state self.new e) }
         ensures cause { IfErr result (IsReadCause (length into.old) (held_of self.old) (held_of self.new) (D.state (disk_of self.old)).faults (D.state (disk_of self.new)).faults) }
         ensures calm { OnOk result ((D.state (disk_of self.new)).faults ≡ (D.state (disk_of self.old)).faults) }
-        ensures reads { OnlyReads (D.state (disk_of self.old)) (D.state (disk_of self.new)) (D.may_leave (disk_of self.old)) (D.may_leave (disk_of self.new)) (D.left_between (disk_of self.old)) (D.left_between (disk_of self.new)) }
-        ensures asked { AtMost (D.state (disk_of self.old)).asked (length into.old / (held_of self.old).shape.params.channels * block_align (held_of self.old).shape.params.channels (held_of self.old).shape.params.codec + 16384) (D.state (disk_of self.new)).asked }
+        ensures reads { OnlyReadsOn D.state D.may_leave D.left_between (disk_of self.old) (disk_of self.new) }
+        ensures asked { AsksAtMost D.state (length into.old / (held_of self.old).shape.params.channels * block_align (held_of self.old).shape.params.channels (held_of self.old).shape.params.codec + 16384) (disk_of self.old) (disk_of self.new) }
     {
         if let Some(step) = self.broken {
             return Err(ReadError::Broken(step));

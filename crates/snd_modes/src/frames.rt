@@ -1,7 +1,7 @@
 //! Frames read from a disk, by a layout.
 
 ghost use Rattle.std.specs.Prelude.{◌≡◌, ◌+◌, ◌-◌, ◌*◌, ◌≤◌, List, ℕ, Some, false, All, OnOk, is_none, length, take, drop, min};
-ghost use Rattle.snd_disk.specs.State.{AtMost, Counts, OnlyReads};
+ghost use Rattle.snd_disk.specs.Device.{AsksAtMost, CountsOn, OnlyReadsOn, Tells};
 ghost use Rattle.snd_pcm.specs.Groups.{first_groups};
 ghost use Rattle.snd_pcm.specs.Pcm.{InRange, byte_count};
 ghost use Rattle.snd_pcm.specs.declared.linear.Linear.{Linear as linear};
@@ -54,11 +54,11 @@ pub(crate) fn read_from<D: Disk>(
     requires held { end layout.now layout.now.frames ≤ (D.state disk.old).size }
     requires within { place + count ≤ layout.now.frames }
     requires room { length into.old ≡ count * layout.now.params.channels }
-    ensures told { OnOk result ((b : List ℕ) → (D.state disk.old).contents ≡ Some b → first_groups layout.now.params.channels count into.new ≡ take count (drop place (decoded layout.now.params (sound_bytes b layout.now)))) }
+    ensures told { OnOk result ((b : List ℕ) → Tells D.state disk.old b → first_groups layout.now.params.channels count into.new ≡ take count (drop place (decoded layout.now.params (sound_bytes b layout.now)))) }
     ensures in_range { OnOk result ((form : linear) → linear_of layout.now.params.codec ≡ Some form → All (InRange form) into.new) }
-    ensures faults { Counts (D.state disk.old).faults (D.state disk.new).faults result }
-    ensures reads { OnlyReads (D.state disk.old) (D.state disk.new) (D.may_leave disk.old) (D.may_leave disk.new) (D.left_between disk.old) (D.left_between disk.new) }
-    ensures asked { AtMost (D.state disk.old).asked (count * block_align layout.now.params.channels layout.now.params.codec) (D.state disk.new).asked }
+    ensures faults { CountsOn D.state disk.old disk.new result }
+    ensures reads { OnlyReadsOn D.state D.may_leave D.left_between disk.old disk.new }
+    ensures asked { AsksAtMost D.state (count * block_align layout.now.params.channels layout.now.params.codec) disk.old disk.new }
 {
     let Some(form) = form_of(layout) else {
         unreachable!()

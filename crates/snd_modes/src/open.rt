@@ -1,7 +1,7 @@
 //! Files that are opened.
 
-ghost use Rattle.std.specs.Prelude.{◌≡◌, List, ℕ, Ok, Err, None, Some, IfOk, IfErr, MatchResult};
-ghost use Rattle.snd_disk.specs.State.{AtMost, OnlyReads};
+ghost use Rattle.std.specs.Prelude.{◌≡◌, List, ℕ, Ok, Err, None, IfOk, IfErr, MatchResult};
+ghost use Rattle.snd_disk.specs.Device.{AsksAtMost, OnlyReadsOn, Tells};
 ghost use Rattle.snd_layout.specs.Opened.{IsCause};
 ghost use Rattle.snd_layout.specs.declared.error.OpenError.TheVariants.{Refused};
 ghost use Rattle.snd_layout.specs.declared.refusal.OpenRefusal.{OpenRefusal as refusal};
@@ -27,14 +27,14 @@ pub fn open_read<'d, D: Disk>(
     disk: &'d mut D,
 ) -> Result<File<'d, D, Read>, (OpenError, &'d mut D)>
     ensures lends { MatchResult result (λ f. loan_of f ≡ disk.entry.ghost_name) (λ e. e.1.ghost_name ≡ disk.entry.ghost_name) }
-    ensures opened { IfOk result (λ f. (b : List ℕ) → (D.state disk.old).contents ≡ Some b → (e : Editing) × (opened b ≡ Ok e) × Stands D.state f e) }
-    ensures refused { IfErr result (λ e. (r : refusal) (b : List ℕ) → e.0 ≡ Refused r → (D.state disk.old).contents ≡ Some b → opened b ≡ Err r) }
+    ensures opened { IfOk result (λ f. (b : List ℕ) → Tells D.state disk.old b → (e : Editing) × (opened b ≡ Ok e) × Stands D.state f e) }
+    ensures refused { IfErr result (λ e. (r : refusal) (b : List ℕ) → e.0 ≡ Refused r → Tells D.state disk.old b → opened b ≡ Err r) }
     ensures cause { IfErr result (λ e. IsCause (D.state disk.old).faults (D.state e.1.now).faults e.0) }
     ensures calm { IfOk result (λ f. (D.state (disk_of f)).faults ≡ (D.state disk.old).faults) }
     ensures fresh { IfOk result (λ f. ((held_of f).place ≡ 0) × ((held_of f).broken ≡ None)) }
-    ensures reads { MatchResult result (λ f. OnlyReads (D.state disk.old) (D.state (disk_of f)) (D.may_leave disk.old) (D.may_leave (disk_of f)) (D.left_between disk.old) (D.left_between (disk_of f)))
-        (λ e. OnlyReads (D.state disk.old) (D.state e.1.now) (D.may_leave disk.old) (D.may_leave e.1.now) (D.left_between disk.old) (D.left_between e.1.now)) }
-    ensures asked { MatchResult result (λ f. AtMost (D.state disk.old).asked 16384 (D.state (disk_of f)).asked) (λ e. AtMost (D.state disk.old).asked 16384 (D.state e.1.now).asked) }
+    ensures reads { MatchResult result (λ f. OnlyReadsOn D.state D.may_leave D.left_between disk.old (disk_of f))
+        (λ e. OnlyReadsOn D.state D.may_leave D.left_between disk.old e.1.now) }
+    ensures asked { MatchResult result (λ f. AsksAtMost D.state 16384 disk.old (disk_of f)) (λ e. AsksAtMost D.state 16384 disk.old e.1.now) }
 {
     let layout = match open_layout(alloc, disk) {
         Ok(layout) => layout,

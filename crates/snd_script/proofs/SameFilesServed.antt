@@ -4,8 +4,8 @@ use Rattle.snd_command.specs.Line.{command_of}
 use Rattle.snd_command.specs.Said.{Said}
 use Rattle.snd_command.specs.declared.refusal.ScriptRefusal.{ScriptRefusal}
 use Rattle.snd_command.specs.declared.refusal.ScriptRefusal.TheVariants.{LineTooLong, BadCommand}
-use Rattle.snd_disk.specs.Chains.{keeps_images_then}
-use Rattle.snd_disk.specs.Returned.{KeepsFileImages}
+use Rattle.snd_disk.proofs.Chains.{keeps_images_then}
+use Rattle.snd_disk.proofs.Returned.{KeepsFileImages}
 use Rattle.snd_disk.specs.Shelf.{Files, KeepsFiles, SameFiles, ShelfState}
 use Rattle.snd_modes.specs.Editing.{Editing}
 use Rattle.snd_script.specs.Edit.{edit_closed, edit_line, line_edit, open_edit}

@@ -1,7 +1,7 @@
 //! What a command does to a file that is open to be read, and its reply.
 
-ghost use Rattle.std.specs.Prelude.{◌≡◌, ◌+◌, ◌*◌, None, Some, IfErr};
-ghost use Rattle.snd_disk.specs.State.{AtMost, OnlyReads};
+ghost use Rattle.std.specs.Prelude.{◌≡◌, ◌+◌, ◌*◌, None, IfErr};
+ghost use Rattle.snd_disk.specs.Device.{AsksAtMost, OnlyReadsOn};
 ghost use Rattle.snd_modes.specs.Editing.{Editing};
 ghost use Rattle.snd_modes.specs.Handle.{Stands, disk_of, held_of, loan_of};
 ghost use Rattle.snd_script.specs.Edit.{seek_edit};
@@ -63,8 +63,8 @@ pub fn read<'d, D: Disk, O: Sink>(
     ensures silent { IfErr result (λ fault. IsSilent fault (O.told out.old) (O.told out.new)) }
     ensures cause { IsStepCause result (D.state (disk_of file.old)).faults (D.state (disk_of file.new)).faults (O.faults out.old) (O.faults out.new) }
     ensures held { IsHeld result (held_of file.old) (held_of file.new) }
-    ensures reads { OnlyReads (D.state (disk_of file.old)) (D.state (disk_of file.new)) (D.may_leave (disk_of file.old)) (D.may_leave (disk_of file.new)) (D.left_between (disk_of file.old)) (D.left_between (disk_of file.new)) }
-    ensures asked { AtMost (D.state (disk_of file.old)).asked (1024 * wanted + 16384) (D.state (disk_of file.new)).asked }
+    ensures reads { OnlyReadsOn D.state D.may_leave D.left_between (disk_of file.old) (disk_of file.new) }
+    ensures asked { AsksAtMost D.state (1024 * wanted + 16384) (disk_of file.old) (disk_of file.new) }
 {
     let channels = usize::from(file.params().channels);
     let frames = read_some(file, samples, wanted)?;

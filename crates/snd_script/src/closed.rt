@@ -1,13 +1,12 @@
 //! The lines of a script while no file is open.
 
 ghost use Rattle.std.specs.Prelude.{◌≡◌, ◌+◌, ◌≤◌, List, ℕ, true, false, None, Some, OnOk};
+ghost use Rattle.snd_disk.specs.Shelves.{KeepsFileImages, TellsFiles};
 ghost use Rattle.snd_command.specs.Forms.{is_name};
 ghost use Rattle.snd_command.specs.Said.{Said, said_of};
-ghost use Rattle.snd_disk.specs.Returned.{KeepsFileImages};
 ghost use Rattle.snd_disk.specs.Shelf.{Files, KeepsFiles};
 ghost use Rattle.snd_script.specs.Edit.{edit_closed, edit_line, open_edit};
 ghost use Rattle.snd_script.specs.Lines.{to_take};
-ghost use Rattle.snd_script.specs.Served.{Counts};
 ghost use Rattle.snd_script.specs.Serving.{IsCounted, IsServedOn, answers_from, is_longer, moment};
 
 use crate::kind::{ClosedKind, closed_kind, line_refusal};
@@ -41,7 +40,7 @@ fn serve_name<S: Shelf, R: Source, O: Sink>(
     run: &mut Run,
 ) -> Result<(), Stop>
     requires { (S.state shelf.old).out name.now ≡ false }
-    ensures served { (files : Files) (s : List ℕ) → (S.state shelf.old).files ≡ Some files → R.left script.old ≡ Some s →
+    ensures served { (files : Files) (s : List ℕ) → TellsFiles S.state shelf.old files → R.left script.old ≡ Some s →
         IsServedOn result files (is_longer (moment run.old.lines (R.left script.old) run.old.refused (O.told out.old)) s) (answers_from files (open_edit (files name.now)) (moment run.old.lines (R.left script.old) run.old.refused (O.told out.old)) s)
         (moment run.old.lines (R.left script.old) run.old.refused (O.told out.old)) (moment run.new.lines (R.left script.new) run.new.refused (O.told out.new)) }
     ensures fewer { OnOk result (run.new.lines.room ≤ run.old.lines.room) }
@@ -49,7 +48,7 @@ fn serve_name<S: Shelf, R: Source, O: Sink>(
     ensures counted { IsCounted result (record { shelf = (S.state shelf.old).faults; script = R.faults script.old; out = O.faults out.old }) (record { shelf = (S.state shelf.new).faults; script = R.faults script.new; out = O.faults out.new }) }
     ensures back { (n : List ℕ) → (S.state shelf.new).out n ≡ (S.state shelf.old).out n }
     ensures files { KeepsFiles (S.state shelf.old) (S.state shelf.new) }
-    ensures images { KeepsFileImages (S.state shelf.old) (S.state shelf.old).clock (S.state shelf.new).clock (S.may_leave shelf.old) (S.may_leave shelf.new) (S.left_between shelf.old) (S.left_between shelf.new) }
+    ensures images { KeepsFileImages S.state S.may_leave S.left_between shelf.old shelf.new }
 {
     let mut disk = match shelf.take(name, false) {
         Ok(disk) => disk,
@@ -73,7 +72,7 @@ fn closed_command<S: Shelf, R: Source, O: Sink>(
 ) -> Result<(), Stop>
     requires back { (n : List ℕ) → (S.state shelf.old).out n ≡ false }
     requires named { (name : List ℕ) → said_of command.now ≡ Said.open_read name → is_name name ≡ true }
-    ensures served { (files : Files) (s : List ℕ) → (S.state shelf.old).files ≡ Some files → R.left script.old ≡ Some s →
+    ensures served { (files : Files) (s : List ℕ) → TellsFiles S.state shelf.old files → R.left script.old ≡ Some s →
         IsServedOn result files (is_longer (moment run.old.lines (R.left script.old) run.old.refused (O.told out.old)) s) (answers_from files (edit_closed files (said_of command.now)) (moment run.old.lines (R.left script.old) run.old.refused (O.told out.old)) s)
         (moment run.old.lines (R.left script.old) run.old.refused (O.told out.old)) (moment run.new.lines (R.left script.new) run.new.refused (O.told out.new)) }
     ensures fewer { OnOk result (run.new.lines.room ≤ run.old.lines.room) }
@@ -81,7 +80,7 @@ fn closed_command<S: Shelf, R: Source, O: Sink>(
     ensures counted { IsCounted result (record { shelf = (S.state shelf.old).faults; script = R.faults script.old; out = O.faults out.old }) (record { shelf = (S.state shelf.new).faults; script = R.faults script.new; out = O.faults out.new }) }
     ensures back { (n : List ℕ) → (S.state shelf.new).out n ≡ (S.state shelf.old).out n }
     ensures files { KeepsFiles (S.state shelf.old) (S.state shelf.new) }
-    ensures images { KeepsFileImages (S.state shelf.old) (S.state shelf.old).clock (S.state shelf.new).clock (S.may_leave shelf.old) (S.may_leave shelf.new) (S.left_between shelf.old) (S.left_between shelf.new) }
+    ensures images { KeepsFileImages S.state S.may_leave S.left_between shelf.old shelf.new }
 {
     match closed_kind(command) {
         ClosedKind::Open(name) => serve_name(alloc, name_text(name), shelf, script, out, run),
@@ -100,7 +99,7 @@ pub fn closed_line<S: Shelf, R: Source, O: Sink>(
     run: &mut Run,
 ) -> Result<(), Stop>
     requires { (n : List ℕ) → (S.state shelf.old).out n ≡ false }
-    ensures served { (files : Files) (s : List ℕ) → (S.state shelf.old).files ≡ Some files → R.left script.old ≡ Some s →
+    ensures served { (files : Files) (s : List ℕ) → TellsFiles S.state shelf.old files → R.left script.old ≡ Some s →
         IsServedOn result files (is_longer (moment run.old.lines (R.left script.old) run.old.refused (O.told out.old)) s) (answers_from files (edit_line files None line.now) (moment run.old.lines (R.left script.old) run.old.refused (O.told out.old)) s)
         (moment run.old.lines (R.left script.old) run.old.refused (O.told out.old)) (moment run.new.lines (R.left script.new) run.new.refused (O.told out.new)) }
     ensures fewer { OnOk result (run.new.lines.room ≤ run.old.lines.room) }
@@ -108,7 +107,7 @@ pub fn closed_line<S: Shelf, R: Source, O: Sink>(
     ensures counted { IsCounted result (record { shelf = (S.state shelf.old).faults; script = R.faults script.old; out = O.faults out.old }) (record { shelf = (S.state shelf.new).faults; script = R.faults script.new; out = O.faults out.new }) }
     ensures back { (n : List ℕ) → (S.state shelf.new).out n ≡ (S.state shelf.old).out n }
     ensures files { KeepsFiles (S.state shelf.old) (S.state shelf.new) }
-    ensures images { KeepsFileImages (S.state shelf.old) (S.state shelf.old).clock (S.state shelf.new).clock (S.may_leave shelf.old) (S.may_leave shelf.new) (S.left_between shelf.old) (S.left_between shelf.new) }
+    ensures images { KeepsFileImages S.state S.may_leave S.left_between shelf.old shelf.new }
 {
     match parse_line(line) {
         Ok(None) => Ok(()),

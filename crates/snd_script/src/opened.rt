@@ -1,14 +1,13 @@
 //! The lines of a script while a file is open.
 
 ghost use Rattle.std.specs.Prelude.{◌≡◌, ◌+◌, ◌≤◌, List, ℕ, None, Some, OnOk};
+ghost use Rattle.snd_disk.specs.Device.{OnlyReadsOn};
 ghost use Rattle.snd_command.specs.Said.{said_of};
 ghost use Rattle.snd_disk.specs.Shelf.{Files};
-ghost use Rattle.snd_disk.specs.State.{OnlyReads};
 ghost use Rattle.snd_modes.specs.Editing.{Editing};
 ghost use Rattle.snd_script.specs.Edit.{edit_line, edit_open};
 ghost use Rattle.snd_script.specs.Handled.{HandleStands, handle_disk, handle_held, handle_loan};
 ghost use Rattle.snd_script.specs.Lines.{to_take};
-ghost use Rattle.snd_script.specs.Served.{Counts};
 ghost use Rattle.snd_script.specs.Serving.{IsCounted, IsLineServed, IsServedOpen, IsWhole, answers_left, is_longer, moment};
 
 use crate::handle::Handle;
@@ -32,7 +31,7 @@ fn open_command<'d, D: Disk, O: Sink>(
     ensures lines { run.new.lines ≡ run.old.lines }
     ensures whole { IsWhole result (handle_held handle.new).broken }
     ensures counted { (script : ℕ) → IsCounted result (record { shelf = (D.state (handle_disk handle.old)).faults; script = script; out = O.faults out.old }) (record { shelf = (D.state (handle_disk handle.new)).faults; script = script; out = O.faults out.new }) }
-    ensures reads { OnlyReads (D.state (handle_disk handle.old)) (D.state (handle_disk handle.new)) (D.may_leave (handle_disk handle.old)) (D.may_leave (handle_disk handle.new)) (D.left_between (handle_disk handle.old)) (D.left_between (handle_disk handle.new)) }
+    ensures reads { OnlyReadsOn D.state D.may_leave D.left_between (handle_disk handle.old) (handle_disk handle.new) }
 {
     match open_kind(command) {
         OpenKind::Close => return Ok(Next::Close),
@@ -55,7 +54,7 @@ fn open_line<'d, D: Disk, O: Sink>(
     ensures lines { run.new.lines ≡ run.old.lines }
     ensures whole { IsWhole result (handle_held handle.new).broken }
     ensures counted { (script : ℕ) → IsCounted result (record { shelf = (D.state (handle_disk handle.old)).faults; script = script; out = O.faults out.old }) (record { shelf = (D.state (handle_disk handle.new)).faults; script = script; out = O.faults out.new }) }
-    ensures reads { OnlyReads (D.state (handle_disk handle.old)) (D.state (handle_disk handle.new)) (D.may_leave (handle_disk handle.old)) (D.may_leave (handle_disk handle.new)) (D.left_between (handle_disk handle.old)) (D.left_between (handle_disk handle.new)) }
+    ensures reads { OnlyReadsOn D.state D.may_leave D.left_between (handle_disk handle.old) (handle_disk handle.new) }
 {
     match parse_line(line) {
         Ok(None) => Ok(Next::Open),
@@ -84,7 +83,7 @@ pub fn serve_open<'d, D: Disk, R: Source, O: Sink>(
     ensures given { R.given script.new + to_take run.new.lines ≤ R.given script.old + to_take run.old.lines }
     ensures whole { IsWhole result (handle_held handle.new).broken }
     ensures counted { IsCounted result (record { shelf = (D.state (handle_disk handle.old)).faults; script = R.faults script.old; out = O.faults out.old }) (record { shelf = (D.state (handle_disk handle.new)).faults; script = R.faults script.new; out = O.faults out.new }) }
-    ensures reads { OnlyReads (D.state (handle_disk handle.old)) (D.state (handle_disk handle.new)) (D.may_leave (handle_disk handle.old)) (D.may_leave (handle_disk handle.new)) (D.left_between (handle_disk handle.old)) (D.left_between (handle_disk handle.new)) }
+    ensures reads { OnlyReadsOn D.state D.may_leave D.left_between (handle_disk handle.old) (handle_disk handle.new) }
 {
     let mut line = LineBytes::new();
     loop {

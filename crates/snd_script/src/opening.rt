@@ -1,14 +1,13 @@
 //! A file that is opened, served and closed.
 
 ghost use Rattle.std.specs.Prelude.{◌≡◌, ◌+◌, ◌≤◌, List, ℕ, false, Ok, None, Some, OnOk};
+ghost use Rattle.snd_disk.specs.Device.{OnlyReadsOn, Tells};
 ghost use Rattle.snd_disk.specs.Shelf.{Files};
-ghost use Rattle.snd_disk.specs.State.{OnlyReads};
 ghost use Rattle.snd_modes.specs.Editing.{Editing, opened};
 ghost use Rattle.snd_script.specs.Edit.{open_edit_of};
 ghost use Rattle.snd_script.specs.Handled.{HandleStands, handle_disk, handle_held, handle_loan};
 ghost use Rattle.snd_script.specs.Lines.{to_take};
 ghost use Rattle.snd_script.specs.Replies.{ok_line, says};
-ghost use Rattle.snd_script.specs.Served.{Counts};
 ghost use Rattle.snd_script.specs.Serving.{IsAnswered, IsCounted, IsCountedOnce, IsNotOpened, IsReadError, IsServedOn, IsServedOpen, IsWhole, answers_from, is_longer, moment};
 
 use crate::handle::Handle;
@@ -39,7 +38,7 @@ fn serve_opened<'d, D: Disk, R: Source, O: Sink>(
     ensures given { R.given script.new + to_take run.new.lines ≤ R.given script.old + to_take run.old.lines }
     ensures whole { IsWhole result (handle_held handle.new).broken }
     ensures counted { IsCounted result (record { shelf = (D.state (handle_disk handle.old)).faults; script = R.faults script.old; out = O.faults out.old }) (record { shelf = (D.state (handle_disk handle.new)).faults; script = R.faults script.new; out = O.faults out.new }) }
-    ensures reads { OnlyReads (D.state (handle_disk handle.old)) (D.state (handle_disk handle.new)) (D.may_leave (handle_disk handle.old)) (D.may_leave (handle_disk handle.new)) (D.left_between (handle_disk handle.old)) (D.left_between (handle_disk handle.new)) }
+    ensures reads { OnlyReadsOn D.state D.may_leave D.left_between (handle_disk handle.old) (handle_disk handle.new) }
 {
     match run.step(handle, &Command::Info, out) {
         Ok(()) => serve_open(handle, script, out, run),
@@ -73,7 +72,7 @@ fn serve_handle<'d, D: Disk, R: Source, O: Sink>(
     ensures fewer { OnOk result.0 (run.new.lines.room ≤ run.old.lines.room) }
     ensures given { R.given script.new + to_take run.new.lines ≤ R.given script.old + to_take run.old.lines }
     ensures counted { IsCounted result.0 (record { shelf = (D.state (handle_disk handle.entry)).faults; script = R.faults script.old; out = O.faults out.old }) (record { shelf = (D.state result.1.now).faults; script = R.faults script.new; out = O.faults out.new }) }
-    ensures reads { OnlyReads (D.state (handle_disk handle.entry)) (D.state result.1.now) (D.may_leave (handle_disk handle.entry)) (D.may_leave result.1.now) (D.left_between (handle_disk handle.entry)) (D.left_between result.1.now) }
+    ensures reads { OnlyReadsOn D.state D.may_leave D.left_between (handle_disk handle.entry) result.1.now }
 {
     let mut handle = handle;
     match serve_opened(&mut handle, script, out, run) {
@@ -111,13 +110,13 @@ pub fn serve_disk<D: Disk, R: Source, O: Sink>(
     out: &mut O,
     run: &mut Run,
 ) -> Result<(), Stop>
-    ensures served { (files : Files) (b s : List ℕ) → (D.state disk.old).contents ≡ Some b → R.left script.old ≡ Some s →
+    ensures served { (files : Files) (b s : List ℕ) → Tells D.state disk.old b → R.left script.old ≡ Some s →
         IsServedOn result files (is_longer (moment run.old.lines (R.left script.old) run.old.refused (O.told out.old)) s) (answers_from files (open_edit_of (opened b)) (moment run.old.lines (R.left script.old) run.old.refused (O.told out.old)) s)
         (moment run.old.lines (R.left script.old) run.old.refused (O.told out.old)) (moment run.new.lines (R.left script.new) run.new.refused (O.told out.new)) }
     ensures fewer { OnOk result (run.new.lines.room ≤ run.old.lines.room) }
     ensures given { R.given script.new + to_take run.new.lines ≤ R.given script.old + to_take run.old.lines }
     ensures counted { IsCounted result (record { shelf = (D.state disk.old).faults; script = R.faults script.old; out = O.faults out.old }) (record { shelf = (D.state disk.new).faults; script = R.faults script.new; out = O.faults out.new }) }
-    ensures reads { OnlyReads (D.state disk.old) (D.state disk.new) (D.may_leave disk.old) (D.may_leave disk.new) (D.left_between disk.old) (D.left_between disk.new) }
+    ensures reads { OnlyReadsOn D.state D.may_leave D.left_between disk.old disk.new }
 {
     match open_read(alloc, disk) {
         Ok(file) => {

@@ -1,6 +1,6 @@
 //! The lines of a script, as they come from a source.
 
-ghost use Rattle.std.specs.Prelude.{◌≡◌, ◌+◌, ◌-◌, ◌<◌, ◌≤◌, ◌↔◌, ◌++◌, ◌∷◌, List, ℕ, [], true, false, Some, IfOk, OnOk, OnErr, length, take, drop, IsTrue};
+ghost use Rattle.std.specs.Prelude.{◌≡◌, ◌+◌, ◌-◌, ◌<◌, ◌≤◌, ◌↔◌, ◌++◌, ◌∷◌, List, ℕ, [], true, false, Some, IfOk, OnErr, length, take, drop, IsTrue};
 ghost use Rattle.std.specs.List.{position};
 ghost use Rattle.snd_disk.specs.State.{Counts};
 ghost use Rattle.snd_script.specs.Lines.{Reading, IsNext, Moves, most_kept, to_take};

@@ -1,7 +1,7 @@
 //! Frames read for a command.
 
-ghost use Rattle.std.specs.Prelude.{◌≡◌, ◌+◌, ◌*◌, ◌≤◌, ℕ, None, MatchResult, IfOk, IfErr, length};
-ghost use Rattle.snd_disk.specs.State.{AtMost, OnlyReads};
+ghost use Rattle.std.specs.Prelude.{◌≡◌, ◌+◌, ◌*◌, ◌≤◌, None, MatchResult, IfOk, IfErr, length};
+ghost use Rattle.snd_disk.specs.Device.{AsksAtMost, OnlyReadsOn};
 ghost use Rattle.snd_modes.specs.Editing.{Editing, frames_left, frames_read, moved_by};
 ghost use Rattle.snd_modes.specs.Handle.{Stands, disk_of, held_of, loan_of};
 ghost use Rattle.snd_pcm.specs.Groups.{first_groups};
@@ -27,8 +27,8 @@ pub fn read_some<'d, D: Disk>(
     ensures stands { (e : Editing) → Stands D.state file.old e → MatchResult result (λ k. Stands D.state file.new (moved_by k e)) (λ fault. Stands D.state file.new e) }
     ensures cause { IfErr result (IsReadFault (held_of file.old) (held_of file.new) (D.state (disk_of file.old)).faults (D.state (disk_of file.new)).faults) }
     ensures calm { IfOk result (λ k. (D.state (disk_of file.new)).faults ≡ (D.state (disk_of file.old)).faults) }
-    ensures reads { OnlyReads (D.state (disk_of file.old)) (D.state (disk_of file.new)) (D.may_leave (disk_of file.old)) (D.may_leave (disk_of file.new)) (D.left_between (disk_of file.old)) (D.left_between (disk_of file.new)) }
-    ensures asked { AtMost (D.state (disk_of file.old)).asked (1024 * wanted + 16384) (D.state (disk_of file.new)).asked }
+    ensures reads { OnlyReadsOn D.state D.may_leave D.left_between (disk_of file.old) (disk_of file.new) }
+    ensures asked { AsksAtMost D.state (1024 * wanted + 16384) (disk_of file.old) (disk_of file.new) }
 {
     let count = wanted.min(file.frames()) as usize;
     let channels = usize::from(file.params().channels);

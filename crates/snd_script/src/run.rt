@@ -1,14 +1,13 @@
 //! A run over a script, and what it does for one line.
 
 ghost use Rattle.std.specs.Prelude.{◌≡◌, ◌+◌, ◌<◌, ◌≤◌, ◌++◌, List, ℕ, true, None, Some, OnOk};
+ghost use Rattle.snd_disk.specs.Device.{OnlyReadsOn};
 ghost use Rattle.snd_command.specs.Said.{said_of};
-ghost use Rattle.snd_disk.specs.State.{OnlyReads};
 ghost use Rattle.snd_modes.specs.Editing.{Editing};
 ghost use Rattle.snd_script.specs.Edit.{edit_open};
 ghost use Rattle.snd_script.specs.Handled.{HandleStands, handle_disk, handle_held, handle_loan};
 ghost use Rattle.snd_script.specs.Lines.{to_take};
 ghost use Rattle.snd_script.specs.Replies.{refuses};
-ghost use Rattle.snd_script.specs.Served.{Counts};
 ghost use Rattle.snd_script.specs.Serving.{IsAnswered, IsBrought, IsCounted, IsCountedOnce, IsWhole};
 ghost use Rattle.snd_script.specs.Stepped.{is_step};
 
@@ -75,7 +74,7 @@ impl Run {
         ensures lines { self.new.lines ≡ self.old.lines }
         ensures whole { IsWhole result (handle_held handle.new).broken }
         ensures counted { (script : ℕ) → IsCounted result (record { shelf = (D.state (handle_disk handle.old)).faults; script = script; out = O.faults out.old }) (record { shelf = (D.state (handle_disk handle.new)).faults; script = script; out = O.faults out.new }) }
-        ensures reads { OnlyReads (D.state (handle_disk handle.old)) (D.state (handle_disk handle.new)) (D.may_leave (handle_disk handle.old)) (D.may_leave (handle_disk handle.new)) (D.left_between (handle_disk handle.old)) (D.left_between (handle_disk handle.new)) }
+        ensures reads { OnlyReadsOn D.state D.may_leave D.left_between (handle_disk handle.old) (handle_disk handle.new) }
     {
         match self.session.step(handle, command, out) {
             Ok(Reply::Ok) => Ok(()),

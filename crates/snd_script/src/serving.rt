@@ -1,12 +1,12 @@
 //! A whole script.
 
 ghost use Rattle.std.specs.Prelude.{◌≡◌, ◌⊎◌, ◌+◌, ◌<◌, ◌≤◌, List, ℕ, None, Some, OnOk, false};
-ghost use Rattle.snd_disk.specs.Returned.{KeepsFileImages};
+ghost use Rattle.snd_disk.specs.Shelves.{KeepsFileImages, TellsFiles};
 ghost use Rattle.snd_disk.specs.Shelf.{Files, KeepsFiles};
 ghost use Rattle.snd_disk.specs.State.{Rises};
 ghost use Rattle.snd_script.specs.Lines.{to_take};
 ghost use Rattle.snd_script.specs.Script.{is_too_long, most_bytes, script_answered};
-ghost use Rattle.snd_script.specs.Served.{Counts, IsServed};
+ghost use Rattle.snd_script.specs.Served.{IsServed};
 ghost use Rattle.snd_script.specs.Serving.{CountsAt, IsCounted, IsServedOn, IsStopped, answers_left, is_longer, moment};
 
 use crate::closed::closed_line;
@@ -43,7 +43,7 @@ fn serve_line<S: Shelf, R: Source, O: Sink>(
     run: &mut Run,
 ) -> Result<(), Stop>
     requires { (n : List ℕ) → (S.state shelf.old).out n ≡ false }
-    ensures served { (files : Files) (s : List ℕ) → (S.state shelf.old).files ≡ Some files → R.left script.old ≡ Some s →
+    ensures served { (files : Files) (s : List ℕ) → TellsFiles S.state shelf.old files → R.left script.old ≡ Some s →
         IsServedOn result files (is_longer (moment run.old.lines (R.left script.old) run.old.refused (O.told out.old)) s) (answers_left files None (moment run.old.lines (R.left script.old) run.old.refused (O.told out.old)) s)
         (moment run.old.lines (R.left script.old) run.old.refused (O.told out.old)) (moment run.new.lines (R.left script.new) run.new.refused (O.told out.new)) }
     ensures fewer { OnOk result (run.new.lines.room < run.old.lines.room) }
@@ -51,7 +51,7 @@ fn serve_line<S: Shelf, R: Source, O: Sink>(
     ensures counted { IsCounted result (record { shelf = (S.state shelf.old).faults; script = R.faults script.old; out = O.faults out.old }) (record { shelf = (S.state shelf.new).faults; script = R.faults script.new; out = O.faults out.new }) }
     ensures back { (n : List ℕ) → (S.state shelf.new).out n ≡ (S.state shelf.old).out n }
     ensures files { KeepsFiles (S.state shelf.old) (S.state shelf.new) }
-    ensures images { KeepsFileImages (S.state shelf.old) (S.state shelf.old).clock (S.state shelf.new).clock (S.may_leave shelf.old) (S.may_leave shelf.new) (S.left_between shelf.old) (S.left_between shelf.new) }
+    ensures images { KeepsFileImages S.state S.may_leave S.left_between shelf.old shelf.new }
 {
     match run.next(script, line) {
         Ok(()) => closed_line(alloc, line.as_slice(), shelf, script, out, run),
@@ -68,14 +68,14 @@ fn serve_lines<S: Shelf, R: Source, O: Sink>(
     run: &mut Run,
 ) -> Stop
     requires { (n : List ℕ) → (S.state shelf.old).out n ≡ false }
-    ensures served { (files : Files) (s : List ℕ) → (S.state shelf.old).files ≡ Some files → R.left script.old ≡ Some s →
+    ensures served { (files : Files) (s : List ℕ) → TellsFiles S.state shelf.old files → R.left script.old ≡ Some s →
         IsStopped result (is_longer (moment run.old.lines (R.left script.old) run.old.refused (O.told out.old)) s) (answers_left files None (moment run.old.lines (R.left script.old) run.old.refused (O.told out.old)) s)
         (moment run.old.lines (R.left script.old) run.old.refused (O.told out.old)) (moment run.new.lines (R.left script.new) run.new.refused (O.told out.new)) }
     ensures given { R.given script.new + to_take run.new.lines ≤ R.given script.old + to_take run.old.lines }
     ensures counted { CountsAt result (record { shelf = (S.state shelf.old).faults; script = R.faults script.old; out = O.faults out.old }) (record { shelf = (S.state shelf.new).faults; script = R.faults script.new; out = O.faults out.new }) }
     ensures back { (n : List ℕ) → (S.state shelf.new).out n ≡ (S.state shelf.old).out n }
     ensures files { KeepsFiles (S.state shelf.old) (S.state shelf.new) }
-    ensures images { KeepsFileImages (S.state shelf.old) (S.state shelf.old).clock (S.state shelf.new).clock (S.may_leave shelf.old) (S.may_leave shelf.new) (S.left_between shelf.old) (S.left_between shelf.new) }
+    ensures images { KeepsFileImages S.state S.may_leave S.left_between shelf.old shelf.new }
 {
     let mut line = LineBytes::new();
     loop {
@@ -95,7 +95,7 @@ pub fn serve<S: Shelf, R: Source, O: Sink>(
     out: &mut O,
 ) -> ScriptEnd
     requires { (n : List ℕ) → (S.state shelf.old).out n ≡ false }
-    ensures served { (files : Files) (s : List ℕ) → (S.state shelf.old).files ≡ Some files → R.left script.old ≡ Some s →
+    ensures served { (files : Files) (s : List ℕ) → TellsFiles S.state shelf.old files → R.left script.old ≡ Some s →
         IsServed result (is_too_long most_bytes s) (script_answered files s)
         (record { shelf = (S.state shelf.old).faults; script = R.faults script.old; out = O.faults out.old }) (record { shelf = (S.state shelf.new).faults; script = R.faults script.new; out = O.faults out.new })
         (O.told out.old) (O.told out.new) }
@@ -103,7 +103,7 @@ pub fn serve<S: Shelf, R: Source, O: Sink>(
     ensures taken { R.given script.new ≤ R.given script.old + 16777217 }
     ensures back { (n : List ℕ) → (S.state shelf.new).out n ≡ false }
     ensures files { KeepsFiles (S.state shelf.old) (S.state shelf.new) }
-    ensures images { KeepsFileImages (S.state shelf.old) (S.state shelf.old).clock (S.state shelf.new).clock (S.may_leave shelf.old) (S.may_leave shelf.new) (S.left_between shelf.old) (S.left_between shelf.new) }
+    ensures images { KeepsFileImages S.state S.may_leave S.left_between shelf.old shelf.new }
 {
     let Ok(session) = Session::new(alloc) else {
         return ScriptEnd::Memory;

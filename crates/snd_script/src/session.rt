@@ -1,8 +1,8 @@
 //! Commands on an open file.
 
-ghost use Rattle.std.specs.Prelude.{◌≡◌, ℕ, List, true, length, None, Some, MatchResult, IfOk, IfErr, IsErrOf};
+ghost use Rattle.std.specs.Prelude.{◌≡◌, true, length, None, Some, MatchResult, IfOk, IfErr, IsErrOf};
+ghost use Rattle.snd_disk.specs.Device.{AsksAtMost, OnlyReadsOn};
 ghost use Rattle.snd_command.specs.Said.{said_of};
-ghost use Rattle.snd_disk.specs.State.{AtMost, OnlyReads};
 ghost use Rattle.snd_modes.specs.Editing.{Editing};
 ghost use Rattle.snd_script.specs.Edit.{edit_open};
 ghost use Rattle.snd_script.specs.Handled.{HandleStands, handle_disk, handle_held, handle_loan};
@@ -60,8 +60,8 @@ impl Session {
         ensures cause { IsStepCause result (D.state (handle_disk handle.old)).faults (D.state (handle_disk handle.new)).faults (O.faults out.old) (O.faults out.new) }
         ensures memory { IsErrOf result StepFault.Memory → takes_memory (said_of command.now) ≡ true }
         ensures held { IsHeld result (handle_held handle.old) (handle_held handle.new) }
-        ensures reads { OnlyReads (D.state (handle_disk handle.old)) (D.state (handle_disk handle.new)) (D.may_leave (handle_disk handle.old)) (D.may_leave (handle_disk handle.new)) (D.left_between (handle_disk handle.old)) (D.left_between (handle_disk handle.new)) }
-        ensures asked { AtMost (D.state (handle_disk handle.old)).asked (most_asked (said_of command.now)) (D.state (handle_disk handle.new)).asked }
+        ensures reads { OnlyReadsOn D.state D.may_leave D.left_between (handle_disk handle.old) (handle_disk handle.new) }
+        ensures asked { AsksAtMost D.state (most_asked (said_of command.now)) (handle_disk handle.old) (handle_disk handle.new) }
     {
         match handle {
             Handle::R(file) => match work_of(command) {

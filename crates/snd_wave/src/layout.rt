@@ -1,9 +1,9 @@
 //! What a WAVE file says of itself.
 
-ghost use Rattle.std.specs.Prelude.{◌≡◌, ◌⊎◌, ◌+◌, ◌-◌, ◌^◌, ◌≤◌, ◌++◌, true, false, List, ℕ, None, Some, All, IfSome, IfOk, IfErr, OnOk, Ok, Err, length};
+ghost use Rattle.std.specs.Prelude.{◌≡◌, ◌⊎◌, ◌+◌, ◌-◌, ◌^◌, ◌≤◌, ◌++◌, true, false, None, Some, All, IfSome, IfOk, Ok, Err, length};
+ghost use Rattle.snd_disk.specs.Device.{AsksAtMost, OnlyReadsOn, IfOkTold};
 ghost use Rattle.snd_chunks.specs.Chunks.{chunk_at, tail};
-ghost use Rattle.snd_chunks.specs.Walks.{EndsBy, IsFront, IsSound, IsWalkCause};
-ghost use Rattle.snd_disk.specs.State.{Rises, AtMost, OnlyReads};
+ghost use Rattle.snd_chunks.specs.Walks.{EndsBy, IsSound, CountsWalk};
 ghost use Rattle.snd_fields.specs.declared.field.Order.TheVariants.{Little};
 ghost use Rattle.snd_layout.specs.Fit.{fit_refusal};
 ghost use Rattle.snd_layout.specs.Format.{format_of};
@@ -14,7 +14,7 @@ ghost use Rattle.snd_layout.specs.declared.refusal.OpenRefusal.{OpenRefusal as r
 ghost use Rattle.snd_layout.specs.declared.error.OpenError.TheVariants.{Refused};
 ghost use Rattle.snd_wave.specs.Layout.{body_of, pieces_of, wave_layout};
 ghost use Rattle.snd_wave.specs.Parts.{ArePlaced, IsFact, IsHeld, shape_of, with_params};
-ghost use Rattle.snd_layout.specs.Opened.{EndsIn, IsCause, IsCalm};
+ghost use Rattle.snd_layout.specs.Opened.{EndsIn, CountsOpening, OpensAs};
 
 use crate::ends::{Ends, ends_of, frame_count};
 use crate::fields::{inner_field, side_field};
@@ -86,14 +86,11 @@ fn find_pieces<D: Disk>(
     requires size { size ≡ (D.state disk.old).size }
     requires whole { All (EndsBy size) front.now.chunks }
     requires outer { ends.outer_end ≤ size }
-    ensures told { IfOk result (λ pieces. (b : List ℕ) → (D.state disk.old).contents ≡ Some b →
-        pieces ≡ pieces_of false front.now.chunks ++ pieces_of true (tail (chunk_at Little b) ends.outer_end (256 - length front.now.chunks) ends.data_end)) }
+    ensures told { IfOkTold D.state disk.old result (λ b pieces. pieces ≡ pieces_of false front.now.chunks ++ pieces_of true (tail (chunk_at Little b) ends.outer_end (256 - length front.now.chunks) ends.data_end)) }
     ensures held { IfOk result (All (EndsIn size)) }
-    ensures calm { OnOk result ((D.state disk.new).faults ≡ (D.state disk.old).faults) }
-    ensures cause { IfErr result (IsWalkCause (D.state disk.old).faults (D.state disk.new).faults) }
-    ensures later { (D.state disk.old).faults ≤ (D.state disk.new).faults }
-    ensures reads { OnlyReads (D.state disk.old) (D.state disk.new) (D.may_leave disk.old) (D.may_leave disk.new) (D.left_between disk.old) (D.left_between disk.new) }
-    ensures asked { AtMost (D.state disk.old).asked 2048 (D.state disk.new).asked }
+    ensures faults { CountsWalk D.state disk.old disk.new result }
+    ensures reads { OnlyReadsOn D.state D.may_leave D.left_between disk.old disk.new }
+    ensures asked { AsksAtMost D.state 2048 disk.old disk.new }
 {
     let most = MOST_CHUNKS.saturating_sub(front.chunks.len());
     let tail = walk_tail(
@@ -122,13 +119,11 @@ fn layout_at<D: Disk>(
     requires size { size ≡ (D.state disk.old).size }
     requires whole { All (EndsBy size) front.now.chunks }
     requires placed { ArePlaced size parts }
-    ensures told { IfOk result (λ r. (b : List ℕ) → (D.state disk.old).contents ≡ Some b → r ≡ with_params b front.now parts (format_of (body_of b parts.format))) }
+    ensures told { IfOkTold D.state disk.old result (λ b r. r ≡ with_params b front.now parts (format_of (body_of b parts.format))) }
     ensures held { IfOk result (λ r. IfOk r (IsHeld size)) }
-    ensures calm { OnOk result ((D.state disk.new).faults ≡ (D.state disk.old).faults) }
-    ensures cause { IfErr result (IsWalkCause (D.state disk.old).faults (D.state disk.new).faults) }
-    ensures later { (D.state disk.old).faults ≤ (D.state disk.new).faults }
-    ensures reads { OnlyReads (D.state disk.old) (D.state disk.new) (D.may_leave disk.old) (D.may_leave disk.new) (D.left_between disk.old) (D.left_between disk.new) }
-    ensures asked { AtMost (D.state disk.old).asked 2106 (D.state disk.new).asked }
+    ensures faults { CountsWalk D.state disk.old disk.new result }
+    ensures reads { OnlyReadsOn D.state D.may_leave D.left_between disk.old disk.new }
+    ensures asked { AsksAtMost D.state 2106 disk.old disk.new }
 {
     let params = match read_format(disk, parts.format)? {
         Ok(params) => params,
@@ -148,13 +143,11 @@ fn find_layout<D: Disk>(
     size: u64,
 ) -> Result<Result<Layout, OpenRefusal>, WalkError>
     requires { size ≡ (D.state disk.old).size }
-    ensures told { IfOk result (λ r. (b : List ℕ) → (D.state disk.old).contents ≡ Some b → r ≡ wave_layout b) }
+    ensures told { IfOkTold D.state disk.old result (λ b r. r ≡ wave_layout b) }
     ensures held { IfOk result (λ r. IfOk r (IsHeld size)) }
-    ensures calm { OnOk result ((D.state disk.new).faults ≡ (D.state disk.old).faults) }
-    ensures cause { IfErr result (IsWalkCause (D.state disk.old).faults (D.state disk.new).faults) }
-    ensures later { (D.state disk.old).faults ≤ (D.state disk.new).faults }
-    ensures reads { OnlyReads (D.state disk.old) (D.state disk.new) (D.may_leave disk.old) (D.may_leave disk.new) (D.left_between disk.old) (D.left_between disk.new) }
-    ensures asked { AtMost (D.state disk.old).asked 4162 (D.state disk.new).asked }
+    ensures faults { CountsWalk D.state disk.old disk.new result }
+    ensures reads { OnlyReadsOn D.state D.may_leave D.left_between disk.old disk.new }
+    ensures asked { AsksAtMost D.state 4162 disk.old disk.new }
 {
     let front = walk_front(
         alloc,
@@ -177,14 +170,12 @@ fn find_layout<D: Disk>(
 /// The answer is `Refused` with the first reason, by number, for which the file has no layout;
 /// `DiskFault` where a call of the disk failed; `Memory` where there is none.
 pub fn open_layout<D: Disk>(alloc: Global, disk: &mut D) -> Result<Layout, OpenError>
-    ensures opened { IfOk result (λ l. (b : List ℕ) → (D.state disk.old).contents ≡ Some b → wave_layout b ≡ Ok l) }
-    ensures refused { IfErr result (λ e. (r : refusal) (b : List ℕ) → e ≡ Refused r → (D.state disk.old).contents ≡ Some b → wave_layout b ≡ Err r) }
-    ensures cause { IfErr result (IsCause (D.state disk.old).faults (D.state disk.new).faults) }
+    ensures opened { OpensAs D.state disk.old wave_layout result }
     ensures held { IfOk result (λ l. end l l.frames ≤ (D.state disk.old).size) }
     ensures pieces_held { IfOk result (λ l. All (EndsIn (D.state disk.old).size) l.pieces) }
-    ensures calm { IsCalm result (D.state disk.old).faults (D.state disk.new).faults }
-    ensures reads { OnlyReads (D.state disk.old) (D.state disk.new) (D.may_leave disk.old) (D.may_leave disk.new) (D.left_between disk.old) (D.left_between disk.new) }
-    ensures asked { AtMost (D.state disk.old).asked 8192 (D.state disk.new).asked }
+    ensures faults { CountsOpening D.state disk.old disk.new result }
+    ensures reads { OnlyReadsOn D.state D.may_leave D.left_between disk.old disk.new }
+    ensures asked { AsksAtMost D.state 8192 disk.old disk.new }
 {
     let Ok(size) = disk.len() else {
         return Err(OpenError::DiskFault(Step::Len));

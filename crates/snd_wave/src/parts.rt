@@ -1,7 +1,6 @@
 //! The chunks before the data from which a layout is made.
 
-ghost use Rattle.std.specs.Prelude.{◌≡◌, List, ℕ, IfOk, IfErr, Some};
-ghost use Rattle.std.specs.Str.{bytes_eq};
+ghost use Rattle.std.specs.Prelude.{◌≡◌, IfOk, IfErr, Some};
 ghost use Rattle.snd_wave.specs.Layout.{fact_chunk, format_chunk, front_refusal, has_id, is_fact};
 ghost use Rattle.snd_wave.specs.Parts.{AreParts};
 

@@ -1,4 +1,4 @@
-use Rattle.snd_disk.specs.Returned.{returned_files, returned_images, stayed_images}
+use Rattle.snd_disk.proofs.Returned.{returned_files, returned_images, stayed_images}
 use Rattle.snd_app.proofs.Looks.{found_there, if_ok}
 use Rattle.snd_app.proofs.look.look.Goals as goal
 

@@ -1,6 +1,6 @@
 use Rattle.std.proofs.Common.{◌≡◌, ◌∙◌, ◌+◌, ◌-◌, ◌≤◌, ◌%◌, ◌<◌, ◌++◌, ◌∷◌, [], length, rules, sym, arith}
 use Rattle.std.proofs.Math.Nat.{mod-lt}
-use Rattle.snd_disk.specs.Chains.{only_reads_then}
+use Rattle.snd_disk.proofs.Chains.{only_reads_then}
 use Rattle.snd_chunks.specs.Chunks.{chunk_at}
 use Rattle.snd_chunks.specs.declared.front.Seen.TheVariants.{Sound, Whole, Nothing}
 use Rattle.snd_chunks.specs.Walks.{EndsBy, HasHeadAt, seen_of}

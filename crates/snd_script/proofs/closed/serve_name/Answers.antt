@@ -1,5 +1,5 @@
 use Rattle.std.proofs.Common.{None, Some, [], unwrap_or, ap, sym, refl, ◌∙◌}
-use Rattle.snd_disk.specs.Returned.{returned_out, returned_files, returned_images, stayed_images}
+use Rattle.snd_disk.proofs.Returned.{returned_out, returned_files, returned_images, stayed_images}
 use Rattle.snd_script.specs.Edit.{open_edit}
 use Rattle.snd_script.proofs.Openings.{answered_as, counted_on_disk, served_as}
 use Rattle.snd_script.proofs.closed.serve_name.Goals as goal

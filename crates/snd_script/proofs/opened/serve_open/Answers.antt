@@ -1,6 +1,6 @@
 use Rattle.std.proofs.Common.{Some, ◌∙◌, ap, refl, rules, arith}
 use Rattle.std.proofs.lemmas.Result.{err_from_is_err_and}
-use Rattle.snd_disk.specs.Chains.{only_reads_then}
+use Rattle.snd_disk.proofs.Chains.{only_reads_then}
 use Rattle.snd_command.specs.Said.{Said}
 use Rattle.snd_script.specs.Edit.{edit_line, edit_open}
 use Rattle.snd_script.specs.Lines.{Reading, to_take}

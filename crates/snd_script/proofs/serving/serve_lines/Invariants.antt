@@ -1,5 +1,5 @@
 use Rattle.std.proofs.Common.{◌≡◌, ◌+◌, ◌≤◌, List, ℕ, None, Some}
-use Rattle.snd_disk.specs.Returned.{KeepsFileImages}
+use Rattle.snd_disk.proofs.Returned.{KeepsFileImages}
 use Rattle.snd_disk.specs.Shelf.{Files, KeepsFiles, SameFiles}
 use Rattle.snd_script.specs.Lines.{to_take}
 use Rattle.snd_script.specs.Served.{SameCounts}
