@@ -1,9 +1,9 @@
 -- The layout of a file of any kind, and its sound.
-use Rattle.std.specs.Prelude.{ℕ, ℤ, Bool, true, false, List, [], Option, None, Some, Result, Ok, Err, take, drop, map}
+use Rattle.std.specs.Prelude.{ℕ, ℤ, Bool, List, [], Option, None, Some, Result, Ok, Err, take, drop, map, is_none, if◌then◌else◌}
 use Rattle.snd_layout.specs.declared.codec.Codec.{Codec}
 use Rattle.snd_layout.specs.declared.codec.Codec.TheVariants.{U8, S8, S16, S24, S32}
 use Rattle.snd_layout.specs.declared.kind.Kind.{Kind}
-use Rattle.snd_layout.specs.declared.kind.Kind.TheVariants.{Wave}
+use Rattle.snd_layout.specs.declared.kind.Kind.TheVariants.{Wave, Rf64, W64, Au, Dns, Voc, Svx, Sphere}
 use Rattle.snd_layout.specs.declared.piece.Piece.{Piece}
 use Rattle.snd_layout.specs.declared.refusal.OpenRefusal.{OpenRefusal}
 use Rattle.snd_layout.specs.declared.refusal.OpenRefusal.TheVariants.{NotBuilt}
@@ -16,19 +16,23 @@ use Rattle.snd_pcm.specs.declared.linear.Linear.{Linear}
 use Rattle.snd_wave.specs.Layout.{wave_layout}
 use Rattle.snd_container.specs.Recognised.{recognised}
 
--- the other kinds are not built yet
-abbrev pub is_built : Kind → Bool
-is_built Wave = true
-is_built kind = false
+-- the layout of a file of a kind, or its first refusal; other kinds than WAVE are not built yet
+abbrev pub layout_of_kind : Kind → List ℕ → Result Shape OpenRefusal
+layout_of_kind Wave b = wave_layout b
+layout_of_kind Rf64 b = Err NotBuilt
+layout_of_kind W64 b = Err NotBuilt
+layout_of_kind Au b = Err NotBuilt
+layout_of_kind Dns b = Err NotBuilt
+layout_of_kind Voc b = Err NotBuilt
+layout_of_kind Svx b = Err NotBuilt
+layout_of_kind Sphere b = Err NotBuilt
 
--- the layout of a file of a kind, or its first refusal
-abbrev pub layout_of_kind : Result Kind OpenRefusal → List ℕ → Result Shape OpenRefusal
-layout_of_kind (Err refusal) b = Err refusal
-layout_of_kind (Ok Wave) b = wave_layout b
-layout_of_kind (Ok kind) b = Err NotBuilt
+abbrev pub layout_as : Result Kind OpenRefusal → List ℕ → Result Shape OpenRefusal
+layout_as (Err refusal) b = Err refusal
+layout_as (Ok kind) b = layout_of_kind kind b
 
 unfoldable pub layout_of : List ℕ → Result Shape OpenRefusal
-layout_of b = layout_of_kind (recognised (take 40 b)) b
+layout_of b = layout_as (recognised (take 40 b)) b
 
 -- the linear form of a codec's samples, where it has one
 abbrev pub linear_of : Codec → Option Linear
@@ -39,7 +43,8 @@ linear_of (S24 order) = Some (linear.TheVariants.S24 order)
 linear_of (S32 order) = Some (linear.TheVariants.S32 order)
 linear_of codec = None
 
--- the frames that data bytes stand for: a number for each channel, in turn. Those of laws and ADPCM are not read yet.
+-- The frames that data bytes stand for: a number for each channel, in turn. The data of laws and ADPCM are not read yet, and
+-- a file of these has no sound.
 abbrev pub decoded_as : Option Linear → ℕ → List ℕ → List (List ℤ)
 decoded_as None channels bytes = []
 decoded_as (Some form) channels bytes = groups channels (samples form bytes)
@@ -69,7 +74,9 @@ kept_of b piece = record { id = piece.id.0; body = take piece.len (drop piece.at
 
 abbrev pub sound_in : List ℕ → Result Shape OpenRefusal → Result Sound OpenRefusal
 sound_in b (Err refusal) = Err refusal
-sound_in b (Ok s) = Ok (record { kind = s.kind; params = s.params; frames = decoded s.params (sound_bytes b s); pieces = map (kept_of b) s.pieces })
+sound_in b (Ok s) =
+    if is_none (linear_of s.params.codec) then Err NotBuilt
+    else Ok (record { kind = s.kind; params = s.params; frames = decoded s.params (sound_bytes b s); pieces = map (kept_of b) s.pieces })
 
 abbrev pub sound_of : List ℕ → Result Sound OpenRefusal
 sound_of b = sound_in b (layout_of b)

@@ -1,13 +1,11 @@
 //! The layout of a file of any kind.
 
-ghost use Rattle.std.specs.Prelude.{◌≡◌, ◌≤◌, All, IfOk, Ok, Err, take};
-ghost use Rattle.snd_disk.specs.Device.{AsksAtMost, OnlyReadsOn, IfOkTold, CountsOn};
-ghost use Rattle.snd_layout.specs.Opened.{EndsIn, CountsOpening, OpensAs};
+ghost use Rattle.std.specs.Prelude.{◌≡◌, ◌≤◌, All, IfOk, take};
+ghost use Rattle.snd_disk.specs.Device.{AsksAtMost, OnlyReadsOn};
+ghost use Rattle.snd_layout.specs.Opened.{CountsOpening, EndsIn, OpensAs};
 ghost use Rattle.snd_layout.specs.Shape.{end};
-ghost use Rattle.snd_layout.specs.declared.refusal.OpenRefusal.{OpenRefusal as refusal};
-ghost use Rattle.snd_layout.specs.declared.error.OpenError.TheVariants.{Refused};
 ghost use Rattle.snd_container.specs.Recognised.{recognised};
-ghost use Rattle.snd_container.specs.Sound.{is_built, layout_of};
+ghost use Rattle.snd_container.specs.Sound.{layout_of};
 
 use crate::recognition::recognise;
 use snd_disk::{Disk, Step};
@@ -18,17 +16,17 @@ use std::alloc::Global;
 const MARK_BYTES: usize = 40;
 
 // The kind of the file that a disk holds, by its first bytes.
-fn kind_on<D: Disk>(disk: &mut D) -> Result<Result<Kind, OpenRefusal>, Step>
-    ensures found { IfOkTold D.state disk.old result (λ b kind. kind ≡ recognised (take 40 b)) }
-    ensures faults { CountsOn D.state disk.old disk.new result }
+fn kind_on<D: Disk>(disk: &mut D) -> Result<Kind, OpenError>
+    ensures found { OpensAs D.state disk.old (λ b. recognised (take 40 b)) result }
+    ensures faults { CountsOpening D.state disk.old disk.new result }
     ensures reads { OnlyReadsOn D.state D.may_leave D.left_between disk.old disk.new }
     ensures asked { AsksAtMost D.state 40 disk.old disk.new }
 {
     let mut head = [0; MARK_BYTES];
     let Ok(count) = disk.read_at(0, &mut head) else {
-        return Err(Step::Read);
+        return Err(OpenError::DiskFault(Step::Read));
     };
-    Ok(recognise(&head[..count]))
+    Ok(recognise(&head[..count])?)
 }
 
 /// Reads what a sound file says of itself. It reads heads and the format alone, at most 16384 bytes, and
@@ -44,20 +42,14 @@ pub fn open_layout<D: Disk>(alloc: Global, disk: &mut D) -> Result<Layout, OpenE
     ensures reads { OnlyReadsOn D.state D.may_leave D.left_between disk.old disk.new }
     ensures asked { AsksAtMost D.state 16384 disk.old disk.new }
 {
-    let kind = match kind_on(disk) {
-        Ok(Ok(kind)) => kind,
-        Ok(Err(refusal)) => return Err(OpenError::Refused(refusal)),
-        Err(step) => return Err(OpenError::DiskFault(step)),
-    };
-    if !is_built(kind) {
-        return Err(OpenError::Refused(OpenRefusal::NotBuilt));
+    match kind_on(disk)? {
+        Kind::Wave => snd_wave::open_layout(alloc, disk),
+        Kind::Rf64
+        | Kind::W64
+        | Kind::Au
+        | Kind::Dns
+        | Kind::Voc
+        | Kind::Svx
+        | Kind::Sphere => Err(OpenError::Refused(OpenRefusal::NotBuilt)),
     }
-    snd_wave::open_layout(alloc, disk)
-}
-
-// Whether files of a kind are read yet.
-fn is_built(kind: Kind) -> bool
-    ensures { result ≡ is_built kind }
-{
-    matches!(kind, Kind::Wave)
 }

@@ -1,7 +1,7 @@
 //! Why a file is not opened, and why a chunk is not added.
 
 ghost use Rattle.std.specs.Prelude.{◌≡◌};
-ghost use Rattle.snd_layout.specs.declared.error.OpenError.TheVariants.{Refused, Memory as open_memory};
+ghost use Rattle.snd_layout.specs.declared.error.OpenError.TheVariants.{DiskFault, Refused, Memory as open_memory};
 ghost use Rattle.snd_layout.specs.declared.error.PieceError.TheVariants.{Memory as piece_memory};
 
 use crate::refusal::OpenRefusal;
@@ -34,6 +34,14 @@ impl From<OpenRefusal> for OpenError {
 
     fn from(refusal: OpenRefusal) -> OpenError {
         OpenError::Refused(refusal)
+    }
+}
+
+impl From<Step> for OpenError {
+    ghost from_gives = { λ step e. e ≡ DiskFault step };
+
+    fn from(step: Step) -> OpenError {
+        OpenError::DiskFault(step)
     }
 }
 

@@ -1,27 +1,29 @@
-use Rattle.std.proofs.Common.{ap, sym, ◌∙◌, ◌≡◌, Err}
-use Rattle.snd_layout.specs.declared.refusal.OpenRefusal.{OpenRefusal as refusal}
+use Rattle.std.proofs.Common.{rules, ap, ◌∙◌, ◌≡◌, Ok, Err}
+use Rattle.snd_layout.specs.declared.kind.Kind.TheVariants.{Wave}
+use Rattle.snd_layout.specs.declared.refusal.OpenRefusal.{OpenRefusal}
 use Rattle.snd_layout.specs.declared.refusal.OpenRefusal.TheVariants.{NotBuilt}
-use Rattle.snd_container.proofs.OfKinds.{if_err, if_ok, none_found, other_found, wave_found}
+use Rattle.snd_container.proofs.OfKinds.{found_as, layout_by_kind, not_built, opens_by, refused_by}
 use Rattle.snd_container.proofs.open.open_layout.Goals as goal
 
--- src/open.rt:53:29
-pub returns-in-Ok-Err-clause-refused : goal.returns-in-Ok-Err-clause-refused
-returns-in-Ok-Err-clause-refused g c = λ r b is told.
-    let same : c.in-Ok-Err.refusal ≡ r = cc in
-    none_found b c.in-Ok-Err.refusal (sym c.in-Ok-Err.field-0-is ∙ c.in-Ok-Err.ensures.found b told) ∙ ap (λ (x : refusal). Err x) same
+pub returns-in_err-kind_on-clause-opened : goal.returns-in_err-kind_on-clause-opened
+returns-in_err-kind_on-clause-opened g c =
+    refused_by g.D.Disk.state c.args.disk.now c.kind_on.result c.from_residual.result c.in_err-kind_on.field-0.0 (search rules) (search rules) c.kind_on.ensures.found
 
--- src/open.rt:57:9
-pub returns-then-not-is_built-clause-refused : goal.returns-then-not-is_built-clause-refused
-returns-then-not-is_built-clause-refused g c = λ r b is told.
-    let same : NotBuilt ≡ r = cc in
-    other_found b c.in-Ok-Ok.kind (sym c.in-Ok-Ok.field-0-is ∙ c.in-Ok-Ok.ensures.found b told) (sym c.if-not-is_built.ensures) ∙ ap (λ (x : refusal). Err x) same
+pub returns-in-Wave-clause-opened : goal.returns-in-Wave-clause-opened
+returns-in-Wave-clause-opened g c =
+    let is : c.kind_on.result ≡ Ok Wave = search rules in
+    opens_by g.D.Disk.state c.args.disk.now c.kind_on.new.disk Wave c.open_layout.result c.kind_on.ensures.reads.keeps.contents (found_as g.D.Disk.state c.args.disk.now Wave c.kind_on.result is c.kind_on.ensures.found) c.open_layout.ensures.opened
 
--- src/open.rt:41:1
-pub returns-clause-opened : goal.returns-clause-opened
-returns-clause-opened g c = if_ok c.open_layout.result _ _ (λ l opened b told.
-    wave_found b c.in-Ok-Ok.kind (sym c.in-Ok-Ok.field-0-is ∙ c.in-Ok-Ok.ensures.found b told) (sym c.if-not-is_built.ensures) ∙ opened b (c.in-Ok-Ok.ensures.reads.keeps.contents ∙ told)) c.open_layout.ensures.opened
-
--- src/open.rt:41:1
-pub returns-clause-refused : goal.returns-clause-refused
-returns-clause-refused g c = if_err c.open_layout.result _ _ (λ e refused r b is told.
-    wave_found b c.in-Ok-Ok.kind (sym c.in-Ok-Ok.field-0-is ∙ c.in-Ok-Ok.ensures.found b told) (sym c.if-not-is_built.ensures) ∙ refused r b is (c.in-Ok-Ok.ensures.reads.keeps.contents ∙ told)) c.open_layout.ensures.refused
+pub returns-in-Rf64 : goal.returns-in-Rf64
+returns-in-Rf64 g c = record {
+  opened = λ r b by told.
+      let same : NotBuilt ≡ r = cc in
+      layout_by_kind b (Ok c.in_ok-kind_on.field-0) (found_as g.D.Disk.state c.args.disk.now c.in_ok-kind_on.field-0 c.kind_on.result (search rules) c.kind_on.ensures.found b told)
+      ∙ not_built c.in_ok-kind_on.field-0 b c.in-Rf64.is
+      ∙ ap (λ (x : OpenRefusal). Err x) same;
+  held = search rules;
+  pieces_held = search rules;
+  faults = search rules;
+  reads = search rules;
+  asked = search rules;
+}
