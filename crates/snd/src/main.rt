@@ -21,6 +21,8 @@ fn words_of(rt: &HostRuntime) -> io::Result<Words> {
 }
 
 fn main(rt: HostRuntime) -> ExitCode {
+    // first of all, since it keeps the numbers of standard streams that are closed from every file
+    let mut shelf = FolderShelf::new(rt);
     let alloc = rt.alloc();
     let words = match words_of(&rt) {
         Ok(words) => words,
@@ -32,6 +34,5 @@ fn main(rt: HostRuntime) -> ExitCode {
     let mut script = ReaderSource::new(rt.stdin());
     let mut out = WriterSink::new(rt.stdout());
     let mut err = WriterSink::new(rt.stderr());
-    let mut shelf = FolderShelf::new(rt);
     ExitCode::from(run(alloc, &words, &mut shelf, &mut script, &mut out, &mut err))
 }

@@ -2,16 +2,19 @@ ghost use Rattle.std.specs.Prelude.{◌≡◌, ◌+◌, ◌<◌, ◌≤◌, ◌^
 ghost use Rattle.std.specs.String.{string_bytes};
 ghost use Rattle.snd_disk.specs.State.{Rises};
 
+use crate::open_file::OpenFile;
 use crate::{Disk, Failed};
-use std::os::unix::fs::FileExt;
-use std::{fs, io};
+use std::io;
 
 /// A real file. It keeps the length that it had when it was opened, and changes that with its own
 /// writes and cuts; a read that gets fewer bytes than the length promises is a fault. Reads and
-/// writes are positioned, and go on after a short or an interrupted one.
+/// writes are positioned, and go on after a short or an interrupted one. A file that was there is
+/// open for reading alone until the first write or cut opens it again, for both: where that is not
+/// permitted, or another file has its name by then, the call is a fault.
 #[derive(Drop)]
 pub struct FileDisk {
-    file: fs::File,
+    rt: HostRuntime,
+    file: OpenFile,
     name: String,
     size: u64,
     faults: u64,
@@ -20,27 +23,17 @@ pub struct FileDisk {
     ghost fits: { size < 2 ^ 63 },
 }
 
-/// A file's length, where it is below 2^63.
-fn measured(file: &fs::File) -> io::Result<u64>
-    ensures { IfOk result (λ n. n < 2 ^ 63) }
-{
-    let size = file.metadata()?.len();
-    if size >= 1 << 63 {
-        return Err(io::ErrorKind::InvalidData.into());
-    }
-    Ok(size)
-}
-
 impl FileDisk {
     ghost use Rattle.snd_disk.specs.File.{file_state};
 
-    /// An open file, as a disk of this name.
-    pub fn new(file: fs::File, name: String) -> io::Result<FileDisk>
+    /// An open file, as a disk of this name, under which it is opened again.
+    pub(crate) fn new(rt: HostRuntime, file: OpenFile, name: String) -> io::Result<FileDisk>
         ensures name { IfOk result (λ d. (file_state d).name ≡ Some (string_bytes name)) }
         ensures fresh { IfOk result (λ d. ((file_state d).faults ≡ 0) × ((file_state d).written ≡ 0) × ((file_state d).asked ≡ 0)) }
     {
-        let size = measured(&file)?;
+        let size = file.len()?;
         Ok(FileDisk {
+            rt,
             file,
             name,
             size,
@@ -69,11 +62,22 @@ impl FileDisk {
     }
 
     /// Puts bytes at a place. A write of no bytes would not lengthen the file.
-    fn put(&self, at: u64, from: &[u8]) -> io::Result<()> {
+    fn put(&mut self, at: u64, from: &[u8]) -> io::Result<()>
+        ensures { self.new ≡ record self.old { file = self.new.file } }
+    {
+        self.file.allow_writing(&self.rt, self.name.as_str())?;
         if from.is_empty() && at > self.size {
             return self.file.set_len(at);
         }
-        self.file.write_all_at(from, at)
+        self.file.write(at, from)
+    }
+
+    /// Sets the length of the file.
+    fn set_len(&mut self, len: u64) -> io::Result<()>
+        ensures { self.new ≡ record self.old { file = self.new.file } }
+    {
+        self.file.allow_writing(&self.rt, self.name.as_str())?;
+        self.file.set_len(len)
     }
 }
 
@@ -109,7 +113,7 @@ impl Disk for FileDisk {
         }
         let left = self.size - at;
         let count = into.len().min(left as usize);
-        match self.file.read_exact_at(&mut into[..count], at) {
+        match self.file.read(at, &mut into[..count]) {
             Ok(()) => Ok(count),
             Err(_) => self.fail(),
         }
@@ -127,7 +131,7 @@ impl Disk for FileDisk {
     }
 
     fn cut(&mut self, len: u64) -> Result<(), Failed> {
-        match self.file.set_len(len) {
+        match self.set_len(len) {
             Ok(()) => {
                 self.size = len;
                 Ok(())
@@ -137,7 +141,7 @@ impl Disk for FileDisk {
     }
 
     fn sync(&mut self) -> Result<(), Failed> {
-        match self.file.sync_all() {
+        match self.file.sync() {
             Ok(()) => Ok(()),
             Err(_) => self.fail(),
         }

@@ -2,11 +2,10 @@ ghost use Rattle.std.specs.Prelude.{◌≡◌, List, ℕ, true, false, OnErr, Is
 ghost use Rattle.std.specs.String.{string_bytes};
 ghost use Rattle.std.specs.Str.{bytes_eq};
 
+use crate::open_file::{Identity, OpenFile, keep_stream_numbers};
 use crate::{FileDisk, Shelf, ShelfFault};
-use std::fs::{self, File, OpenOptions};
+use std::fs::{self, File};
 use std::io;
-use std::os::unix::fs::MetadataExt;
-use std::path::Path;
 
 /// A file that is taken out: its name, and what it is under any name.
 #[derive(Drop)]
@@ -15,47 +14,17 @@ pub struct Taken {
     file: Identity,
 }
 
-/// The device that a file lies on, and its number there.
-#[derive(Clone, Copy, Debug, PartialEq, Eq)]
-pub struct Identity {
-    device: u64,
-    number: u64,
-}
-
 /// The regular files below the current folder. A folder, a pipe or a device is a fault, and so is
-/// another spelling of a file that is taken out. Where writing is not permitted, a file is opened
-/// for reading, and a later write fails.
+/// another spelling of a file that is taken out. While the shelf lives, the numbers of standard
+/// streams that are closed are kept from every file, and a use of such a stream fails.
 #[derive(Drop)]
 pub struct FolderShelf {
     rt: HostRuntime,
+    stream_numbers: Vec<File>,
     taken: Vec<Taken>,
     faults: u64,
     written: u64,
     asked: u64,
-}
-
-/// Opens a file for reading and writing, or for reading where writing is not permitted.
-fn open_there(rt: &HostRuntime, name: &str) -> io::Result<File> {
-    match OpenOptions::new().read(true).write(true).open(rt, name) {
-        Ok(file) => Ok(file),
-        Err(error) => match error.kind() {
-            io::ErrorKind::PermissionDenied | io::ErrorKind::ReadOnlyFilesystem => {
-                OpenOptions::new().read(true).open(rt, name)
-            }
-            _ => Err(error),
-        },
-    }
-}
-
-/// Makes a file, and syncs the folder, so that the name survives a power cut.
-fn make_new(rt: &HostRuntime, name: &str) -> io::Result<File> {
-    let file = File::create_new(rt, name)?;
-    let folder = match Path::new(name).parent() {
-        Some(parent) if !parent.as_str().is_empty() => parent.as_str(),
-        _ => ".",
-    };
-    fs::open(rt, folder)?.sync_all()?;
-    Ok(file)
 }
 
 fn is_not_there(error: &io::Error) -> bool {
@@ -66,32 +35,20 @@ fn is_not_there(error: &io::Error) -> bool {
 }
 
 /// The open file of this name, which is looked at first: opening a pipe could wait for ever.
-fn opened(rt: &HostRuntime, name: &str, make: bool) -> Result<File, ShelfFault>
+fn opened(rt: &HostRuntime, name: &str, make: bool) -> Result<OpenFile, ShelfFault>
     ensures { IsErrOf result ShelfFault.Missing → make ≡ false }
 {
     let found = match fs::metadata(rt, name) {
-        Ok(data) if data.is_file() => open_there(rt, name),
+        Ok(data) if data.is_file() => OpenFile::open(rt, name),
         Err(error) if is_not_there(&error) => {
             if !make {
                 return Err(ShelfFault::Missing);
             }
-            make_new(rt, name)
+            OpenFile::make(rt, name)
         }
         _ => return Err(ShelfFault::Failed),
     };
     found.map_err(|_| ShelfFault::Failed)
-}
-
-/// What an open file is, where it is a regular one.
-fn identity_of(file: &File) -> Option<Identity> {
-    let data = file.metadata().ok()?;
-    if !data.is_file() {
-        return None;
-    }
-    Some(Identity {
-        device: data.dev(),
-        number: data.ino(),
-    })
 }
 
 /// Without the files that are taken out under this name.
@@ -110,10 +67,10 @@ impl FolderShelf {
     pub fn new(rt: HostRuntime) -> FolderShelf
         ensures { (n : List ℕ) → (folder_state result).out n ≡ false }
     {
-        let taken = Vec::new(rt.alloc());
         FolderShelf {
             rt,
-            taken,
+            stream_numbers: keep_stream_numbers(&rt),
+            taken: Vec::new(rt.alloc()),
             faults: 0,
             written: 0,
             asked: 0,
@@ -177,13 +134,11 @@ impl Shelf for FolderShelf {
             Err(ShelfFault::Missing) => return Err(ShelfFault::Missing),
             Err(_) => return self.fail(),
         };
-        let Some(identity) = identity_of(&file) else {
-            return self.fail();
-        };
+        let identity = file.identity();
         if self.taken.iter().any(|t| t.file == identity) {
             return self.fail();
         }
-        match FileDisk::new(file, given) {
+        match FileDisk::new(self.rt, file, given) {
             Ok(disk) => {
                 self.note(key, identity)?;
                 Ok(disk)
