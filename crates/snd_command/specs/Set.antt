@@ -3,8 +3,8 @@ use Rattle.std.specs.Prelude.{ℕ, Bool, List, [], ◌∷◌, Option, None, Some
 use Rattle.std.specs.Option.{option_and_then}
 use Rattle.std.specs.Str.{bytes_eq}
 use Rattle.snd_fields.specs.Decimal.{decimal}
-use Rattle.snd_command.specs.declared.tables.BextWord.{BextWord}
-use Rattle.snd_command.specs.declared.tables.BextWord.TheVariants.{TimeRef}
+use Rattle.snd_meta.specs.declared.bext.BextKey.{BextKey}
+use Rattle.snd_meta.specs.declared.bext.BextKey.TheVariants.{TimeRef}
 use Rattle.snd_command.specs.Forms.{hex, ident, is_text}
 use Rattle.snd_command.specs.Numbers.{set_cue_said}
 use Rattle.snd_command.specs.Tables.{bext_of, info_of}
@@ -27,7 +27,7 @@ set_string_said [] text = None
 set_string_said (key ∷ args) text = option_and_then (λ key. if is_text text then Some (Said.set_string key text) else None) (info_of key)
 
 -- `set bext KEY TEXT`; the time reference is a number
-abbrev pub is_bext_text : BextWord → List ℕ → Bool
+abbrev pub is_bext_text : BextKey → List ℕ → Bool
 is_bext_text TimeRef text = is_some (decimal text)
 is_bext_text key text = is_text text
 

@@ -17,4 +17,4 @@ mod words;
 pub use command::{Command, MOST_CUES, MOST_SAMPLES};
 pub use line::parse_line;
 pub use refusal::ScriptRefusal;
-pub use tables::{BextWord, CodecWord, InfoWord, KindWord, TapWord};
+pub use tables::{CodecWord, TapKind};

@@ -8,9 +8,10 @@ ghost use Rattle.snd_command.specs.Words.{behind_word, words};
 use crate::command::Command;
 use crate::forms::{hex, ident, is_text};
 use crate::numbers::parse_set_cue;
-use crate::tables::{BextWord, bext_of, info_of};
+use crate::tables::{bext_of, info_of};
 use crate::words::{next_word, two_words};
 use snd_fields::decimal;
+use snd_meta::BextKey;
 
 // what stands behind a first space
 fn behind_space(rest: &[u8]) -> &[u8]
@@ -45,11 +46,11 @@ fn parse_set_string(args: &[u8]) -> Option<Command<'_>>
     Some(Command::SetString { key, text })
 }
 
-fn is_bext_text(key: BextWord, text: &[u8]) -> bool
+fn is_bext_text(key: BextKey, text: &[u8]) -> bool
     ensures { result ≡ is_bext_text key text.now }
 {
     match key {
-        BextWord::TimeRef => decimal(text).is_some(),
+        BextKey::TimeRef => decimal(text).is_some(),
         _ => is_text(text),
     }
 }
