@@ -16,10 +16,13 @@ abbrev pub set_chunk_said : List (List ℕ) → Option Said
 set_chunk_said (id ∷ digits ∷ []) = option_and_then (λ id. option_map (Said.set_chunk id) (hex digits)) (ident id)
 set_chunk_said args = None
 
--- The text of a line `set string KEY TEXT` or `set bext KEY TEXT`, of what stands behind `set`: all that stands
--- behind the first space behind KEY.
+-- all that stands behind the first space behind the first word
+abbrev pub text_after : List ℕ → List ℕ
+text_after args = drop 1 (behind_word args)
+
+-- the text of a line `set string KEY TEXT` or `set bext KEY TEXT`, of what stands behind `set`
 abbrev pub text_behind : List ℕ → List ℕ
-text_behind args = drop 1 (behind_word (behind_word args))
+text_behind args = text_after (behind_word args)
 
 -- `set string KEY TEXT`
 abbrev pub set_string_said : List (List ℕ) → List ℕ → Option Said

@@ -1,6 +1,7 @@
 //! The commands of a script, each one line of text. Nothing here allocates.
 #![tactic(auto)]
 
+mod brief;
 mod command;
 mod forms;
 mod frames;
