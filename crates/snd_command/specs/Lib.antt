@@ -1,3 +1,4 @@
+pub mod Brief
 pub mod Forms
 pub mod Frames
 pub mod Line

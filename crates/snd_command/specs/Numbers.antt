@@ -1,5 +1,5 @@
 -- The commands with a list of numbers.
-use Rattle.std.specs.Prelude.{ℕ, ◌-◌, ◌^◌, ◌&&◌, List, [], ◌∷◌, Option, None, Some, option_map, length, nat_le, if◌then◌else◌}
+use Rattle.std.specs.Prelude.{ℕ, ◌-◌, ◌^◌, List, [], ◌∷◌, Option, None, Some, option_map, length, nat_le, if◌then◌else◌}
 use Rattle.std.specs.Option.{option_and_then}
 use Rattle.snd_fields.specs.Decimal.{decimal}
 use Rattle.snd_command.specs.Forms.{at_most, signed}
@@ -18,6 +18,10 @@ write_said args = if nat_le 1 (length args) then option_map Said.write (all_of s
 abbrev pub place : List ℕ → Option ℕ
 place word = at_most (2 ^ 32 - 1) (decimal word)
 
--- `set cue N N ..`: 1 to 100 places
+-- at most 100 places
+abbrev pub places : List (List ℕ) → Option (List ℕ)
+places args = if nat_le (length args) 100 then all_of place args else None
+
+-- `set cue N N ..`: one place or more
 abbrev pub set_cue_said : List (List ℕ) → Option Said
-set_cue_said args = if nat_le 1 (length args) && nat_le (length args) 100 then option_map Said.set_cue (all_of place args) else None
+set_cue_said args = if nat_le 1 (length args) then option_map Said.set_cue (places args) else None

@@ -2,7 +2,7 @@
 use Rattle.std.specs.Prelude.{ℕ, List, [], ◌∷◌, Option, None, Some, option_map, codes, if◌then◌else◌}
 use Rattle.std.specs.Str.{bytes_eq}
 use Rattle.snd_fields.specs.Decimal.{decimal}
-use Rattle.snd_command.specs.declared.tables.KindWord.{KindWord}
+use Rattle.snd_layout.specs.declared.kind.Kind.{Kind}
 use Rattle.snd_command.specs.declared.tables.CodecWord.{CodecWord}
 use Rattle.snd_command.specs.Forms.{is_name, ident}
 use Rattle.snd_command.specs.Tables.{kind_of, codec_of, named}
@@ -20,7 +20,7 @@ open_said (mode ∷ name ∷ []) =
 open_said args = None
 
 -- `create KIND CODEC N N NAME`
-abbrev pub created : Option KindWord → Option CodecWord → Option ℕ → Option ℕ → List ℕ → Option Said
+abbrev pub created : Option Kind → Option CodecWord → Option ℕ → Option ℕ → List ℕ → Option Said
 created (Some kind) (Some codec) (Some channels) (Some rate) name = if is_name name then Some (Said.create kind codec channels rate name) else None
 created kind codec channels rate name = None
 

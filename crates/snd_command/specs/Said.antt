@@ -1,17 +1,17 @@
 -- What a line says: a command as plain data, with lists for the slices and the vectors.
 use Rattle.std.specs.Prelude.{ℕ, ℤ, Bool, List}
-use Rattle.snd_command.specs.declared.tables.KindWord.{KindWord}
+use Rattle.snd_layout.specs.declared.kind.Kind.{Kind}
+use Rattle.snd_meta.specs.declared.bext.BextKey.{BextKey}
+use Rattle.snd_meta.specs.declared.info.InfoKey.{InfoKey}
 use Rattle.snd_command.specs.declared.tables.CodecWord.{CodecWord}
-use Rattle.snd_command.specs.declared.tables.InfoWord.{InfoWord}
-use Rattle.snd_command.specs.declared.tables.BextWord.{BextWord}
-use Rattle.snd_command.specs.declared.tables.TapWord.{TapWord}
+use Rattle.snd_command.specs.declared.tables.TapKind.{TapKind}
 use Rattle.snd_command.specs.declared.command.Command.{Command}
 use Rattle.snd_command.specs.declared.command.Command.TheVariants as command
 
 pub data Said : Type 0 where
   open_read : List ℕ → Said
   open_update : List ℕ → Said
-  create : KindWord → CodecWord → ℕ → ℕ → List ℕ → Said
+  create : Kind → CodecWord → ℕ → ℕ → List ℕ → Said
   info : Said
   close : Said
   seek_read : ℕ → Said
@@ -24,16 +24,16 @@ pub data Said : Type 0 where
   update : Said
   auto : Bool → Said
   set_chunk : List ℕ → List ℕ → Said
-  set_string : InfoWord → List ℕ → Said
-  set_bext : BextWord → List ℕ → Said
+  set_string : InfoKey → List ℕ → Said
+  set_bext : BextKey → List ℕ → Said
   set_cue : List ℕ → Said
   get_chunk : List ℕ → Said
   get_chunks : Said
   get_strings : Said
   get_bext : Said
   get_cues : Said
-  tap : TapWord → Said
-  untap : TapWord → Said
+  tap : TapKind → Said
+  untap : TapKind → Said
 
 -- what a command says
 abbrev pub said_of : Command → Said

@@ -3,8 +3,8 @@ use Rattle.std.specs.Prelude.{ℕ, Bool, List, [], ◌∷◌, Option, None, Some
 use Rattle.std.specs.Option.{option_and_then}
 use Rattle.std.specs.Str.{bytes_eq}
 use Rattle.snd_fields.specs.Decimal.{decimal}
-use Rattle.snd_command.specs.declared.tables.BextWord.{BextWord}
-use Rattle.snd_command.specs.declared.tables.BextWord.TheVariants.{TimeRef}
+use Rattle.snd_meta.specs.declared.bext.BextKey.{BextKey}
+use Rattle.snd_meta.specs.declared.bext.BextKey.TheVariants.{TimeRef}
 use Rattle.snd_command.specs.Forms.{hex, ident, is_text}
 use Rattle.snd_command.specs.Numbers.{set_cue_said}
 use Rattle.snd_command.specs.Tables.{bext_of, info_of}
@@ -16,10 +16,13 @@ abbrev pub set_chunk_said : List (List ℕ) → Option Said
 set_chunk_said (id ∷ digits ∷ []) = option_and_then (λ id. option_map (Said.set_chunk id) (hex digits)) (ident id)
 set_chunk_said args = None
 
--- The text of a line `set string KEY TEXT` or `set bext KEY TEXT`, of what stands behind `set`: all that stands
--- behind the first space behind KEY.
+-- all that stands behind the first space behind the first word
+abbrev pub text_after : List ℕ → List ℕ
+text_after args = drop 1 (behind_word args)
+
+-- the text of a line `set string KEY TEXT` or `set bext KEY TEXT`, of what stands behind `set`
 abbrev pub text_behind : List ℕ → List ℕ
-text_behind args = drop 1 (behind_word (behind_word args))
+text_behind args = text_after (behind_word args)
 
 -- `set string KEY TEXT`
 abbrev pub set_string_said : List (List ℕ) → List ℕ → Option Said
@@ -27,7 +30,7 @@ set_string_said [] text = None
 set_string_said (key ∷ args) text = option_and_then (λ key. if is_text text then Some (Said.set_string key text) else None) (info_of key)
 
 -- `set bext KEY TEXT`; the time reference is a number
-abbrev pub is_bext_text : BextWord → List ℕ → Bool
+abbrev pub is_bext_text : BextKey → List ℕ → Bool
 is_bext_text TimeRef text = is_some (decimal text)
 is_bext_text key text = is_text text
 

@@ -1,51 +1,57 @@
 -- The words that name something.
-use Rattle.std.specs.Prelude.{ℕ, Bool, true, false, List, [], ◌∷◌, Option, None, Some, codes, if◌then◌else◌}
+use Rattle.std.specs.Prelude.{ℕ, Bool, true, false, List, [], ◌∷◌, Option, None, Some, codes, find, if◌then◌else◌}
 use Rattle.std.specs.Str.{bytes_eq}
 use Rattle.snd_fields.specs.declared.field.Order.TheVariants.{Little, Big}
-use Rattle.snd_command.specs.declared.tables.KindWord.{KindWord}
-use Rattle.snd_command.specs.declared.tables.KindWord.TheVariants as kind
+use Rattle.snd_layout.specs.Names.{codec_name, kind_name}
+use Rattle.snd_layout.specs.declared.codec.Codec.TheVariants as printed
+use Rattle.snd_layout.specs.declared.kind.Kind.{Kind}
+use Rattle.snd_layout.specs.declared.kind.Kind.TheVariants.{Wave, Rf64, W64, Au, Dns, Voc, Svx, Sphere}
+use Rattle.snd_meta.specs.declared.bext.BextKey.{BextKey}
+use Rattle.snd_meta.specs.declared.bext.BextKey.TheVariants as bext
+use Rattle.snd_meta.specs.declared.info.InfoKey.{InfoKey}
+use Rattle.snd_meta.specs.declared.info.InfoKey.TheVariants as info
 use Rattle.snd_command.specs.declared.tables.CodecWord.{CodecWord}
 use Rattle.snd_command.specs.declared.tables.CodecWord.TheVariants as codec
-use Rattle.snd_command.specs.declared.tables.InfoWord.{InfoWord}
-use Rattle.snd_command.specs.declared.tables.InfoWord.TheVariants as info
-use Rattle.snd_command.specs.declared.tables.BextWord.{BextWord}
-use Rattle.snd_command.specs.declared.tables.BextWord.TheVariants as bext
-use Rattle.snd_command.specs.declared.tables.TapWord.{TapWord}
-use Rattle.snd_command.specs.declared.tables.TapWord.TheVariants as tap
+use Rattle.snd_command.specs.declared.tables.TapKind.{TapKind}
+use Rattle.snd_command.specs.declared.tables.TapKind.TheVariants as tap
 
 -- what a word names in a table
 abbrev pub named : {T : Type 0} → List ℕ → List (List ℕ × T) → Option T
 named word [] = None
 named word (row ∷ rows) = if bytes_eq word row.0 then Some row.1 else named word rows
 
-abbrev pub kind_of : List ℕ → Option KindWord
-kind_of word = named word (
-    (codes "wave", kind.Wave) ∷ (codes "rf64", kind.Rf64) ∷ (codes "w64", kind.W64) ∷ (codes "au", kind.Au)
-    ∷ (codes "dns", kind.Dns) ∷ (codes "voc", kind.Voc) ∷ (codes "svx", kind.Svx) ∷ (codes "sphere", kind.Sphere) ∷ [])
+abbrev pub kinds : List Kind
+kinds = Wave ∷ Rf64 ∷ W64 ∷ Au ∷ Dns ∷ Voc ∷ Svx ∷ Sphere ∷ []
 
+-- the kind that is printed so
+abbrev pub kind_of : List ℕ → Option Kind
+kind_of word = find (λ kind. bytes_eq word (kind_name kind)) kinds
+
+-- the codec that is printed so, whatever its blocks
 abbrev pub codec_of : List ℕ → Option CodecWord
 codec_of word = named word (
-    (codes "pcm_u8", codec.U8) ∷ (codes "pcm_s8", codec.S8)
-    ∷ (codes "pcm_16_le", codec.S16 Little) ∷ (codes "pcm_16_be", codec.S16 Big)
-    ∷ (codes "pcm_24_le", codec.S24 Little) ∷ (codes "pcm_24_be", codec.S24 Big)
-    ∷ (codes "pcm_32_le", codec.S32 Little) ∷ (codes "pcm_32_be", codec.S32 Big)
-    ∷ (codes "ulaw", codec.MuLaw) ∷ (codes "alaw", codec.ALaw) ∷ (codes "ima", codec.Ima) ∷ (codes "ms", codec.Ms) ∷ [])
+    (codec_name printed.U8, codec.U8) ∷ (codec_name printed.S8, codec.S8)
+    ∷ (codec_name (printed.S16 Little), codec.S16 Little) ∷ (codec_name (printed.S16 Big), codec.S16 Big)
+    ∷ (codec_name (printed.S24 Little), codec.S24 Little) ∷ (codec_name (printed.S24 Big), codec.S24 Big)
+    ∷ (codec_name (printed.S32 Little), codec.S32 Little) ∷ (codec_name (printed.S32 Big), codec.S32 Big)
+    ∷ (codec_name printed.MuLaw, codec.MuLaw) ∷ (codec_name printed.ALaw, codec.ALaw)
+    ∷ (codec_name (printed.Ima 0 0), codec.Ima) ∷ (codec_name (printed.Ms 0 0), codec.Ms) ∷ [])
 
 -- the texts of a RIFF INFO list
-abbrev pub info_of : List ℕ → Option InfoWord
+abbrev pub info_of : List ℕ → Option InfoKey
 info_of word = named word (
     (codes "title", info.Title) ∷ (codes "copyright", info.Copyright) ∷ (codes "software", info.Software)
     ∷ (codes "artist", info.Artist) ∷ (codes "comment", info.Comment) ∷ (codes "date", info.Date)
     ∷ (codes "album", info.Album) ∷ (codes "genre", info.Genre) ∷ (codes "track", info.Track) ∷ [])
 
 -- the texts of a broadcast extension chunk (EBU Tech 3285), and its time reference
-abbrev pub bext_of : List ℕ → Option BextWord
+abbrev pub bext_of : List ℕ → Option BextKey
 bext_of word = named word (
     (codes "description", bext.Description) ∷ (codes "originator", bext.Originator) ∷ (codes "orig-ref", bext.OrigRef)
     ∷ (codes "orig-date", bext.OrigDate) ∷ (codes "orig-time", bext.OrigTime) ∷ (codes "time-ref", bext.TimeRef)
     ∷ (codes "coding-hist", bext.CodingHist) ∷ [])
 
-abbrev pub tap_of : List ℕ → Option TapWord
+abbrev pub tap_of : List ℕ → Option TapKind
 tap_of word = named word ((codes "peak", tap.Peak) ∷ (codes "clips", tap.Clips) ∷ (codes "energy", tap.Energy) ∷ [])
 
 abbrev pub switch_of : List ℕ → Option Bool

@@ -1,5 +1,5 @@
 -- The words of a line of a script. Only the space, 0x20, separates words.
-use Rattle.std.specs.Prelude.{ℕ, Bool, true, false, ◌==◌, List, [], ◌∷◌, ◌-◌, drop, length, take}
+use Rattle.std.specs.Prelude.{◌≡◌, ℕ, Bool, true, false, ◌==◌, List, [], ◌∷◌, ◌-◌, drop, length, take}
 use Rattle.std.specs.List.{filter, slice_split, prefix_len, suffix_len, position_or_len}
 
 abbrev pub is_space : ℕ → Bool
@@ -12,6 +12,10 @@ is_filled (c ∷ cs) = true
 -- the words of a text: the text cut at each space, and the empty pieces dropped
 unfoldable pub words : List ℕ → List (List ℕ)
 words text = filter is_filled (slice_split is_space text)
+
+-- a text of these five words
+abbrev pub AreFive : List ℕ → List ℕ → List ℕ → List ℕ → List ℕ → List ℕ → Type 0
+AreFive text first second third fourth fifth = words text ≡ first ∷ second ∷ third ∷ fourth ∷ fifth ∷ []
 
 -- a text without the spaces at its front
 abbrev pub without_spaces : List ℕ → List ℕ

@@ -1,8 +1,10 @@
 //! The commands of a script.
 
-use crate::tables::{BextWord, CodecWord, InfoWord, KindWord, TapWord};
+use crate::tables::{CodecWord, TapKind};
 use arrayvec::ArrayVec;
 use snd_fields::Id4;
+use snd_layout::Kind;
+use snd_meta::{BextKey, InfoKey};
 
 /// The most numbers that a line of `write` can hold.
 pub const MOST_SAMPLES: usize = 2048;
@@ -26,7 +28,7 @@ pub enum Command<'a> {
     /// `create KIND CODEC CHANNELS RATE NAME`
     Create {
         /// The kind of the file.
-        kind: KindWord,
+        kind: Kind,
         /// Its codec.
         codec: CodecWord,
         /// How many channels it is to have, at most 2^63 - 1.
@@ -68,14 +70,14 @@ pub enum Command<'a> {
     /// `set string KEY TEXT`
     SetString {
         /// Which text of the INFO list.
-        key: InfoWord,
+        key: InfoKey,
         /// One byte or more, none of them 0.
         text: &'a [u8],
     },
     /// `set bext KEY TEXT`
     SetBext {
         /// Which field of the broadcast extension.
-        key: BextWord,
+        key: BextKey,
         /// One byte or more, none of them 0; for the time reference decimal digits.
         text: &'a [u8],
     },
@@ -92,7 +94,7 @@ pub enum Command<'a> {
     /// `get cues`
     GetCues,
     /// `tap T`
-    Tap(TapWord),
+    Tap(TapKind),
     /// `untap T`
-    Untap(TapWord),
+    Untap(TapKind),
 }

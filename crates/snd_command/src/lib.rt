@@ -1,6 +1,7 @@
 //! The commands of a script, each one line of text. Nothing here allocates.
 #![tactic(auto)]
 
+mod brief;
 mod command;
 mod forms;
 mod frames;
@@ -17,4 +18,4 @@ mod words;
 pub use command::{Command, MOST_CUES, MOST_SAMPLES};
 pub use line::parse_line;
 pub use refusal::ScriptRefusal;
-pub use tables::{BextWord, CodecWord, InfoWord, KindWord, TapWord};
+pub use tables::{CodecWord, TapKind};

@@ -6,6 +6,7 @@ ghost use Rattle.snd_command.specs.Said.{said_of};
 ghost use Rattle.snd_command.specs.Set.{text_behind};
 ghost use Rattle.snd_command.specs.Words.{words};
 
+use crate::brief::command_of as command_of_brief;
 use crate::command::Command;
 use crate::frames::{parse_auto, parse_read, parse_seek, parse_tap, parse_truncate, parse_untap};
 use crate::numbers::parse_write;
@@ -17,11 +18,12 @@ use crate::words::{next_word, trim_end};
 const LONGEST_LINE: usize = 4096;
 
 // a command by its first word, and what stands behind that
+#[inline(never)]
 fn parse_command<'a>(verb: &'a [u8], args: &'a [u8]) -> Option<Command<'a>>
     requires { length args.now ≤ 4095 }
     ensures { option_map said_of result ≡ said verb.now (words args.now) (text_behind args.now) }
 {
-    if verb == b"open".as_slice() {
+    let brief = if verb == b"open".as_slice() {
         parse_open(args)
     } else if verb == b"create".as_slice() {
         parse_create(args)
@@ -30,13 +32,13 @@ fn parse_command<'a>(verb: &'a [u8], args: &'a [u8]) -> Option<Command<'a>>
     } else if verb == b"read".as_slice() {
         parse_read(args)
     } else if verb == b"write".as_slice() {
-        parse_write(args)
+        return parse_write(args);
     } else if verb == b"truncate".as_slice() {
         parse_truncate(args)
     } else if verb == b"auto".as_slice() {
         parse_auto(args)
     } else if verb == b"set".as_slice() {
-        parse_set(args)
+        return parse_set(args);
     } else if verb == b"get".as_slice() {
         parse_get(args)
     } else if verb == b"tap".as_slice() {
@@ -45,7 +47,8 @@ fn parse_command<'a>(verb: &'a [u8], args: &'a [u8]) -> Option<Command<'a>>
         parse_untap(args)
     } else {
         parse_bare(verb, args)
-    }
+    };
+    Some(command_of_brief(brief?))
 }
 
 /// The command of one line of a script, the line feed at its end left off.

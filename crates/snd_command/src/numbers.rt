@@ -1,8 +1,8 @@
 //! The commands with a list of numbers.
 
-ghost use Rattle.std.specs.Prelude.{◌≡◌, ◌≤◌, None, nat_le, if◌then◌else◌, length, option_map};
+ghost use Rattle.std.specs.Prelude.{◌≡◌, ◌≤◌, length, option_map};
 ghost use Rattle.snd_command.specs.Forms.{signed};
-ghost use Rattle.snd_command.specs.Numbers.{all_of, place, set_cue_said, write_said};
+ghost use Rattle.snd_command.specs.Numbers.{all_of, place, places, set_cue_said, write_said};
 ghost use Rattle.snd_command.specs.Said.{said_of};
 ghost use Rattle.snd_command.specs.Words.{words};
 
@@ -29,6 +29,7 @@ fn samples_of(args: &[u8]) -> Option<ArrayVec<i32, MOST_SAMPLES>>
 }
 
 // `write S S ..`
+#[inline(never)]
 pub fn parse_write(args: &[u8]) -> Option<Command<'_>>
     requires { length args.now ≤ 4095 }
     ensures { option_map said_of result ≡ write_said (words args.now) }
@@ -52,7 +53,7 @@ fn place_of(word: &[u8]) -> Option<u32>
 
 // the places of `set cue`, where each word is one and they are not too many
 fn places_of(args: &[u8]) -> Option<ArrayVec<u32, MOST_CUES>>
-    ensures { option_map (λ places. places.items) result ≡ (if nat_le (length (words args.now)) 100 then all_of place (words args.now) else None) }
+    ensures { option_map (λ places. places.items) result ≡ places (words args.now) }
 {
     let mut places: ArrayVec<u32, MOST_CUES> = ArrayVec::new();
     let mut rest = args;
@@ -67,6 +68,7 @@ fn places_of(args: &[u8]) -> Option<ArrayVec<u32, MOST_CUES>>
 }
 
 // `set cue N N ..`
+#[inline(never)]
 pub fn parse_set_cue(args: &[u8]) -> Option<Command<'_>>
     ensures { option_map said_of result ≡ set_cue_said (words args.now) }
 {

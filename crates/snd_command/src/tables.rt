@@ -4,27 +4,20 @@ ghost use Rattle.std.specs.Prelude.{◌≡◌};
 ghost use Rattle.snd_command.specs.Tables.{bext_of, codec_of, info_of, kind_of, switch_of, tap_of};
 
 use snd_fields::Order;
+use snd_layout::Kind;
+use snd_meta::{BextKey, InfoKey};
 
-/// The kind of a sound file, as a script names it.
-#[derive(Clone, Copy, Debug, PartialEq, Eq, Drop)]
-pub enum KindWord {
-    /// `wave`: RIFF/WAVE.
-    Wave,
-    /// `rf64`: RF64, of EBU Tech 3306.
-    Rf64,
-    /// `w64`: Sony's Wave64.
-    W64,
-    /// `au`: Sun's AU.
-    Au,
-    /// `dns`: AU with the lowest byte first.
-    Dns,
-    /// `voc`: Creative's Voice file.
-    Voc,
-    /// `svx`: Amiga IFF 8SVX.
-    Svx,
-    /// `sphere`: NIST SPHERE.
-    Sphere,
-}
+/// Every kind of sound file.
+const KINDS: [Kind; 8] = [
+    Kind::Wave,
+    Kind::Rf64,
+    Kind::W64,
+    Kind::Au,
+    Kind::Dns,
+    Kind::Voc,
+    Kind::Svx,
+    Kind::Sphere,
+];
 
 /// The codec of a sound file, as a script names it.
 #[derive(Clone, Copy, Debug, PartialEq, Eq, Drop)]
@@ -49,51 +42,9 @@ pub enum CodecWord {
     Ms,
 }
 
-/// A text of a RIFF INFO list.
-#[derive(Clone, Copy, Debug, PartialEq, Eq, Drop)]
-pub enum InfoWord {
-    /// `title`
-    Title,
-    /// `copyright`
-    Copyright,
-    /// `software`
-    Software,
-    /// `artist`
-    Artist,
-    /// `comment`
-    Comment,
-    /// `date`
-    Date,
-    /// `album`
-    Album,
-    /// `genre`
-    Genre,
-    /// `track`
-    Track,
-}
-
-/// A field of a broadcast extension chunk, of EBU Tech 3285.
-#[derive(Clone, Copy, Debug, PartialEq, Eq, Drop)]
-pub enum BextWord {
-    /// `description`
-    Description,
-    /// `originator`
-    Originator,
-    /// `orig-ref`: the originator's reference.
-    OrigRef,
-    /// `orig-date`: the date of the origination.
-    OrigDate,
-    /// `orig-time`: the time of the origination.
-    OrigTime,
-    /// `time-ref`: the first sample's count since midnight, a number.
-    TimeRef,
-    /// `coding-hist`: the coding history.
-    CodingHist,
-}
-
 /// A meter.
 #[derive(Clone, Copy, Debug, PartialEq, Eq, Drop)]
-pub enum TapWord {
+pub enum TapKind {
     /// `peak`: the greatest magnitude.
     Peak,
     /// `clips`: the number of samples at either end of the range.
@@ -103,28 +54,13 @@ pub enum TapWord {
 }
 
 /// The kind that a word names.
-pub fn kind_of(word: &[u8]) -> Option<KindWord>
+pub fn kind_of(word: &[u8]) -> Option<Kind>
     ensures { result ≡ kind_of word.now }
 {
-    if word == b"wave".as_slice() {
-        Some(KindWord::Wave)
-    } else if word == b"rf64".as_slice() {
-        Some(KindWord::Rf64)
-    } else if word == b"w64".as_slice() {
-        Some(KindWord::W64)
-    } else if word == b"au".as_slice() {
-        Some(KindWord::Au)
-    } else if word == b"dns".as_slice() {
-        Some(KindWord::Dns)
-    } else if word == b"voc".as_slice() {
-        Some(KindWord::Voc)
-    } else if word == b"svx".as_slice() {
-        Some(KindWord::Svx)
-    } else if word == b"sphere".as_slice() {
-        Some(KindWord::Sphere)
-    } else {
-        None
-    }
+    KINDS
+        .iter()
+        .copied()
+        .find(|kind| word == kind.name().as_bytes())
 }
 
 /// The codec that a word names.
@@ -161,65 +97,65 @@ pub fn codec_of(word: &[u8]) -> Option<CodecWord>
 }
 
 /// The text of a RIFF INFO list that a word names.
-pub fn info_of(word: &[u8]) -> Option<InfoWord>
+pub fn info_of(word: &[u8]) -> Option<InfoKey>
     ensures { result ≡ info_of word.now }
 {
     if word == b"title".as_slice() {
-        Some(InfoWord::Title)
+        Some(InfoKey::Title)
     } else if word == b"copyright".as_slice() {
-        Some(InfoWord::Copyright)
+        Some(InfoKey::Copyright)
     } else if word == b"software".as_slice() {
-        Some(InfoWord::Software)
+        Some(InfoKey::Software)
     } else if word == b"artist".as_slice() {
-        Some(InfoWord::Artist)
+        Some(InfoKey::Artist)
     } else if word == b"comment".as_slice() {
-        Some(InfoWord::Comment)
+        Some(InfoKey::Comment)
     } else if word == b"date".as_slice() {
-        Some(InfoWord::Date)
+        Some(InfoKey::Date)
     } else if word == b"album".as_slice() {
-        Some(InfoWord::Album)
+        Some(InfoKey::Album)
     } else if word == b"genre".as_slice() {
-        Some(InfoWord::Genre)
+        Some(InfoKey::Genre)
     } else if word == b"track".as_slice() {
-        Some(InfoWord::Track)
+        Some(InfoKey::Track)
     } else {
         None
     }
 }
 
 /// The field of a broadcast extension chunk that a word names.
-pub fn bext_of(word: &[u8]) -> Option<BextWord>
+pub fn bext_of(word: &[u8]) -> Option<BextKey>
     ensures { result ≡ bext_of word.now }
 {
     if word == b"description".as_slice() {
-        Some(BextWord::Description)
+        Some(BextKey::Description)
     } else if word == b"originator".as_slice() {
-        Some(BextWord::Originator)
+        Some(BextKey::Originator)
     } else if word == b"orig-ref".as_slice() {
-        Some(BextWord::OrigRef)
+        Some(BextKey::OrigRef)
     } else if word == b"orig-date".as_slice() {
-        Some(BextWord::OrigDate)
+        Some(BextKey::OrigDate)
     } else if word == b"orig-time".as_slice() {
-        Some(BextWord::OrigTime)
+        Some(BextKey::OrigTime)
     } else if word == b"time-ref".as_slice() {
-        Some(BextWord::TimeRef)
+        Some(BextKey::TimeRef)
     } else if word == b"coding-hist".as_slice() {
-        Some(BextWord::CodingHist)
+        Some(BextKey::CodingHist)
     } else {
         None
     }
 }
 
 /// The meter that a word names.
-pub fn tap_of(word: &[u8]) -> Option<TapWord>
+pub fn tap_of(word: &[u8]) -> Option<TapKind>
     ensures { result ≡ tap_of word.now }
 {
     if word == b"peak".as_slice() {
-        Some(TapWord::Peak)
+        Some(TapKind::Peak)
     } else if word == b"clips".as_slice() {
-        Some(TapWord::Clips)
+        Some(TapKind::Clips)
     } else if word == b"energy".as_slice() {
-        Some(TapWord::Energy)
+        Some(TapKind::Energy)
     } else {
         None
     }

@@ -1,6 +1,8 @@
 use super::*;
 use arrayvec::ArrayVec;
 use snd_fields::{Id4, Order};
+use snd_layout::Kind;
+use snd_meta::{BextKey, InfoKey};
 use std::process::Abort;
 use std::test::Fail;
 
@@ -10,7 +12,7 @@ fn is(rt: &impl Abort, line: &[u8], command: Command<'_>) {
     assert!(rt; parse_line(line) == Ok(Some(command)));
 }
 
-fn create(kind: KindWord, codec: CodecWord, name: &[u8]) -> Command<'_> {
+fn create(kind: Kind, codec: CodecWord, name: &[u8]) -> Command<'_> {
     Command::Create {
         kind,
         codec,
@@ -31,62 +33,62 @@ fn reads_commands_on_files(rt: HostRuntime) -> Result<(), Fail> {
     is(
         &rt,
         b"create wave pcm_u8 1 8000 a",
-        create(KindWord::Wave, CodecWord::U8, b"a"),
+        create(Kind::Wave, CodecWord::U8, b"a"),
     );
     is(
         &rt,
         b"create rf64 pcm_s8 1 8000 a",
-        create(KindWord::Rf64, CodecWord::S8, b"a"),
+        create(Kind::Rf64, CodecWord::S8, b"a"),
     );
     is(
         &rt,
         b"create w64 pcm_16_le 01 8000 a",
-        create(KindWord::W64, CodecWord::S16(Order::Little), b"a"),
+        create(Kind::W64, CodecWord::S16(Order::Little), b"a"),
     );
     is(
         &rt,
         b"create au pcm_16_be 1 8000 a",
-        create(KindWord::Au, CodecWord::S16(Order::Big), b"a"),
+        create(Kind::Au, CodecWord::S16(Order::Big), b"a"),
     );
     is(
         &rt,
         b"create dns pcm_24_le 1 8000 a",
-        create(KindWord::Dns, CodecWord::S24(Order::Little), b"a"),
+        create(Kind::Dns, CodecWord::S24(Order::Little), b"a"),
     );
     is(
         &rt,
         b"create voc pcm_24_be 1 8000 a",
-        create(KindWord::Voc, CodecWord::S24(Order::Big), b"a"),
+        create(Kind::Voc, CodecWord::S24(Order::Big), b"a"),
     );
     is(
         &rt,
         b"create svx pcm_32_le 1 8000 a",
-        create(KindWord::Svx, CodecWord::S32(Order::Little), b"a"),
+        create(Kind::Svx, CodecWord::S32(Order::Little), b"a"),
     );
     is(
         &rt,
         b"create sphere pcm_32_be 1 8000 a",
-        create(KindWord::Sphere, CodecWord::S32(Order::Big), b"a"),
+        create(Kind::Sphere, CodecWord::S32(Order::Big), b"a"),
     );
     is(
         &rt,
         b"create wave ulaw 1 8000 a",
-        create(KindWord::Wave, CodecWord::MuLaw, b"a"),
+        create(Kind::Wave, CodecWord::MuLaw, b"a"),
     );
     is(
         &rt,
         b"create wave alaw 1 8000 a",
-        create(KindWord::Wave, CodecWord::ALaw, b"a"),
+        create(Kind::Wave, CodecWord::ALaw, b"a"),
     );
     is(
         &rt,
         b"create wave ima 1 8000 a",
-        create(KindWord::Wave, CodecWord::Ima, b"a"),
+        create(Kind::Wave, CodecWord::Ima, b"a"),
     );
     is(
         &rt,
         b"create wave ms 1 8000 ~",
-        create(KindWord::Wave, CodecWord::Ms, b"~"),
+        create(Kind::Wave, CodecWord::Ms, b"~"),
     );
     is(&rt, b"info", Command::Info);
     is(&rt, b" close ", Command::Close);
@@ -110,9 +112,9 @@ fn reads_commands_on_frames(rt: HostRuntime) -> Result<(), Fail> {
     is(&rt, b"truncate 3", Command::Truncate(3));
     is(&rt, b"auto on", Command::Auto(true));
     is(&rt, b"auto off", Command::Auto(false));
-    is(&rt, b"tap peak", Command::Tap(TapWord::Peak));
-    is(&rt, b"tap clips", Command::Tap(TapWord::Clips));
-    is(&rt, b"untap energy", Command::Untap(TapWord::Energy));
+    is(&rt, b"tap peak", Command::Tap(TapKind::Peak));
+    is(&rt, b"tap clips", Command::Tap(TapKind::Clips));
+    is(&rt, b"untap energy", Command::Untap(TapKind::Energy));
     let mut samples = ArrayVec::new();
     samples.push(i32::MIN);
     samples.push(i32::MAX);
@@ -148,7 +150,7 @@ fn reads_commands_on_chunks(rt: HostRuntime) -> Result<(), Fail> {
         &rt,
         b"set string title A",
         Command::SetString {
-            key: InfoWord::Title,
+            key: InfoKey::Title,
             text: b"A",
         },
     );
@@ -156,7 +158,7 @@ fn reads_commands_on_chunks(rt: HostRuntime) -> Result<(), Fail> {
         &rt,
         b" set  string  track  A\tb \xff ",
         Command::SetString {
-            key: InfoWord::Track,
+            key: InfoKey::Track,
             text: b" A\tb \xff",
         },
     );
@@ -164,7 +166,7 @@ fn reads_commands_on_chunks(rt: HostRuntime) -> Result<(), Fail> {
         &rt,
         b"set bext originator X  Y",
         Command::SetBext {
-            key: BextWord::Originator,
+            key: BextKey::Originator,
             text: b"X  Y",
         },
     );
@@ -172,7 +174,7 @@ fn reads_commands_on_chunks(rt: HostRuntime) -> Result<(), Fail> {
         &rt,
         b"set bext time-ref 05",
         Command::SetBext {
-            key: BextWord::TimeRef,
+            key: BextKey::TimeRef,
             text: b"05",
         },
     );

@@ -1,8 +1,8 @@
 //! The words of a line. Only the space separates words.
 
-ghost use Rattle.std.specs.Prelude.{◌≡◌, ◌≢◌, ◌+◌, ◌≤◌, length, [], ◌∷◌, IfSome, MatchOption};
+ghost use Rattle.std.specs.Prelude.{◌≡◌, ◌≢◌, ◌+◌, ◌≤◌, length, [], ◌∷◌, IfNone, IfSome};
 ghost use Rattle.std.specs.List.{position_or_len};
-ghost use Rattle.snd_command.specs.Words.{behind_word, is_space, trimmed, without_spaces, words};
+ghost use Rattle.snd_command.specs.Words.{AreFive, behind_word, is_space, trimmed, without_spaces, words};
 
 // a text without the spaces at its front
 pub fn skip_spaces(text: &[u8]) -> &[u8]
@@ -42,10 +42,11 @@ pub fn length_to_space(text: &[u8]) -> usize
 
 // the first word of a text, and what stands behind it
 pub fn next_word(text: &[u8]) -> Option<(&[u8], &[u8])>
-    ensures words { MatchOption result (words text.now ≡ []) (λ found. words text.now ≡ found.0.now ∷ words found.1.now) }
+    ensures none { IfNone result (words text.now ≡ []) }
+    ensures words { IfSome result (λ found. words text.now ≡ found.0.now ∷ words found.1.now) }
     ensures rest { IfSome result (λ found. behind_word text.now ≡ found.1.now) }
     ensures filled { IfSome result (λ found. 1 ≤ length found.0.now) }
-    ensures shorter { IfSome result (λ found. length found.0.now + length found.1.now ≤ length text.now) }
+    ensures shorter { IfSome result (λ two. length two.0.now + length two.1.now ≤ length text.now) }
 {
     let text = skip_spaces(text);
     if text.is_empty() {
@@ -57,7 +58,8 @@ pub fn next_word(text: &[u8]) -> Option<(&[u8], &[u8])>
 
 // the one word of a text
 pub fn one_word(text: &[u8]) -> Option<&[u8]>
-    ensures { MatchOption result (length (words text.now) ≢ 1) (λ word. words text.now ≡ word.now ∷ []) }
+    ensures none { IfNone result (length (words text.now) ≢ 1) }
+    ensures word { IfSome result (λ word. words text.now ≡ word.now ∷ []) }
 {
     let (word, rest) = next_word(text)?;
     if next_word(rest).is_some() {
@@ -68,7 +70,8 @@ pub fn one_word(text: &[u8]) -> Option<&[u8]>
 
 // the two words of a text
 pub fn two_words(text: &[u8]) -> Option<(&[u8], &[u8])>
-    ensures { MatchOption result (length (words text.now) ≢ 2) (λ two. words text.now ≡ two.0.now ∷ two.1.now ∷ []) }
+    ensures none { IfNone result (length (words text.now) ≢ 2) }
+    ensures words { IfSome result (λ two. words text.now ≡ two.0.now ∷ two.1.now ∷ []) }
 {
     let (first, rest) = next_word(text)?;
     let second = one_word(rest)?;
@@ -77,7 +80,8 @@ pub fn two_words(text: &[u8]) -> Option<(&[u8], &[u8])>
 
 // the five words of a text
 pub fn five_words(text: &[u8]) -> Option<(&[u8], &[u8], &[u8], &[u8], &[u8])>
-    ensures { MatchOption result (length (words text.now) ≢ 5) (λ five. words text.now ≡ five.0.now ∷ five.1.now ∷ five.2.now ∷ five.3.now ∷ five.4.now ∷ []) }
+    ensures none { IfNone result (length (words text.now) ≢ 5) }
+    ensures words { IfSome result (λ w. AreFive text.now w.0.now w.1.now w.2.now w.3.now w.4.now) }
 {
     let (first, rest) = next_word(text)?;
     let (second, rest) = next_word(rest)?;

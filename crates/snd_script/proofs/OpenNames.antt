@@ -8,7 +8,7 @@ use Rattle.std.proofs.lemmas.List.{get_or_past}
 use Rattle.std.proofs.lemmas.List.Sums.{AllPass-from_list_all}
 use Rattle.std.proofs.lemmas.Bool.{cases_lt, leb-true}
 use Rattle.snd_command.specs.declared.tables.CodecWord.{CodecWord}
-use Rattle.snd_command.specs.declared.tables.KindWord.{KindWord}
+use Rattle.snd_layout.specs.declared.kind.Kind.{Kind}
 use Rattle.snd_command.specs.declared.refusal.ScriptRefusal.{ScriptRefusal}
 use Rattle.snd_fields.specs.Decimal.{decimal}
 use Rattle.snd_command.specs.Words.{behind_word, trimmed, words}
@@ -48,7 +48,7 @@ fine_open : (args : List (List ℕ)) → Fine (open_said args)
 fine_open (mode ∷ name ∷ []) = fine_where (is_name name) _ None (λ is. fine_if _ (Some (Said.open_read name)) _ (record { fine = is }) (fine_if _ (Some (Said.open_update name)) None (record { fine = tt }) (record { fine = tt }))) (record { fine = tt })
 fine_open args = record { fine = tt }
 
-fine_created : (kind : Option KindWord) (codec : Option CodecWord) (channels rate : Option ℕ) (name : List ℕ) → Fine (created kind codec channels rate name)
+fine_created : (kind : Option Kind) (codec : Option CodecWord) (channels rate : Option ℕ) (name : List ℕ) → Fine (created kind codec channels rate name)
 fine_created (Some kind) (Some codec) (Some channels) (Some rate) name = fine_if (is_name name) (Some (Said.create kind codec channels rate name)) None (record { fine = tt }) (record { fine = tt })
 fine_created kind codec channels rate name = record { fine = tt }
 

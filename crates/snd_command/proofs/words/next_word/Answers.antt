@@ -5,8 +5,8 @@ use Rattle.snd_command.specs.Words.{behind_word, is_space, without_spaces}
 use Rattle.snd_command.proofs.Cuts.{no_words, words-next, word_there}
 use Rattle.snd_command.proofs.words.next_word.Goals as goal
 
-pub returns-then-is_empty-clause-words : goal.returns-then-is_empty-clause-words
-returns-then-is_empty-clause-words c =
+pub returns-then-is_empty-clause-none : goal.returns-then-is_empty-clause-none
+returns-then-is_empty-clause-none c =
     let none : length (without_spaces c.args.text.now) ≡ 0 = search rules in
     no_words c.args.text.now none
 
