@@ -1,7 +1,7 @@
 -- What is known after one call and then another.
 use Rattle.std.specs.Prelude.{◌≡◌, ◌⊎◌, ℕ, ◌+◌, ◌<◌, ◌≤◌, List}
 use Rattle.std.proofs.Common.{◌∙◌, inl, inr, arith}
-use Rattle.snd_disk.specs.State.{State, Rises, Keeps, SameImages, KeepsImages, OnlyReads, AtMost}
+use Rattle.snd_disk.specs.State.{State, Rises, GoesOn, Keeps, KeepsImages, OnlyReads, AtMost, Passes}
 
 pub rises_then : (a b c : ℕ) → Rises a b → b ≤ c → c < 18446744073709551616 → Rises a c
 rises_then a b c (inl rose) later fits = inl (omega arith)
@@ -40,3 +40,23 @@ module _ (a b c : State) (images images' images'' : List ℕ → Type 0) (past p
     images = keeps_images_then a.clock b.clock c.clock images images' images'' past past' past'' first.images second.images;
     written = second.written ∙ first.written;
   }
+
+-- time that goes on twice goes on
+pub goes_on_then : (a b c : ℕ) (past past' past'' : ℕ → ℕ → List ℕ → Type 0) → GoesOn a b past past' → GoesOn b c past' past'' → GoesOn a c past past''
+goes_on_then a b c past past' past'' first second = record {
+  later = omega (arith, first.later, second.later);
+  same = λ s t x le left. first.same s t x le (second.same s t x (omega (arith, le, first.later)) left);
+  kept = λ s t x left. second.kept s t x (first.kept s t x left);
+}
+
+-- it goes on where it stands still
+pub goes_on_kept : (clock clock' : ℕ) (before after : List ℕ → Type 0) (past since : ℕ → ℕ → List ℕ → Type 0) → KeepsImages clock clock' before after past since → GoesOn clock clock' past since
+goes_on_kept clock clock' before after past since keeps = record {
+  later = omega (arith, keeps.same_time);
+  same = λ s t x le left. keeps.no_more s t x left;
+  kept = keeps.no_fewer;
+}
+
+-- and it goes on where a moment is added
+pub goes_on_passes : (old new : ℕ) (past since : ℕ → ℕ → List ℕ → Type 0) (after : List ℕ → Type 0) → Passes old new past since after → GoesOn old new past since
+goes_on_passes old new past since after passes = record { later = passes.later; same = passes.same; kept = passes.kept }

@@ -1,13 +1,13 @@
 -- What a shelf is like once a file was taken out, used, and given back.
 use Rattle.std.specs.Prelude.{◌≡◌, ℕ, List, [], false, true, Option, Some, None, unwrap_or, refl}
 use Rattle.std.specs.Str.{bytes_eq}
-use Rattle.std.proofs.Common.{cond, sym, ◌∙◌, ap, subst, inl, inr, arith}
+use Rattle.std.proofs.Common.{cond, sym, ◌∙◌, ap, subst, inl, inr}
 use Rattle.std.proofs.lemmas.Bool.{cases_Bool}
-use Rattle.snd_disk.specs.State.{State, KeepsImages}
+use Rattle.snd_disk.specs.State.{State, GoesOn, KeepsImages}
 use Rattle.snd_disk.specs.Device.{KeepsImagesOn}
-use Rattle.snd_disk.specs.Shelf.{Files, ShelfState, SameFiles, KeepsFiles, Takes, Gives, GoesOn, HandsOver, put}
+use Rattle.snd_disk.specs.Shelf.{Files, ShelfState, SameFiles, KeepsFiles, Takes, Gives, HandsOver, put}
 use Rattle.snd_disk.specs.Shelves.{ChangesOnly, HandsOut, HandsOutNone, KeepsFileImages, KeepsImagesOf, KeepsOthers, TakesBack, TellsFiles}
-use Rattle.snd_disk.proofs.Chains.{keeps_images_then}
+use Rattle.snd_disk.proofs.Chains.{goes_on_kept, goes_on_then, keeps_images_then}
 use Rattle.snd_disk.proofs.Names.{same_name}
 
 module _ (old mid new : ShelfState) (name : List ℕ) (disk disk' : State) (takes : Takes old mid name false disk) (same : disk'.contents ≡ disk.contents) (gives : Gives mid new name disk') where
@@ -36,22 +36,6 @@ module _ (old mid new : ShelfState) (name : List ℕ) (disk disk' : State) (take
 pub handed_there : (file : Option (List ℕ)) (b : List ℕ) (clock clock' : ℕ) (before after : List ℕ → Type 0) (past since : ℕ → ℕ → List ℕ → Type 0) → file ≡ Some b
     → HandsOver file clock clock' before after past since → KeepsImages clock clock' before after past since
 handed_there file b clock clock' before after past since is handed = subst (λ (o : Option (List ℕ)). HandsOver o clock clock' before after past since) is handed
-
--- time that goes on twice goes on
-pub goes_on_then : (a b c : ℕ) (past past' past'' : ℕ → ℕ → List ℕ → Type 0) → GoesOn a b past past' → GoesOn b c past' past'' → GoesOn a c past past''
-goes_on_then a b c past past' past'' first second = record {
-  later = omega (arith, first.later, second.later);
-  same = λ s t x le left. first.same s t x le (second.same s t x (omega (arith, le, first.later)) left);
-  kept = λ s t x left. second.kept s t x (first.kept s t x left);
-}
-
--- it goes on where it stands still
-pub goes_on_kept : (clock clock' : ℕ) (before after : List ℕ → Type 0) (past since : ℕ → ℕ → List ℕ → Type 0) → KeepsImages clock clock' before after past since → GoesOn clock clock' past since
-goes_on_kept clock clock' before after past since keeps = record {
-  later = omega (arith, keeps.same_time);
-  same = λ s t x le left. keeps.no_more s t x left;
-  kept = keeps.no_fewer;
-}
 
 module _ {S : Type 0} (state : S → ShelfState) (may_leave : S → List ℕ → List ℕ → Type 0) (left_between : S → List ℕ → ℕ → ℕ → List ℕ → Type 0) (name : List ℕ) where
   -- the file of the name, and each other file

@@ -1,7 +1,7 @@
 -- Relations over a whole disk, before and after a call. The first arguments are its meanings: what is known of it, what a
 -- crash may leave of it, and what a crash may have left between two values of its clock.
 use Rattle.std.specs.Prelude.{◌≡◌, ◌⊎◌, ℕ, ◌<◌, List, Some, Result, IfOk}
-use Rattle.snd_disk.specs.State.{State, Counts, AtMost, Keeps, KeepsImages, Mixes, MixesAll, OnlyReads, Passes}
+use Rattle.snd_disk.specs.State.{State, Counts, AtMost, GoesOn, Keeps, KeepsImages, Mixes, MixesAll, OnlyReads, Passes}
 
 -- the disk tells these contents
 abbrev pub Tells : {D : Type 0} → (D → State) → D → List ℕ → Type 0
@@ -42,10 +42,13 @@ pub record IsUnchanged {D : Type 0} (state : D → State) (may_leave : D → Lis
   pub keeps : Keeps (state old) (state new)
   pub images : KeepsImagesOn state may_leave left_between old new
 
--- time goes on
+-- Time goes on: past moments stay, and this one is added; or no more is said than that past moments stay.
 abbrev pub PassesOn : {D : Type 0} → (D → State) → (D → List ℕ → Type 0) → (D → ℕ → ℕ → List ℕ → Type 0) → D → D → Type 0
 PassesOn state may_leave left_between old new =
     Passes (state old).clock (state new).clock (left_between old) (left_between new) (may_leave new)
+
+abbrev pub GoesOnFrom : {D : Type 0} → (D → State) → (D → ℕ → ℕ → List ℕ → Type 0) → D → D → Type 0
+GoesOnFrom state left_between old new = GoesOn (state old).clock (state new).clock (left_between old) (left_between new)
 
 -- the clock rises where anything changes of what a crash may leave
 abbrev pub TicksOn : {D : Type 0} → (D → State) → (D → List ℕ → Type 0) → (D → ℕ → ℕ → List ℕ → Type 0) → D → D → Type 0

@@ -92,9 +92,3 @@ pub record IsEmptyImage (after : List ℕ → Type 0) (since : ℕ → ℕ → L
 abbrev pub HandsOver : Option (List ℕ) → ℕ → ℕ → (List ℕ → Type 0) → (List ℕ → Type 0) → (ℕ → ℕ → List ℕ → Type 0) → (ℕ → ℕ → List ℕ → Type 0) → Type 0
 HandsOver (Some b) clock clock' before after past since = KeepsImages clock clock' before after past since
 HandsOver None clock clock' before after past since = IsEmptyImage after since
-
--- Time has gone on for a file: its clock has not fallen, and what a crash may have left of it at past moments stays.
-pub record GoesOn (clock clock' : ℕ) (past since : ℕ → ℕ → List ℕ → Type 0) : Type 0 where
-  pub later : clock ≤ clock'
-  pub same : (s t : ℕ) (x : List ℕ) → t ≤ clock → since s t x → past s t x
-  pub kept : (s t : ℕ) (x : List ℕ) → past s t x → since s t x

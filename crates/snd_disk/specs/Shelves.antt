@@ -3,8 +3,8 @@
 -- is handed over, its own meanings follow.
 use Rattle.std.specs.Prelude.{◌≡◌, ℕ, List, false, Some}
 use Rattle.std.specs.Str.{bytes_eq}
-use Rattle.snd_disk.specs.State.{State, KeepsImages}
-use Rattle.snd_disk.specs.Shelf.{Files, ShelfState, GoesOn, HandsOver}
+use Rattle.snd_disk.specs.State.{State, GoesOn, KeepsImages}
+use Rattle.snd_disk.specs.Shelf.{Files, ShelfState, HandsOver}
 
 -- the shelf tells these files
 abbrev pub TellsFiles : {S : Type 0} → (S → ShelfState) → S → Files → Type 0

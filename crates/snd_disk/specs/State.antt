@@ -101,6 +101,12 @@ pub record Passes (old new : ℕ) (past since : ℕ → ℕ → List ℕ → Typ
   pub kept : (s t : ℕ) (x : List ℕ) → past s t x → since s t x
   pub nothing_else : (s t : ℕ) (x : List ℕ) → since s t x → past s t x ⊎ after x
 
+-- Time has gone on: the clock has not fallen, and what a crash may have left at past moments stays.
+pub record GoesOn (old new : ℕ) (past since : ℕ → ℕ → List ℕ → Type 0) : Type 0 where
+  pub later : old ≤ new
+  pub same : (s t : ℕ) (x : List ℕ) → t ≤ old → since s t x → past s t x
+  pub kept : (s t : ℕ) (x : List ℕ) → past s t x → since s t x
+
 -- a count of bytes rises by no more than this
 pub record AtMost (old n new : ℕ) : Type 0 where
   pub later : old ≤ new
