@@ -1,22 +1,29 @@
 #!/usr/bin/env bash
-# The built program against the system: names that are no regular files, files that may not be read or written, streams
-# that are closed or full. No case may wait.
+# The built program against the system: names that are no regular files, files that may not be read or written, files that
+# run or are leased, streams that are closed or full. No case may wait, and none may change a file.
 set -u
 source "$(dirname "$(readlink -f "${BASH_SOURCE[0]}")")/built_program.bash"
 passed=0
 failed=0
 
-# expect NAME STATUS OUT ERR COMMAND..: the command's status and the first lines of its two streams
+# the files of this folder, with their checksums, but for what the rows themselves write
+sums() {
+    find . -type f ! -name out.txt ! -name err.txt ! -name trace.txt -exec sha256sum {} + 2>/dev/null | sort
+}
+
+# expect NAME STATUS OUT ERR COMMAND..: the command's status and the first lines of its two streams, and no file changed
 expect() {
-    local name=$1 status=$2 out=$3 err=$4
+    local name=$1 status=$2 out=$3 err=$4 before
     shift 4
+    before=$(sums)
     timeout 60 "$@" >out.txt 2>err.txt </dev/null
     local got=$?
-    if [ "$got" = "$status" ] && [ "$(head -n 1 out.txt)" = "$out" ] && [ "$(head -n 1 err.txt)" = "$err" ]; then
+    if [ "$got" = "$status" ] && [ "$(head -n 1 out.txt)" = "$out" ] && [ "$(head -n 1 err.txt)" = "$err" ] && [ "$(sums)" = "$before" ]; then
         passed=$((passed + 1))
     else
         failed=$((failed + 1))
         echo "FAILED $name: status $got, out '$(head -n 1 out.txt)', err '$(head -n 1 err.txt)'"
+        diff <(echo "$before") <(sums)
     fi
 }
 
@@ -39,7 +46,8 @@ expect "a full standard output" 3 "" "" bash -c "'$program' info bell.wav >/dev/
 expect "a closed standard output" 3 "" "" bash -c "'$program' info bell.wav >&-"
 expect "a full standard error" 3 "" "" bash -c "'$program' info no.wav 2>/dev/full"
 expect "a script" 0 "ok 4000 1 8000 wave pcm_16_le" "" bash -c "printf 'open r bell.wav\nclose\n' | '$program' script"
-expect "a script from a file" 1 "error 42 NotOpen" "" bash -c "echo 'read 1' >script; '$program' script <script"
+echo 'read 1' >script
+expect "a script from a file" 1 "error 42 NotOpen" "" bash -c "'$program' script <script"
 expect "a script of a folder" 3 "ok 4000 1 8000 wave pcm_16_le" "" bash -c "printf 'open r bell.wav\nclose\nopen r sub\ninfo\n' | '$program' script"
 expect "an endless script" 2 "" "snd: script too long" bash -c "yes '' | '$program' script"
 expect "a script that cannot be read" 3 "" "" bash -c "'$program' script <."
@@ -54,6 +62,59 @@ if select.select([snd.stdout], [], [], 5)[0]:
 snd.stdin.close()
 sys.exit(snd.wait())
 "
+# a stream that is closed is a fault where it is used, and no file comes in its place
+printf 'open r bell.wav\nread 1\nclose\n' >opens
+bell="ok 4000 1 8000 wave pcm_16_le"
+expect "info, input closed" 0 "name bell.wav" "" bash -c "'$program' info bell.wav <&-"
+expect "info, output closed" 3 "" "" bash -c "'$program' info bell.wav >&-"
+expect "info, errors closed" 0 "name bell.wav" "" bash -c "'$program' info bell.wav 2>&-"
+expect "info, all closed" 3 "" "" bash -c "'$program' info bell.wav <&- >&- 2>&-"
+expect "a refusal, input closed" 1 "" "snd: opens: error 1 NotSound" bash -c "'$program' info opens <&-"
+expect "a refusal, output closed" 1 "" "snd: opens: error 1 NotSound" bash -c "'$program' info opens >&-"
+expect "a refusal, errors closed" 3 "" "" bash -c "'$program' info opens 2>&-"
+expect "a refusal, all closed" 3 "" "" bash -c "'$program' info opens <&- >&- 2>&-"
+expect "a script, input closed" 3 "" "" bash -c "'$program' script <&-"
+expect "a script, output closed" 3 "" "" bash -c "'$program' script <opens >&-"
+expect "a script, errors closed" 0 "$bell" "" bash -c "'$program' script <opens 2>&-"
+expect "a script, output and errors closed" 3 "" "" bash -c "'$program' script <opens >&- 2>&-"
+expect "a script, input and output closed" 3 "" "" bash -c "'$program' script <&- >&-"
+expect "a script, all closed" 3 "" "" bash -c "'$program' script <&- >&- 2>&-"
+# a file is only read: one that runs can be looked at, and whoever lent it for reading alone is not asked to end that
+mkdir run && cp "$(command -v sleep)" run/sleep
+run/sleep 600 &
+running=$!
+until [ "$(readlink "/proc/$running/exe")" = "$PWD/run/sleep" ]; do sleep 0.01; done
+bash -c ': >>run/sleep' 2>/dev/null && { failed=$((failed + 1)); echo "FAILED: a running program may be written here"; }
+expect "a running program" 1 "" "snd: run/sleep: error 1 NotSound" "$program" info run/sleep
+kill "$running" && wait "$running" 2>/dev/null
+expect "a file with a read lease" 0 "name bell.wav" "" python3 -c "
+import fcntl, signal, subprocess, sys
+asked = []
+signal.signal(signal.SIGIO, lambda *_: asked.append(1))
+with open('bell.wav', 'rb') as file:
+    fcntl.fcntl(file, fcntl.F_SETLEASE, fcntl.F_RDLCK)
+    status = subprocess.run(['$program', 'info', 'bell.wav'], timeout=20).returncode
+sys.exit(9 if asked else status)
+"
+if command -v strace >/dev/null; then
+    expect "info, as strace sees it" 0 "name bell.wav" "" strace -f -o trace.txt "$program" info bell.wav
+    # opened once, for reading alone; and no call that changes anything but the two streams
+    opened=$(grep -oE '"bell.wav", O_[A-Z]+' trace.txt)
+    changes=$(
+        grep -E 'O_WRONLY|O_RDWR|O_CREAT|O_TRUNC|O_APPEND|PROT_WRITE, MAP_SHARED' trace.txt
+        calls='creat|p?write|sendfile|splice|vmsplice|copy_file_range|f?truncate|fallocate|rename|link|symlink|unlink|mkdir|rmdir|mknod'
+        calls+='|f?chmod|[fl]?chown|utime|futimes|[fl]?setxattr|[fl]?removexattr|f?sync|fdatasync|ioctl'
+        grep -E "^[0-9]+ +($calls)[a-z0-9]*\\(" trace.txt | grep -vE '^[0-9]+ +write\([12],'
+    )
+    if [ "$opened" = '"bell.wav", O_RDONLY' ] && [ -z "$changes" ]; then
+        passed=$((passed + 1))
+    else
+        failed=$((failed + 1))
+        echo "FAILED what strace sees of info: opened as '$opened'; $changes"
+    fi
+else
+    echo "command_line: skipped what strace sees of info: strace is missing"
+fi
 if [ "$(id -u)" = 0 ] && command -v setpriv >/dev/null; then
     chmod 755 . && chmod 000 sub/b.wav && cp "$program" ./snd-program && chmod 755 ./snd-program
     expect "a file without permission to read" 3 "" "" setpriv --reuid=65534 --regid=65534 --clear-groups ./snd-program info sub/b.wav

@@ -2,7 +2,7 @@ ghost use Rattle.std.specs.Prelude.{◌≡◌, ◌+◌, ◌<◌, ◌≤◌, ◌^
 ghost use Rattle.std.specs.String.{string_bytes};
 ghost use Rattle.snd_disk.specs.State.{Rises};
 
-use crate::open_file::OpenFile;
+use crate::regular_file::RegularFile;
 use crate::{Disk, Failed};
 use std::io;
 
@@ -14,7 +14,7 @@ use std::io;
 #[derive(Drop)]
 pub struct FileDisk {
     rt: HostRuntime,
-    file: OpenFile,
+    file: RegularFile,
     name: String,
     size: u64,
     faults: u64,
@@ -27,7 +27,7 @@ impl FileDisk {
     ghost use Rattle.snd_disk.specs.File.{file_state};
 
     /// An open file, as a disk of this name, under which it is opened again.
-    pub(crate) fn new(rt: HostRuntime, file: OpenFile, name: String) -> io::Result<FileDisk>
+    pub(crate) fn new(rt: HostRuntime, file: RegularFile, name: String) -> io::Result<FileDisk>
         ensures name { IfOk result (λ d. (file_state d).name ≡ Some (string_bytes name)) }
         ensures fresh { IfOk result (λ d. ((file_state d).faults ≡ 0) × ((file_state d).written ≡ 0) × ((file_state d).asked ≡ 0)) }
     {

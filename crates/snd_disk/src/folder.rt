@@ -2,7 +2,7 @@ ghost use Rattle.std.specs.Prelude.{◌≡◌, List, ℕ, true, false, OnErr, Is
 ghost use Rattle.std.specs.String.{string_bytes};
 ghost use Rattle.std.specs.Str.{bytes_eq};
 
-use crate::open_file::{Identity, OpenFile, keep_stream_numbers};
+use crate::regular_file::{Identity, RegularFile, keep_stream_numbers};
 use crate::{FileDisk, Shelf, ShelfFault};
 use std::fs::{self, File};
 use std::io;
@@ -35,16 +35,16 @@ fn is_not_there(error: &io::Error) -> bool {
 }
 
 /// The open file of this name, which is looked at first: opening a pipe could wait for ever.
-fn opened(rt: &HostRuntime, name: &str, make: bool) -> Result<OpenFile, ShelfFault>
+fn opened(rt: &HostRuntime, name: &str, make: bool) -> Result<RegularFile, ShelfFault>
     ensures { IsErrOf result ShelfFault.Missing → make ≡ false }
 {
     let found = match fs::metadata(rt, name) {
-        Ok(data) if data.is_file() => OpenFile::open(rt, name),
+        Ok(data) if data.is_file() => RegularFile::open(rt, name),
         Err(error) if is_not_there(&error) => {
             if !make {
                 return Err(ShelfFault::Missing);
             }
-            OpenFile::make(rt, name)
+            RegularFile::make(rt, name)
         }
         _ => return Err(ShelfFault::Failed),
     };

@@ -13,7 +13,7 @@ pub mod laws;
 mod memory;
 mod memory_shelf;
 mod memory_streams;
-mod open_file;
+mod regular_file;
 mod shelf;
 mod std_streams;
 mod steady;

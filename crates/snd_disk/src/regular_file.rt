@@ -13,7 +13,7 @@ const LAST_STREAM: i32 = 2;
 /// Keeps the numbers 0 to 2, which are the standard streams', from every file: the system would give
 /// the number of a stream that is closed to the next file. A folder that is open for reading stands
 /// under each until the answer is dropped, and a use of it as a stream fails. Where one cannot be
-/// opened, an `OpenFile` is refused that number all the same.
+/// opened, a `RegularFile` is refused that number all the same.
 pub fn keep_stream_numbers(rt: &HostRuntime) -> Vec<File> {
     let mut kept = Vec::new(rt.alloc());
     for _ in 0..=LAST_STREAM {
@@ -45,20 +45,20 @@ impl Identity {
 
 /// A regular file that is open for reading, or for both, and has no standard stream's number.
 #[derive(Drop)]
-pub struct OpenFile {
+pub struct RegularFile {
     file: File,
     identity: Identity,
     may_write: bool,
     ghost apart: { pos 2 <ℤ file_raw_fd file },
 }
 
-impl OpenFile {
-    fn new(file: File, may_write: bool) -> io::Result<OpenFile> {
+impl RegularFile {
+    fn new(file: File, may_write: bool) -> io::Result<RegularFile> {
         let data = file.metadata()?;
         if !data.is_file() || file.as_raw_fd() <= LAST_STREAM {
             return Err(io::ErrorKind::InvalidInput.into());
         }
-        Ok(OpenFile {
+        Ok(RegularFile {
             file,
             identity: Identity::of(&data),
             may_write,
@@ -66,13 +66,13 @@ impl OpenFile {
     }
 
     /// Opens a file for reading alone.
-    pub fn open(rt: &HostRuntime, name: &str) -> io::Result<OpenFile> {
-        OpenFile::new(File::open(rt, name)?, false)
+    pub fn open(rt: &HostRuntime, name: &str) -> io::Result<RegularFile> {
+        RegularFile::new(File::open(rt, name)?, false)
     }
 
     /// Makes a file, and syncs the folder, so that the name survives a power cut.
-    pub fn make(rt: &HostRuntime, name: &str) -> io::Result<OpenFile> {
-        let made = OpenFile::new(File::create_new(rt, name)?, true)?;
+    pub fn make(rt: &HostRuntime, name: &str) -> io::Result<RegularFile> {
+        let made = RegularFile::new(File::create_new(rt, name)?, true)?;
         let folder = match Path::new(name).parent() {
             Some(parent) if !parent.as_str().is_empty() => parent.as_str(),
             _ => ".",
@@ -91,7 +91,7 @@ impl OpenFile {
             return Err(io::ErrorKind::NotFound.into());
         }
         let file = OpenOptions::new().read(true).write(true).open(rt, name)?;
-        let again = OpenFile::new(file, true)?;
+        let again = RegularFile::new(file, true)?;
         if again.identity != self.identity {
             return Err(io::ErrorKind::NotFound.into());
         }
