@@ -1,7 +1,7 @@
 use Rattle.std.proofs.Common.{◌≡◌, ◌∙◌, ap, pos, negsuc, ◌+ℤ◌, ◌*ℤ◌, w32, to_z, of_z, rules}
 use Rattle.snd_adpcm.specs.Frames.{clamp}
 use Rattle.snd_adpcm.specs.Microsoft.{ms_sample, ms_prediction}
-use Rattle.snd_adpcm.proofs.microsoft.MsState.after_deltas.Goals as goal
+use Rattle.snd_adpcm.proofs.microsoft_state.MsState.after_deltas.Goals as goal
 
 pub returns-clause-newer : goal.returns-clause-newer
 unfolding ms_sample
