@@ -6,7 +6,9 @@ use Rattle.std.proofs.lemmas.List.{take_at, drop_at, length-append, append-nil}
 use Rattle.std.proofs.lemmas.List.Elements.{All-head, All-tail}
 use Rattle.snd_adpcm.specs.Blocks.{Rule, filled, bytes_of_blocks, bytes_of_list, bytes_of_calls, joined}
 use Rattle.snd_adpcm.specs.Frames.{high_half_first, bytes_high_half_first}
-use Rattle.snd_adpcm.specs.Laws.{ima_numbers, ms_numbers, vox_reads, vox_puts, joined_pairs, VoxReadsGiveSound, VoxPutsGiveFile}
+use Rattle.snd_adpcm.specs.Ima.{ima_numbers}
+use Rattle.snd_adpcm.specs.Microsoft.{ms_numbers}
+use Rattle.snd_adpcm.specs.Laws.{vox_reads, vox_puts, joined_pairs, VoxReadsGiveSound, VoxPutsGiveFile}
 use Rattle.snd_adpcm.specs.Vox.{VoxState, vox_start, vox_samples, vox_state_read, vox_codes, vox_state_written}
 
 length-joined : (n : ℕ) (calls : List (List ℤ)) → All (λ call. length call ≡ n) calls → length (joined calls) ≡ length calls * n

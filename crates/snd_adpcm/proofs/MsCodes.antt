@@ -3,7 +3,7 @@ use Rattle.std.proofs.Common.{◌≡◌, ℕ, ℤ, ◌*◌, ◌+ℤ◌, ◌*ℤ�
 use Rattle.std.specs.List.{All}
 use Rattle.std.proofs.lemmas.List.Elements.{All-nil, All-cons}
 use Rattle.snd_adpcm.proofs.Numbers.{clamp_least, clamp_most}
-use Rattle.snd_adpcm.specs.declared.microsoft.MsState.{MsState}
+use Rattle.snd_adpcm.specs.declared.microsoft_state.MsState.{MsState}
 use Rattle.snd_adpcm.specs.Frames.{Is16Bit, high_half_first, of_channel}
 use Rattle.snd_adpcm.specs.Microsoft.{ms_prediction, signed_code, ms_samples, ms_sample, ms_delta, ms_channel, ms_newer, ms_older, ms_start_delta, ms_number, newer_weight, older_weight}
 

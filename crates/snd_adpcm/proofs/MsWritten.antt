@@ -1,6 +1,6 @@
 -- The choice of a predictor, and the codes that the writing rule gives.
 use Rattle.std.proofs.Common.{◌≡◌, ℕ, ℤ, pos, ◌+◌, ◌*◌, ◌/◌, max, List, [], ◌∷◌, ◌++◌, take, drop, Bool, true, false, cond, ltb, refl, sym, ap, ◌∙◌, add-one, append_assoc}
-use Rattle.snd_adpcm.specs.declared.microsoft.MsState.{MsState}
+use Rattle.snd_adpcm.specs.declared.microsoft_state.MsState.{MsState}
 use Rattle.snd_adpcm.specs.Frames.{bytes_high_half_first, bytes_16, firsts, seconds, alternating}
 use Rattle.snd_adpcm.specs.Microsoft.{least_number, ms_code, ms_codes, ms_sample, ms_delta, newer_weight, older_weight, ms_start_error, ms_number_for, ms_delta_for, ms_newer_of, ms_older_of, ms_codes_for, ms_bytes}
 

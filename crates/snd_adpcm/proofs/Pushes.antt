@@ -19,10 +19,6 @@ pub one_frame : (items one two whole : List ℤ) (a b : ℤ) (left right lefts r
     left ≡ a ∷ lefts → right ≡ b ∷ rights → items ++ alternating left right ≡ whole → two ++ alternating lefts rights ≡ whole
 one_frame items one two whole a b left right lefts rights p q l m h = rw (q, p) (simp append_assoc (rw (l, m) at h))
 
--- two samples of one channel
-pub two_samples : (items one two whole : List ℤ) (a b : ℤ) (all rest : List ℤ) → one ≡ items ++ a ∷ [] → two ≡ one ++ b ∷ [] → all ≡ a ∷ b ∷ rest → items ++ all ≡ whole → two ++ rest ≡ whole
-two_samples items one two whole a b all rest p q l h = rw (q, p) (simp append_assoc (rw l at h))
-
 pub alternating-same : {X : Type 0} (xs ys us vs : List X) → xs ≡ us → ys ≡ vs → alternating xs ys ≡ alternating us vs
 alternating-same xs ys us vs p q = rw (p, q)
 

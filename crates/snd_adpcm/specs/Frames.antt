@@ -54,6 +54,10 @@ floor_div (negsuc a) n = negsuc (a / n)
 abbrev pub clamp : ℤ → ℤ → ℤ → ℤ
 clamp low high x = int_max low (int_min x high)
 
+-- held within 16 bits
+abbrev pub clamp_16 : ℤ → ℤ
+clamp_16 x = clamp (negsuc 32767) (pos 32767) x
+
 -- the two bytes of a number of 16 bits, the low one first, in two's complement
 abbrev pub bytes_16 : ℤ → List ℕ
 bytes_16 (pos n) = n % 256 ∷ n / 256 ∷ []

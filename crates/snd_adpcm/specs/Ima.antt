@@ -1,14 +1,15 @@
 -- IMA ADPCM in WAVE files (format tag 0x11), as Microsoft's "New Multimedia Data Types and Data Techniques" (1994) lays out its blocks.
-use Rattle.std.specs.Prelude.{◌+◌, ◌-◌, ◌*◌, ◌/◌, ◌%◌, ℕ, ℤ, pos, negsuc, ◌-ℤ◌, List, [], ◌∷◌, ◌++◌, map, length, Bool, ◌&&◌, ◌==◌, nat_lt, nat_le, slice_index, if◌then◌else◌}
+use Rattle.std.specs.Prelude.{◌+◌, ◌-◌, ◌*◌, ◌/◌, ◌%◌, ℕ, ℤ, ◌-ℤ◌, List, [], ◌∷◌, ◌++◌, map, length, Bool, ◌&&◌, ◌==◌, nat_lt, nat_le, slice_index, if◌then◌else◌}
 use Rattle.std.specs.List.{range_with_len, list_any}
+use Rattle.snd_fields.specs.Blocks.{is_ima_align, ima_samples_per_block}
 use Rattle.snd_adpcm.specs.Step.{step_size, moved, next_index, code_for}
-use Rattle.snd_adpcm.specs.Frames.{number_16, in_frames, low_half_first, clamp, bytes_16, bytes_low_half_first, firsts, seconds, fours, IsWholeBlock}
+use Rattle.snd_adpcm.specs.Frames.{number_16, in_frames, low_half_first, clamp_16, bytes_16, bytes_low_half_first, firsts, seconds, fours, IsWholeBlock}
 
 -- ---- one code
 
 -- the predictor after a code, which is the code's sample
 unfoldable pub ima_predictor : ℤ → ℕ → ℕ → ℤ
-ima_predictor predictor index code = clamp (negsuc 32767) (pos 32767) (moved predictor (step_size index) code)
+ima_predictor predictor index code = clamp_16 (moved predictor (step_size index) code)
 
 unfoldable pub ima_index : ℕ → ℕ → ℕ
 ima_index index code = next_index 0 88 index code
@@ -20,13 +21,9 @@ ima_samples predictor index (code ∷ codes) = ima_predictor predictor index cod
 
 -- ---- the layout of a block: a head of 4 bytes for each channel, then 4 bytes of codes for each channel in turn
 
--- a block's length is an align that the format allows
-abbrev pub is_ima_align : ℕ → ℕ → Bool
-is_ima_align channels align = nat_le (4 * channels) align && ((align - 4 * channels) % (4 * channels) == 0)
-
--- the samples of one channel in a block
-abbrev pub ima_samples_per_block : ℕ → ℕ → ℕ
-ima_samples_per_block channels align = (align - 4 * channels) * 2 / channels + 1
+-- the numbers of a block: the samples of all its channels
+abbrev pub ima_numbers : ℕ → ℕ → ℕ
+ima_numbers channels align = channels * ima_samples_per_block channels align
 
 -- where byte n of a channel's codes lies
 abbrev pub ima_place : ℕ → ℕ → ℕ → ℕ

@@ -1,20 +1,17 @@
 -- Calls one after another give what the rule makes of the whole list.
-use Rattle.std.specs.Prelude.{◌≡◌, ◌*◌, ◌⊎◌, ℕ, ℤ, List, [], ◌∷◌, ◌++◌, length, IsTrue}
+use Rattle.std.specs.Prelude.{◌≡◌, ◌⊎◌, ℕ, ℤ, List, [], ◌∷◌, ◌++◌, length, IsTrue}
 use Rattle.std.specs.List.{All}
+use Rattle.snd_fields.specs.Blocks.{is_ima_align, is_ms_align}
 use Rattle.snd_adpcm.specs.Frames.{high_half_first, bytes_high_half_first}
 use Rattle.snd_adpcm.specs.Blocks.{Rule, filled, joined, bytes_of_list, bytes_of_calls}
-use Rattle.snd_adpcm.specs.Ima.{Indices, ima_bytes, ima_next_indices, is_ima_align, ima_samples_per_block}
-use Rattle.snd_adpcm.specs.Microsoft.{ms_bytes, is_ms_align, ms_samples_per_block}
+use Rattle.snd_adpcm.specs.Ima.{Indices, ima_bytes, ima_next_indices, ima_numbers}
+use Rattle.snd_adpcm.specs.Microsoft.{ms_bytes, ms_numbers}
 use Rattle.snd_adpcm.specs.Vox.{VoxState, vox_start, vox_samples, vox_state_read, vox_sound, vox_codes, vox_state_written, vox_file, made_even}
 
 -- ---- IMA
 
 abbrev pub ima_rule : ℕ → Rule Indices
 ima_rule channels = record { bytes = ima_bytes channels; next = ima_next_indices channels }
-
--- the numbers of a block of an align
-abbrev pub ima_numbers : ℕ → ℕ → ℕ
-ima_numbers channels align = channels * ima_samples_per_block channels align
 
 -- the data bytes of a list of samples, frame by frame: each channel's index starts at 0 and goes on from block to block
 abbrev pub ima_data : ℕ → ℕ → List ℤ → List ℕ
@@ -35,9 +32,6 @@ ImaCallsAreWhole = (channels align : ℕ) (calls : List (List ℤ)) → (channel
 
 abbrev pub ms_rule : ℕ → Rule (Unit {0})
 ms_rule channels = record { bytes = λ _ samples. ms_bytes channels samples; next = λ state _. state }
-
-abbrev pub ms_numbers : ℕ → ℕ → ℕ
-ms_numbers channels align = channels * ms_samples_per_block channels align
 
 -- the data bytes of a list of samples, frame by frame
 abbrev pub ms_data : ℕ → ℕ → List ℤ → List ℕ

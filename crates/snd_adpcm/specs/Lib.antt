@@ -3,5 +3,6 @@ pub mod Frames
 pub mod Ima
 pub mod Laws
 pub mod Microsoft
+pub mod States
 pub mod Step
 pub mod Vox

@@ -2,17 +2,12 @@
 -- That paper leaves the rounding of quotients and the greatest delta open: here quotients are rounded down, and a delta is at most 1048576.
 use Rattle.std.specs.Prelude.{◌+◌, ◌-◌, ◌*◌, ◌/◌, ◌%◌, ℕ, zero, suc, max, ℤ, pos, negsuc, ◌+ℤ◌, ◌-ℤ◌, ◌*ℤ◌, unsigned_abs, List, [], ◌∷◌, ◌++◌, take, drop, Bool, ◌&&◌, ◌==◌, nat_lt, nat_le, slice_index, slice_index_or, if◌then◌else◌}
 use Rattle.std.specs.List.{range_with_len, list_any}
-use Rattle.snd_adpcm.specs.Frames.{number_16, in_frames, in_turn, of_channel, high_half_first, floor_div, clamp, bytes_16, bytes_high_half_first, IsWholeBlock}
+use Rattle.snd_fields.specs.Blocks.{is_ms_align, ms_samples_per_block, newer_weights, older_weights}
+use Rattle.snd_adpcm.specs.Frames.{number_16, in_frames, in_turn, of_channel, high_half_first, floor_div, clamp, clamp_16, bytes_16, bytes_high_half_first, IsWholeBlock}
 
 -- ---- one code
 
 -- the weights of the newer and of the older sample, by predictor number 0 to 6
-unfoldable pub newer_weights : List ℤ
-newer_weights = pos 256 ∷ pos 512 ∷ pos 0 ∷ pos 192 ∷ pos 240 ∷ pos 460 ∷ pos 392 ∷ []
-
-unfoldable pub older_weights : List ℤ
-older_weights = pos 0 ∷ negsuc 255 ∷ pos 0 ∷ pos 64 ∷ pos 0 ∷ negsuc 207 ∷ negsuc 231 ∷ []
-
 unfoldable pub newer_weight : ℕ → ℤ
 newer_weight number = slice_index_or newer_weights number (pos 0)
 
@@ -36,7 +31,7 @@ signed_code code = if nat_lt code 8 then pos code else negsuc (15 - code)
 
 -- the sample of a code
 unfoldable pub ms_sample : ℤ → ℤ → ℤ → ℤ → ℤ → ℕ → ℤ
-ms_sample newer_by older_by newer older delta code = clamp (negsuc 32767) (pos 32767) (ms_prediction newer_by older_by newer older +ℤ signed_code code *ℤ delta)
+ms_sample newer_by older_by newer older delta code = clamp_16 (ms_prediction newer_by older_by newer older +ℤ signed_code code *ℤ delta)
 
 -- the delta after a code
 unfoldable pub ms_delta : ℤ → ℕ → ℤ
@@ -50,13 +45,9 @@ ms_samples newer_by older_by newer older delta (code ∷ codes) =
 
 -- ---- the layout of a block: the channels' predictor numbers, deltas, newer samples and older samples; then the codes, the channels in turn
 
--- a block's length is an align that the format allows
-abbrev pub is_ms_align : ℕ → ℕ → Bool
-is_ms_align channels align = nat_le (7 * channels) align && ((align - 7 * channels) * 2 % channels == 0)
-
--- the samples of one channel in a block
-abbrev pub ms_samples_per_block : ℕ → ℕ → ℕ
-ms_samples_per_block channels align = (align - 7 * channels) * 2 / channels + 2
+-- the numbers of a block: the samples of all its channels
+abbrev pub ms_numbers : ℕ → ℕ → ℕ
+ms_numbers channels align = channels * ms_samples_per_block channels align
 
 abbrev pub number_at : List ℕ → ℕ → ℤ
 number_at block at = number_16 (slice_index block at) (slice_index block (at + 1))
@@ -100,7 +91,7 @@ least_number f (suc n) = if nat_lt (f (suc n)) (f (least_number f n)) then suc n
 
 -- how far a sample is from what a predictor foretells from the two before
 unfoldable pub ms_error : ℕ → ℤ → ℤ → ℤ → ℕ
-ms_error number newer older sample = unsigned_abs (sample -ℤ clamp (negsuc 32767) (pos 32767) (ms_prediction (newer_weight number) (older_weight number) newer older))
+ms_error number newer older sample = unsigned_abs (sample -ℤ clamp_16 (ms_prediction (newer_weight number) (older_weight number) newer older))
 
 -- the sum over a list of samples
 abbrev pub ms_error_sum : ℕ → ℤ → ℤ → List ℤ → ℕ

@@ -2,8 +2,9 @@
 
 ghost use Rattle.std.specs.Prelude.{◌≡◌, ◌+◌, ◌*◌, ◌-◌, ◌/◌, ◌%◌, ◌<◌, ◌≤◌, ◌≤ℤ◌, All, ◌⊎◌, ◌↔◌, pos, negsuc, length, [], ◌∷◌, ◌++◌, slice_index, IsTrue, OnOk, OnErr, IsErr};
 ghost use Rattle.arrayvec.specs.ArrayVec.{array_vec_len};
-ghost use Rattle.snd_adpcm.specs.Frames.{Is16Bit, alternating};
-ghost use Rattle.snd_adpcm.specs.Ima.{ima_predictor, ima_index, ima_first, ima_start_index, is_ima_align, ima_samples_per_block, is_bad_ima_block, ima_channel, ima_block};
+ghost use Rattle.snd_fields.specs.Blocks.{is_ima_align};
+ghost use Rattle.snd_adpcm.specs.Frames.{Is16Bit};
+ghost use Rattle.snd_adpcm.specs.Ima.{ima_predictor, ima_index, ima_first, ima_start_index, ima_numbers, is_bad_ima_block, ima_channel, ima_block};
 
 use crate::BadBlock;
 use crate::number::{high_code, low_code, make_room, number_of};
@@ -103,7 +104,7 @@ fn decode_stereo(bytes: &[u8], into: &mut ArrayVec<i32, 16384>)
     requires good_left { ima_start_index 0 bytes.now ≤ 88 }
     requires good_right { ima_start_index 1 bytes.now ≤ 88 }
     requires empty { into.old.items ≡ [] }
-    ensures samples { into.new.items ≡ alternating (ima_channel 2 0 bytes.now) (ima_channel 2 1 bytes.now) }
+    ensures samples { into.new.items ≡ ima_block 2 bytes.now }
     ensures count { length into.new.items ≡ 4 * (length bytes.now / 2 - 4) + 2 }
     ensures range { All Is16Bit into.new.items }
 {
@@ -152,7 +153,7 @@ impl ImaBlock {
         requires align { IsTrue (is_ima_align channels (length bytes.now)) }
         requires most { length bytes.now ≤ 8192 }
         ensures samples { OnOk result (into.new.items ≡ ima_block channels bytes.now) }
-        ensures count { OnOk result (length into.new.items ≡ channels * ima_samples_per_block channels (length bytes.now)) }
+        ensures count { OnOk result (length into.new.items ≡ ima_numbers channels (length bytes.now)) }
         ensures range { All Is16Bit into.new.items }
         ensures bad { IsErr result ↔ IsTrue (is_bad_ima_block channels bytes.now) }
         ensures empty { OnErr result (into.new.items ≡ []) }

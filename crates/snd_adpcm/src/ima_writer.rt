@@ -1,9 +1,10 @@
 //! IMA ADPCM in WAVE files: a block from its samples.
 
 ghost use Rattle.std.specs.Prelude.{◌≡◌, ◌+◌, ◌*◌, ◌-◌, ◌/◌, ◌%◌, ◌<◌, ◌≤◌, ◌≤ℤ◌, ◌⊎◌, pos, negsuc, length, ℕ, [], ◌∷◌, ◌++◌, All, slice_index_or};
-ghost use Rattle.snd_adpcm.specs.Frames.{Is16Bit, bytes_16, bytes_low_half_first, firsts, seconds, fours};
+ghost use Rattle.snd_adpcm.specs.Frames.{Is16Bit, bytes_16, firsts, seconds};
 ghost use Rattle.snd_adpcm.specs.Step.{step_size};
-ghost use Rattle.snd_adpcm.specs.Ima.{ima_code, ima_predictor, ima_index, ima_codes, ima_predictor_after, ima_index_after, ima_head, ima_body, ima_next_index, ima_bytes, ima_next_indices, IsImaBlock};
+ghost use Rattle.snd_adpcm.specs.Ima.{ima_predictor_after, ima_head, ima_body, ima_next_index, ima_bytes, ima_next_indices, IsImaBlock};
+ghost use Rattle.snd_adpcm.specs.States.{ima_code_at, ima_predictor_for, ima_index_for, ima_run, ima_runs, ima_end_index};
 
 use crate::ima::ImaState;
 use crate::number::put_number;
@@ -35,10 +36,10 @@ impl ImaPlace {
     fn encode(self, sample: i32) -> (u32, ImaPlace)
         requires least { negsuc 32767 ≤ℤ sample }
         requires most { sample ≤ℤ pos 32767 }
-        ensures code { result.0 ≡ ima_code self.state.predictor self.state.index sample }
+        ensures code { result.0 ≡ ima_code_at self.state sample }
         ensures bound { result.0 < 16 }
-        ensures predictor { result.1.state.predictor ≡ ima_predictor self.state.predictor self.state.index (ima_code self.state.predictor self.state.index sample) }
-        ensures index { result.1.state.index ≡ ima_index self.state.index (ima_code self.state.predictor self.state.index sample) }
+        ensures predictor { result.1.state.predictor ≡ ima_predictor_for self.state sample }
+        ensures index { result.1.state.index ≡ ima_index_for self.state sample }
     {
         let way = sample - self.state.predictor;
         let code = code_of(self.step, way);
@@ -57,10 +58,10 @@ fn encode_run(samples: &[i32], start: ImaState, into: &mut ArrayVec<u8, 8192>) -
     requires even { length samples.now % 2 ≡ 0 }
     requires range { All Is16Bit samples.now }
     requires room { length into.old.items + length samples.now / 2 ≤ 8192 }
-    ensures bytes { into.new.items ≡ into.old.items ++ bytes_low_half_first (ima_codes start.predictor start.index samples.now) }
+    ensures bytes { into.new.items ≡ into.old.items ++ ima_run start samples.now }
     ensures count { length into.new.items ≡ length into.old.items + length samples.now / 2 }
     ensures predictor { result.predictor ≡ ima_predictor_after start.predictor start.index samples.now }
-    ensures index { result.index ≡ ima_index_after start.predictor start.index samples.now }
+    ensures index { result.index ≡ ima_end_index start samples.now }
 {
     let mut place = ImaPlace::of(start);
     for n in 0..samples.len() / 2 {
@@ -109,11 +110,9 @@ fn encode_frames(
     requires groups { length frames.now % 16 ≡ 0 }
     requires range { All Is16Bit frames.now }
     requires room { length into.old.items + length frames.now / 2 ≤ 8192 }
-    ensures bytes { into.new.items ≡ into.old.items
-        ++ fours (bytes_low_half_first (ima_codes first.predictor first.index (firsts frames.now)))
-        (bytes_low_half_first (ima_codes second.predictor second.index (seconds frames.now))) }
-    ensures left { result.0.index ≡ ima_index_after first.predictor first.index (firsts frames.now) }
-    ensures right { result.1.index ≡ ima_index_after second.predictor second.index (seconds frames.now) }
+    ensures bytes { into.new.items ≡ into.old.items ++ ima_runs first second frames.now }
+    ensures left { result.0.index ≡ ima_end_index first (firsts frames.now) }
+    ensures right { result.1.index ≡ ima_end_index second (seconds frames.now) }
 {
     let mut left = first;
     let mut right = second;
@@ -158,8 +157,7 @@ fn encode_stereo(
     requires left_index { left ≤ 88 }
     requires right_index { right ≤ 88 }
     requires empty { into.old.items ≡ [] }
-    ensures bytes { into.new.items
-        ≡ ima_head left (firsts samples.now) ++ ima_head right (seconds samples.now) ++ fours (ima_body left (firsts samples.now)) (ima_body right (seconds samples.now)) }
+    ensures bytes { into.new.items ≡ ima_bytes 2 (left, right) samples.now }
     ensures left { result.0 ≡ ima_next_index left (firsts samples.now) }
     ensures right { result.1 ≡ ima_next_index right (seconds samples.now) }
     ensures left_bound { result.0 ≤ 88 }

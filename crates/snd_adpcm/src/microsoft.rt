@@ -1,10 +1,13 @@
 //! Microsoft ADPCM in WAVE files: a block's samples.
 
 ghost use Rattle.std.specs.Prelude.{◌≡◌, ◌+◌, ◌*◌, ◌-◌, ◌/◌, ◌%◌, ◌<◌, ◌≤◌, ◌^◌, ◌+ℤ◌, ◌*ℤ◌, ◌≤ℤ◌, All, ◌⊎◌, ◌↔◌, pos, negsuc, length, [], ◌∷◌, ◌++◌, slice_index, IsTrue, OnOk, OnErr, IsErr, unsigned_abs};
-ghost use Rattle.snd_adpcm.specs.Frames.{Is16Bit, alternating, high_half_first, firsts, seconds, floor_div, clamp};
-ghost use Rattle.snd_adpcm.specs.Microsoft.{newer_weight, older_weight, adaptation, ms_prediction, signed_code, ms_sample, ms_delta, ms_samples, number_at, ms_number, ms_start_delta, ms_newer, ms_older, is_ms_align, ms_samples_per_block, is_bad_ms_block, ms_channel, ms_block};
+ghost use Rattle.snd_fields.specs.Blocks.{is_ms_align};
+ghost use Rattle.snd_adpcm.specs.Frames.{Is16Bit, high_half_first, floor_div, clamp_16};
+ghost use Rattle.snd_adpcm.specs.Microsoft.{newer_weight, older_weight, adaptation, ms_prediction, signed_code, ms_delta, number_at, ms_number, ms_start_delta, ms_newer, ms_older, ms_numbers, is_bad_ms_block, ms_channel, ms_block};
+ghost use Rattle.snd_adpcm.specs.States.{ms_sample_at, ms_samples_from, ms_frames_from};
 
 use crate::BadBlock;
+use crate::microsoft_state::MsState;
 use crate::number::{high_code, low_code, make_room, number_of};
 use arrayvec::ArrayVec;
 
@@ -20,7 +23,7 @@ static ADAPTATIONS: [i32; 16] = [
 ];
 
 /// The weight of the newer sample, by predictor number.
-#[tactic(auto, unfolding(crate::specs::Microsoft::newer_weight, crate::specs::Microsoft::newer_weights))]
+#[tactic(auto, unfolding(crate::specs::Microsoft::newer_weight))]
 pub(crate) fn newer_weight_of(number: usize) -> i32
     requires { number ≤ 6 }
     ensures value { result ≡ newer_weight number }
@@ -30,7 +33,7 @@ pub(crate) fn newer_weight_of(number: usize) -> i32
 }
 
 /// The weight of the older sample, by predictor number.
-#[tactic(auto, unfolding(crate::specs::Microsoft::older_weight, crate::specs::Microsoft::older_weights))]
+#[tactic(auto, unfolding(crate::specs::Microsoft::older_weight))]
 pub(crate) fn older_weight_of(number: usize) -> i32
     requires { number ≤ 6 }
     ensures value { result ≡ older_weight number }
@@ -102,7 +105,7 @@ pub(crate) fn prediction(newer_by: i32, older_by: i32, newer: i32, older: i32) -
 #[cold]
 #[inline(never)]
 fn nearest_16(x: i32) -> i32
-    ensures { result ≡ clamp (negsuc 32767) (pos 32767) x }
+    ensures { result ≡ clamp_16 x }
 {
     x.clamp(-32768, 32767)
 }
@@ -111,7 +114,7 @@ fn nearest_16(x: i32) -> i32
 #[inline]
 #[tactic(auto, using(crate::proofs::Numbers::abs_within))]
 fn held_16(x: i32) -> i32
-    ensures value { result ≡ clamp (negsuc 32767) (pos 32767) x }
+    ensures value { result ≡ clamp_16 x }
     ensures range { Is16Bit result }
     ensures bound { unsigned_abs result ≤ 32768 }
 {
@@ -131,7 +134,7 @@ fn sample_of(newer_by: i32, older_by: i32, newer: i32, older: i32, delta: i32, d
     requires older { unsigned_abs older ≤ 32768 }
     requires delta { unsigned_abs delta ≤ 1048576 }
     requires deltas { unsigned_abs deltas ≤ 8 }
-    ensures value { result ≡ clamp (negsuc 32767) (pos 32767) (ms_prediction newer_by older_by newer older +ℤ deltas *ℤ delta) }
+    ensures value { result ≡ clamp_16 (ms_prediction newer_by older_by newer older +ℤ deltas *ℤ delta) }
     ensures range { Is16Bit result }
     ensures bound { unsigned_abs result ≤ 32768 }
 {
@@ -183,23 +186,6 @@ fn number_in(bytes: &[u8], at: usize) -> i32
     number_of(bytes[at], bytes[at + 1])
 }
 
-/// Where one channel stands between two codes.
-#[derive(Clone, Copy)]
-pub(crate) struct MsState {
-    pub(crate) newer_by: i32,
-    pub(crate) older_by: i32,
-    pub(crate) newer: i32,
-    pub(crate) older: i32,
-    pub(crate) delta: i32,
-    ghost newer_weighs: { unsigned_abs newer_by ≤ 512 },
-    ghost older_weighs: { unsigned_abs older_by ≤ 256 },
-    ghost newer_fits: { unsigned_abs newer ≤ 32768 },
-    ghost older_fits: { unsigned_abs older ≤ 32768 },
-    ghost newer_range: { Is16Bit newer },
-    ghost older_range: { Is16Bit older },
-    ghost delta_fits: { unsigned_abs delta ≤ 1048576 },
-}
-
 impl MsState {
     /// The state after a code, which stands for so many deltas. Its newer sample is the code's.
     #[inline]
@@ -207,7 +193,7 @@ impl MsState {
         requires code { code < 16 }
         requires same { deltas ≡ signed_code code }
         requires bound { unsigned_abs deltas ≤ 8 }
-        ensures newer { result.newer ≡ ms_sample self.newer_by self.older_by self.newer self.older self.delta code }
+        ensures newer { result.newer ≡ ms_sample_at self code }
         ensures older { result.older ≡ self.newer }
         ensures delta { result.delta ≡ ms_delta self.delta code }
         ensures least_delta { pos 16 ≤ℤ result.delta }
@@ -236,7 +222,7 @@ impl MsState {
     #[inline]
     fn after(self, code: u8) -> MsState
         requires { code < 16 }
-        ensures newer { result.newer ≡ ms_sample self.newer_by self.older_by self.newer self.older self.delta code }
+        ensures newer { result.newer ≡ ms_sample_at self code }
         ensures older { result.older ≡ self.newer }
         ensures delta { result.delta ≡ ms_delta self.delta code }
         ensures newer_by { result.newer_by ≡ self.newer_by }
@@ -277,7 +263,7 @@ impl MsState {
 #[inline(never)]
 fn decode_mono(codes: &[u8], start: MsState, into: &mut [i32])
     requires room { length into.old ≡ 2 * length codes.now + 2 }
-    ensures samples { into.new ≡ start.older ∷ start.newer ∷ ms_samples start.newer_by start.older_by start.newer start.older start.delta (high_half_first codes.now) }
+    ensures samples { into.new ≡ ms_samples_from start (high_half_first codes.now) }
     ensures range { All Is16Bit into.new }
 {
     let mut state = start;
@@ -296,10 +282,7 @@ fn decode_mono(codes: &[u8], start: MsState, into: &mut [i32])
 fn decode_stereo(codes: &[u8], first: MsState, second: MsState, into: &mut ArrayVec<i32, 16384>)
     requires room { length codes.now ≤ 8178 }
     requires empty { into.old.items ≡ [] }
-    ensures samples { into.new.items
-        ≡ alternating
-        (first.older ∷ first.newer ∷ ms_samples first.newer_by first.older_by first.newer first.older first.delta (firsts (high_half_first codes.now)))
-        (second.older ∷ second.newer ∷ ms_samples second.newer_by second.older_by second.newer second.older second.delta (seconds (high_half_first codes.now))) }
+    ensures samples { into.new.items ≡ ms_frames_from first second (high_half_first codes.now) }
     ensures count { length into.new.items ≡ 4 + 2 * length codes.now }
     ensures range { All Is16Bit into.new.items }
 {
@@ -343,7 +326,7 @@ impl MsBlock {
         requires align { IsTrue (is_ms_align channels (length bytes.now)) }
         requires most { length bytes.now ≤ 8192 }
         ensures samples { OnOk result (into.new.items ≡ ms_block channels bytes.now) }
-        ensures count { OnOk result (length into.new.items ≡ channels * ms_samples_per_block channels (length bytes.now)) }
+        ensures count { OnOk result (length into.new.items ≡ ms_numbers channels (length bytes.now)) }
         ensures range { All Is16Bit into.new.items }
         ensures bad { IsErr result ↔ IsTrue (is_bad_ms_block channels bytes.now) }
         ensures empty { OnErr result (into.new.items ≡ []) }

@@ -1,10 +1,12 @@
 //! Microsoft ADPCM in WAVE files: a block from its samples.
 
 ghost use Rattle.std.specs.Prelude.{◌≡◌, ◌+◌, ◌*◌, ◌-◌, ◌/◌, ◌%◌, ◌<◌, ◌≤◌, ◌⊎◌, ◌≤ℤ◌, ◌+ℤ◌, ◌-ℤ◌, ◌*ℤ◌, pos, negsuc, unsigned_abs, length, ℕ, [], ◌∷◌, ◌++◌, take, drop, All, slice_index_or, if◌then◌else◌, nat_lt};
-ghost use Rattle.snd_adpcm.specs.Frames.{Is16Bit, bytes_16, bytes_high_half_first, firsts, seconds, alternating, clamp, floor_div};
-ghost use Rattle.snd_adpcm.specs.Microsoft.{newer_weight, older_weight, ms_error, ms_error_sum, ms_start_error, ms_newer_of, ms_older_of, ms_number_for, ms_delta_for, ms_code, code_of_number, signed_code, ms_codes, ms_codes_for, ms_bytes, ms_sample, ms_delta, IsMsBlock};
+ghost use Rattle.snd_adpcm.specs.Frames.{Is16Bit, firsts, seconds, clamp, floor_div};
+ghost use Rattle.snd_adpcm.specs.Microsoft.{newer_weight, older_weight, ms_error, ms_error_sum, ms_start_error, ms_newer_of, ms_older_of, ms_number_for, ms_delta_for, code_of_number, signed_code, ms_codes_for, ms_bytes, ms_delta, IsMsBlock};
+ghost use Rattle.snd_adpcm.specs.States.{ms_code_at, ms_heads, ms_run, ms_runs, ms_sample_at};
 
-use crate::microsoft::{MsState, newer_weight_of, older_weight_of, prediction};
+use crate::microsoft::{newer_weight_of, older_weight_of, prediction};
+use crate::microsoft_state::MsState;
 use crate::number::put_number;
 use crate::step::{bit_if_within, rest_of};
 use arrayvec::ArrayVec;
@@ -158,7 +160,7 @@ fn code_of(number: i32) -> u32
 fn deltas_for(state: MsState, sample: i32) -> i32
     requires sample { Is16Bit sample }
     requires delta { pos 16 ≤ℤ state.delta }
-    ensures value { code_of_number result ≡ ms_code state.newer_by state.older_by state.newer state.older state.delta sample }
+    ensures value { code_of_number result ≡ ms_code_at state sample }
     ensures low { negsuc 7 ≤ℤ result }
     ensures high { result ≤ℤ pos 7 }
 {
@@ -171,11 +173,11 @@ fn deltas_for(state: MsState, sample: i32) -> i32
 fn encode(state: MsState, sample: i32) -> (u32, MsState)
     requires sample { Is16Bit sample }
     requires delta { pos 16 ≤ℤ state.delta }
-    ensures code { result.0 ≡ ms_code state.newer_by state.older_by state.newer state.older state.delta sample }
+    ensures code { result.0 ≡ ms_code_at state sample }
     ensures bound { result.0 < 16 }
-    ensures newer { result.1.newer ≡ ms_sample state.newer_by state.older_by state.newer state.older state.delta (ms_code state.newer_by state.older_by state.newer state.older state.delta sample) }
+    ensures newer { result.1.newer ≡ ms_sample_at state (ms_code_at state sample) }
     ensures older { result.1.older ≡ state.newer }
-    ensures delta { result.1.delta ≡ ms_delta state.delta (ms_code state.newer_by state.older_by state.newer state.older state.delta sample) }
+    ensures delta { result.1.delta ≡ ms_delta state.delta (ms_code_at state sample) }
     ensures least_delta { pos 16 ≤ℤ result.1.delta }
     ensures newer_by { result.1.newer_by ≡ state.newer_by }
     ensures older_by { result.1.older_by ≡ state.older_by }
@@ -193,7 +195,7 @@ fn encode_samples(samples: &[i32], start: MsState, into: &mut ArrayVec<u8, 8192>
     requires range { All Is16Bit samples.now }
     requires delta { pos 16 ≤ℤ start.delta }
     requires room { length into.old.items + length samples.now / 2 ≤ 8192 }
-    ensures { into.new.items ≡ into.old.items ++ bytes_high_half_first (ms_codes start.newer_by start.older_by start.newer start.older start.delta samples.now) }
+    ensures { into.new.items ≡ into.old.items ++ ms_run start samples.now }
 {
     let mut state = start;
     for n in 0..samples.len() / 2 {
@@ -211,10 +213,7 @@ fn encode_frames(frames: &[i32], first: MsState, second: MsState, into: &mut Arr
     requires first_delta { pos 16 ≤ℤ first.delta }
     requires second_delta { pos 16 ≤ℤ second.delta }
     requires room { length into.old.items + length frames.now / 2 ≤ 8192 }
-    ensures { into.new.items ≡ into.old.items
-        ++ bytes_high_half_first (alternating
-        (ms_codes first.newer_by first.older_by first.newer first.older first.delta (firsts frames.now))
-        (ms_codes second.newer_by second.older_by second.newer second.older second.delta (seconds frames.now))) }
+    ensures { into.new.items ≡ into.old.items ++ ms_runs first second frames.now }
 {
     let mut left = first;
     let mut right = second;
@@ -303,8 +302,7 @@ fn put_heads(
     requires left_older { Is16Bit left.older }
     requires right_older { Is16Bit right.older }
     requires empty { into.old.items ≡ [] }
-    ensures bytes { into.new.items
-        ≡ (left_number ∷ right_number ∷ []) ++ (bytes_16 left.delta ++ bytes_16 right.delta) ++ (bytes_16 left.newer ++ bytes_16 right.newer) ++ (bytes_16 left.older ++ bytes_16 right.older) }
+    ensures bytes { into.new.items ≡ ms_heads left_number right_number left right }
     ensures count { length into.new.items ≡ 14 }
 {
     into.push(left_number);

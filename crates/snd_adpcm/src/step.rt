@@ -2,7 +2,7 @@
 
 ghost use Rattle.std.specs.Prelude.{◌≡◌, ◌+◌, ◌*◌, ◌-◌, ◌/◌, ◌%◌, ◌<◌, ◌≤◌, ◌≤ℤ◌, ◌<ℤ◌, ◌+ℤ◌, ◌-ℤ◌, pos, negsuc, unsigned_abs, if◌then◌else◌, nat_lt};
 ghost use Rattle.std.specs.Int.{int_min};
-ghost use Rattle.snd_adpcm.specs.Frames.{clamp};
+ghost use Rattle.snd_adpcm.specs.Frames.{clamp_16};
 ghost use Rattle.snd_adpcm.specs.Step.{step_size, change, distance, moved, next_index, part_if, code_for, distance_bits, bit_if_fits, rest_after, distance_rest};
 
 static STEP_SIZES: [u32; 89] = [
@@ -422,7 +422,7 @@ pub fn reached(step: u32, way: i32, target: i32) -> i32
     requires most { target ≤ℤ pos 32767 }
     requires from_least { negsuc 32767 ≤ℤ (target -ℤ way) }
     requires from_most { (target -ℤ way) ≤ℤ pos 32767 }
-    ensures value { result ≡ clamp (negsuc 32767) (pos 32767) (moved (target -ℤ way) step (code_for step way)) }
+    ensures value { result ≡ clamp_16 (moved (target -ℤ way) step (code_for step way)) }
     ensures least { negsuc 32767 ≤ℤ result }
     ensures most { result ≤ℤ pos 32767 }
 {

@@ -1,8 +1,10 @@
 //! Blocks that other programs wrote, and worked examples.
 
-ghost use Rattle.std.specs.Prelude.{◌≡◌, ◌≤◌, ◌⊎◌, length, IsTrue};
-ghost use Rattle.snd_adpcm.specs.Ima.{is_ima_align};
-ghost use Rattle.snd_adpcm.specs.Microsoft.{is_ms_align};
+ghost use Rattle.std.specs.Prelude.{◌≡◌, ◌≤◌, ◌⊎◌, All, length, IsTrue};
+ghost use Rattle.snd_fields.specs.Blocks.{is_ima_align, is_ms_align};
+ghost use Rattle.snd_adpcm.specs.Frames.{Is16Bit};
+ghost use Rattle.snd_adpcm.specs.Ima.{IsImaBlock};
+ghost use Rattle.snd_adpcm.specs.Microsoft.{IsMsBlock};
 
 use super::*;
 use arrayvec::ArrayVec;
@@ -100,35 +102,83 @@ fn reads_blocks(rt: HostRuntime) {
     reads_ms(&rt, &MS_STEREO, 2, &MS_STEREO_SAMPLES);
 }
 
-#[test]
-fn refuses_bad_heads(rt: HostRuntime) {
+// The front of a sound, and the first bytes of the first block that libsndfile 1.2.0's sndfile-convert wrote of it.
+static IMA_MONO_SOUND: [i32; 17] = [
+    326, 4086, 5668, 7249, 6602, 3758, 1393, -1405, -3093, -4930, -6335, -4048, -186, 2219, 4833,
+    5761, 7185,
+];
+
+static IMA_MONO_WRITTEN: [u8; 12] = [
+    0x46, 0x01, 0x00, 0x00, 0x77, 0x77, 0x67, 0xff, 0x9c, 0x53, 0x22, 0x11,
+];
+
+static IMA_STEREO_SOUND: [i32; 34] = [
+    543, 382, 3390, 8707, 4971, 9137, 6860, 8248, 5900, 2780, 4550, -8814, 1210, -1889, -1854,
+    -127, -4675, 3832, -6019, 8798, -5356, 2908, -2714, 6114, -222, 2940, 1300, -1427, 4434, -2769,
+    4521, -6917, 6905, 5129,
+];
+
+static IMA_STEREO_WRITTEN: [u8; 24] = [
+    0x1f, 0x02, 0x00, 0x00, 0x7e, 0x01, 0x00, 0x00, 0x77, 0x77, 0x17, 0xff, 0x77, 0x77, 0xff, 0x70,
+    0xaf, 0x43, 0x41, 0x20, 0x97, 0xb5, 0x9c, 0x7b,
+];
+
+// The same by ffmpeg 5.1. It always takes the predictor 0 and the least delta, which is the choice for a sound that stays
+// over its first five frames.
+static MS_MONO_SOUND: [i32; 22] = [
+    300, 300, 300, 300, 300, 300, 635, 4045, 5522, 6447, 4786, 3565, 769, -1485, -3455, -6748,
+    -5085, -2864, -636, 1991, 3935, 5688,
+];
+
+static MS_MONO_WRITTEN: [u8; 17] = [
+    0x00, 0x10, 0x00, 0x2c, 0x01, 0x2c, 0x01, 0x00, 0x00, 0x77, 0x77, 0x4e, 0xbd, 0xeb, 0x22, 0x23,
+    0x33,
+];
+
+static MS_STEREO_SOUND: [i32; 44] = [
+    300, -200, 300, -200, 300, -200, 300, -200, 300, -200, 300, -200, 35, 675, 2818, 8149, 5035,
+    9848, 7183, 7358, 5668, -4102, 3547, -1265, 850, -3360, -2047, -162, -4541, 4963, -5434, 181,
+    -5029, 8334, -2688, 6243, -1734, 1794, 1607, -1347, 3576, -9463, 5627, 63,
+];
+
+static MS_STEREO_WRITTEN: [u8; 34] = [
+    0x00, 0x00, 0x10, 0x00, 0x10, 0x00, 0x2c, 0x01, 0x38, 0xff, 0x2c, 0x01, 0x38, 0xff, 0x00, 0x00,
+    0x00, 0x00, 0x87, 0x77, 0x77, 0x77, 0x48, 0xd0, 0xcf, 0xd2, 0xd5, 0xed, 0x15, 0x4f, 0x1f, 0x6e,
+    0x2c, 0x24,
+];
+
+fn writes_ima(rt: &impl Abort, channels: u16, sound: &[i32], bytes: &[u8])
+    requires channels { (channels ≡ 1) ⊎ (channels ≡ 2) }
+    requires whole { IsImaBlock channels (length sound.now) }
+    requires range { All Is16Bit sound.now }
+{
     let mut into = ArrayVec::new();
     into.push(7);
-    assert!(rt; ImaBlock::decode(&[0, 0, 89, 0], 1, &mut into) == Err(BadBlock));
-    assert!(rt; into.is_empty());
+    ImaWriter::new().encode(sound, channels, &mut into);
+    assert!(rt; into.as_slice() == bytes, "{channels} channels: {into:?}");
+}
+
+fn writes_ms(rt: &impl Abort, channels: u16, sound: &[i32], bytes: &[u8])
+    requires channels { (channels ≡ 1) ⊎ (channels ≡ 2) }
+    requires whole { IsMsBlock channels (length sound.now) }
+    requires range { All Is16Bit sound.now }
+{
+    let mut into = ArrayVec::new();
     into.push(7);
-    assert!(rt; MsBlock::decode(&[7, 16, 0, 0, 0, 0, 0], 1, &mut into) == Err(BadBlock));
-    assert!(rt; into.is_empty());
-    // The least blocks hold heads alone.
-    reads_ima(&rt, &[0, 128, 88, 0], 1, &[-32768]);
-    reads_ms(&rt, &[6, 16, 0, 1, 0, 2, 0], 1, &[2, 1]);
+    MsWriter::new().encode(sound, channels, &mut into);
+    assert!(rt; into.as_slice() == bytes, "{channels} channels: {into:?}");
 }
 
 #[test]
 fn writes_blocks(rt: HostRuntime) {
-    let mut into = ArrayVec::new();
-    into.push(7);
-    // The first two codes are 7 and 7, which lead to 11 and 41; from there on each sample is reached by the code 0 or 8.
-    ImaWriter::new().encode(&[0, 100, 100, 41, 41, 41, 41, 41, 41], 1, &mut into);
-    assert!(rt; into.as_slice()[..5] == [0, 0, 0, 0, 0x77], "{into:?}");
-    // A sound that stays gives predictor 0, the least delta and codes 0.
-    MsWriter::new().encode(&[100, 100, 100, 100], 1, &mut into);
-    assert!(rt;
-        into.as_slice() == [0, 16, 0, 100, 0, 100, 0, 0].as_slice(),
-        "{into:?}"
-    );
+    writes_ima(&rt, 1, &IMA_MONO_SOUND, &IMA_MONO_WRITTEN);
+    writes_ima(&rt, 2, &IMA_STEREO_SOUND, &IMA_STEREO_WRITTEN);
+    writes_ms(&rt, 1, &MS_MONO_SOUND, &MS_MONO_WRITTEN);
+    writes_ms(&rt, 2, &MS_STEREO_SOUND, &MS_STEREO_WRITTEN);
 }
 
+// What sox 14.4.2 reads from the bytes 7f 08, and writes of these samples. Later it can differ, since it rounds the whole
+// distance of a code and not its parts.
 #[test]
 fn reads_and_writes_vox(rt: HostRuntime) {
     let mut reader = VoxReader::new();

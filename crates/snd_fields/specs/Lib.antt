@@ -1,3 +1,4 @@
+pub mod Blocks
 pub mod Decimal
 pub mod Field
 pub mod Laws

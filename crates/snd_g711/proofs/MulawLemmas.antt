@@ -1,12 +1,12 @@
 -- Facts on the mu-law's definitions.
 use Rattle.std.proofs.Common.{min, ◌≡◌, refl, sym, ap, ◌∙◌, ℕ, ℤ, pos, neg_ℤ, ◌+◌, ◌-◌, ◌*◌, ◌/◌, ◌%◌, ◌^◌, ◌<◌, ◌≤◌, inl, inr, Bool, true, false, FitsSigned, to_z, List, map, All, get_or, arith}
-use Rattle.std.specs.Prelude.{if◌then◌else◌, nat_lt, nat_le, nat_eq, ◌==◌, unsigned_abs}
+use Rattle.std.specs.Prelude.{if◌then◌else◌, nat_lt, nat_eq, ◌==◌, unsigned_abs}
 use Rattle.std.specs.Int.{w16, w32, is_negative}
 use Rattle.std.proofs.lemmas.Bool.{cases_lt}
 use Rattle.std.proofs.lemmas.Bool.Decides.{nat_tests}
 use Rattle.std.proofs.lemmas.Int.{to_z_pos}
 use Rattle.std.proofs.lemmas.List.Elements.{All-map}
-use lib.Dec.{ltb→lt, leb→le, eqb→eq}
+use lib.Dec.{ltb→lt, eqb→eq}
 use Rattle.snd_g711.specs.Segment.{segment_and_step}
 use Rattle.snd_g711.specs.Mulaw.{mulaw_magnitude, mulaw_value, mulaw_code, mulaw_byte, MulawRoundTrip, MulawKeepsDecoded}
 use Rattle.snd_g711.proofs.Below.{every_below}
@@ -18,9 +18,6 @@ biased code = (code % 16 * 8 + 132) * 2 ^ (code / 16)
 
 pub biased-lt : (code : ℕ) → code < 128 → biased code < 32768
 biased-lt code h = ltb→lt _ _ (every_below (λ k. nat_lt (biased k) 32768) 128 tt code h)
-
-pub biased-ge : (code : ℕ) → code < 128 → 132 ≤ biased code
-biased-ge code h = leb→le _ _ (every_below (λ k. nat_le 132 (biased k)) 128 tt code h)
 
 -- the code's shift does not wrap
 pub no_wrap : (code : ℕ) → code < 128 → to_z w32 (biased code % 4294967296 - 132) ≡ pos (mulaw_magnitude code)

@@ -1,6 +1,6 @@
--- Blocks of samples. Their size is what WAVE calls the block align. After Microsoft's "New Multimedia
--- Data Types and Data Techniques" 3.0 (1994), which gives nBlockAlign and the samples of an ADPCM block.
-use Rattle.std.specs.Prelude.{ℕ, ◌+◌, ◌-◌, ◌*◌, ◌/◌, ◌%◌, ◌==◌, Bool, true, false, ◌&&◌, nat_le}
+-- Blocks of samples. Their size is what WAVE calls the block align.
+use Rattle.std.specs.Prelude.{ℕ, ◌*◌, ◌==◌, Bool, true, false, ◌&&◌}
+use Rattle.snd_fields.specs.Blocks.{is_ima_align, ima_samples_per_block, is_ms_align, ms_samples_per_block}
 use Rattle.snd_layout.specs.declared.codec.Codec.{Codec}
 use Rattle.snd_layout.specs.declared.codec.Codec.TheVariants.{U8, S8, S16, S24, S32, MuLaw, ALaw, Ima, Ms}
 
@@ -28,14 +28,9 @@ block_frames (Ima align per_block) = per_block
 block_frames (Ms align per_block) = per_block
 block_frames _ = 1
 
--- An IMA ADPCM block has a head of 4 bytes for each channel, which holds one sample. Behind it stand
--- groups of 4 bytes for each channel, a sample each 4 bits.
+-- whether blocks of an align with so many frames have the form of IMA ADPCM, and of Microsoft ADPCM
 abbrev pub is_ima_block : ℕ → ℕ → ℕ → Bool
-is_ima_block channels align per_block =
-    nat_le (4 * channels) align && ((align - 4 * channels) % (4 * channels) == 0) && (per_block == (align - 4 * channels) * 2 / channels + 1)
+is_ima_block channels align per_block = is_ima_align channels align && (per_block == ima_samples_per_block channels align)
 
--- A Microsoft ADPCM block has a head of 7 bytes for each channel, which holds two samples. Behind it
--- stand the other samples, of 4 bits each.
 abbrev pub is_ms_block : ℕ → ℕ → ℕ → Bool
-is_ms_block channels align per_block =
-    nat_le (7 * channels) align && ((align - 7 * channels) * 2 % channels == 0) && (per_block == (align - 7 * channels) * 2 / channels + 2)
+is_ms_block channels align per_block = is_ms_align channels align && (per_block == ms_samples_per_block channels align)

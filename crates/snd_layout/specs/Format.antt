@@ -1,7 +1,8 @@
 -- The body of a `fmt ` chunk, after Microsoft's WAVEFORMATEX and WAVEFORMATEXTENSIBLE (mmreg.h; "Multiple
 -- Channel Audio Data and WAVE Files", 2001) and "New Multimedia Data Types and Data Techniques" 3.0 (1994).
-use Rattle.std.specs.Prelude.{ℕ, ◌+◌, ◌-◌, ◌==◌, Bool, true, not, ◌&&◌, ◌||◌, Option, Result, Ok, Err, List, [], ◌∷◌, length, nat_le, nat_lt, if◌then◌else◌}
+use Rattle.std.specs.Prelude.{ℕ, ◌+◌, ◌-◌, ◌==◌, Bool, true, not, ◌&&◌, ◌||◌, Option, Result, Ok, Err, List, [], ◌∷◌, length, nat_le, nat_lt, if◌then◌else◌, ℤ, pos, negsuc}
 use Rattle.snd_fields.specs.declared.field.Order.TheVariants.{Little, Big}
+use Rattle.snd_fields.specs.Blocks.{newer_weights, older_weights}
 use Rattle.snd_fields.specs.Field.{number}
 use Rattle.snd_layout.specs.declared.codec.Codec.{Codec}
 use Rattle.snd_layout.specs.declared.codec.Codec.TheVariants.{U8, S16, S24, S32, MuLaw as mulaw, ALaw as alaw, Ima as ima, Ms as ms}
@@ -67,9 +68,20 @@ codec_of ALaw b = alaw
 codec_of MuLaw b = mulaw
 codec_of Linear b = linear_codec (bits_of b)
 
--- the 7 pairs of coefficients of Microsoft ADPCM, in 16-bit two's complement
+-- a number of 16 bits in two's complement
+abbrev pub word : ℤ → ℕ
+word (pos n) = n
+word (negsuc n) = 65535 - n
+
+-- the words of two lists in turn
+abbrev pub words_in_turn : List ℤ → List ℤ → List ℕ
+words_in_turn [] ys = []
+words_in_turn (x ∷ xs) [] = []
+words_in_turn (x ∷ xs) (y ∷ ys) = word x ∷ word y ∷ words_in_turn xs ys
+
+-- the 7 pairs of coefficients of Microsoft ADPCM
 abbrev pub coefficients : List ℕ
-coefficients = 256 ∷ 0 ∷ 512 ∷ (65536 - 256) ∷ 0 ∷ 0 ∷ 192 ∷ 64 ∷ 240 ∷ 0 ∷ 460 ∷ (65536 - 208) ∷ 392 ∷ (65536 - 232) ∷ []
+coefficients = words_in_turn newer_weights older_weights
 
 -- whether these numbers of 16 bits stand side by side from a place on
 abbrev pub are_at : List ℕ → ℕ → List ℕ → Bool

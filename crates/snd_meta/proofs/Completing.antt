@@ -11,7 +11,7 @@ use Rattle.snd_meta.specs.declared.info.InfoKey.{InfoKey}
 use Rattle.snd_meta.specs.declared.info.InfoKey.TheVariants.{Title, Copyright, Software, Artist, Comment, Date, Album, Genre, Track}
 use Rattle.snd_meta.specs.Info.{Entry, Item, IsItemAt, size_of, item_of, after_item, items_of, table, same_key, id_of, key_of, listed, text_under, with_text, first_text, completed}
 use Rattle.snd_meta.proofs.Items.{items_of-short, items_of-cut, items_of-more}
-use Rattle.snd_meta.proofs.Keys.{all_keys, among, listed-same, listed-listed, same_key-true, under-listed}
+use Rattle.snd_meta.proofs.Keys.{all_keys, among, listed-same, same_key-true, under-listed}
 
 -- two keys have one id only if they are one
 pub ids_apart : (a b : InfoKey) → bytes_eq (id_of a) (id_of b) ≡ same_key a b
@@ -45,9 +45,6 @@ option_or-none None = refl
 
 pub completed-nil : (es : List Entry) → listed (λ key. text_under key es) ≡ es → completed es [] ≡ es
 completed-nil es ordered = listed-same _ _ (λ key. option_or-none (text_under key es)) ∙ ordered
-
-pub completed-in_order : (es next : List Entry) (items : List Item) → next ≡ completed es items → listed (λ key. text_under key next) ≡ next
-completed-in_order es next items e = listed-listed (λ key. option_or (text_under key es) (first_text (id_of key) items)) next e
 
 -- ---- one item
 

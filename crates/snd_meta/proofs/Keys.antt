@@ -110,10 +110,6 @@ listed-listed f es e = listed-same (λ key. text_under key es) f (λ key. ap (te
 
 -- ---- the places that hold the texts
 
-pub no_texts : (slots : List (Option Text)) → ((key : InfoKey) → text_in slots key ≡ None) → listed (text_in slots) ≡ []
-unfolding listed
-no_texts slots none = listed-same (text_in slots) (λ key. None) none
-
 -- what is held at a key's place is the key's text
 pub text_held : (slots : List (Option Text)) (es : List Entry) (key : InfoKey) (n : ℕ) (d slot : Option Text) → listed (text_in slots) ≡ es → length slots ≡ 9
     → n ≡ place_of key → get_or slots n d ≡ slot → text_under key es ≡ option_map (λ t. t.bytes.items) slot

@@ -1,5 +1,5 @@
 -- The broadcast extension of a `bext` chunk. EBU Tech 3285 (version 2, 2011), "Broadcast Audio Extension Chunk".
-use Rattle.std.specs.Prelude.{◌≡◌, ℕ, ◌^◌, ◌<◌, nat_lt, if◌then◌else◌, List, [], ◌∷◌, ◌++◌, length, take, drop, replicate, Option, Some, None, unwrap_or}
+use Rattle.std.specs.Prelude.{◌≡◌, ◌≢◌, ℕ, ◌^◌, ◌<◌, nat_lt, if◌then◌else◌, List, [], ◌∷◌, ◌++◌, length, take, drop, replicate, Option, Some, None, unwrap_or}
 use Rattle.snd_fields.specs.Decimal.{decimal}
 use Rattle.snd_fields.specs.Field.{number, bytes_of}
 use Rattle.snd_fields.specs.declared.field.Order.TheVariants.{Little}
@@ -125,6 +125,10 @@ with_bext_text TimeRef text b = b
 with_bext_text CodingHist text b = record b { history = text }
 
 -- ---- one field alone
+
+-- a text that its field is too short for; the time reference is a number and fits
+abbrev pub ExceedsField : BextKey → List ℕ → Type 0
+ExceedsField key text = (key ≢ TimeRef) × (field_size key < length text)
 
 -- The bytes that put a text into its field: zeros follow it. The time reference is written in decimal digits.
 abbrev pub field_of : BextKey → List ℕ → List ℕ

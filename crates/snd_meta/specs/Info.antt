@@ -117,6 +117,10 @@ first_text id (item ∷ items) = if bytes_eq item.id id then Some item.text else
 abbrev pub completed : List Entry → List Item → List Entry
 completed es items = listed (λ key. option_or (text_under key es) (first_text (id_of key) items))
 
+-- a list, and the text of one item, where the list has none of its key
+abbrev pub with_item : List ℕ → List ℕ → List Entry → List Entry
+with_item id text es = completed es (record { id = id; text = text } ∷ [])
+
 -- what a body holds: nothing where it does not begin with `INFO`, or a text runs past its end
 unfoldable pub info_of : List ℕ → Option (List Entry)
 info_of body =
@@ -128,6 +132,10 @@ info_of body =
 abbrev pub item_bytes : Entry → List ℕ
 item_bytes e =
     id_of e.key ++ bytes_of Little 4 (length e.text + 1) ++ e.text ++ replicate (1 + (length e.text + 1) % 2) 0
+
+-- a text under its key as it stands in a body
+abbrev pub text_bytes : InfoKey → List ℕ → List ℕ
+text_bytes key text = item_bytes (record { key = key; text = text })
 
 -- the body that holds these texts
 unfoldable pub info_body : List Entry → List ℕ

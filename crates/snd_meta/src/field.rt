@@ -1,11 +1,11 @@
 //! One field of the broadcast extension, for a change in place.
 
-ghost use Rattle.std.specs.Prelude.{◌≡◌, ◌≢◌, ◌↔◌, ◌<◌, ◌≤◌, length, IsSome, IfOk, IfErr, IsErrOf};
+ghost use Rattle.std.specs.Prelude.{◌≡◌, ◌≢◌, ◌↔◌, ◌≤◌, length, IsSome, IfOk, IfErr, IsErrOf};
 ghost use Rattle.snd_fields.specs.Decimal.{decimal as decimal_of};
 ghost use Rattle.snd_fields.specs.Field.{bytes_of};
 ghost use Rattle.snd_fields.specs.declared.field.Order.TheVariants.{Little};
 ghost use Rattle.snd_meta.specs.Text.{padded};
-ghost use Rattle.snd_meta.specs.Broadcast.{field_size, field_of};
+ghost use Rattle.snd_meta.specs.Broadcast.{ExceedsField, field_of};
 
 use crate::bext::BextKey;
 use crate::error::MetaError;
@@ -22,7 +22,7 @@ pub fn field_bytes(key: BextKey, text: &[u8]) -> Result<ArrayVec<u8, 256>, MetaE
     requires fixed { key ≢ BextKey.CodingHist }
     requires digits { key ≡ BextKey.TimeRef → IsSome (decimal_of text.now) }
     ensures bytes { IfOk result (λ bytes. bytes.items ≡ field_of key text.now) }
-    ensures too_long { IsErrOf result MetaError.TextTooLong ↔ ((key ≢ BextKey.TimeRef) × (field_size key < length text.now)) }
+    ensures too_long { IsErrOf result MetaError.TextTooLong ↔ ExceedsField key text.now }
     ensures only { IfErr result (λ e. e ≡ MetaError.TextTooLong) }
 {
     if key == BextKey::TimeRef {

@@ -1,9 +1,9 @@
 //! The INFO list.
 
-ghost use Rattle.std.specs.Prelude.{◌≡◌, ◌≢◌, ◌⊎◌, ◌↔◌, ◌+◌, ◌<◌, ◌≤◌, ◌%◌, List, [], ◌∷◌, ◌++◌, length, take, drop, All, Some, None, IfOk, OnOk, IfErr, OnErr, IsErrOf, MatchOption, IfSome, option_map};
+ghost use Rattle.std.specs.Prelude.{◌≡◌, ◌≢◌, ◌⊎◌, ◌↔◌, ◌+◌, ◌<◌, ◌≤◌, ◌%◌, List, [], ◌∷◌, ◌++◌, length, take, drop, All, Some, None, IfOk, OnOk, IfErr, OnErr, IsErrOf, IfNone, IfSome, option_map};
 ghost use Rattle.std.specs.Option.{option_copied};
 ghost use Rattle.snd_meta.specs.Text.{text_of};
-ghost use Rattle.snd_meta.specs.Info.{place_of, id_of, key_of, text_under, with_text, completed, items_of, info_of, info_body, size_of, item_bytes, IsInfo, IsItemAt};
+ghost use Rattle.snd_meta.specs.Info.{place_of, id_of, key_of, text_under, with_text, with_item, completed, items_of, info_of, info_body, size_of, text_bytes, IsInfo, IsItemAt};
 
 use crate::error::MetaError;
 use crate::text::{Text, until_zero};
@@ -107,7 +107,8 @@ struct Item<'a> {
 /// The item at the front, and what follows it: none where its text runs past the end.
 fn item_at(bytes: &[u8]) -> Option<(Item<'_>, &[u8])>
     requires { 8 ≤ length bytes.now }
-    ensures { MatchOption result (length bytes.now < 8 + size_of bytes.now) (λ found. IsItemAt bytes.now found.0.id.now found.0.text.now found.1.now) }
+    ensures cut { IfNone result (length bytes.now < 8 + size_of bytes.now) }
+    ensures item { IfSome result (λ f. IsItemAt bytes.now f.0.id.now f.0.text.now f.1.now) }
 {
     let size = u32_at(bytes, 4, Order::Little) as usize;
     let (head, rest) = bytes.split_at(8);
@@ -146,7 +147,7 @@ fn read_items(alloc: Global, items: &[u8]) -> Result<InfoList, MetaError>
 /// Appends a text as it stands in a body: its id, its size, the text and a 0, and a pad byte after an odd size.
 fn push_item(body: &mut Vec<u8>, key: InfoKey, text: &[u8]) -> Result<(), AllocError>
     requires { length text.now ≤ 65536 }
-    ensures { OnOk result (body.new.items ≡ body.old.items ++ item_bytes (record { key = key; text = text.now })) }
+    ensures { OnOk result (body.new.items ≡ body.old.items ++ text_bytes key text.now) }
 {
     let size = text.len() + 1;
     body.extend_from_slice(&key.id())?;
@@ -224,7 +225,7 @@ impl InfoList {
     fn complete(&mut self, item: &Item<'_>) -> Result<(), AllocError>
         requires no_zero { text_of item.now.text.now ≡ item.now.text.now }
         requires short { length item.now.text.now ≤ 65536 }
-        ensures kept { OnOk result (self.new ≡ completed self.old (record { id = item.now.id.now; text = item.now.text.now } ∷ [])) }
+        ensures kept { OnOk result (self.new ≡ with_item item.now.id.now item.now.text.now self.old) }
         ensures info { OnOk result (IsInfo self.new) }
     {
         let Some(key) = InfoKey::from_id(item.id) else {

@@ -1,7 +1,5 @@
-ghost use Rattle.std.specs.Prelude.{◌≡◌, ◌≢◌, All, IfOk, length};
-
 use super::*;
-use std::alloc::{AllocError, Global};
+use std::alloc::Global;
 use std::test::Fail;
 
 /// The INFO list that sndfile-metadata-set of libsndfile 1.2.0 wrote.
@@ -17,14 +15,6 @@ ISFT\x0e\0\0\0Lavf59.27.100\0";
 const LIBSNDFILE_CUES: [u8; 52] = *b"\x02\0\0\0\
 \x01\0\0\0\xe8\x03\0\0data\0\0\0\0\0\0\0\0\xe8\x03\0\0\
 \x07\0\0\0\x70\x11\x01\0data\0\0\0\0\0\0\0\0\x70\x11\x01\0";
-
-/// A text of `n` bytes.
-fn letters(alloc: Global, n: usize) -> Result<Vec<u8>, AllocError>
-    ensures no_zero { IfOk result (λ v. All (λ b. b ≢ 0) v.items) }
-    ensures count { IfOk result (λ v. length v.items ≡ n) }
-{
-    vec![in alloc; b'x'; n]
-}
 
 /// Appends bytes, and zeros behind them up to a size.
 fn push_part(body: &mut Vec<u8>, part: &[u8], size: usize) -> Result<(), Fail> {
@@ -75,16 +65,20 @@ fn reads_texts_of_ffmpeg(rt: HostRuntime) -> Result<(), Fail> {
     Ok(())
 }
 
+// The items of ffmpeg's list, one after the other in the order of the keys.
+const FFMPEG_INFO_IN_ORDER: [u8; 128] =
+    *b"INFOINAM\x05\0\0\0Sine\0\0ICOP\x02\0\0\0c\0ISFT\x0e\0\0\0Lavf59.27.100\0\
+IART\x07\0\0\0ffmpeg\0\0ICMT\x04\0\0\0odd\0ICRD\x05\0\0\x002024\0\0IPRD\x03\0\0\0Al\0\0IGNR\x05\0\0\0Test\0\0\
+ITRK\x02\0\0\x003\0";
+
 #[test]
-fn writes_a_list(rt: HostRuntime) -> Result<(), Fail> {
-    let mut list = InfoList::new(rt.alloc());
+fn writes_a_list_as_ffmpeg(rt: HostRuntime) -> Result<(), Fail> {
+    let mut list = InfoList::read(rt.alloc(), &FFMPEG_INFO)?.duplicate(rt.alloc())?;
     list.set(InfoKey::Title, b"A")?;
+    list.set(InfoKey::Title, b"Sine")?;
     let mut body = Vec::new(rt.alloc());
     list.put(&mut body)?;
-    assert_eq!(rt; body.as_slice(), b"INFOINAM\x02\0\0\0A\0".as_slice());
-    list.set(InfoKey::Title, letters(rt.alloc(), 1024)?.as_slice())?;
-    let copy = list.duplicate(rt.alloc())?;
-    assert!(rt; list.text(InfoKey::Title) == copy.text(InfoKey::Title));
+    assert_eq!(rt; body.as_slice(), FFMPEG_INFO_IN_ORDER.as_slice());
     Ok(())
 }
 
@@ -191,41 +185,24 @@ fn reads_and_writes_extensions(rt: HostRuntime) -> Result<(), Fail> {
 }
 
 #[test]
-fn sets_whole_fields(rt: HostRuntime) -> Result<(), Fail> {
+fn makes_the_extension_of_ffmpeg(rt: HostRuntime) -> Result<(), Fail> {
     let mut draft = Bext::new(rt.alloc());
-    draft.set_time(u64::MAX);
-    for (key, size) in [
-        (BextKey::Description, 256),
-        (BextKey::Originator, 32),
-        (BextKey::OrigRef, 32),
-        (BextKey::OrigDate, 10),
-        (BextKey::OrigTime, 8),
-        (BextKey::CodingHist, 1024),
-    ] {
-        let text = letters(rt.alloc(), size)?;
-        if key != BextKey::TimeRef {
-            draft.set(key, text.as_slice())?;
-            assert!(rt; draft.text(key) == text.as_slice());
-        }
-    }
+    draft.set(BextKey::Description, b"A sine wave")?;
+    draft.set(BextKey::Originator, b"ffmpeg")?;
+    draft.set(BextKey::OrigRef, b"F0002")?;
+    draft.set(BextKey::OrigDate, b"2024-02-03")?;
+    draft.set(BextKey::OrigTime, b"04:05:06")?;
+    draft.set(BextKey::CodingHist, b"A=PCM")?;
+    draft.set_time(5_000_000_000);
     let mut body = Vec::new(rt.alloc());
     draft.put(&mut body)?;
-    let mut expected = Vec::new(rt.alloc());
-    push_part(&mut expected, letters(rt.alloc(), 338)?.as_slice(), 338)?;
-    push_part(&mut expected, b"\xff\xff\xff\xff\xff\xff\xff\xff\x01", 264)?;
-    push_part(&mut expected, letters(rt.alloc(), 1024)?.as_slice(), 1024)?;
-    assert!(rt; body == expected);
-    Ok(())
-}
-
-#[test]
-fn makes_fields(rt: HostRuntime) -> Result<(), Fail> {
-    let originator = field_bytes(BextKey::Originator, b"YZ")?;
+    // All but the 0 behind the coding history.
     assert_eq!(rt;
-        originator.as_slice(),
-        b"YZ\0\0\0\0\0\0\0\0\0\0\0\0\0\0\0\0\0\0\0\0\0\0\0\0\0\0\0\0\0\0".as_slice()
+        Some(body.as_slice()),
+        written_by(rt.alloc(), true)?
+            .as_slice()
+            .split_last()
+            .map(|(_, rest)| rest)
     );
-    let time = field_bytes(BextKey::TimeRef, b"5000000000")?;
-    assert_eq!(rt; time.as_slice(), b"\0\xf2\x05\x2a\x01\0\0\0".as_slice());
     Ok(())
 }

@@ -1,11 +1,10 @@
 use super::*;
 use snd_fields::Order;
 use std::process::Abort;
-use std::test::Fail;
 
 // Each row: a form, three numbers, and their bytes as sox 14.4 writes them (`sox -t raw`).
 #[test]
-fn reads_and_writes_each_form(rt: HostRuntime) -> Result<(), Fail> {
+fn reads_and_writes_each_form(rt: HostRuntime) {
     check(&rt, Linear::U8, [-128, -1, 127], b"\x00\x7f\xff");
     check(&rt, Linear::S8, [-128, -1, 127], b"\x80\xff\x7f");
     check(
@@ -44,7 +43,6 @@ fn reads_and_writes_each_form(rt: HostRuntime) -> Result<(), Fail> {
         [i32::MIN, -2, 16_909_060],
         b"\x80\x00\x00\x00\xff\xff\xff\xfe\x01\x02\x03\x04",
     );
-    Ok(())
 }
 
 fn check(rt: &impl Abort, form: Linear, numbers: [i32; 3], bytes: &[u8]) {
@@ -60,23 +58,14 @@ fn check(rt: &impl Abort, form: Linear, numbers: [i32; 3], bytes: &[u8]) {
     assert_eq!(rt; &written[..bytes.len()], bytes);
 }
 
+// Numbers and what sndfile-convert of libsndfile 1.2.0 makes of them in another width.
 #[test]
-fn writes_one_sample(rt: HostRuntime) -> Result<(), Fail> {
-    let mut bytes = [0u8; 3];
-    put_sample(Linear::S24(Order::Big), -2, &mut bytes);
-    assert_eq!(rt; bytes, [0xff, 0xff, 0xfe]);
-    assert!(rt; !in_range(Linear::S16(Order::Big), &[0, 32768]));
-    assert!(rt; !in_range(Linear::U8, &[-129, 0]));
-    Ok(())
-}
-
-#[test]
-fn changes_widths(rt: HostRuntime) -> Result<(), Fail> {
+fn changes_widths(rt: HostRuntime) {
     assert_eq!(rt; change_width(8, 16, -3), -768);
     assert_eq!(rt; change_width(8, 32, -128), i32::MIN);
+    assert_eq!(rt; change_width(16, 24, -2), -512);
     assert_eq!(rt; change_width(16, 8, -1), -1);
+    assert_eq!(rt; change_width(16, 8, 255), 0);
     assert_eq!(rt; change_width(24, 16, -257), -2);
     assert_eq!(rt; change_width(32, 24, 511), 1);
-    assert_eq!(rt; change_width(16, 16, 5), 5);
-    Ok(())
 }

@@ -1,5 +1,6 @@
 use Rattle.snd_adpcm.specs.Blocks.{joined}
-use Rattle.snd_adpcm.specs.Laws.{ima_rule, ima_numbers}
+use Rattle.snd_adpcm.specs.Laws.{ima_rule}
+use Rattle.snd_adpcm.specs.Ima.{ima_numbers}
 use Rattle.snd_adpcm.proofs.BlockLaws.{calls_give_list, filled-whole, ima_numbers-positive}
 use Rattle.snd_adpcm.proofs.laws.ima_calls_give_blocks.Goals as goal
 

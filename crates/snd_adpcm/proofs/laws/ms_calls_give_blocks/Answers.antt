@@ -1,5 +1,6 @@
 use Rattle.snd_adpcm.specs.Blocks.{joined}
-use Rattle.snd_adpcm.specs.Laws.{ms_rule, ms_numbers}
+use Rattle.snd_adpcm.specs.Laws.{ms_rule}
+use Rattle.snd_adpcm.specs.Microsoft.{ms_numbers}
 use Rattle.snd_adpcm.proofs.BlockLaws.{calls_give_list, filled-whole, ms_numbers-positive}
 use Rattle.snd_adpcm.proofs.laws.ms_calls_give_blocks.Goals as goal
 

@@ -14,25 +14,25 @@ loop-rest-init c = record {
 
 pub returns-in_default-clause-bad : goal.returns-in_default-clause-bad
 returns-in_default-clause-bad c =
-    λ _. completed-cut c.loop-rest.list c.loop-rest.rest.now c.args.items.now (omega arith) c.in_default.ensures c.loop-rest.invariant.same
+    λ _. completed-cut c.loop-rest.list c.loop-rest.rest.now c.args.items.now (omega arith) c.in_default.ensures.cut c.loop-rest.invariant.same
 
 pub complete-requires-clause-no_zero : goal.complete-requires-clause-no_zero
-complete-requires-clause-no_zero c = item_text _ _ _ _ c.in-Some.ensures
+complete-requires-clause-no_zero c = item_text _ _ _ _ c.in-Some.ensures.item
 
 pub complete-requires-clause-short : goal.complete-requires-clause-short
-complete-requires-clause-short c = omega (arith, item_short _ _ _ _ c.in-Some.ensures)
+complete-requires-clause-short c = omega (arith, item_short _ _ _ _ c.in-Some.ensures.item)
 
 pub loop-rest-preserved : goal.loop-rest-preserved
 loop-rest-preserved c = record {
   same = completed-step c.loop-rest.list c.complete.new.self c.loop-rest.rest.now c.in-Some.item.id.now c.in-Some.item.text.now c.in-Some.later.now (omega arith)
-      c.in-Some.ensures c.in_ok-complete.ensures.kept
+      c.in-Some.ensures.item c.in_ok-complete.ensures.kept
       ∙ c.loop-rest.invariant.same;
   info = c.in_ok-complete.ensures.info;
-  short = omega (arith, ap length c.in-Some.ensures.rest, after_item-shorter c.loop-rest.rest.now);
+  short = omega (arith, ap length c.in-Some.ensures.item.rest, after_item-shorter c.loop-rest.rest.now);
 }
 
 pub loop-rest-smaller : goal.loop-rest-smaller
-loop-rest-smaller c = omega (arith, ap length c.in-Some.ensures.rest, after_item-shorter c.loop-rest.rest.now)
+loop-rest-smaller c = omega (arith, ap length c.in-Some.ensures.item.rest, after_item-shorter c.loop-rest.rest.now)
 
 pub returns-clause-read : goal.returns-clause-read
 returns-clause-read c = sym c.loop-rest.invariant.same ∙ completed-end c.loop-rest.list c.loop-rest.rest.now c.loop-rest.invariant.info.in_order c.loop-rest-test.false
