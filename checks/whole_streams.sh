@@ -28,7 +28,7 @@ def form(*chunks):
 
 def format_of(tag, channels, rate, bits, align=None):
     align = channels * bits // 8 if align is None else align
-    return chunk(b"fmt ", struct.pack("<HHIIHH", tag, channels, rate, rate * align, align, bits))
+    return chunk(b"fmt ", struct.pack("<HHIIHH", tag, channels, rate, min(rate * align, 0xFFFFFFFF), align, bits))
 
 
 def put(name, data):
