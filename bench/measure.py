@@ -12,27 +12,31 @@ TRIES = int(os.environ.get("BENCH_TRIES", "9"))
 
 
 def run(words, given="/dev/null", to="/dev/null"):
-    """Runs a command and gives its seconds, the processor's seconds and the peak memory in KB. A status that is not 0 ends all."""
+    """Runs a command and gives its seconds. A status that is not 0 ends all."""
     with open(given, "rb") as source, open(to, "wb") as sink:
         start = time.perf_counter()
-        started = subprocess.Popen(words, stdin=source, stdout=sink, stderr=subprocess.DEVNULL)
-        _, status, used = os.wait4(started.pid, 0)
+        ended = subprocess.run(words, stdin=source, stdout=sink, stderr=subprocess.DEVNULL)
         wall = time.perf_counter() - start
-        started.returncode = os.waitstatus_to_exitcode(status)
-    if started.returncode:
-        sys.exit(f"{' '.join(words)} ended with status {started.returncode}")
-    return wall, used.ru_utime + used.ru_stime, used.ru_maxrss
+    if ended.returncode:
+        sys.exit(f"{' '.join(words)} ended with status {ended.returncode}")
+    return wall
+
+
+def peak(words, given="/dev/null", to="/dev/null"):
+    """The peak memory of a command in KB, as a small program counts it: a child of this one would begin with this one's."""
+    run(["/usr/bin/time", "-o", "peak.txt", "-f", "%M", *words], given, to)
+    with open("peak.txt") as file:
+        return int(file.read().split()[-1])
 
 
 def side_by_side(commands):
     """Measures commands by name, each (words, given, to): the least and the middle of the milliseconds, and the peak memory."""
     found = {name: [] for name in commands}
-    for command in commands.values():
-        run(*command)
+    peaks = {name: peak(*command) for name, command in commands.items()}
     for _ in range(TRIES):
         for name, command in commands.items():
             found[name].append(run(*command))
-    return {name: (1000 * min(it[0] for it in runs), 1000 * statistics.median(it[0] for it in runs), max(it[2] for it in runs)) for name, runs in found.items()}
+    return {name: (1000 * min(runs), 1000 * statistics.median(runs), peaks[name]) for name, runs in found.items()}
 
 
 def same(one, other):
