@@ -85,7 +85,7 @@ pub has_others : (order : Order) (b : List ℕ) (p q : ℕ) (chunk : NewChunk) (
 unfolding chunks_bytes
 has_others order b p q chunk chunks at has = has_right b p q (chunk_bytes order chunk) (chunks_bytes order chunks) at has
 
-length-chunks_bytes : (order : Order) (chunk : NewChunk) (chunks : List NewChunk) → length (chunks_bytes order (chunk ∷ chunks)) ≡ length (chunk_bytes order chunk) + length (chunks_bytes order chunks)
+pub length-chunks_bytes : (order : Order) (chunk : NewChunk) (chunks : List NewChunk) → length (chunks_bytes order (chunk ∷ chunks)) ≡ length (chunk_bytes order chunk) + length (chunks_bytes order chunks)
 unfolding chunks_bytes
 length-chunks_bytes order chunk chunks = length-append (chunk_bytes order chunk) (chunks_bytes order chunks)
 

@@ -3,5 +3,7 @@ pub mod Agreements
 pub mod Counts
 pub mod Standing
 pub mod Layouts
+pub mod Made
+pub mod NewHeads
 pub mod Opens
 pub mod Shapes

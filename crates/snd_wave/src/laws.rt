@@ -2,6 +2,7 @@
 //! the laws.
 
 ghost use Rattle.snd_wave.specs.Laws.{CountIsStated, FieldsAreApart, LayoutsAgree, NoPieceBehind, NumbersStandBefore, TrailingIsStated};
+ghost use Rattle.snd_wave.specs.Written.{MadeInOneSector, MadeReadsBack};
 
 /// A file that has the bytes of another before its data, but for the numbers that change as the sound
 /// grows, has its layout, but for how long the sound is and what stands behind it.
@@ -29,4 +30,12 @@ pub fn count_is_stated()
 pub fn no_piece_behind()
     ensures trailing { TrailingIsStated }
     ensures pieces { NoPieceBehind }
+{}
+
+/// A file that is made, with any pieces that a file may keep, has the layout that its head says. The
+/// field that decides the count of its frames lies in one sector.
+#[tactic(auto, using(crate::proofs::Made::made_reads_back, crate::proofs::NewHeads::made_in_one_sector))]
+pub fn made_files_read_back()
+    ensures layout { MadeReadsBack }
+    ensures one_sector { MadeInOneSector }
 {}

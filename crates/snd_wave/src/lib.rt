@@ -11,5 +11,7 @@ mod reads;
 #[cfg(test)]
 mod tests;
 
-pub use laws::{count_is_stated, fields_are_apart, layouts_agree, no_piece_behind};
+pub use laws::{
+    count_is_stated, fields_are_apart, layouts_agree, made_files_read_back, no_piece_behind,
+};
 pub use layout::open_layout;
