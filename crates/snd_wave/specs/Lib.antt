@@ -3,3 +3,4 @@ pub mod Parts
 pub mod Laws
 pub mod Values
 pub mod Written
+pub mod Sealed

@@ -2,6 +2,7 @@
 //! the laws.
 
 ghost use Rattle.snd_wave.specs.Laws.{CountIsStated, FieldsAreApart, LayoutsAgree, NoPieceBehind, NumbersStandBefore, TrailingIsStated};
+ghost use Rattle.snd_wave.specs.Sealed.{CountedReadsBack};
 ghost use Rattle.snd_wave.specs.Written.{MadeInOneSector, MadeReadsBack};
 
 /// A file that has the bytes of another before its data, but for the numbers that change as the sound
@@ -38,4 +39,11 @@ pub fn no_piece_behind()
 pub fn made_files_read_back()
     ensures layout { MadeReadsBack }
     ensures one_sector { MadeInOneSector }
+{}
+
+/// Where the fields of a file are brought up to a number of frames whose data are there with their pad,
+/// its layout says so many frames and nothing behind them, and otherwise what it said before.
+#[tactic(auto, using(crate::proofs::Counted::counted_reads_back))]
+pub fn counted_files_read_back()
+    ensures { CountedReadsBack }
 {}

@@ -12,6 +12,7 @@ mod reads;
 mod tests;
 
 pub use laws::{
-    count_is_stated, fields_are_apart, layouts_agree, made_files_read_back, no_piece_behind,
+    count_is_stated, counted_files_read_back, fields_are_apart, layouts_agree,
+    made_files_read_back, no_piece_behind,
 };
 pub use layout::open_layout;
