@@ -5,6 +5,9 @@ pub mod Counts
 pub mod Standing
 pub mod Layouts
 pub mod Made
+pub mod MadeParts
 pub mod NewHeads
 pub mod Opens
+pub mod PlainHeads
 pub mod Shapes
+pub mod Sizes

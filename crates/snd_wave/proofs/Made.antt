@@ -33,7 +33,7 @@ use Rattle.snd_layout.specs.declared.kind.Kind.TheVariants.{Wave}
 use Rattle.snd_layout.specs.declared.piece.Piece.{Piece}
 use Rattle.snd_wave.specs.Layout.{body_of, data_end, fact_chunk, fact_count, format_chunk, frame_count, front_refusal, has_id, held, inner_field, is_fact, is_format, is_joined, is_own, outer_end, piece_of, pieces_of, side_field, wave_front, wave_layout, wave_shape, wave_tail, whole_frames}
 use Rattle.snd_wave.specs.Values.{riff_size}
-use Rattle.snd_wave.specs.Written.{MadeReadsBack, MayBeMade, MayBePiece, chunks_before, filler, has_fact, head_for, head_size, inner_size, junk, made_pieces, made_shape, new_fact, new_format, riff_head, start_without_filler, wave_made}
+use Rattle.snd_wave.specs.Written.{HeadHasItsSize, MadeReadsBack, MayBeMade, MayBePiece, chunks_before, filler, has_fact, head_for, head_size, inner_size, junk, made_pieces, made_shape, new_fact, new_format, riff_head, start_without_filler, wave_made}
 use Rattle.snd_wave.proofs.NewHeads.{all_precede, bytes-append, chunks_few, fact_bytes, format_few, format_size, not_fact, size_is, size_least}
 use Rattle.snd_wave.proofs.Opens.{Opens, opened, refused}
 use Rattle.snd_wave.proofs.Shapes.{blocks_have_bytes}
@@ -162,7 +162,7 @@ module _ (p : Parameters) (pieces : List NewChunk) (n : ℕ) where
       )
 
 -- the frames that so many bytes have
-fixed_frames : (codec : Codec) → is_adpcm codec ≡ false → block_frames codec ≡ 1
+pub fixed_frames : (codec : Codec) → is_adpcm codec ≡ false → block_frames codec ≡ 1
 fixed_frames U8 other = refl
 fixed_frames S8 other = refl
 fixed_frames (S16 order) other = refl
@@ -188,7 +188,7 @@ not_counted : (p : Parameters) (bytes : ℕ) (count : Option ℕ) → is_adpcm p
 not_counted p bytes None other = refl
 not_counted p bytes (Some count) other = rw other refl
 
-single : (n b : ℕ) → b ≡ 1 → (n + b - 1) / b * b ≡ n
+pub single : (n b : ℕ) → b ≡ 1 → (n + b - 1) / b * b ≡ n
 single n b one = rw one (omega arith)
 
 pub counted : (p : Parameters) (n : ℕ) (count : Option ℕ) → AreParams p → fit_refusal Wave p ≡ None → (is_adpcm p.codec ≡ true → count ≡ Some n) → frame_count p (data_bytes p n) count ≡ n
@@ -225,7 +225,7 @@ adpcm_has_fact (Ima align per_block) is = refl
 adpcm_has_fact (Ms align per_block) is = refl
 
 -- a shape by the parts that are not the same in all
-unfoldable shape_with : Parameters → ℕ → ℕ → ℕ → Field → Option Field → Bool → List Piece → Shape
+unfoldable pub shape_with : Parameters → ℕ → ℕ → ℕ → Field → Option Field → Bool → List Piece → Shape
 shape_with p start frames declared inner side trailing pieces = record {
   kind = Wave;
   params = p;
@@ -241,7 +241,7 @@ shape_with p start frames declared inner side trailing pieces = record {
   pieces = pieces;
 }
 
-same_shape : (p : Parameters) (a a' b b' c : ℕ) (d d' : Field) (e e' : Option Field) (f f' : Bool) (g g' : List Piece) → a ≡ a' → b ≡ b' → d ≡ d' → e ≡ e' → f ≡ f' → g ≡ g'
+pub same_shape : (p : Parameters) (a a' b b' c : ℕ) (d d' : Field) (e e' : Option Field) (f f' : Bool) (g g' : List Piece) → a ≡ a' → b ≡ b' → d ≡ d' → e ≡ e' → f ≡ f' → g ≡ g'
     → shape_with p a b c d e f g ≡ shape_with p a' b' c d' e' f' g'
 same_shape p a a' b b' c d d' e e' f f' g g' ea eb ed ee ef eg = cc
 
@@ -362,7 +362,7 @@ made_layout b p pieces n may has long =
     let at : head_size p pieces ≡ (head_size p pieces - 8) + 8 = omega (arith, size_least p pieces) in
     opened b (made_shape p pieces n) (opens_made b p pieces n may has long (head_size p pieces - 8) at)
 
-has_self : (x y : List ℕ) → HasAt (x ++ y) 0 x
+pub has_self : (x y : List ℕ) → HasAt (x ++ y) 0 x
 has_self x y = λ j lt. let same : 0 + j ≡ j = omega arith in ap (λ k. get_or (x ++ y) k 0) same ∙ get_or_append_left x y 0 j lt
 
 pub made_reads_back : MadeReadsBack
@@ -372,3 +372,6 @@ made_reads_back p pieces n bytes may len =
     (has_left (head_for p pieces n ++ bytes ++ pad (data_bytes p n)) 0 (head_for p pieces n) bytes
     (has_self (head_for p pieces n ++ bytes) (pad (data_bytes p n))))
     (omega (arith, length-append (head_for p pieces n ++ bytes) (pad (data_bytes p n)), length-append (head_for p pieces n) bytes, length-head_for p pieces n, len, length-replicate {A = ℕ} (data_bytes p n % 2) 0))
+
+pub length_head_for : HeadHasItsSize
+length_head_for p pieces n = length-head_for p pieces n

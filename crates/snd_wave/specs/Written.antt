@@ -2,7 +2,8 @@
 -- chapters 2 and 3: `RIFF`, the size of all that follows, `WAVE`, and chunks, among them `fmt ` and at last `data`. A `fact`
 -- chunk with the count of the frames stands before the data of all codecs but linear ones, after "New Multimedia Data Types
 -- and Data Techniques" 3.0 (Microsoft, 1994). The order of the chunks and the filler are this library's own rules.
-use Rattle.std.specs.Prelude.{◌≡◌, ℕ, ◌+◌, ◌-◌, ◌^◌, ◌<◌, ◌≤◌, Bool, true, false, not, ◌&&◌, List, [], ◌∷◌, ◌++◌, All, None, Some, Ok, codes, length, map, replicate, if◌then◌else◌}
+use Rattle.std.specs.Prelude.{◌≡◌, ℕ, ◌+◌, ◌-◌, ◌^◌, ◌<◌, ◌≤◌, Bool, true, false, not, ◌&&◌, List, [], ◌∷◌, ◌++◌, All, Option, None, Some, Ok, codes, drop, length, map, replicate, take, if◌then◌else◌}
+use Rattle.snd_disk.specs.State.{Rises}
 use Rattle.snd_chunks.specs.Chunks.{padded_end}
 use Rattle.snd_chunks.specs.Written.{NewChunk, all_placed, chunks_bytes, head_bytes, pad, placed}
 use Rattle.snd_fields.specs.Field.{bytes_of}
@@ -14,7 +15,10 @@ use Rattle.snd_layout.specs.Sector.{is_in_one_sector}
 use Rattle.snd_layout.specs.Shape.{Shape, room}
 use Rattle.snd_layout.specs.Written.{written_format}
 use Rattle.snd_layout.specs.declared.codec.Codec.{Codec}
-use Rattle.snd_layout.specs.declared.codec.Codec.TheVariants.{MuLaw, ALaw}
+use Rattle.snd_layout.specs.declared.codec.Codec.TheVariants.{MuLaw, ALaw, Ima, Ms}
+use Rattle.snd_layout.specs.declared.error.OpenError.{OpenError}
+use Rattle.snd_layout.specs.declared.error.OpenError.TheVariants.{DiskFault}
+use Rattle.snd_layout.specs.declared.field.Field.{Field}
 use Rattle.snd_layout.specs.declared.kind.Kind.TheVariants.{Wave}
 use Rattle.snd_layout.specs.declared.piece.Piece.{Piece}
 use Rattle.snd_wave.specs.Layout.{is_own, piece_of, wave_layout}
@@ -78,6 +82,13 @@ wave_made p pieces frames bytes = head_for p pieces frames ++ bytes ++ pad (data
 unfoldable pub made_pieces : Parameters → List NewChunk → List Piece
 made_pieces p pieces = map (piece_of false) (all_placed (padded_end 20 (length (written_format p))) pieces)
 
+-- the field that decides the count, and the count that is not read, of data that begin at a place
+abbrev pub inner_at : Codec → ℕ → Field
+inner_at codec start = record { at = start - inner_size codec; size = inner_size codec }
+
+abbrev pub side_at : Codec → ℕ → Option Field
+side_at codec start = if has_fact codec && not (is_adpcm codec) then Some (record { at = start - 12; size = 4 }) else None
+
 -- what a file says of itself that is made
 unfoldable pub made_shape : Parameters → List NewChunk → ℕ → Shape
 made_shape p pieces frames = record {
@@ -86,9 +97,9 @@ made_shape p pieces frames = record {
   start = head_size p pieces;
   frames = frames;
   declared = data_bytes p frames;
-  inner = record { at = head_size p pieces - inner_size p.codec; size = inner_size p.codec };
+  inner = inner_at p.codec (head_size p pieces);
   outer = Some (record { at = 4; size = 4 });
-  side = if has_fact p.codec && not (is_adpcm p.codec) then Some (record { at = head_size p pieces - 12; size = 4 }) else None;
+  side = side_at p.codec (head_size p pieces);
   trailing = false;
   unknown_length = false;
   reserve = None;
@@ -116,7 +127,34 @@ abbrev pub MadeReadsBack : Type 0
 MadeReadsBack = (p : Parameters) (pieces : List NewChunk) (frames : ℕ) (bytes : List ℕ) → MayBeMade p pieces frames → length bytes ≡ data_bytes p frames →
     wave_layout (wave_made p pieces frames bytes) ≡ Ok (made_shape p pieces frames)
 
+-- a piece of a file, with its body
+abbrev pub chunk_read : List ℕ → Piece → NewChunk
+chunk_read b piece = record { id = piece.id.0; body = take piece.len (drop piece.at b) }
+
+-- and holds its pieces and its data
+abbrev pub MadeHoldsAll : Type 0
+MadeHoldsAll = (p : Parameters) (pieces : List NewChunk) (frames : ℕ) (bytes : List ℕ) → MayBeMade p pieces frames → length bytes ≡ data_bytes p frames →
+    (map (chunk_read (wave_made p pieces frames bytes)) (made_pieces p pieces) ≡ pieces)
+    × (take (data_bytes p frames) (drop (head_size p pieces) (wave_made p pieces frames bytes)) ≡ bytes)
+
+-- its data begin behind its head
+abbrev pub HeadHasItsSize : Type 0
+HeadHasItsSize = (p : Parameters) (pieces : List NewChunk) (frames : ℕ) → length (head_for p pieces frames) ≡ head_size p pieces
+
 -- the field that decides the count lies in one sector
 abbrev pub MadeInOneSector : Type 0
 MadeInOneSector = (p : Parameters) (pieces : List NewChunk) → MayBeMade p pieces 0 →
     is_in_one_sector (head_size p pieces - inner_size p.codec) (inner_size p.codec) ≡ true
+
+-- where the data begin in a file without pieces
+abbrev pub plain_start : Codec → ℕ
+plain_start MuLaw = 58
+plain_start ALaw = 58
+plain_start (Ima align per_block) = 60
+plain_start (Ms align per_block) = 90
+plain_start codec = 44
+
+-- A head is laid for no fault alone.
+abbrev pub IsLayCause : ℕ → ℕ → OpenError → Type 0
+IsLayCause old new (DiskFault step) = (old ≤ new) × Rises old new
+IsLayCause old new _ = ⊥

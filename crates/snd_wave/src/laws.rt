@@ -3,7 +3,7 @@
 
 ghost use Rattle.snd_wave.specs.Laws.{CountIsStated, FieldsAreApart, LayoutsAgree, NoPieceBehind, NumbersStandBefore, TrailingIsStated};
 ghost use Rattle.snd_wave.specs.Sealed.{CountedReadsBack};
-ghost use Rattle.snd_wave.specs.Written.{MadeInOneSector, MadeReadsBack};
+ghost use Rattle.snd_wave.specs.Written.{HeadHasItsSize, MadeHoldsAll, MadeInOneSector, MadeReadsBack};
 
 /// A file that has the bytes of another before its data, but for the numbers that change as the sound
 /// grows, has its layout, but for how long the sound is and what stands behind it.
@@ -33,11 +33,14 @@ pub fn no_piece_behind()
     ensures pieces { NoPieceBehind }
 {}
 
-/// A file that is made, with any pieces that a file may keep, has the layout that its head says. The
-/// field that decides the count of its frames lies in one sector.
-#[tactic(auto, using(crate::proofs::Made::made_reads_back, crate::proofs::NewHeads::made_in_one_sector))]
+/// A file that is made, with any pieces that a file may keep, has the layout that its head says, and
+/// holds its pieces and its data. The data begin behind the head, and the field that decides the count of
+/// the frames lies in one sector.
+#[tactic(auto, using(crate::proofs::Made::made_reads_back, crate::proofs::Made::length_head_for, crate::proofs::NewHeads::made_in_one_sector))]
 pub fn made_files_read_back()
     ensures layout { MadeReadsBack }
+    ensures holds { MadeHoldsAll }
+    ensures size { HeadHasItsSize }
     ensures one_sector { MadeInOneSector }
 {}
 
