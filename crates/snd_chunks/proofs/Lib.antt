@@ -1,3 +1,4 @@
 pub mod Chains
 pub mod Heads
 pub mod Walks
+pub mod WrittenChunks

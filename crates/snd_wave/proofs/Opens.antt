@@ -51,7 +51,7 @@ unfolding wave_layout
 opened b h is = rw (is.no_refusal, is.format_is, is.params_are, is.sound_is) (ap (λ (s : Shape). Ok s) (sym is.shape))
 
 -- a walk that found a long format and came to the sound is not refused, whatever the sound's size is
-refused : (long : Bool) (sound : Chunk) (front : Front) → front.ending ≡ AtSound sound → is_format (format_chunk front.chunks) ≡ long → front_refusal front ≡ refuse_if (not long) NoFormat
+pub refused : (long : Bool) (sound : Chunk) (front : Front) → front.ending ≡ AtSound sound → is_format (format_chunk front.chunks) ≡ long → front_refusal front ≡ refuse_if (not long) NoFormat
 refused true sound front ends is = rw (ends, is) refl
 refused false sound front ends is = rw (ends, is) refl
 

@@ -1,3 +1,6 @@
 pub mod Layout
 pub mod Parts
 pub mod Laws
+pub mod Values
+pub mod Written
+pub mod Sealed

@@ -1,0 +1,342 @@
+-- A file whose fields say a number of frames has its layout with so many frames.
+use Rattle.std.proofs.Common.{◌≡◌, ◌⊎◌, ℕ, ◌+◌, ◌-◌, ◌*◌, ◌/◌, ◌%◌, ◌<◌, ◌≤◌, ◌^◌, List, [], ◌∷◌, ◌++◌, All, Bool, true, false, not, ◌&&◌, ◌||◌, Option, None, Some, Ok, length, take, drop, get_or, refl, sym, ap, ◌∙◌, inl, inr, arith, length-append}
+use Rattle.std.proofs.Math.Nat.{div-mul-le_self}
+use Rattle.std.proofs.lemmas.Bool.{and_parts, cases_Bool, eq-eqb, eqb-true, leb-true, le-leb, le-ltb, lt-ltb, or_parts, cases_lt}
+use Rattle.std.proofs.lemmas.List.{places}
+use Rattle.std.proofs.lemmas.List.Elements.{All-head, All-tail}
+use Rattle.std.proofs.lemmas.Slice.Eq.{bytes_eq-Decides}
+use Rattle.std.specs.List.{filter}
+use Rattle.std.specs.Prelude.{◌==◌, IfSome, codes, min, nat_le, nat_lt, option_map}
+use Rattle.snd_disk.specs.Runs.{HasAt}
+use Rattle.snd_chunks.proofs.Chains.{IsHead, is_head}
+use Rattle.snd_chunks.proofs.WrittenChunks.{has_left, has_number, has_right}
+use Rattle.snd_chunks.specs.declared.chunk.Chunk.{Chunk}
+use Rattle.snd_chunks.specs.Chunks.{padded_end}
+use Rattle.snd_fields.proofs.Numbers.{length-bytes_of}
+use Rattle.snd_fields.specs.Field.{bytes_of, number, with_field}
+use Rattle.snd_fields.specs.declared.field.Order.TheVariants.{Little}
+use Rattle.snd_layout.proofs.Formats.{format_fits}
+use Rattle.snd_layout.specs.Blocks.{block_align, is_adpcm}
+use Rattle.snd_layout.specs.Fit.{fit_refusal}
+use Rattle.snd_layout.specs.Params.{Parameters, data_bytes}
+use Rattle.snd_layout.specs.Shape.{Shape}
+use Rattle.snd_layout.specs.declared.field.Field.{Field}
+use Rattle.snd_layout.specs.declared.kind.Kind.{Kind}
+use Rattle.snd_layout.specs.declared.kind.Kind.TheVariants.{Wave}
+use Rattle.snd_layout.specs.declared.piece.Piece.{Piece}
+use Rattle.snd_wave.specs.Layout.{body_of, fact_chunk, inner_field, is_joined, outer_end, wave_front, wave_layout, wave_shape, frame_count}
+use Rattle.snd_wave.specs.Laws.{FieldsStandApart, HoldsBlocks, SameButNumbers, SameHead, count_of, is_in, is_in_field, is_number, padded_data_end, pieces_before}
+use Rattle.snd_wave.specs.Sealed.{CountedReadsBack, MayBeCounted, counted_shape, put_in, with_values}
+use Rattle.snd_wave.specs.Values.{count_bytes, inner_value, outer_value, riff_size, side_value}
+use Rattle.snd_wave.proofs.Agreements.{layouts_agree}
+use Rattle.snd_wave.proofs.Counts.{count_is_stated, no_piece_behind, numbers_stand_before, reached, trailing_is_stated}
+use Rattle.snd_wave.proofs.Made.{counted}
+use Rattle.snd_wave.proofs.Opens.{Opens, opens}
+use Rattle.snd_wave.proofs.Standing.{fields_are_apart}
+
+-- a place that is not in a field lies before it or behind it
+apart_of : (at size i : ℕ) → is_in at size i ≡ false → (i < at) ⊎ (at + size ≤ i)
+apart_of at size i out = elim (cases_lt i at) [
+  | inl before ↦ inl before
+  | inr from ↦ elim (cases_lt i (at + size)) [
+    | inl within ↦ absurd (let h = rw (le-leb at i from, lt-ltb i (at + size) within) at out in cc)
+    | inr behind ↦ inr behind
+  ]
+]
+
+-- what stands in a field, beside it, and how long the list is
+field_in : (b v : List ℕ) (at j : ℕ) → at + length v ≤ length b → j < length v → get_or (with_field b at v) (at + j) 0 ≡ get_or v j 0
+field_in b v at j within lt = grind (arith, places)
+
+field_out : (b v : List ℕ) (at i : ℕ) → at + length v ≤ length b → (i < at) ⊎ (at + length v ≤ i) → get_or (with_field b at v) i 0 ≡ get_or b i 0
+field_out b v at i within (inl before) = grind (arith, places)
+field_out b v at i within (inr behind) = grind (arith, places)
+
+length-field : (b v : List ℕ) (at : ℕ) → at + length v ≤ length b → length (with_field b at v) ≡ length b
+length-field b v at within = grind (arith, places)
+
+-- the field that decides the count has 4 bytes, or 12 in ADPCM
+pub record HasInner (h : Shape) : Type 0 where
+  pub few : (h.inner.size ≡ 4) ⊎ (h.inner.size ≡ 12)
+
+inner_sizes : (p : Parameters) (fact : Option Chunk) (sound : Chunk) → ((inner_field p fact sound).size ≡ 4) ⊎ ((inner_field p fact sound).size ≡ 12)
+inner_sizes p fact sound = elim (cases_Bool (is_adpcm p.codec && is_joined fact sound)) [
+  | inl both ↦ rw both (inr refl)
+  | inr other ↦ rw other (inl refl)
+]
+
+pub length-inner_value : (h : Shape) (n : ℕ) → (h.inner.size ≡ 4) ⊎ (h.inner.size ≡ 12) → length (inner_value h n) ≡ h.inner.size
+unfolding inner_value
+length-inner_value h n (inl four) = rw four refl
+length-inner_value h n (inr twelve) = rw twelve refl
+
+-- the data size is the last of it
+data_size : (x : List ℕ) (h : Shape) (n : ℕ) → (h.inner.size ≡ 4) ⊎ (h.inner.size ≡ 12) → h.inner.at + h.inner.size ≡ h.start → HasAt x h.inner.at (inner_value h n) → HasAt x (h.start - 4) (bytes_of Little 4 (data_bytes h.params n))
+unfolding inner_value
+data_size x h n (inl four) ends has =
+    let place : h.inner.at ≡ h.start - 4 = omega (arith, four, ends) in
+    let here : HasAt x h.inner.at (bytes_of Little 4 (data_bytes h.params n)) = rw four at has in
+    rw (← place) here
+data_size x h n (inr twelve) ends has =
+    let all : HasAt x h.inner.at (bytes_of Little 4 n ++ codes "data" ++ bytes_of Little 4 (data_bytes h.params n)) = rw twelve at has in
+    has_right x h.inner.at (h.start - 4) (bytes_of Little 4 n ++ codes "data") (bytes_of Little 4 (data_bytes h.params n)) (omega (arith, twelve, ends)) all
+
+-- and where it has 12 bytes, the count and the identifier stand before that
+joined_parts : (x : List ℕ) (h : Shape) (n : ℕ) → h.inner.size ≡ 12 → h.inner.at + h.inner.size ≡ h.start → HasAt x h.inner.at (inner_value h n) → HasAt x h.inner.at (bytes_of Little 4 n) × HasAt x (h.start - 8) (codes "data")
+unfolding inner_value
+joined_parts x h n twelve ends has =
+    let all : HasAt x h.inner.at (bytes_of Little 4 n ++ codes "data" ++ bytes_of Little 4 (data_bytes h.params n)) = rw twelve at has in
+    let front : HasAt x h.inner.at (bytes_of Little 4 n ++ codes "data") = has_left x h.inner.at (bytes_of Little 4 n ++ codes "data") (bytes_of Little 4 (data_bytes h.params n)) all in (
+      has_left x h.inner.at (bytes_of Little 4 n) (codes "data") front,
+      has_right x h.inner.at (h.start - 8) (bytes_of Little 4 n) (codes "data") (omega (arith, twelve, ends)) front,
+    )
+
+-- a file has, before its data, the bytes of another but in the three fields, and these say so many frames
+pub record Says (b : List ℕ) (h : Shape) (n : ℕ) (x : List ℕ) : Type 0 where
+  pub inner : HasAt x h.inner.at (inner_value h n)
+  pub outer : HasAt x 4 (outer_value h n)
+  pub beside : (i : ℕ) → i < h.inner.at → is_in_field h.outer i ≡ false → is_in_field h.side i ≡ false → get_or x i 0 ≡ get_or b i 0
+  pub long : padded_end h.start (data_bytes h.params n) ≤ length x
+
+-- the identifier of the data stands before their size
+pub record StandsIn (b : List ℕ) (h : Shape) : Type 0 where
+  pub sizes : (h.inner.size ≡ 4) ⊎ (h.inner.size ≡ 12)
+  pub sound : HasAt b (h.start - 8) (codes "data")
+  pub within : h.start ≤ length b
+  pub fits : fit_refusal Wave h.params ≡ None
+  pub kind : h.kind ≡ Wave
+  pub known : h.unknown_length ≡ false
+  pub reserve : h.reserve ≡ None
+
+stands : (b : List ℕ) (h : Shape) → wave_layout b ≡ Ok h → StandsIn b h
+stands b h is =
+    let from : Opens b (wave_front b) h = opens b h is in
+    let reach = reached b from.sound from.sound_is in
+    let head : IsHead Little b reach.last from.sound = is_head Little b reach.last from.sound reach.at in
+    let id : take 4 (drop reach.last b) ≡ codes "data" = sym head.id ∙ (bytes_eq-Decides from.sound.id.0 (codes "data")).0 reach.is in
+    let start : h.start ≡ reach.last + 8 = ap (λ (s : Shape). s.start) from.shape ∙ head.at in
+    record {
+      sizes = rw from.shape (inner_sizes from.params (fact_chunk (wave_front b).chunks) from.sound);
+      sound = id_at b reach.last (h.start - 8) (codes "data") refl (omega (arith, start)) (omega (arith, head.within)) id;
+      within = omega (arith, start, head.within);
+      fits = rw from.shape (format_fits (body_of b from.format) from.params from.params_are);
+      kind = ap (λ (s : Shape). s.kind) from.shape;
+      known = ap (λ (s : Shape). s.unknown_length) from.shape;
+      reserve = ap (λ (s : Shape). s.reserve) from.shape;
+    }
+  where
+    by_part : (k : ℕ) (b : List ℕ) (p q : ℕ) (v : List ℕ) (j : ℕ) → j < k → q ≡ p → take k (drop p b) ≡ v → get_or b (q + j) 0 ≡ get_or v j 0
+    by_part k b p q v j lt same is = rw (← is, same) (grind (arith, places))
+
+    id_at : (b : List ℕ) (p q : ℕ) (v : List ℕ) → length v ≡ 4 → q ≡ p → p + 4 ≤ length b → take 4 (drop p b) ≡ v → HasAt b q v
+    id_at b p q v four same within is = λ j lt. by_part 4 b p q v j (omega (arith, four)) same is
+
+-- all parts of a layout
+unfoldable shape_of_parts : Kind → Parameters → ℕ → ℕ → ℕ → Field → Option Field → Option Field → Bool → Bool → Option ℕ → List Piece → Shape
+shape_of_parts kind p start frames declared inner outer side trailing unknown reserve pieces = record {
+  kind = kind;
+  params = p;
+  start = start;
+  frames = frames;
+  declared = declared;
+  inner = inner;
+  outer = outer;
+  side = side;
+  trailing = trailing;
+  unknown_length = unknown;
+  reserve = reserve;
+  pieces = pieces;
+}
+
+by_parts : (k k' : Kind) (p p' : Parameters) (a a' b b' c c' : ℕ) (d d' : Field) (e e' f f' : Option Field) (g g' i i' : Bool) (j j' : Option ℕ) (l l' : List Piece) → k ≡ k' → p ≡ p' → a ≡ a' → b ≡ b' → c ≡ c' → d ≡ d' → e ≡ e' → f ≡ f' → g ≡ g' → i ≡ i' → j ≡ j' → l ≡ l'
+    → shape_of_parts k p a b c d e f g i j l ≡ shape_of_parts k' p' a' b' c' d' e' f' g' i' j' l'
+by_parts k k' p p' a a' b b' c c' d d' e e' f f' g g' i i' j j' l l' ek ep ea eb ec ed ee ef eg ei ej el = cc
+
+kept_first : (test : Piece → Bool) (piece : Piece) (pieces : List Piece) → test piece ≡ true → filter test (piece ∷ pieces) ≡ piece ∷ filter test pieces
+kept_first test piece pieces is = rw is refl
+
+all_before : (pieces : List Piece) → All (λ piece. piece.after ≡ false) pieces → filter (λ piece. not piece.after) pieces ≡ pieces
+all_before [] all = refl
+all_before (piece ∷ pieces) all =
+    let here : piece.after ≡ false = All-head (λ (p : Piece). p.after ≡ false) piece pieces all in
+    kept_first (λ (p : Piece). not p.after) piece pieces (ap not here) ∙ ap (λ (l : List Piece). piece ∷ l) (all_before pieces (All-tail (λ (p : Piece). p.after ≡ false) piece pieces all))
+
+module _ (b x : List ℕ) (h : Shape) (n : ℕ) (may : MayBeCounted b h n) (says : Says b h n x) (apart : FieldsStandApart h) (there : StandsIn b h) where
+  same : SameButNumbers h x b
+  same i before none =
+      let one = or_parts (is_in_field h.outer i || is_in_field h.side i || is_in h.inner.at 4 i) (is_in (h.start - 4) 4 i) none in
+      let two = or_parts (is_in_field h.outer i || is_in_field h.side i) (is_in h.inner.at 4 i) one.0 in
+      let three = or_parts (is_in_field h.outer i) (is_in_field h.side i) two.0 in
+      by_place (apart_of h.inner.at 4 i two.1) (apart_of (h.start - 4) 4 i one.1) three.0 three.1 there.sizes
+    where
+      in_middle : h.inner.size ≡ 12 → (j : ℕ) → i ≡ (h.start - 8) + j → j < 4 → get_or x i 0 ≡ get_or b i 0
+      in_middle twelve j at lt = rw at ((joined_parts x h n twelve apart.start says.inner).1 j lt ∙ sym (there.sound j lt))
+
+      by_place : (i < h.inner.at) ⊎ (h.inner.at + 4 ≤ i) → (i < h.start - 4) ⊎ (h.start - 4 + 4 ≤ i) → is_in_field h.outer i ≡ false → is_in_field h.side i ≡ false → (h.inner.size ≡ 4) ⊎ (h.inner.size ≡ 12) → get_or x i 0 ≡ get_or b i 0
+      by_place (inl early) last outer side sizes = says.beside i early outer side
+      by_place (inr late) (inr behind) outer side sizes = absurd (omega arith)
+      by_place (inr late) (inl first) outer side (inl four) = absurd (omega (arith, four, apart.start))
+      by_place (inr late) (inl first) outer side (inr twelve) = in_middle twelve (i - (h.start - 8)) (omega (arith, twelve, apart.start)) (omega (arith, twelve, apart.start))
+
+  size_read : number Little x (h.start - 4) 4 ≡ data_bytes h.params n
+  size_read = has_number Little x (h.start - 4) (data_bytes h.params n) (data_size x h n there.sizes apart.start says.inner) may.few
+
+  riff_read : number Little x 4 4 ≡ riff_size h.start (data_bytes h.params n)
+  unfolding outer_value
+  riff_read = has_number Little x 4 (riff_size h.start (data_bytes h.params n)) says.outer (omega arith)
+
+  module _ (h' : Shape) (is : wave_layout x ≡ Ok h') (agrees : SameHead h h') where
+    numbers : (h'.declared ≡ number Little x (h'.start - 4) 4) × (h'.inner.size ≡ 12 → count_of x ≡ Some (number Little x h'.inner.at 4))
+    numbers = numbers_stand_before x h' is
+
+    declared : h'.declared ≡ data_bytes h.params n
+    declared = numbers.0 ∙ ap (λ k. number Little x (k - 4) 4) agrees.start ∙ size_read
+
+    count : is_adpcm h.params.codec ≡ true → count_of x ≡ Some n
+    count adpcm =
+        let twelve : h.inner.size ≡ 12 = (may.counted adpcm).1 in
+        let twelve_too : h'.inner.size ≡ 12 = ap (λ (f : Field). f.size) agrees.inner ∙ twelve in
+        let read : number Little x h.inner.at 4 ≡ n = has_number Little x h.inner.at n (joined_parts x h n twelve apart.start says.inner).0 (may.counted adpcm).0 in
+        numbers.1 twelve_too ∙ ap (λ k. Some k) (ap (λ (f : Field). number Little x f.at 4) agrees.inner ∙ read)
+
+    holds : HoldsBlocks h' (length x)
+    holds =
+        let blocks = div-mul-le_self h'.declared (block_align h'.params.channels h'.params.codec) in
+        record { in_file = omega (arith, blocks, declared, agrees.start, says.long); on_disk = omega (arith, blocks, declared, agrees.start, may.on_disk) }
+
+    frames : h'.frames ≡ n
+    frames =
+        count_is_stated x h' is holds ∙ ap (λ (p : Parameters). frame_count_of p h'.declared) agrees.params ∙ ap (frame_count_of h.params) declared
+        ∙ counted h.params n (count_of x) may.params there.fits count
+      where
+        frame_count_of : Parameters → ℕ → ℕ
+        frame_count_of p bytes = frame_count p bytes (count_of x)
+
+    data_reach : padded_data_end h' (length x) ≡ padded_end h.start (data_bytes h.params n)
+    data_reach =
+        let all : min h'.declared (min (length x) (2 ^ 63 - 8) - h'.start) ≡ data_bytes h.params n = omega (arith, declared, agrees.start, says.long, may.on_disk) in
+        ap (λ k. padded_end h'.start k) all ∙ ap (λ k. padded_end k (data_bytes h.params n)) agrees.start
+
+    ends : outer_end x ≤ padded_data_end h' (length x)
+    ends = omega (arith, data_reach, riff_read, apart.inner, apart.start)
+
+    trailing : h'.trailing ≡ false
+    trailing = trailing_is_stated x h' is ∙ le-ltb (padded_data_end h' (length x)) (outer_end x) ends
+
+    pieces : h'.pieces ≡ pieces_before h
+    pieces = sym (all_before h'.pieces (no_piece_behind x h' is ends)) ∙ agrees.pieces
+
+    shape_is : h' ≡ counted_shape h n
+    unfolding shape_of_parts
+    shape_is =
+        let then : StandsIn x h' = stands x h' is in
+        by_parts h'.kind h.kind h'.params h.params h'.start h.start h'.frames n h'.declared (data_bytes h.params n) h'.inner h.inner h'.outer h.outer h'.side h.side h'.trailing false
+        h'.unknown_length h.unknown_length h'.reserve h.reserve h'.pieces (pieces_before h) agrees.kind agrees.params agrees.start frames declared agrees.inner agrees.outer agrees.side trailing
+        (then.known ∙ sym there.known) (then.reserve ∙ sym there.reserve) pieces
+
+pub says_so : (b x : List ℕ) (h : Shape) (n : ℕ) → MayBeCounted b h n → Says b h n x → wave_layout x ≡ Ok (counted_shape h n)
+says_so b x h n may says =
+    let apart : FieldsStandApart h = fields_are_apart b h may.opened in
+    let there : StandsIn b h = stands b h may.opened in
+    let agreed = layouts_agree x b h may.opened (omega (arith, says.long)) (same b x h n may says apart there) in
+    agreed.1 ∙ ap (λ (s : Shape). Ok s) (shape_is b x h n may says apart there agreed.0 agreed.1 agreed.2)
+
+-- what is put into the three fields stands there
+length-put_in : (side : Option Field) (v y : List ℕ) → IfSome side (λ field. field.at + length v ≤ length y) → length (put_in side v y) ≡ length y
+length-put_in None v y within = refl
+length-put_in (Some field) v y within = length-field y v field.at within
+
+put_beside : (side : Option Field) (n limit : ℕ) (y : List ℕ) (i : ℕ) → IfSome side (λ field. (field.size ≡ 4) × (20 ≤ field.at) × (field.at + 4 ≤ limit)) → limit ≤ length y
+    → ((field : Field) → side ≡ Some field → (i < field.at) ⊎ (field.at + 4 ≤ i)) → get_or (put_in side (count_bytes side n) y) i 0 ≡ get_or y i 0
+put_beside None n limit y i stands within beside = refl
+put_beside (Some field) n limit y i stands within beside = field_out y (bytes_of Little 4 n) field.at i (omega (arith, stands.2, within)) (beside field refl)
+
+side_within : (side : Option Field) (n limit : ℕ) → IfSome side (λ field. (field.size ≡ 4) × (20 ≤ field.at) × (field.at + 4 ≤ limit)) → (y : List ℕ) → limit ≤ length y
+    → length (put_in side (count_bytes side n) y) ≡ length y
+side_within None n limit stands y within = refl
+side_within (Some field) n limit stands y within = length-field y (bytes_of Little 4 n) field.at (omega (arith, stands.2, within))
+
+side_early : (side : Option Field) (limit i : ℕ) → IfSome side (λ field. (field.size ≡ 4) × (20 ≤ field.at) × (field.at + 4 ≤ limit)) → (i < 20) ⊎ (limit ≤ i) → (field : Field) → side ≡ Some field → (i < field.at) ⊎ (field.at + 4 ≤ i)
+side_early None limit i stands place field is = absurd (cc)
+side_early (Some f) limit i stands place field is = by_place place (ap (λ (s : Option Field). at_of s) is)
+  where
+    at_of : Option Field → ℕ
+    at_of None = 0
+    at_of (Some g) = g.at
+
+    by_place : (i < 20) ⊎ (limit ≤ i) → f.at ≡ field.at → (i < field.at) ⊎ (field.at + 4 ≤ i)
+    by_place (inl early) same = inl (omega (arith, stands.1, same))
+    by_place (inr late) same = inr (omega (arith, stands.2, same))
+
+side_out : (side : Option Field) (limit i : ℕ) → IfSome side (λ field. (field.size ≡ 4) × (20 ≤ field.at) × (field.at + 4 ≤ limit)) → is_in_field side i ≡ false → (field : Field) → side ≡ Some field → (i < field.at) ⊎ (field.at + 4 ≤ i)
+side_out None limit i stands out field is = absurd (cc)
+side_out (Some f) limit i stands out field is =
+    let same : f ≡ field = cc in
+    let four : f.size ≡ 4 = stands.0 in
+    let four_too : field.size ≡ 4 = rw same at four in
+    let out_too : is_in field.at field.size i ≡ false = rw same at out in
+    apart_of field.at 4 i (rw four_too at out_too)
+
+module _ (b : List ℕ) (h : Shape) (n : ℕ) (apart : FieldsStandApart h) (there : StandsIn b h) where
+  abbrev first : List ℕ
+  first = with_field b h.inner.at (inner_value h n)
+
+  abbrev second : List ℕ
+  second = with_field first 4 (outer_value h n)
+
+  inner_long : length (inner_value h n) ≡ h.inner.size
+  inner_long = length-inner_value h n there.sizes
+
+  inner_fits : h.inner.at + length (inner_value h n) ≤ length b
+  inner_fits = omega (arith, inner_long, apart.start, there.within)
+
+  first_long : length first ≡ length b
+  first_long = length-field b (inner_value h n) h.inner.at inner_fits
+
+  outer_long : length (outer_value h n) ≡ 4
+  unfolding outer_value
+  outer_long = refl
+
+  outer_fits : 4 + length (outer_value h n) ≤ length first
+  outer_fits = omega (arith, outer_long, first_long, apart.inner, apart.start, there.within)
+
+  second_long : length second ≡ length b
+  second_long = length-field first (outer_value h n) 4 outer_fits ∙ first_long
+
+  values_are : with_values b h n ≡ put_in h.side (count_bytes h.side n) second
+  unfolding with_values side_value
+  values_are = rw apart.outer refl
+
+  value_at : (i : ℕ) → ((field : Field) → h.side ≡ Some field → (i < field.at) ⊎ (field.at + 4 ≤ i)) → get_or (with_values b h n) i 0 ≡ get_or second i 0
+  value_at i beside = ap (λ (l : List ℕ). get_or l i 0) values_are ∙ put_beside h.side n h.inner.at second i apart.side (omega (arith, second_long, apart.start, there.within)) beside
+
+  inner_there : HasAt (with_values b h n) h.inner.at (inner_value h n)
+  inner_there j lt =
+      value_at (h.inner.at + j) (side_early h.side h.inner.at (h.inner.at + j) apart.side (inr (omega arith)))
+      ∙ field_out first (outer_value h n) 4 (h.inner.at + j) outer_fits (inr (omega (arith, outer_long, apart.inner)))
+      ∙ field_in b (inner_value h n) h.inner.at j inner_fits lt
+
+  outer_there : HasAt (with_values b h n) 4 (outer_value h n)
+  outer_there j lt =
+      value_at (4 + j) (side_early h.side h.inner.at (4 + j) apart.side (inl (omega (arith, outer_long, lt))))
+      ∙ field_in first (outer_value h n) 4 j outer_fits lt
+
+  beside_there : (i : ℕ) → i < h.inner.at → is_in_field h.outer i ≡ false → is_in_field h.side i ≡ false → get_or (with_values b h n) i 0 ≡ get_or b i 0
+  beside_there i early outer side =
+      let out : is_in 4 4 i ≡ false = rw apart.outer at outer in
+      let place : (i < 4) ⊎ (4 + length (outer_value h n) ≤ i) = elim (apart_of 4 4 i out) [ inl before ↦ inl before | inr behind ↦ inr (omega (arith, outer_long)) ] in
+      value_at i (side_out h.side h.inner.at i apart.side side)
+      ∙ field_out first (outer_value h n) 4 i outer_fits place
+      ∙ field_out b (inner_value h n) h.inner.at i inner_fits (inl early)
+
+pub counted_reads_back : CountedReadsBack
+counted_reads_back b x h n may same long =
+    let apart : FieldsStandApart h = fields_are_apart b h may.opened in
+    let there : StandsIn b h = stands b h may.opened in
+    let inner_long = length-inner_value h n there.sizes in
+    says_so b x h n may (record {
+      inner = λ j lt. same (h.inner.at + j) (omega (arith, inner_long, apart.start, lt)) ∙ inner_there b h n apart there j lt;
+      outer = λ j lt. same (4 + j) (omega (arith, outer_long b h n apart there, apart.inner, apart.start, lt)) ∙ outer_there b h n apart there j lt;
+      beside = λ i early outer side. same i (omega (arith, apart.start)) ∙ beside_there b h n apart there i early outer side;
+      long = long;
+    })

@@ -1,0 +1,50 @@
+-- What is made holds its pieces and its data.
+use Rattle.std.proofs.Common.{◌≡◌, ℕ, ◌+◌, ◌-◌, ◌≤◌, List, [], ◌∷◌, ◌++◌, All, false, length, take, drop, refl, sym, ap, ◌∙◌, arith, length-append}
+use Rattle.std.proofs.lemmas.List.{length-replicate}
+use Rattle.std.proofs.lemmas.List.Elements.{All-head, All-tail}
+use Rattle.std.specs.Prelude.{map}
+use Rattle.snd_disk.specs.Runs.{HasAt}
+use Rattle.snd_chunks.proofs.WrittenChunks.{has_body, has_first, has_left, has_others, has_part, has_right, length-chunk_bytes, length-chunks_bytes}
+use Rattle.snd_chunks.specs.Chunks.{padded_end}
+use Rattle.snd_chunks.specs.Written.{NewChunk, all_placed, chunk_bytes, chunks_bytes, pad}
+use Rattle.snd_fields.specs.declared.field.Order.TheVariants.{Little}
+use Rattle.snd_layout.specs.Params.{Parameters, data_bytes}
+use Rattle.snd_layout.specs.Written.{written_format}
+use Rattle.snd_wave.specs.Layout.{piece_of}
+use Rattle.snd_wave.specs.Written.{MadeHoldsAll, MayBeMade, MayBePiece, chunk_read, chunks_before, filler, head_for, head_size, made_pieces, new_fact, new_format, wave_made}
+use Rattle.snd_wave.proofs.Made.{has_chunks, has_self, length-head_for}
+use Rattle.snd_wave.proofs.NewHeads.{size_is}
+
+pieces_read : (b : List ℕ) (place : ℕ) (pieces rest : List NewChunk) → All MayBePiece pieces → HasAt b place (chunks_bytes Little (pieces ++ rest)) → place + length (chunks_bytes Little (pieces ++ rest)) ≤ length b
+    → map (chunk_read b) (map (piece_of false) (all_placed place pieces)) ≡ pieces
+unfolding all_placed
+pieces_read b place [] rest are has within = refl
+pieces_read b place (piece ∷ pieces) rest are has within =
+    let is : MayBePiece piece = All-head MayBePiece piece pieces are in
+    let next : place + length (chunk_bytes Little piece) ≡ padded_end (place + 8) (length piece.body) = length-chunk_bytes Little piece place is.four in
+    let all : length (chunks_bytes Little (piece ∷ (pieces ++ rest))) ≡ length (chunk_bytes Little piece) + length (chunks_bytes Little (pieces ++ rest)) = length-chunks_bytes Little piece (pieces ++ rest) in
+    let body : take (length piece.body) (drop (place + 8) b) ≡ piece.body =
+    has_part (length piece.body) b (place + 8) piece.body refl (omega (arith, within, all, next)) (has_body Little b place piece is.four (has_first Little b place piece (pieces ++ rest) has)) in
+    let others = pieces_read b (padded_end (place + 8) (length piece.body)) pieces rest (All-tail MayBePiece piece pieces are) (has_others Little b place (padded_end (place + 8) (length piece.body)) piece (pieces ++ rest) (sym next) has) (omega (arith, within, all, next)) in
+    ap (λ (l : List ℕ). (record { id = piece.id; body = l }) ∷ map (chunk_read b) (map (piece_of false) (all_placed (padded_end (place + 8) (length piece.body)) pieces))) body
+    ∙ ap (λ (l : List NewChunk). piece ∷ l) others
+
+kept : (b : List ℕ) (p : Parameters) (pieces : List NewChunk) (n : ℕ) → All MayBePiece pieces → HasAt b 12 (chunks_bytes Little (chunks_before p pieces n)) → 12 + length (chunks_bytes Little (chunks_before p pieces n)) ≤ length b
+    → map (chunk_read b) (made_pieces p pieces) ≡ pieces
+unfolding made_pieces chunks_before
+kept b p pieces n are has within =
+    let next = length-chunk_bytes Little (new_format p) 12 refl in
+    pieces_read b (padded_end 20 (length (written_format p))) pieces (filler p pieces ++ new_fact p.codec n) are
+    (has_others Little b 12 (padded_end 20 (length (written_format p))) (new_format p) (pieces ++ (filler p pieces ++ new_fact p.codec n)) (sym next) has)
+    (omega (arith, within, next, length-chunks_bytes Little (new_format p) (pieces ++ (filler p pieces ++ new_fact p.codec n))))
+
+pub made_holds_all : MadeHoldsAll
+unfolding wave_made
+made_holds_all p pieces n bytes may len =
+    let b : List ℕ = head_for p pieces n ++ bytes ++ pad (data_bytes p n) in
+    let size : length b ≡ length (head_for p pieces n) + length bytes + length (pad (data_bytes p n)) =
+    omega (arith, length-append (head_for p pieces n ++ bytes) (pad (data_bytes p n)), length-append (head_for p pieces n) bytes) in
+    let both : HasAt b 0 (head_for p pieces n ++ bytes) = has_self (head_for p pieces n ++ bytes) (pad (data_bytes p n)) in (
+      kept b p pieces n may.pieces_are (has_chunks p pieces n b (has_left b 0 (head_for p pieces n) bytes both)) (omega (arith, size, length-head_for p pieces n, size_is p pieces n)),
+      has_part (data_bytes p n) b (head_size p pieces) bytes (sym len) (omega (arith, size, length-head_for p pieces n, len)) (has_right b 0 (head_size p pieces) (head_for p pieces n) bytes (omega (arith, length-head_for p pieces n)) both),
+    )

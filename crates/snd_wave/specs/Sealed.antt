@@ -1,0 +1,40 @@
+-- A WAVE file whose fields are brought up to a number of frames: this library's own way to update a file in place.
+use Rattle.std.specs.Prelude.{◌≡◌, ℕ, ◌+◌, ◌-◌, ◌*◌, ◌^◌, ◌<◌, ◌≤◌, true, false, List, Option, None, Some, Ok, get_or, length}
+use Rattle.snd_chunks.specs.Chunks.{padded_end}
+use Rattle.snd_fields.specs.Field.{with_field}
+use Rattle.snd_layout.specs.Blocks.{is_adpcm}
+use Rattle.snd_layout.specs.Params.{AreParams, data_bytes}
+use Rattle.snd_layout.specs.Shape.{Shape}
+use Rattle.snd_layout.specs.declared.field.Field.{Field}
+use Rattle.snd_wave.specs.Laws.{pieces_before}
+use Rattle.snd_wave.specs.Layout.{wave_layout}
+use Rattle.snd_wave.specs.Values.{inner_value, outer_value, side_value}
+
+-- bytes put into a field, where it is there
+abbrev pub put_in : Option Field → List ℕ → List ℕ → List ℕ
+put_in None bytes b = b
+put_in (Some field) bytes b = with_field b field.at bytes
+
+-- a file with the values for so many frames in the three fields of its layout
+unfoldable pub with_values : List ℕ → Shape → ℕ → List ℕ
+with_values b h frames = put_in h.side (side_value h frames) (put_in h.outer (outer_value h frames) (with_field b h.inner.at (inner_value h frames)))
+
+-- the layout with so many frames, and nothing behind their data
+abbrev pub counted_shape : Shape → ℕ → Shape
+counted_shape h frames = record h { frames = frames; declared = data_bytes h.params frames; trailing = false; pieces = pieces_before h }
+
+-- The fields of a file have room for so many frames: for their data size, and in ADPCM for their count, which is one field
+-- with that size.
+pub record MayBeCounted (b : List ℕ) (h : Shape) (frames : ℕ) : Type 0 where
+  pub opened : wave_layout b ≡ Ok h
+  pub params : AreParams h.params
+  pub few : data_bytes h.params frames < 2 ^ 32
+  pub on_disk : h.start + data_bytes h.params frames ≤ 2 ^ 63 - 8
+  pub counted : is_adpcm h.params.codec ≡ true → (frames < 2 ^ 32) × (h.inner.size ≡ 12)
+
+-- Whatever stands from the start of the data on, where these are all there with their pad: a file with the values for so many
+-- frames in its fields has its layout with so many frames.
+abbrev pub CountedReadsBack : Type 0
+CountedReadsBack = (b x : List ℕ) (h : Shape) (frames : ℕ) → MayBeCounted b h frames →
+    ((i : ℕ) → i < h.start → get_or x i 0 ≡ get_or (with_values b h frames) i 0) → padded_end h.start (data_bytes h.params frames) ≤ length x →
+    wave_layout x ≡ Ok (counted_shape h frames)

@@ -1,0 +1,196 @@
+//! The head of a file that is made.
+
+ghost use Rattle.std.specs.Prelude.{◌≡◌, ◌+◌, ◌≤◌, ◌++◌, [], None, length, OnOk, OnErr, IfErr, IfOk};
+ghost use Rattle.arrayvec.specs.ArrayVec.{array_vec_len};
+ghost use Rattle.snd_chunks.specs.Written.{chunks_bytes};
+ghost use Rattle.snd_disk.specs.State.{AtMost, IsMeant, Rises};
+ghost use Rattle.snd_fields.specs.declared.field.Order.TheVariants.{Little};
+ghost use Rattle.snd_layout.specs.Fit.{fit_refusal};
+ghost use Rattle.snd_layout.specs.Opened.{IsCalm};
+ghost use Rattle.snd_layout.specs.declared.kind.Kind.TheVariants.{Wave};
+ghost use Rattle.snd_wave.specs.Written.{IsLayCause, has_fact, inner_at, made_shape, new_fact, plain_start, side_at, wave_head};
+
+use crate::put::{put_all, put_chunk, put_number};
+use arrayvec::ArrayVec;
+use snd_disk::{Disk, Step};
+use snd_layout::{Codec, Field, Kind, Layout, OpenError, Params, PieceList, put_fmt};
+use std::alloc::Global;
+
+fn has_fact(params: &Params) -> bool
+    ensures { result ≡ has_fact params.now.codec }
+{
+    matches!(
+        params.codec,
+        Codec::MuLaw | Codec::ALaw | Codec::Ima { .. } | Codec::Ms { .. }
+    )
+}
+
+// Where the data begin.
+fn plain_start(params: &Params) -> u64
+    ensures value { result ≡ plain_start params.now.codec }
+    ensures least { 44 ≤ result }
+    ensures most { result ≤ 90 }
+{
+    match params.codec {
+        Codec::MuLaw | Codec::ALaw => 58,
+        Codec::Ima { .. } => 60,
+        Codec::Ms { .. } => 90,
+        _ => 44,
+    }
+}
+
+// The field that decides the count.
+fn inner_of(params: &Params, start: u64) -> Field
+    requires { 12 ≤ start }
+    ensures { result ≡ inner_at params.now.codec start }
+{
+    if params.codec.is_adpcm() {
+        Field {
+            at: start - 12,
+            size: 12,
+        }
+    } else {
+        Field {
+            at: start - 4,
+            size: 4,
+        }
+    }
+}
+
+// The count that is not read.
+fn side_of(params: &Params, start: u64) -> Option<Field>
+    requires { 12 ≤ start }
+    ensures { result ≡ side_at params.now.codec start }
+{
+    if has_fact(params) && !params.codec.is_adpcm() {
+        Some(Field {
+            at: start - 12,
+            size: 4,
+        })
+    } else {
+        None
+    }
+}
+
+// Puts the count of no frames behind the others, where there is one.
+fn put_fact(into: &mut ArrayVec<u8, 128>, params: &Params)
+    requires { array_vec_len into.old + 13 ≤ 128 }
+    ensures items { into.new.items ≡ into.old.items ++ chunks_bytes Little (new_fact params.now.codec 0) }
+    ensures few { array_vec_len into.new ≤ array_vec_len into.old + 13 }
+{
+    if has_fact(params) {
+        put_chunk(into, b"fact", &[0; 4]);
+    }
+}
+
+// The head of a file without pieces and frames.
+fn plain_head(params: &Params) -> ArrayVec<u8, 128>
+    requires { fit_refusal Wave params.now ≡ None }
+    ensures { result.items ≡ wave_head params.now [] }
+{
+    params.are_good();
+    let mut format = ArrayVec::new();
+    put_fmt(*params, &mut format);
+    let mut head = ArrayVec::new();
+    put_all(&mut head, b"RIFF");
+    put_number(&mut head, plain_start(params) - 8);
+    put_all(&mut head, b"WAVE");
+    put_chunk(&mut head, b"fmt ", format.as_slice());
+    put_fact(&mut head, params);
+    put_all(&mut head, b"data");
+    put_number(&mut head, 0);
+    head
+}
+
+// What it says.
+fn plain_layout(alloc: Global, params: Params) -> Layout
+    requires { fit_refusal Wave params ≡ None }
+    ensures { result ≡ made_shape params [] 0 }
+{
+    params.are_good();
+    let start = plain_start(&params);
+    Layout {
+        kind: Kind::Wave,
+        params,
+        start,
+        frames: 0,
+        declared: 0,
+        inner: inner_of(&params, start),
+        outer: Some(Field { at: 4, size: 4 }),
+        side: side_of(&params, start),
+        trailing: false,
+        unknown_length: false,
+        reserve: None,
+        pieces: PieceList::new(alloc),
+    }
+}
+
+// Cuts a disk to nothing.
+fn cut_whole<D: Disk>(disk: &mut D) -> Result<(), Step>
+    ensures done { OnOk result (IsMeant 0 (λ b. []) (D.state disk.old) (D.state disk.new)) }
+    ensures calm { OnOk result ((D.state disk.new).faults ≡ (D.state disk.old).faults) }
+    ensures failed { OnErr result (Rises (D.state disk.old).faults (D.state disk.new).faults) }
+    ensures later { (D.state disk.old).faults ≤ (D.state disk.new).faults }
+    ensures name { (D.state disk.new).name ≡ (D.state disk.old).name }
+    ensures written { (D.state disk.new).written ≡ (D.state disk.old).written }
+    ensures asked { (D.state disk.new).asked ≡ (D.state disk.old).asked }
+{
+    let Ok(()) = disk.cut(0) else {
+        return Err(Step::Cut);
+    };
+    Ok(())
+}
+
+// Writes all bytes of an empty disk.
+fn fill<D: Disk>(disk: &mut D, bytes: &[u8]) -> Result<(), Step>
+    requires empty { (D.state disk.old).size ≡ 0 }
+    requires few { length bytes.now ≤ 2048 }
+    ensures done { OnOk result (IsMeant (length bytes.now) (λ b. bytes.now) (D.state disk.old) (D.state disk.new)) }
+    ensures calm { OnOk result ((D.state disk.new).faults ≡ (D.state disk.old).faults) }
+    ensures failed { OnErr result (Rises (D.state disk.old).faults (D.state disk.new).faults) }
+    ensures later { (D.state disk.old).faults ≤ (D.state disk.new).faults }
+    ensures name { (D.state disk.new).name ≡ (D.state disk.old).name }
+    ensures written { AtMost (D.state disk.old).written 2048 (D.state disk.new).written }
+    ensures asked { (D.state disk.new).asked ≡ (D.state disk.old).asked }
+{
+    let Ok(()) = disk.write_at(0, bytes) else {
+        return Err(Step::Write);
+    };
+    Ok(())
+}
+
+// Replaces what a disk holds by these bytes.
+fn write_whole<D: Disk>(disk: &mut D, bytes: &[u8]) -> Result<(), Step>
+    requires { length bytes.now ≤ 2048 }
+    ensures done { OnOk result (IsMeant (length bytes.now) (λ b. bytes.now) (D.state disk.old) (D.state disk.new)) }
+    ensures calm { OnOk result ((D.state disk.new).faults ≡ (D.state disk.old).faults) }
+    ensures failed { OnErr result (Rises (D.state disk.old).faults (D.state disk.new).faults) }
+    ensures later { (D.state disk.old).faults ≤ (D.state disk.new).faults }
+    ensures name { (D.state disk.new).name ≡ (D.state disk.old).name }
+    ensures written { AtMost (D.state disk.old).written 2048 (D.state disk.new).written }
+    ensures asked { (D.state disk.new).asked ≡ (D.state disk.old).asked }
+{
+    cut_whole(disk)?;
+    fill(disk, bytes)?;
+    Ok(())
+}
+
+/// Makes a disk a WAVE file with these parameters, no frames and no pieces, whatever it held before. A
+/// WAVE file holds the parameters. It writes at most 2048 bytes and reads none. The only error is
+/// `DiskFault`, where a call of the disk failed.
+pub fn lay_head<D: Disk>(alloc: Global, disk: &mut D, params: Params) -> Result<Layout, OpenError>
+    requires { fit_refusal Wave params ≡ None }
+    ensures laid { OnOk result (IsMeant (plain_start params.codec) (λ b. wave_head params []) (D.state disk.old) (D.state disk.new)) }
+    ensures layout { IfOk result (λ l. l ≡ made_shape params [] 0) }
+    ensures cause { IfErr result (IsLayCause (D.state disk.old).faults (D.state disk.new).faults) }
+    ensures calm { IsCalm result (D.state disk.old).faults (D.state disk.new).faults }
+    ensures name { (D.state disk.new).name ≡ (D.state disk.old).name }
+    ensures written { AtMost (D.state disk.old).written 2048 (D.state disk.new).written }
+    ensures asked { (D.state disk.new).asked ≡ (D.state disk.old).asked }
+{
+    let head = plain_head(&params);
+    match write_whole(disk, head.as_slice()) {
+        Ok(()) => Ok(plain_layout(alloc, params)),
+        Err(step) => Err(OpenError::DiskFault(step)),
+    }
+}
