@@ -314,7 +314,11 @@ fn bounds_names_and_cues(rt: HostRuntime) -> Result<(), Fail> {
     let mut more = [b' '; 209];
     fill(&mut many, b"set cue");
     fill(&mut more, b"set cue");
-    assert!(rt; parse_line(&many) != Err(BAD));
     assert!(rt; parse_line(&more) == Err(BAD));
+    let Ok(Some(Command::SetCue(places))) = parse_line(&many) else {
+        return Err("no command".into());
+    };
+    assert_eq!(rt; places.len(), 100);
+    assert!(rt; places.iter().all(|x| *x == 7));
     Ok(())
 }
