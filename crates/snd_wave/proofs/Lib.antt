@@ -3,6 +3,7 @@ pub mod Agreements
 pub mod Counted
 pub mod Counts
 pub mod Standing
+pub mod HeadValues
 pub mod Layouts
 pub mod Made
 pub mod MadeParts

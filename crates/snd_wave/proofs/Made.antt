@@ -4,7 +4,7 @@ use Rattle.std.proofs.Math.Nat.{mod-lt}
 use Rattle.std.proofs.lemmas.Bool.{and_from, and_left, and_right, cases_Bool, eq-eqb, le-leb, le-ltb}
 use Rattle.std.proofs.lemmas.List.{append-nil, get_or_append_left, length-replicate}
 use Rattle.std.proofs.lemmas.List.Elements.{All-head, All-tail}
-use Rattle.std.proofs.lemmas.Nat.{div-add-mod', div-mul-add}
+use Rattle.std.proofs.lemmas.Nat.{div-add-mod', div-mul-add, div_below}
 use Rattle.std.specs.List.{filter, find}
 use Rattle.std.specs.Prelude.{◌==◌, codes, map, min, nat_le, nat_lt, option_map, if◌then◌else◌}
 use Rattle.snd_disk.specs.Runs.{HasAt}
@@ -33,7 +33,7 @@ use Rattle.snd_layout.specs.declared.kind.Kind.TheVariants.{Wave}
 use Rattle.snd_layout.specs.declared.piece.Piece.{Piece}
 use Rattle.snd_wave.specs.Layout.{body_of, data_end, fact_chunk, fact_count, format_chunk, frame_count, front_refusal, has_id, held, inner_field, is_fact, is_format, is_joined, is_own, outer_end, piece_of, pieces_of, side_field, wave_front, wave_layout, wave_shape, wave_tail, whole_frames}
 use Rattle.snd_wave.specs.Values.{riff_size}
-use Rattle.snd_wave.specs.Written.{HeadHasItsSize, MadeReadsBack, MayBeMade, MayBePiece, chunks_before, filler, has_fact, head_for, head_size, inner_size, junk, made_pieces, made_shape, new_fact, new_format, riff_head, start_without_filler, wave_made}
+use Rattle.snd_wave.specs.Written.{HeadHasItsSize, HeadReadsBack, MadeReadsBack, MayBeMade, MayBePiece, chunks_before, filler, has_fact, head_for, head_size, inner_size, junk, made_pieces, made_shape, new_fact, new_format, riff_head, start_without_filler, wave_head, wave_made}
 use Rattle.snd_wave.proofs.NewHeads.{all_precede, bytes-append, chunks_few, fact_bytes, format_few, format_size, not_fact, size_is, size_least}
 use Rattle.snd_wave.proofs.Opens.{Opens, opened, refused}
 use Rattle.snd_wave.proofs.Shapes.{blocks_have_bytes}
@@ -199,6 +199,13 @@ counted p n count good fits reads = elim (cases_Bool (is_adpcm p.codec)) [
   | inr other ↦ not_counted p (data_bytes p n) count other ∙ whole_of p n good fits ∙ single n (block_frames p.codec) (fixed_frames p.codec other)
 ]
 
+-- no frames have no bytes
+pub no_bytes_yet : (p : Parameters) → AreParams p → fit_refusal Wave p ≡ None → data_bytes p 0 ≡ 0
+no_bytes_yet p good fits =
+    let none : (0 + block_frames p.codec - 1) / block_frames p.codec < 1 = div_below (0 + block_frames p.codec - 1) (block_frames p.codec) 1 (omega (arith, blocks_have_frames p good fits)) (omega (arith, blocks_have_frames p good fits)) in
+    let zero : (0 + block_frames p.codec - 1) / block_frames p.codec ≡ 0 = omega arith in
+    rw zero (omega arith)
+
 -- the chunks behind others stand behind them
 has_behind : (b : List ℕ) (place : ℕ) (xs ys : List NewChunk) → HasAt b place (chunks_bytes Little (xs ++ ys)) → HasAt b (place + length (chunks_bytes Little xs)) (chunks_bytes Little ys)
 unfolding chunks_bytes
@@ -213,7 +220,7 @@ count_read b place n codec is few has =
     let here : HasAt b place (chunks_bytes Little ((record { id = codes "fact"; body = bytes_of Little 4 n }) ∷ [])) = rw is at has in
     has_number Little b (place + 8) n (has_body Little b place (record { id = codes "fact"; body = bytes_of Little 4 n }) refl (has_first Little b place (record { id = codes "fact"; body = bytes_of Little 4 n }) [] here)) few
 
-adpcm_has_fact : (codec : Codec) → is_adpcm codec ≡ true → has_fact codec ≡ true
+pub adpcm_has_fact : (codec : Codec) → is_adpcm codec ≡ true → has_fact codec ≡ true
 adpcm_has_fact U8 is = absurd (cc)
 adpcm_has_fact S8 is = absurd (cc)
 adpcm_has_fact (S16 order) is = absurd (cc)
@@ -375,3 +382,10 @@ made_reads_back p pieces n bytes may len =
 
 pub length_head_for : HeadHasItsSize
 length_head_for p pieces n = length-head_for p pieces n
+
+pub head_reads_back : HeadReadsBack
+head_reads_back p pieces may =
+    let none : data_bytes p 0 ≡ 0 = no_bytes_yet p may.params may.fits in
+    let even : data_bytes p 0 % 2 ≡ 0 = ap (λ k. k % 2) none in
+    let self : HasAt (wave_head p pieces) 0 (wave_head p pieces) = λ j lt. ap (λ k. get_or (wave_head p pieces) k 0) (omega arith) in
+    made_layout (wave_head p pieces) p pieces 0 may self (omega (arith, length-head_for p pieces 0, none, even))

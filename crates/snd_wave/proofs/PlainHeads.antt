@@ -21,7 +21,7 @@ use Rattle.snd_chunks.specs.Written.{all_placed}
 use Rattle.snd_layout.specs.Blocks.{is_adpcm}
 use Rattle.snd_layout.specs.declared.field.Field.{Field}
 use Rattle.snd_layout.specs.declared.piece.Piece.{Piece}
-use Rattle.snd_wave.proofs.Made.{length-head_for, same_shape, shape_with}
+use Rattle.snd_wave.proofs.Made.{length-head_for, no_bytes_yet, same_shape, shape_with}
 use Rattle.snd_wave.specs.Values.{riff_size}
 use Rattle.snd_wave.specs.Written.{chunks_before, filler, has_fact, head_for, made_pieces, made_shape, head_size, inner_at, new_fact, new_format, plain_start, riff_head, side_at, start_without_filler, wave_head}
 
@@ -52,12 +52,6 @@ no_fill c r MuLaw = refl
 no_fill c r ALaw = refl
 no_fill c r (Ima align per_block) = refl
 no_fill c r (Ms align per_block) = refl
-
-pub no_bytes_yet : (p : Parameters) → AreParams p → fit_refusal Wave p ≡ None → data_bytes p 0 ≡ 0
-no_bytes_yet p good fits =
-    let none : (0 + block_frames p.codec - 1) / block_frames p.codec < 1 = div_below (0 + block_frames p.codec - 1) (block_frames p.codec) 1 (omega (arith, blocks_have_frames p good fits)) (omega (arith, blocks_have_frames p good fits)) in
-    let zero : (0 + block_frames p.codec - 1) / block_frames p.codec ≡ 0 = omega arith in
-    rw zero (omega arith)
 
 -- the chunks of such a file
 chunks_are : (p : Parameters) → chunks_bytes Little (chunks_before p [] 0) ≡ chunk_bytes Little (new_format p) ++ chunks_bytes Little (new_fact p.codec 0)

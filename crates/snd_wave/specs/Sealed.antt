@@ -1,14 +1,16 @@
 -- A WAVE file whose fields are brought up to a number of frames: this library's own way to update a file in place.
-use Rattle.std.specs.Prelude.{◌≡◌, ℕ, ◌+◌, ◌-◌, ◌*◌, ◌^◌, ◌<◌, ◌≤◌, true, false, List, Option, None, Some, Ok, get_or, length}
+use Rattle.std.specs.Prelude.{◌≡◌, ℕ, ◌+◌, ◌-◌, ◌*◌, ◌^◌, ◌<◌, ◌≤◌, true, false, List, ◌++◌, Option, None, Some, Ok, get_or, length}
 use Rattle.snd_chunks.specs.Chunks.{padded_end}
+use Rattle.snd_chunks.specs.Written.{NewChunk}
 use Rattle.snd_fields.specs.Field.{with_field}
 use Rattle.snd_layout.specs.Blocks.{is_adpcm}
-use Rattle.snd_layout.specs.Params.{AreParams, data_bytes}
+use Rattle.snd_layout.specs.Params.{AreParams, Parameters, data_bytes}
 use Rattle.snd_layout.specs.Shape.{Shape}
 use Rattle.snd_layout.specs.declared.field.Field.{Field}
 use Rattle.snd_wave.specs.Laws.{pieces_before}
 use Rattle.snd_wave.specs.Layout.{wave_layout}
 use Rattle.snd_wave.specs.Values.{inner_value, outer_value, side_value}
+use Rattle.snd_wave.specs.Written.{head_for, made_shape, wave_head}
 
 -- bytes put into a field, where it is there
 abbrev pub put_in : Option Field → List ℕ → List ℕ → List ℕ
@@ -38,3 +40,8 @@ abbrev pub CountedReadsBack : Type 0
 CountedReadsBack = (b x : List ℕ) (h : Shape) (frames : ℕ) → MayBeCounted b h frames →
     ((i : ℕ) → i < h.start → get_or x i 0 ≡ get_or (with_values b h frames) i 0) → padded_end h.start (data_bytes h.params frames) ≤ length x →
     wave_layout x ≡ Ok (counted_shape h frames)
+
+-- A head into whose fields the values for so many frames were put is the head for so many frames, whatever stands behind it.
+abbrev pub HeadIsCounted : Type 0
+HeadIsCounted = (p : Parameters) (pieces : List NewChunk) (frames : ℕ) (behind : List ℕ) →
+    with_values (wave_head p pieces ++ behind) (made_shape p pieces 0) frames ≡ head_for p pieces frames ++ behind

@@ -127,11 +127,15 @@ abbrev pub MadeReadsBack : Type 0
 MadeReadsBack = (p : Parameters) (pieces : List NewChunk) (frames : ℕ) (bytes : List ℕ) → MayBeMade p pieces frames → length bytes ≡ data_bytes p frames →
     wave_layout (wave_made p pieces frames bytes) ≡ Ok (made_shape p pieces frames)
 
+-- and so does a head alone
+abbrev pub HeadReadsBack : Type 0
+HeadReadsBack = (p : Parameters) (pieces : List NewChunk) → MayBeMade p pieces 0 → wave_layout (wave_head p pieces) ≡ Ok (made_shape p pieces 0)
+
 -- a piece of a file, with its body
 abbrev pub chunk_read : List ℕ → Piece → NewChunk
 chunk_read b piece = record { id = piece.id.0; body = take piece.len (drop piece.at b) }
 
--- and holds its pieces and its data
+-- what is made holds its pieces and its data
 abbrev pub MadeHoldsAll : Type 0
 MadeHoldsAll = (p : Parameters) (pieces : List NewChunk) (frames : ℕ) (bytes : List ℕ) → MayBeMade p pieces frames → length bytes ≡ data_bytes p frames →
     (map (chunk_read (wave_made p pieces frames bytes)) (made_pieces p pieces) ≡ pieces)

@@ -2,8 +2,8 @@
 //! the laws.
 
 ghost use Rattle.snd_wave.specs.Laws.{CountIsStated, FieldsAreApart, LayoutsAgree, NoPieceBehind, NumbersStandBefore, TrailingIsStated};
-ghost use Rattle.snd_wave.specs.Sealed.{CountedReadsBack};
-ghost use Rattle.snd_wave.specs.Written.{HeadHasItsSize, MadeHoldsAll, MadeInOneSector, MadeReadsBack};
+ghost use Rattle.snd_wave.specs.Sealed.{CountedReadsBack, HeadIsCounted};
+ghost use Rattle.snd_wave.specs.Written.{HeadHasItsSize, HeadReadsBack, MadeHoldsAll, MadeInOneSector, MadeReadsBack};
 
 /// A file that has the bytes of another before its data, but for the numbers that change as the sound
 /// grows, has its layout, but for how long the sound is and what stands behind it.
@@ -36,17 +36,20 @@ pub fn no_piece_behind()
 /// A file that is made, with any pieces that a file may keep, has the layout that its head says, and
 /// holds its pieces and its data. The data begin behind the head, and the field that decides the count of
 /// the frames lies in one sector.
-#[tactic(auto, using(crate::proofs::Made::made_reads_back, crate::proofs::Made::length_head_for, crate::proofs::NewHeads::made_in_one_sector))]
+#[tactic(auto, using(crate::proofs::Made::made_reads_back, crate::proofs::Made::head_reads_back, crate::proofs::Made::length_head_for, crate::proofs::NewHeads::made_in_one_sector))]
 pub fn made_files_read_back()
     ensures layout { MadeReadsBack }
+    ensures head { HeadReadsBack }
     ensures holds { MadeHoldsAll }
     ensures size { HeadHasItsSize }
     ensures one_sector { MadeInOneSector }
 {}
 
 /// Where the fields of a file are brought up to a number of frames whose data are there with their pad,
-/// its layout says so many frames and nothing behind them, and otherwise what it said before.
-#[tactic(auto, using(crate::proofs::Counted::counted_reads_back))]
+/// its layout says so many frames and nothing behind them, and otherwise what it said before. A head that
+/// was made for no frames is then the head for so many.
+#[tactic(auto, using(crate::proofs::Counted::counted_reads_back, crate::proofs::HeadValues::head_is_counted))]
 pub fn counted_files_read_back()
-    ensures { CountedReadsBack }
+    ensures layout { CountedReadsBack }
+    ensures head { HeadIsCounted }
 {}
