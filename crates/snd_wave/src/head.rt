@@ -1,9 +1,10 @@
 //! The head of a file that is made.
 
-ghost use Rattle.std.specs.Prelude.{◌≡◌, ◌+◌, ◌≤◌, ◌++◌, [], None, length, OnOk, OnErr, IfErr, IfOk};
+ghost use Rattle.std.specs.Prelude.{◌≡◌, ◌+◌, ◌≤◌, ◌++◌, [], None, length, OnOk, IfErr, IfOk};
+ghost use Rattle.snd_disk.specs.Device.{CountsOn, WritesAtMost};
 ghost use Rattle.arrayvec.specs.ArrayVec.{array_vec_len};
 ghost use Rattle.snd_chunks.specs.Written.{chunks_bytes};
-ghost use Rattle.snd_disk.specs.State.{AtMost, IsMeant, Rises};
+ghost use Rattle.snd_disk.specs.State.{IsMeant};
 ghost use Rattle.snd_fields.specs.declared.field.Order.TheVariants.{Little};
 ghost use Rattle.snd_layout.specs.Fit.{fit_refusal};
 ghost use Rattle.snd_layout.specs.declared.kind.Kind.TheVariants.{Wave};
@@ -127,9 +128,7 @@ fn plain_layout(alloc: Global, params: Params) -> Layout
 // Cuts a disk to nothing.
 fn cut_whole<D: Disk>(disk: &mut D) -> Result<(), Step>
     ensures done { OnOk result (IsMeant 0 (λ b. []) (D.state disk.old) (D.state disk.new)) }
-    ensures calm { OnOk result ((D.state disk.new).faults ≡ (D.state disk.old).faults) }
-    ensures failed { OnErr result (Rises (D.state disk.old).faults (D.state disk.new).faults) }
-    ensures later { (D.state disk.old).faults ≤ (D.state disk.new).faults }
+    ensures faults { CountsOn D.state disk.old disk.new result }
     ensures name { (D.state disk.new).name ≡ (D.state disk.old).name }
     ensures written { (D.state disk.new).written ≡ (D.state disk.old).written }
     ensures asked { (D.state disk.new).asked ≡ (D.state disk.old).asked }
@@ -145,11 +144,9 @@ fn fill<D: Disk>(disk: &mut D, bytes: &[u8]) -> Result<(), Step>
     requires empty { (D.state disk.old).size ≡ 0 }
     requires few { length bytes.now ≤ 2048 }
     ensures done { OnOk result (IsMeant (length bytes.now) (λ b. bytes.now) (D.state disk.old) (D.state disk.new)) }
-    ensures calm { OnOk result ((D.state disk.new).faults ≡ (D.state disk.old).faults) }
-    ensures failed { OnErr result (Rises (D.state disk.old).faults (D.state disk.new).faults) }
-    ensures later { (D.state disk.old).faults ≤ (D.state disk.new).faults }
+    ensures faults { CountsOn D.state disk.old disk.new result }
     ensures name { (D.state disk.new).name ≡ (D.state disk.old).name }
-    ensures written { AtMost (D.state disk.old).written 2048 (D.state disk.new).written }
+    ensures written { WritesAtMost D.state 2048 disk.old disk.new }
     ensures asked { (D.state disk.new).asked ≡ (D.state disk.old).asked }
 {
     let Ok(()) = disk.write_at(0, bytes) else {
@@ -162,11 +159,9 @@ fn fill<D: Disk>(disk: &mut D, bytes: &[u8]) -> Result<(), Step>
 fn write_whole<D: Disk>(disk: &mut D, bytes: &[u8]) -> Result<(), Step>
     requires { length bytes.now ≤ 2048 }
     ensures done { OnOk result (IsMeant (length bytes.now) (λ b. bytes.now) (D.state disk.old) (D.state disk.new)) }
-    ensures calm { OnOk result ((D.state disk.new).faults ≡ (D.state disk.old).faults) }
-    ensures failed { OnErr result (Rises (D.state disk.old).faults (D.state disk.new).faults) }
-    ensures later { (D.state disk.old).faults ≤ (D.state disk.new).faults }
+    ensures faults { CountsOn D.state disk.old disk.new result }
     ensures name { (D.state disk.new).name ≡ (D.state disk.old).name }
-    ensures written { AtMost (D.state disk.old).written 2048 (D.state disk.new).written }
+    ensures written { WritesAtMost D.state 2048 disk.old disk.new }
     ensures asked { (D.state disk.new).asked ≡ (D.state disk.old).asked }
 {
     cut_whole(disk)?;
@@ -184,7 +179,7 @@ pub fn lay_head<D: Disk>(alloc: Global, disk: &mut D, params: Params) -> Result<
     ensures cause { IfErr result (IsLayCause (D.state disk.old).faults (D.state disk.new).faults) }
     ensures calm { OnOk result ((D.state disk.new).faults ≡ (D.state disk.old).faults) }
     ensures name { (D.state disk.new).name ≡ (D.state disk.old).name }
-    ensures written { AtMost (D.state disk.old).written 2048 (D.state disk.new).written }
+    ensures written { WritesAtMost D.state 2048 disk.old disk.new }
     ensures asked { (D.state disk.new).asked ≡ (D.state disk.old).asked }
 {
     let head = plain_head(&params);
