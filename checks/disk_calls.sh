@@ -10,13 +10,8 @@ if ! command -v strace >/dev/null; then
 fi
 folder=$(mktemp -d)
 trap 'rm -rf "$folder"' EXIT
-(cd "$top/crates/disk_calls" && rt run </dev/null >"$folder/log" 2>&1)
-if ! grep -q 'rt: running' "$folder/log"; then
-    cat "$folder/log"
-    echo "disk calls: the program could not be built"
-    exit 1
-fi
-cp "$top/crates/disk_calls/out/disk_calls" "$folder/disk_calls" || exit 1
+program=$("$top/checks/build" disk_calls) || exit 1
+cp "$program" "$folder/disk_calls" || exit 1
 cd "$folder" && mkdir sub run || exit 1
 program=$folder/disk_calls
 passed=0

@@ -1,6 +1,7 @@
 #!/usr/bin/env bash
-# The documents against the repository: what README.md says that the first command prints, the lines of code that it quotes, the
-# files that the documents name, and the numbers and names of refusals that the crates have. Needs Python 3.
+# The documents and examples against the repository: what README.md says that the first command prints, the lines of code that
+# it quotes, the files that the documents name, the numbers and names of refusals that the crates have, and the files that
+# examples/make.py makes. Needs Python 3.
 set -u
 source "$(dirname "$(readlink -f "${BASH_SOURCE[0]}")")/built_program.bash"
 PYTHONDONTWRITEBYTECODE=1 PYTHONPATH=$top/checks python3 - "$program" "$top" <<'PY'
@@ -42,5 +43,9 @@ told = dict(re.findall(r"(?m)^\| (\d+) \| (\w+) \|", text("docs/refusals.md")))
 for name in ("crates/snd_layout/src/refusal.rt", "crates/snd_script/src/refusal.rt"):
     found = re.findall(r"::(\w+) => (\d+),", text(name))
     cases.case(f"docs/refusals.md against {name}", [f"{number} {word}" for word, number in found if told.get(number) != word] + ["none found"] * (not found))
-cases.end(4 + 1 + len(os.listdir(f"{top}/docs")))
+subprocess.run([sys.executable, f"{top}/examples/make.py", "."], check=True)
+made = sorted(os.listdir("."))
+other = [it for it in made if open(it, "rb").read() != open(f"{top}/examples/{it}", "rb").read()]
+cases.case("examples/make.py", [f"makes another {it}" for it in other] + ["makes nothing"] * (not made))
+cases.end(6 + len(os.listdir(f"{top}/docs")))
 PY
