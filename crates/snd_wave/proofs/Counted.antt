@@ -1,18 +1,17 @@
 -- A file whose fields say a number of frames has its layout with so many frames.
-use Rattle.std.proofs.Common.{◌≡◌, ◌⊎◌, ℕ, ◌+◌, ◌-◌, ◌*◌, ◌/◌, ◌%◌, ◌<◌, ◌≤◌, ◌^◌, List, [], ◌∷◌, ◌++◌, All, Bool, true, false, not, ◌&&◌, ◌||◌, Option, None, Some, Ok, length, take, drop, get_or, refl, sym, ap, ◌∙◌, inl, inr, arith, length-append}
+use Rattle.std.proofs.Common.{◌≡◌, ◌⊎◌, ℕ, ◌+◌, ◌-◌, ◌<◌, ◌≤◌, ◌^◌, List, [], ◌∷◌, ◌++◌, All, Bool, true, false, not, ◌&&◌, ◌||◌, Option, None, Some, Ok, length, take, drop, get_or, refl, sym, ap, ◌∙◌, inl, inr, arith}
 use Rattle.std.proofs.Math.Nat.{div-mul-le_self}
-use Rattle.std.proofs.lemmas.Bool.{and_parts, cases_Bool, eq-eqb, eqb-true, leb-true, le-leb, le-ltb, lt-ltb, or_parts, cases_lt}
+use Rattle.std.proofs.lemmas.Bool.{cases_Bool, le-leb, le-ltb, lt-ltb, or_parts, cases_lt}
 use Rattle.std.proofs.lemmas.List.{places}
 use Rattle.std.proofs.lemmas.List.Elements.{All-head, All-tail}
 use Rattle.std.proofs.lemmas.Slice.Eq.{bytes_eq-Decides}
 use Rattle.std.specs.List.{filter}
-use Rattle.std.specs.Prelude.{◌==◌, IfSome, codes, min, nat_le, nat_lt, option_map}
+use Rattle.std.specs.Prelude.{IfSome, codes, min}
 use Rattle.snd_disk.specs.Runs.{HasAt}
 use Rattle.snd_chunks.proofs.Chains.{IsHead, is_head}
 use Rattle.snd_chunks.proofs.WrittenChunks.{has_left, has_number, has_right}
 use Rattle.snd_chunks.specs.declared.chunk.Chunk.{Chunk}
 use Rattle.snd_chunks.specs.Chunks.{padded_end}
-use Rattle.snd_fields.proofs.Numbers.{length-bytes_of}
 use Rattle.snd_fields.specs.Field.{bytes_of, number, with_field}
 use Rattle.snd_fields.specs.declared.field.Order.TheVariants.{Little}
 use Rattle.snd_layout.proofs.Formats.{format_fits}
@@ -24,8 +23,8 @@ use Rattle.snd_layout.specs.declared.field.Field.{Field}
 use Rattle.snd_layout.specs.declared.kind.Kind.{Kind}
 use Rattle.snd_layout.specs.declared.kind.Kind.TheVariants.{Wave}
 use Rattle.snd_layout.specs.declared.piece.Piece.{Piece}
-use Rattle.snd_wave.specs.Layout.{body_of, fact_chunk, inner_field, is_joined, outer_end, wave_front, wave_layout, wave_shape, frame_count}
-use Rattle.snd_wave.specs.Laws.{FieldsStandApart, HoldsBlocks, SameButNumbers, SameHead, count_of, is_in, is_in_field, is_number, padded_data_end, pieces_before}
+use Rattle.snd_wave.specs.Layout.{body_of, fact_chunk, inner_field, is_joined, outer_end, wave_front, wave_layout, frame_count}
+use Rattle.snd_wave.specs.Laws.{FieldsStandApart, HoldsBlocks, SameButNumbers, SameHead, count_of, is_in, is_in_field, padded_data_end, pieces_before}
 use Rattle.snd_wave.specs.Sealed.{CountedReadsBack, MayBeCounted, counted_shape, put_in, with_values}
 use Rattle.snd_wave.specs.Values.{count_bytes, inner_value, outer_value, riff_size, side_value}
 use Rattle.snd_wave.proofs.Agreements.{layouts_agree}

@@ -1,5 +1,5 @@
 -- A WAVE file whose fields are brought up to a number of frames: this library's own way to update a file in place.
-use Rattle.std.specs.Prelude.{◌≡◌, ℕ, ◌+◌, ◌-◌, ◌*◌, ◌^◌, ◌<◌, ◌≤◌, true, false, List, ◌++◌, Option, None, Some, Ok, get_or, length}
+use Rattle.std.specs.Prelude.{◌≡◌, ℕ, ◌+◌, ◌-◌, ◌^◌, ◌<◌, ◌≤◌, true, false, List, ◌++◌, Option, None, Some, Ok, get_or, length}
 use Rattle.snd_chunks.specs.Chunks.{padded_end}
 use Rattle.snd_chunks.specs.Written.{NewChunk}
 use Rattle.snd_fields.specs.Field.{with_field}
