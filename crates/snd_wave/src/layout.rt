@@ -1,6 +1,6 @@
 //! What a WAVE file says of itself.
 
-ghost use Rattle.std.specs.Prelude.{◌≡◌, ◌⊎◌, ◌+◌, ◌-◌, ◌^◌, ◌≤◌, ◌++◌, true, false, List, ℕ, None, Some, All, IfSome, IfOk, IfErr, OnOk, Ok, Err, length};
+ghost use Rattle.std.specs.Prelude.{◌≡◌, ◌⊎◌, ◌+◌, ◌-◌, ◌^◌, ◌<◌, ◌≤◌, ◌++◌, true, false, List, ℕ, None, Some, All, IfSome, IfOk, IfErr, OnOk, Ok, Err, length};
 ghost use Rattle.snd_chunks.specs.Chunks.{chunk_at, tail};
 ghost use Rattle.snd_chunks.specs.Walks.{EndsBy, IsFront, IsSound, IsWalkCause};
 ghost use Rattle.snd_disk.specs.State.{Rises, AtMost, OnlyReads};
@@ -182,6 +182,8 @@ pub fn open_layout<D: Disk>(alloc: Global, disk: &mut D) -> Result<Layout, OpenE
     ensures cause { IfErr result (IsCause (D.state disk.old).faults (D.state disk.new).faults) }
     ensures held { IfOk result (λ l. end l l.frames ≤ (D.state disk.old).size) }
     ensures pieces_held { IfOk result (λ l. All (EndsIn (D.state disk.old).size) l.pieces) }
+    ensures declared { IfOk result (λ l. l.declared < 2 ^ 32) }
+    ensures early { IfOk result (λ l. l.start < 2 ^ 42) }
     ensures calm { IsCalm result (D.state disk.old).faults (D.state disk.new).faults }
     ensures reads { OnlyReads (D.state disk.old) (D.state disk.new) (D.may_leave disk.old) (D.may_leave disk.new) (D.left_between disk.old) (D.left_between disk.new) }
     ensures asked { AtMost (D.state disk.old).asked 8192 (D.state disk.new).asked }
