@@ -18,14 +18,14 @@ use Rattle.snd_layout.proofs.Formats.{format_fits}
 use Rattle.snd_layout.specs.Blocks.{block_align, is_adpcm}
 use Rattle.snd_layout.specs.Fit.{fit_refusal}
 use Rattle.snd_layout.specs.Params.{Parameters, data_bytes}
-use Rattle.snd_layout.specs.Shape.{Shape}
+use Rattle.snd_layout.specs.Shape.{Shape, room}
 use Rattle.snd_layout.specs.declared.field.Field.{Field}
 use Rattle.snd_layout.specs.declared.kind.Kind.{Kind}
 use Rattle.snd_layout.specs.declared.kind.Kind.TheVariants.{Wave}
 use Rattle.snd_layout.specs.declared.piece.Piece.{Piece}
 use Rattle.snd_wave.specs.Layout.{body_of, fact_chunk, inner_field, is_joined, outer_end, wave_front, wave_layout, frame_count}
 use Rattle.snd_wave.specs.Laws.{FieldsStandApart, HoldsBlocks, SameButNumbers, SameHead, count_of, is_in, is_in_field, padded_data_end, pieces_before}
-use Rattle.snd_wave.specs.Sealed.{CountedReadsBack, MayBeCounted, counted_shape, put_in, with_values}
+use Rattle.snd_wave.specs.Sealed.{CountedReadsBack, MayBeCounted, RoomMayBeCounted, counted_shape, put_in, with_values}
 use Rattle.snd_wave.specs.Values.{count_bytes, inner_value, outer_value, riff_size, side_value}
 use Rattle.snd_wave.proofs.Agreements.{layouts_agree}
 use Rattle.snd_wave.proofs.Counts.{count_is_stated, no_piece_behind, numbers_stand_before, reached, trailing_is_stated}
@@ -339,3 +339,10 @@ counted_reads_back b x h n may same long =
       beside = λ i early outer side. same i (omega (arith, apart.start)) ∙ beside_there b h n apart there i early outer side;
       long = long;
     })
+
+pub room_may_be_counted : RoomMayBeCounted
+room_may_be_counted b h n is good fits few early joined =
+    let apart : FieldsStandApart h = fields_are_apart b h is in
+    let limit : room h ≡ 2 ^ 32 + 6 - h.start = rw fits.kind refl in
+    let short : data_bytes h.params n < 2 ^ 32 = omega (arith, fits.in_room, limit, few, apart.inner, apart.start) in
+    record { opened = is; params = good; few = short; on_disk = omega (arith, early, short); counted = λ adpcm. (fits.counted adpcm, joined adpcm) }
