@@ -54,10 +54,7 @@ field_out b v at i within (inr behind) = grind (arith, places)
 length-field : (b v : List ℕ) (at : ℕ) → at + length v ≤ length b → length (with_field b at v) ≡ length b
 length-field b v at within = grind (arith, places)
 
--- the field that decides the count has 4 bytes, or 12 in ADPCM
-pub record HasInner (h : Shape) : Type 0 where
-  pub few : (h.inner.size ≡ 4) ⊎ (h.inner.size ≡ 12)
-
+-- the field that decides the count has 4 bytes, or 12
 inner_sizes : (p : Parameters) (fact : Option Chunk) (sound : Chunk) → ((inner_field p fact sound).size ≡ 4) ⊎ ((inner_field p fact sound).size ≡ 12)
 inner_sizes p fact sound = elim (cases_Bool (is_adpcm p.codec && is_joined fact sound)) [
   | inl both ↦ rw both (inr refl)
@@ -97,7 +94,7 @@ pub record Says (b : List ℕ) (h : Shape) (n : ℕ) (x : List ℕ) : Type 0 whe
   pub beside : (i : ℕ) → i < h.inner.at → is_in_field h.outer i ≡ false → is_in_field h.side i ≡ false → get_or x i 0 ≡ get_or b i 0
   pub long : padded_end h.start (data_bytes h.params n) ≤ length x
 
--- the identifier of the data stands before their size
+-- what a layout says of its file: the identifier of the data stands before their size
 pub record StandsIn (b : List ℕ) (h : Shape) : Type 0 where
   pub sizes : (h.inner.size ≡ 4) ⊎ (h.inner.size ≡ 12)
   pub sound : HasAt b (h.start - 8) (codes "data")
