@@ -2,7 +2,7 @@
 use Rattle.std.proofs.Common.{◌≡◌, ◌⊎◌, ℕ, ◌+◌, ◌-◌, ◌<◌, ◌≤◌, ◌^◌, List, [], ◌∷◌, ◌++◌, All, Bool, true, false, not, ◌&&◌, ◌||◌, Option, None, Some, Ok, length, take, drop, get_or, refl, sym, ap, ◌∙◌, inl, inr, arith}
 use Rattle.std.proofs.Math.Nat.{div-mul-le_self}
 use Rattle.std.proofs.lemmas.Bool.{cases_Bool, le-leb, le-ltb, lt-ltb, or_parts, cases_lt}
-use Rattle.std.proofs.lemmas.List.{places}
+use Rattle.std.proofs.lemmas.List.{length-take, places}
 use Rattle.std.proofs.lemmas.List.Elements.{All-head, All-tail}
 use Rattle.std.proofs.lemmas.Slice.Eq.{bytes_eq-Decides}
 use Rattle.std.specs.List.{filter}
@@ -25,7 +25,7 @@ use Rattle.snd_layout.specs.declared.kind.Kind.TheVariants.{Wave}
 use Rattle.snd_layout.specs.declared.piece.Piece.{Piece}
 use Rattle.snd_wave.specs.Layout.{body_of, fact_chunk, inner_field, is_joined, outer_end, wave_front, wave_layout, frame_count}
 use Rattle.snd_wave.specs.Laws.{FieldsStandApart, HoldsBlocks, SameButNumbers, SameHead, count_of, is_in, is_in_field, padded_data_end, pieces_before}
-use Rattle.snd_wave.specs.Sealed.{CountedReadsBack, MayBeCounted, RoomMayBeCounted, counted_shape, put_in, with_values}
+use Rattle.snd_wave.specs.Sealed.{CountedReadsBack, CutReadsBack, MayBeCounted, RoomMayBeCounted, SealedReadsBack, counted_shape, put_in, with_values}
 use Rattle.snd_wave.specs.Values.{count_bytes, inner_value, outer_value, riff_size, side_value}
 use Rattle.snd_wave.proofs.Agreements.{layouts_agree}
 use Rattle.snd_wave.proofs.Counts.{count_is_stated, no_piece_behind, numbers_stand_before, reached, trailing_is_stated}
@@ -343,3 +343,23 @@ room_may_be_counted b h n is good fits few early joined =
     let limit : room h ≡ 2 ^ 32 + 6 - h.start = rw fits.kind refl in
     let short : data_bytes h.params n < 2 ^ 32 = omega (arith, fits.in_room, limit, few, apart.inner, apart.start) in
     record { opened = is; params = good; few = short; on_disk = omega (arith, early, short); counted = λ adpcm. (fits.counted adpcm, joined adpcm) }
+
+values_long : (b : List ℕ) (h : Shape) (n : ℕ) → wave_layout b ≡ Ok h → length (with_values b h n) ≡ length b
+values_long b h n is =
+    let apart : FieldsStandApart h = fields_are_apart b h is in
+    let there : StandsIn b h = stands b h is in
+    let same = second_long b h n apart there in
+    ap length (values_are b h n apart there) ∙ side_within h.side n h.inner.at apart.side (second b h n apart there) (omega (arith, same, apart.start, there.within)) ∙ same
+
+pub sealed_reads_back : SealedReadsBack
+sealed_reads_back b h n may long = counted_reads_back b (with_values b h n) h n may (λ i before. refl) (omega (arith, values_long b h n may.opened, long))
+
+front_at : (k i : ℕ) (l : List ℕ) → i < k → get_or (take k l) i 0 ≡ get_or l i 0
+front_at k i l lt = grind (arith, places)
+
+pub cut_reads_back : CutReadsBack
+cut_reads_back b h n may long =
+    let whole = values_long b h n may.opened in
+    counted_reads_back b (take (padded_end h.start (data_bytes h.params n)) (with_values b h n)) h n may
+    (λ i before. front_at (padded_end h.start (data_bytes h.params n)) i (with_values b h n) (omega arith))
+    (omega (arith, whole, long, length-take (padded_end h.start (data_bytes h.params n)) (with_values b h n)))
