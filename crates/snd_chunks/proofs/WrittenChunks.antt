@@ -1,18 +1,17 @@
 -- What is written as chunks is walked as these chunks.
-use Rattle.std.proofs.Common.{◌≡◌, ℕ, ◌+◌, ◌%◌, ◌<◌, ◌≤◌, ◌^◌, List, [], ◌∷◌, ◌++◌, All, Option, None, Some, true, false, length, take, drop, get_or, replicate, refl, sym, ap, ◌∙◌, subst, arith, length-append}
+use Rattle.std.proofs.Common.{◌≡◌, ℕ, ◌+◌, ◌%◌, ◌<◌, ◌≤◌, ◌^◌, List, [], ◌∷◌, ◌++◌, All, Some, true, false, length, take, drop, get_or, refl, sym, ap, ◌∙◌, arith, length-append}
 use Rattle.std.proofs.lemmas.Bool.{le-leb}
 use Rattle.std.proofs.lemmas.List.{get_or-append-add, get_or_append_left, length-replicate, places, same_lists}
 use Rattle.std.proofs.lemmas.List.Elements.{All-head, All-tail}
 use Rattle.std.specs.Prelude.{nat_le}
 use Rattle.std.specs.Str.{bytes_eq}
 use Rattle.snd_disk.specs.Runs.{HasAt}
-use Rattle.snd_fields.proofs.Numbers.{SameBytes, length-bytes_of, number_of_bytes, number_same}
+use Rattle.snd_fields.proofs.Numbers.{length-bytes_of, number_of_bytes, number_same}
 use Rattle.snd_fields.specs.Field.{bytes_of, number}
 use Rattle.snd_fields.specs.declared.field.Order.{Order}
-use Rattle.snd_chunks.specs.declared.chunk.Chunk.{Chunk}
 use Rattle.snd_chunks.specs.Chunks.{chunk_at, padded_end}
 use Rattle.snd_chunks.specs.Written.{NewChunk, all_placed, chunk_bytes, chunks_bytes, head_bytes, pad, placed}
-use Rattle.snd_chunks.proofs.Chains.{IsChain, IsStep}
+use Rattle.snd_chunks.proofs.Chains.{IsChain}
 
 -- a file that has joined bytes at a place has each of them
 pub has_left : (b : List ℕ) (p : ℕ) (x y : List ℕ) → HasAt b p (x ++ y) → HasAt b p x

@@ -1,32 +1,31 @@
 -- A file whose fields say a number of frames has its layout with so many frames.
-use Rattle.std.proofs.Common.{◌≡◌, ◌⊎◌, ℕ, ◌+◌, ◌-◌, ◌*◌, ◌/◌, ◌%◌, ◌<◌, ◌≤◌, ◌^◌, List, [], ◌∷◌, ◌++◌, All, Bool, true, false, not, ◌&&◌, ◌||◌, Option, None, Some, Ok, length, take, drop, get_or, refl, sym, ap, ◌∙◌, inl, inr, arith, length-append}
+use Rattle.std.proofs.Common.{◌≡◌, ◌⊎◌, ℕ, ◌+◌, ◌-◌, ◌<◌, ◌≤◌, ◌^◌, List, [], ◌∷◌, ◌++◌, All, Bool, true, false, not, ◌&&◌, ◌||◌, Option, None, Some, Ok, length, take, drop, get_or, refl, sym, ap, ◌∙◌, inl, inr, arith}
 use Rattle.std.proofs.Math.Nat.{div-mul-le_self}
-use Rattle.std.proofs.lemmas.Bool.{and_parts, cases_Bool, eq-eqb, eqb-true, leb-true, le-leb, le-ltb, lt-ltb, or_parts, cases_lt}
-use Rattle.std.proofs.lemmas.List.{places}
+use Rattle.std.proofs.lemmas.Bool.{cases_Bool, le-leb, le-ltb, lt-ltb, or_parts, cases_lt}
+use Rattle.std.proofs.lemmas.List.{length-take, places}
 use Rattle.std.proofs.lemmas.List.Elements.{All-head, All-tail}
 use Rattle.std.proofs.lemmas.Slice.Eq.{bytes_eq-Decides}
 use Rattle.std.specs.List.{filter}
-use Rattle.std.specs.Prelude.{◌==◌, IfSome, codes, min, nat_le, nat_lt, option_map}
+use Rattle.std.specs.Prelude.{IfSome, codes, min}
 use Rattle.snd_disk.specs.Runs.{HasAt}
 use Rattle.snd_chunks.proofs.Chains.{IsHead, is_head}
 use Rattle.snd_chunks.proofs.WrittenChunks.{has_left, has_number, has_right}
 use Rattle.snd_chunks.specs.declared.chunk.Chunk.{Chunk}
 use Rattle.snd_chunks.specs.Chunks.{padded_end}
-use Rattle.snd_fields.proofs.Numbers.{length-bytes_of}
 use Rattle.snd_fields.specs.Field.{bytes_of, number, with_field}
 use Rattle.snd_fields.specs.declared.field.Order.TheVariants.{Little}
 use Rattle.snd_layout.proofs.Formats.{format_fits}
 use Rattle.snd_layout.specs.Blocks.{block_align, is_adpcm}
 use Rattle.snd_layout.specs.Fit.{fit_refusal}
 use Rattle.snd_layout.specs.Params.{Parameters, data_bytes}
-use Rattle.snd_layout.specs.Shape.{Shape}
+use Rattle.snd_layout.specs.Shape.{Shape, room}
 use Rattle.snd_layout.specs.declared.field.Field.{Field}
 use Rattle.snd_layout.specs.declared.kind.Kind.{Kind}
 use Rattle.snd_layout.specs.declared.kind.Kind.TheVariants.{Wave}
 use Rattle.snd_layout.specs.declared.piece.Piece.{Piece}
-use Rattle.snd_wave.specs.Layout.{body_of, fact_chunk, inner_field, is_joined, outer_end, wave_front, wave_layout, wave_shape, frame_count}
-use Rattle.snd_wave.specs.Laws.{FieldsStandApart, HoldsBlocks, SameButNumbers, SameHead, count_of, is_in, is_in_field, is_number, padded_data_end, pieces_before}
-use Rattle.snd_wave.specs.Sealed.{CountedReadsBack, MayBeCounted, counted_shape, put_in, with_values}
+use Rattle.snd_wave.specs.Layout.{body_of, fact_chunk, inner_field, is_joined, outer_end, wave_front, wave_layout, frame_count}
+use Rattle.snd_wave.specs.Laws.{FieldsStandApart, HoldsBlocks, SameButNumbers, SameHead, count_of, is_in, is_in_field, padded_data_end, pieces_before}
+use Rattle.snd_wave.specs.Sealed.{CountedReadsBack, CutReadsBack, MayBeCounted, RoomMayBeCounted, SealedReadsBack, counted_shape, put_in, with_values}
 use Rattle.snd_wave.specs.Values.{count_bytes, inner_value, outer_value, riff_size, side_value}
 use Rattle.snd_wave.proofs.Agreements.{layouts_agree}
 use Rattle.snd_wave.proofs.Counts.{count_is_stated, no_piece_behind, numbers_stand_before, reached, trailing_is_stated}
@@ -55,10 +54,7 @@ field_out b v at i within (inr behind) = grind (arith, places)
 length-field : (b v : List ℕ) (at : ℕ) → at + length v ≤ length b → length (with_field b at v) ≡ length b
 length-field b v at within = grind (arith, places)
 
--- the field that decides the count has 4 bytes, or 12 in ADPCM
-pub record HasInner (h : Shape) : Type 0 where
-  pub few : (h.inner.size ≡ 4) ⊎ (h.inner.size ≡ 12)
-
+-- the field that decides the count has 4 bytes, or 12
 inner_sizes : (p : Parameters) (fact : Option Chunk) (sound : Chunk) → ((inner_field p fact sound).size ≡ 4) ⊎ ((inner_field p fact sound).size ≡ 12)
 inner_sizes p fact sound = elim (cases_Bool (is_adpcm p.codec && is_joined fact sound)) [
   | inl both ↦ rw both (inr refl)
@@ -98,7 +94,7 @@ pub record Says (b : List ℕ) (h : Shape) (n : ℕ) (x : List ℕ) : Type 0 whe
   pub beside : (i : ℕ) → i < h.inner.at → is_in_field h.outer i ≡ false → is_in_field h.side i ≡ false → get_or x i 0 ≡ get_or b i 0
   pub long : padded_end h.start (data_bytes h.params n) ≤ length x
 
--- the identifier of the data stands before their size
+-- what a layout says of its file: the identifier of the data stands before their size
 pub record StandsIn (b : List ℕ) (h : Shape) : Type 0 where
   pub sizes : (h.inner.size ≡ 4) ⊎ (h.inner.size ≡ 12)
   pub sound : HasAt b (h.start - 8) (codes "data")
@@ -340,3 +336,30 @@ counted_reads_back b x h n may same long =
       beside = λ i early outer side. same i (omega (arith, apart.start)) ∙ beside_there b h n apart there i early outer side;
       long = long;
     })
+
+pub room_may_be_counted : RoomMayBeCounted
+room_may_be_counted b h n is good fits few early joined =
+    let apart : FieldsStandApart h = fields_are_apart b h is in
+    let limit : room h ≡ 2 ^ 32 + 6 - h.start = rw fits.kind refl in
+    let short : data_bytes h.params n < 2 ^ 32 = omega (arith, fits.in_room, limit, few, apart.inner, apart.start) in
+    record { opened = is; params = good; few = short; on_disk = omega (arith, early, short); counted = λ adpcm. (fits.counted adpcm, joined adpcm) }
+
+values_long : (b : List ℕ) (h : Shape) (n : ℕ) → wave_layout b ≡ Ok h → length (with_values b h n) ≡ length b
+values_long b h n is =
+    let apart : FieldsStandApart h = fields_are_apart b h is in
+    let there : StandsIn b h = stands b h is in
+    let same = second_long b h n apart there in
+    ap length (values_are b h n apart there) ∙ side_within h.side n h.inner.at apart.side (second b h n apart there) (omega (arith, same, apart.start, there.within)) ∙ same
+
+pub sealed_reads_back : SealedReadsBack
+sealed_reads_back b h n may long = counted_reads_back b (with_values b h n) h n may (λ i before. refl) (omega (arith, values_long b h n may.opened, long))
+
+front_at : (k i : ℕ) (l : List ℕ) → i < k → get_or (take k l) i 0 ≡ get_or l i 0
+front_at k i l lt = grind (arith, places)
+
+pub cut_reads_back : CutReadsBack
+cut_reads_back b h n may long =
+    let whole = values_long b h n may.opened in
+    counted_reads_back b (take (padded_end h.start (data_bytes h.params n)) (with_values b h n)) h n may
+    (λ i before. front_at (padded_end h.start (data_bytes h.params n)) i (with_values b h n) (omega arith))
+    (omega (arith, whole, long, length-take (padded_end h.start (data_bytes h.params n)) (with_values b h n)))

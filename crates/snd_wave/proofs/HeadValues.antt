@@ -1,5 +1,5 @@
 -- The head for some frames is the head for none with the values put into its fields.
-use Rattle.std.proofs.Common.{◌≡◌, ◌⊎◌, ℕ, ◌+◌, ◌-◌, ◌≤◌, List, [], ◌∷◌, ◌++◌, Bool, true, false, not, ◌&&◌, Option, None, Some, length, take, drop, refl, sym, ap, ◌∙◌, inl, inr, arith, append_assoc, length-append}
+use Rattle.std.proofs.Common.{◌≡◌, ℕ, ◌+◌, ◌-◌, List, [], ◌∷◌, ◌++◌, true, false, length, refl, sym, ap, ◌∙◌, inl, inr, arith, append_assoc, length-append}
 use Rattle.std.proofs.lemmas.Bool.{cases_Bool}
 use Rattle.std.proofs.lemmas.List.{append-nil, places, same_lists}
 use Rattle.std.specs.Prelude.{codes}
@@ -10,11 +10,11 @@ use Rattle.snd_fields.specs.declared.field.Order.TheVariants.{Little}
 use Rattle.snd_layout.specs.Blocks.{is_adpcm}
 use Rattle.snd_layout.specs.Params.{Parameters, data_bytes}
 use Rattle.snd_layout.specs.Shape.{Shape}
-use Rattle.snd_wave.specs.Sealed.{HeadIsCounted, put_in, with_values}
+use Rattle.snd_wave.specs.Sealed.{HeadIsCounted, with_values}
 use Rattle.snd_wave.specs.Values.{inner_value, outer_value, riff_size, side_value}
-use Rattle.snd_wave.specs.Written.{chunks_before, filler, has_fact, head_for, head_size, inner_size, made_shape, new_fact, new_format, riff_head}
+use Rattle.snd_wave.specs.Written.{chunks_before, filler, has_fact, head_for, head_size, made_shape, new_fact, new_format, riff_head}
 use Rattle.snd_wave.proofs.Made.{adpcm_has_fact}
-use Rattle.snd_wave.proofs.NewHeads.{bytes-append, fact_bytes, size_is}
+use Rattle.snd_wave.proofs.NewHeads.{fact_bytes, size_is}
 
 -- the middle of three parts is replaced
 put_mid : (a v0 c v : List ℕ) (at : ℕ) → at ≡ length a → length v ≡ length v0 → with_field (a ++ v0 ++ c) at v ≡ a ++ v ++ c

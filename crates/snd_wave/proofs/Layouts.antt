@@ -7,7 +7,7 @@ use Rattle.snd_chunks.specs.declared.chunk.Chunk.{Chunk}
 use Rattle.snd_chunks.specs.declared.front.Ending.TheVariants.{AtSound}
 use Rattle.snd_chunks.specs.declared.front.Front.{Front}
 use Rattle.snd_chunks.specs.Chunks.{chunk_at, front}
-use Rattle.snd_chunks.specs.Walks.{EndsBy, IsFront}
+use Rattle.snd_chunks.specs.Walks.{EndsBy, IsFront, IsSound}
 use Rattle.snd_fields.specs.Field.{number}
 use Rattle.snd_fields.specs.declared.field.Order.TheVariants.{Little}
 use Rattle.snd_layout.specs.Format.{format_of}
@@ -31,14 +31,16 @@ pub held_few : (size : ℕ) (sound : Chunk) → held size sound ≤ sound.len
 held_few size sound = omega arith
 
 pub is_held : (size : ℕ) (parts : Parts) (p : Parameters) (count : Option ℕ) (riff : ℕ) (pieces : List Piece) (layout : Shape) (ends : Ends) → layout ≡ shape_of p parts count ends pieces → ends ≡ ends_of size riff parts.sound
-    → data_bytes layout.params layout.frames ≤ ends.held → parts.sound.at ≤ size → All (EndsIn size) pieces → IsHeld size layout
-is_held size parts p count riff pieces layout ends is ended short within inside =
+    → data_bytes layout.params layout.frames ≤ ends.held → IsSound size 12 257 parts.sound → All (EndsIn size) pieces → IsHeld size layout
+is_held size parts p count riff pieces layout ends is ended short placed inside =
     let start : layout.start ≡ parts.sound.at = ap (λ (s : Shape). s.start) is in
     let held_is : ends.held ≡ held size parts.sound = ap (λ (e : Ends). e.held) ended in
     let pieces_are : layout.pieces ≡ pieces = ap (λ (s : Shape). s.pieces) is in
     record {
-      sound = omega (arith, start, held_is, short, within);
+      sound = omega (arith, start, held_is, short, placed.within);
       pieces = rw pieces_are inside;
+      declared = omega (arith, ap (λ (s : Shape). s.declared) is, placed.len);
+      early = omega (arith, start, placed.near);
     }
 
 fact_placed : (chunks : List Chunk) (sound : Chunk) (fact : Option Chunk) → fact ≡ fact_chunk chunks → All (λ chunk. chunk.at + chunk.len + 8 ≤ sound.at) chunks → IfSome fact (IsFact sound)

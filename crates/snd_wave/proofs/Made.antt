@@ -1,12 +1,12 @@
 -- What is made reads back.
-use Rattle.std.proofs.Common.{◌≡◌, ◌⊎◌, ℕ, zero, suc, ◌+◌, ◌-◌, ◌*◌, ◌/◌, ◌%◌, ◌<◌, ◌≤◌, ◌^◌, List, [], ◌∷◌, ◌++◌, All, Bool, true, false, not, ◌&&◌, ◌||◌, Option, None, Some, Ok, length, get_or, refl, sym, ap, ◌∙◌, inl, inr, arith, length-append}
+use Rattle.std.proofs.Common.{◌≡◌, ℕ, ◌+◌, ◌-◌, ◌*◌, ◌/◌, ◌%◌, ◌<◌, ◌≤◌, ◌^◌, List, [], ◌∷◌, ◌++◌, All, Bool, true, false, not, ◌&&◌, Option, None, Some, Ok, length, get_or, refl, sym, ap, ◌∙◌, inl, inr, arith, length-append}
 use Rattle.std.proofs.Math.Nat.{mod-lt}
-use Rattle.std.proofs.lemmas.Bool.{and_from, and_left, and_right, cases_Bool, eq-eqb, le-leb, le-ltb}
+use Rattle.std.proofs.lemmas.Bool.{and_left, cases_Bool, eq-eqb, le-leb, le-ltb}
 use Rattle.std.proofs.lemmas.List.{append-nil, get_or_append_left, length-replicate}
 use Rattle.std.proofs.lemmas.List.Elements.{All-head, All-tail}
 use Rattle.std.proofs.lemmas.Nat.{div-add-mod', div-mul-add, div_below}
 use Rattle.std.specs.List.{filter, find}
-use Rattle.std.specs.Prelude.{◌==◌, codes, map, min, nat_le, nat_lt, option_map, if◌then◌else◌}
+use Rattle.std.specs.Prelude.{◌==◌, codes, map, option_map, if◌then◌else◌}
 use Rattle.snd_disk.specs.Runs.{HasAt}
 use Rattle.snd_chunks.proofs.Chains.{no_tail, walks}
 use Rattle.snd_chunks.proofs.WrittenChunks.{chain_written, has_body, has_first, has_left, has_number, has_others, has_part, has_right, head_written, length-all_placed, length-chunk_bytes, length-chunks_bytes, length-head_bytes}
@@ -25,16 +25,16 @@ use Rattle.snd_layout.specs.Format.{format_of}
 use Rattle.snd_layout.specs.Params.{AreParams, Parameters, data_bytes}
 use Rattle.snd_layout.specs.Sector.{is_in_one_sector}
 use Rattle.snd_layout.specs.Shape.{Shape}
-use Rattle.snd_layout.specs.Written.{extension, written_format}
+use Rattle.snd_layout.specs.Written.{written_format}
 use Rattle.snd_layout.specs.declared.codec.Codec.{Codec}
 use Rattle.snd_layout.specs.declared.codec.Codec.TheVariants.{U8, S8, S16, S24, S32, MuLaw, ALaw, Ima, Ms}
 use Rattle.snd_layout.specs.declared.field.Field.{Field}
 use Rattle.snd_layout.specs.declared.kind.Kind.TheVariants.{Wave}
 use Rattle.snd_layout.specs.declared.piece.Piece.{Piece}
-use Rattle.snd_wave.specs.Layout.{body_of, data_end, fact_chunk, fact_count, format_chunk, frame_count, front_refusal, has_id, held, inner_field, is_fact, is_format, is_joined, is_own, outer_end, piece_of, pieces_of, side_field, wave_front, wave_layout, wave_shape, wave_tail, whole_frames}
+use Rattle.snd_wave.specs.Layout.{body_of, data_end, fact_chunk, fact_count, format_chunk, frame_count, held, inner_field, is_fact, is_format, is_own, outer_end, piece_of, pieces_of, side_field, wave_front, wave_layout, wave_shape, wave_tail, whole_frames}
 use Rattle.snd_wave.specs.Values.{riff_size}
-use Rattle.snd_wave.specs.Written.{HeadHasItsSize, HeadReadsBack, MadeReadsBack, MayBeMade, MayBePiece, chunks_before, filler, has_fact, head_for, head_size, inner_size, junk, made_pieces, made_shape, new_fact, new_format, riff_head, start_without_filler, wave_head, wave_made}
-use Rattle.snd_wave.proofs.NewHeads.{all_precede, bytes-append, chunks_few, fact_bytes, format_few, format_size, not_fact, size_is, size_least}
+use Rattle.snd_wave.specs.Written.{HeadHasItsSize, HeadReadsBack, MadeReadsBack, MayBeMade, MayBePiece, chunks_before, filler, has_fact, head_for, head_size, inner_size, made_pieces, made_shape, new_fact, new_format, riff_head, start_without_filler, wave_head, wave_made}
+use Rattle.snd_wave.proofs.NewHeads.{all_precede, bytes-append, chunks_few, fact_bytes, format_size, not_fact, size_is, size_least}
 use Rattle.snd_wave.proofs.Opens.{Opens, opened, refused}
 use Rattle.snd_wave.proofs.Shapes.{blocks_have_bytes}
 

@@ -1,6 +1,5 @@
 -- What is made holds its pieces and its data.
-use Rattle.std.proofs.Common.{◌≡◌, ℕ, ◌+◌, ◌-◌, ◌≤◌, List, [], ◌∷◌, ◌++◌, All, false, length, take, drop, refl, sym, ap, ◌∙◌, arith, length-append}
-use Rattle.std.proofs.lemmas.List.{length-replicate}
+use Rattle.std.proofs.Common.{◌≡◌, ℕ, ◌+◌, ◌≤◌, List, [], ◌∷◌, ◌++◌, All, false, length, take, drop, refl, sym, ap, ◌∙◌, arith, length-append}
 use Rattle.std.proofs.lemmas.List.Elements.{All-head, All-tail}
 use Rattle.std.specs.Prelude.{map}
 use Rattle.snd_disk.specs.Runs.{HasAt}
@@ -11,7 +10,7 @@ use Rattle.snd_fields.specs.declared.field.Order.TheVariants.{Little}
 use Rattle.snd_layout.specs.Params.{Parameters, data_bytes}
 use Rattle.snd_layout.specs.Written.{written_format}
 use Rattle.snd_wave.specs.Layout.{piece_of}
-use Rattle.snd_wave.specs.Written.{MadeHoldsAll, MayBeMade, MayBePiece, chunk_read, chunks_before, filler, head_for, head_size, made_pieces, new_fact, new_format, wave_made}
+use Rattle.snd_wave.specs.Written.{MadeHoldsAll, MayBePiece, chunk_read, chunks_before, filler, head_for, head_size, made_pieces, new_fact, new_format, wave_made}
 use Rattle.snd_wave.proofs.Made.{has_chunks, has_self, length-head_for}
 use Rattle.snd_wave.proofs.NewHeads.{size_is}
 

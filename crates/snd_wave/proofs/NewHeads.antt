@@ -1,15 +1,11 @@
 -- The head that is written: its parts, and where they stand.
-use Rattle.std.proofs.Common.{◌≡◌, ◌⊎◌, ℕ, ◌+◌, ◌-◌, ◌*◌, ◌/◌, ◌%◌, ◌<◌, ◌≤◌, ◌^◌, List, [], ◌∷◌, ◌++◌, All, Bool, true, false, not, ◌&&◌, ◌||◌, Option, None, Some, length, get_or, refl, sym, ap, ◌∙◌, inl, inr, arith, length-append}
-use Rattle.std.proofs.lemmas.Bool.{and_from, and_left, cases_Bool, eq-eqb, eqb-true, ne_eqb, or_from, or_parts}
-use Rattle.std.proofs.lemmas.List.Elements.{All-append, All-cons, All-head, All-nil, All-tail, All-weaker}
-use Rattle.std.specs.List.{filter, find}
-use Rattle.std.specs.Prelude.{◌==◌, codes, min, nat_le, replicate, if◌then◌else◌}
+use Rattle.std.proofs.Common.{◌≡◌, ◌⊎◌, ℕ, ◌+◌, ◌-◌, ◌/◌, ◌≤◌, List, [], ◌∷◌, ◌++◌, All, true, false, length, refl, inl, inr, arith, length-append}
+use Rattle.std.proofs.lemmas.Bool.{cases_Bool, eq-eqb, or_parts}
+use Rattle.std.proofs.lemmas.List.Elements.{All-append, All-cons, All-nil, All-weaker}
+use Rattle.std.specs.Prelude.{codes, if◌then◌else◌}
 use Rattle.std.specs.Str.{bytes_eq}
-use Rattle.snd_chunks.proofs.WrittenChunks.{MayPrecede, length-all_placed, length-chunk_bytes, length-chunks_bytes, length-head_bytes}
-use Rattle.snd_chunks.specs.declared.chunk.Chunk.{Chunk}
-use Rattle.snd_chunks.specs.Chunks.{padded_end}
-use Rattle.snd_chunks.specs.Written.{NewChunk, all_placed, chunk_bytes, chunks_bytes, head_bytes, placed}
-use Rattle.snd_fields.specs.Field.{bytes_of}
+use Rattle.snd_chunks.proofs.WrittenChunks.{MayPrecede, length-chunk_bytes, length-chunks_bytes}
+use Rattle.snd_chunks.specs.Written.{NewChunk, chunk_bytes, chunks_bytes, head_bytes, placed}
 use Rattle.snd_fields.specs.declared.field.Order.TheVariants.{Little}
 use Rattle.snd_layout.specs.Blocks.{is_adpcm}
 use Rattle.snd_layout.specs.Params.{Parameters}
@@ -17,8 +13,8 @@ use Rattle.snd_layout.specs.Sector.{is_in_one_sector}
 use Rattle.snd_layout.specs.Written.{extension, written_format}
 use Rattle.snd_layout.specs.declared.codec.Codec.{Codec}
 use Rattle.snd_layout.specs.declared.codec.Codec.TheVariants.{U8, S8, S16, S24, S32, MuLaw, ALaw, Ima, Ms}
-use Rattle.snd_wave.specs.Layout.{fact_chunk, format_chunk, has_id, is_fact, is_own}
-use Rattle.snd_wave.specs.Written.{MadeInOneSector, MayBeMade, MayBePiece, chunks_before, filler, has_fact, head_size, inner_size, junk, new_fact, new_format, start_without_filler}
+use Rattle.snd_wave.specs.Layout.{is_own}
+use Rattle.snd_wave.specs.Written.{MadeInOneSector, MayBePiece, chunks_before, filler, has_fact, head_size, inner_size, junk, new_fact, new_format, start_without_filler}
 
 -- a format has 16 to 50 bytes
 extension_few : (codec : Codec) → length (extension codec) ≤ 34

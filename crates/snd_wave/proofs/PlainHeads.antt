@@ -1,16 +1,11 @@
 -- The head of a file without pieces and frames.
-use Rattle.std.proofs.Common.{◌≡◌, ℕ, ◌+◌, ◌-◌, ◌*◌, ◌/◌, ◌%◌, ◌<◌, ◌≤◌, ◌^◌, Bool, true, false, not, ◌&&◌, List, [], ◌∷◌, ◌++◌, Option, None, Some, length, take, drop, refl, sym, ap, ◌∙◌, inl, inr, arith, append_assoc, length-append}
-use Rattle.std.proofs.lemmas.Bool.{cases_Bool}
+use Rattle.std.proofs.Common.{◌≡◌, ℕ, ◌-◌, Bool, true, false, List, [], ◌++◌, Option, None, Some, length, refl, sym, ap, ◌∙◌, append_assoc}
 use Rattle.std.proofs.lemmas.List.{append-nil}
-use Rattle.std.proofs.lemmas.Nat.{div_below}
-use Rattle.std.specs.Prelude.{codes, option_map, if◌then◌else◌}
-use Rattle.snd_chunks.specs.Written.{NewChunk, chunk_bytes, chunks_bytes, head_bytes, pad}
-use Rattle.snd_disk.specs.Bytes.{over}
+use Rattle.std.specs.Prelude.{codes, option_map}
+use Rattle.snd_chunks.specs.Written.{chunk_bytes, chunks_bytes, head_bytes, pad}
 use Rattle.snd_disk.specs.State.{IsMeant, State}
 use Rattle.snd_fields.specs.Field.{bytes_of}
 use Rattle.snd_fields.specs.declared.field.Order.TheVariants.{Little}
-use Rattle.snd_layout.proofs.Frames.{blocks_have_frames}
-use Rattle.snd_layout.specs.Blocks.{block_align, block_frames}
 use Rattle.snd_layout.specs.Fit.{fit_refusal}
 use Rattle.snd_layout.specs.Params.{AreParams, Parameters, data_bytes}
 use Rattle.snd_layout.specs.Written.{written_format}
@@ -18,10 +13,9 @@ use Rattle.snd_layout.specs.declared.codec.Codec.{Codec}
 use Rattle.snd_layout.specs.declared.codec.Codec.TheVariants.{U8, S8, S16, S24, S32, MuLaw, ALaw, Ima, Ms}
 use Rattle.snd_layout.specs.declared.kind.Kind.TheVariants.{Wave}
 use Rattle.snd_chunks.specs.Written.{all_placed}
-use Rattle.snd_layout.specs.Blocks.{is_adpcm}
 use Rattle.snd_layout.specs.declared.field.Field.{Field}
 use Rattle.snd_layout.specs.declared.piece.Piece.{Piece}
-use Rattle.snd_wave.proofs.Made.{length-head_for, no_bytes_yet, same_shape, shape_with}
+use Rattle.snd_wave.proofs.Made.{no_bytes_yet, same_shape, shape_with}
 use Rattle.snd_wave.specs.Values.{riff_size}
 use Rattle.snd_wave.specs.Written.{chunks_before, filler, has_fact, head_for, made_pieces, made_shape, head_size, inner_at, new_fact, new_format, plain_start, riff_head, side_at, start_without_filler, wave_head}
 
@@ -142,8 +136,5 @@ laid old mid new bytes cut put = record {
   name = put.name ∙ cut.name;
 }
 
-pub meant_as : (old new : State) (bytes head : List ℕ) (n : ℕ) → IsMeant (length bytes) (λ b. bytes) old new → bytes ≡ head → length bytes ≡ n → IsMeant n (λ b. head) old new
-meant_as old new bytes head n put is long = record { size = put.size ∙ long; contents = put.contents ∙ ap (λ (l : List ℕ). option_map (λ (b : List ℕ). l) old.contents) is; name = put.name }
-
-pub length-plain_head : (p : Parameters) → length (wave_head p []) ≡ plain_start p.codec
-length-plain_head p = length-head_for p [] 0 ∙ plain_size p
+pub becomes_as : (old new : State) (bytes head : List ℕ) → IsMeant (length bytes) (λ b. bytes) old new → bytes ≡ head → IsMeant (length head) (λ b. head) old new
+becomes_as old new bytes head put is = record { size = put.size ∙ ap length is; contents = put.contents ∙ ap (λ (l : List ℕ). option_map (λ (b : List ℕ). l) old.contents) is; name = put.name }

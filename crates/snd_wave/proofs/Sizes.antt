@@ -11,7 +11,7 @@ use Rattle.snd_layout.specs.Shape.{Shape}
 use Rattle.snd_layout.specs.declared.field.Field.{Field}
 use Rattle.snd_layout.specs.declared.kind.Kind.TheVariants.{Wave}
 use Rattle.snd_wave.specs.Values.{closing, count_bytes, inner_value, outer_value, riff_size, side_value}
-use Rattle.snd_wave.proofs.Made.{fixed_frames, single}
+use Rattle.snd_wave.proofs.Made.{fixed_frames}
 use Rattle.snd_wave.proofs.Shapes.{blocks_have_bytes}
 
 single_blocks : (n b : ℕ) → b ≡ 1 → (n + b - 1) / b ≡ n

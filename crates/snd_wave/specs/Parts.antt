@@ -1,5 +1,5 @@
 -- The parts of a WAVE file from which its layout is made, and what holds of them over every disk.
-use Rattle.std.specs.Prelude.{◌≡◌, ℕ, ◌+◌, ◌-◌, ◌≤◌, true, false, min, List, ◌++◌, All, Option, None, Some, IfSome, Result, Ok, Err, option_map, length, nat_lt}
+use Rattle.std.specs.Prelude.{◌≡◌, ℕ, ◌+◌, ◌-◌, ◌^◌, ◌<◌, ◌≤◌, true, false, min, List, ◌++◌, All, Option, None, Some, IfSome, Result, Ok, Err, option_map, length, nat_lt}
 use Rattle.snd_chunks.specs.declared.chunk.Chunk.{Chunk}
 use Rattle.snd_chunks.specs.declared.front.Ending.TheVariants.{AtSound}
 use Rattle.snd_chunks.specs.declared.front.Front.{Front}
@@ -67,7 +67,10 @@ abbrev pub with_params : List ℕ → Front → Parts → Result Parameters Open
 with_params b front parts (Err refusal) = Err refusal
 with_params b front parts (Ok p) = Ok (shape_of p parts (option_map (fact_count b) parts.fact) (ends_of (length b) (number Little b 4 4) parts.sound) (all_pieces b front (ends_of (length b) (number Little b 4 4) parts.sound)))
 
--- the data and the pieces end within a file of so many bytes
+-- the data and the pieces end within a file of so many bytes; the declared size has four bytes, and the chunks before the
+-- data are so few and so small that the data begin early
 pub record IsHeld (size : ℕ) (layout : Shape) : Type 0 where
   pub sound : end layout layout.frames ≤ size
   pub pieces : All (EndsIn size) layout.pieces
+  pub declared : layout.declared < 2 ^ 32
+  pub early : layout.start < 2 ^ 42

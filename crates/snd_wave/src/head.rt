@@ -4,11 +4,10 @@ ghost use Rattle.std.specs.Prelude.{◌≡◌, ◌+◌, ◌≤◌, ◌++◌, [],
 ghost use Rattle.snd_disk.specs.Device.{CountsOn, WritesAtMost};
 ghost use Rattle.arrayvec.specs.ArrayVec.{array_vec_len};
 ghost use Rattle.snd_chunks.specs.Written.{chunks_bytes};
-ghost use Rattle.snd_disk.specs.State.{IsMeant};
 ghost use Rattle.snd_fields.specs.declared.field.Order.TheVariants.{Little};
 ghost use Rattle.snd_layout.specs.Fit.{fit_refusal};
 ghost use Rattle.snd_layout.specs.declared.kind.Kind.TheVariants.{Wave};
-ghost use Rattle.snd_wave.specs.Written.{IsLayCause, has_fact, inner_at, made_shape, new_fact, plain_start, side_at, wave_head};
+ghost use Rattle.snd_wave.specs.Written.{Becomes, IsLayCause, has_fact, inner_at, made_shape, new_fact, plain_start, side_at, wave_head};
 
 use crate::put::{put_all, put_chunk, put_number};
 use arrayvec::ArrayVec;
@@ -127,7 +126,7 @@ fn plain_layout(alloc: Global, params: Params) -> Layout
 
 // Cuts a disk to nothing.
 fn cut_whole<D: Disk>(disk: &mut D) -> Result<(), Step>
-    ensures done { OnOk result (IsMeant 0 (λ b. []) (D.state disk.old) (D.state disk.new)) }
+    ensures done { OnOk result (Becomes [] (D.state disk.old) (D.state disk.new)) }
     ensures faults { CountsOn D.state disk.old disk.new result }
     ensures name { (D.state disk.new).name ≡ (D.state disk.old).name }
     ensures written { (D.state disk.new).written ≡ (D.state disk.old).written }
@@ -143,7 +142,7 @@ fn cut_whole<D: Disk>(disk: &mut D) -> Result<(), Step>
 fn fill<D: Disk>(disk: &mut D, bytes: &[u8]) -> Result<(), Step>
     requires empty { (D.state disk.old).size ≡ 0 }
     requires few { length bytes.now ≤ 2048 }
-    ensures done { OnOk result (IsMeant (length bytes.now) (λ b. bytes.now) (D.state disk.old) (D.state disk.new)) }
+    ensures done { OnOk result (Becomes bytes.now (D.state disk.old) (D.state disk.new)) }
     ensures faults { CountsOn D.state disk.old disk.new result }
     ensures name { (D.state disk.new).name ≡ (D.state disk.old).name }
     ensures written { WritesAtMost D.state 2048 disk.old disk.new }
@@ -158,7 +157,7 @@ fn fill<D: Disk>(disk: &mut D, bytes: &[u8]) -> Result<(), Step>
 // Replaces what a disk holds by these bytes.
 fn write_whole<D: Disk>(disk: &mut D, bytes: &[u8]) -> Result<(), Step>
     requires { length bytes.now ≤ 2048 }
-    ensures done { OnOk result (IsMeant (length bytes.now) (λ b. bytes.now) (D.state disk.old) (D.state disk.new)) }
+    ensures done { OnOk result (Becomes bytes.now (D.state disk.old) (D.state disk.new)) }
     ensures faults { CountsOn D.state disk.old disk.new result }
     ensures name { (D.state disk.new).name ≡ (D.state disk.old).name }
     ensures written { WritesAtMost D.state 2048 disk.old disk.new }
@@ -174,7 +173,7 @@ fn write_whole<D: Disk>(disk: &mut D, bytes: &[u8]) -> Result<(), Step>
 /// `DiskFault`, where a call of the disk failed.
 pub fn lay_head<D: Disk>(alloc: Global, disk: &mut D, params: Params) -> Result<Layout, OpenError>
     requires { fit_refusal Wave params ≡ None }
-    ensures laid { OnOk result (IsMeant (plain_start params.codec) (λ b. wave_head params []) (D.state disk.old) (D.state disk.new)) }
+    ensures laid { OnOk result (Becomes (wave_head params []) (D.state disk.old) (D.state disk.new)) }
     ensures layout { IfOk result (λ l. l ≡ made_shape params [] 0) }
     ensures cause { IfErr result (IsLayCause (D.state disk.old).faults (D.state disk.new).faults) }
     ensures calm { OnOk result ((D.state disk.new).faults ≡ (D.state disk.old).faults) }

@@ -2,7 +2,7 @@
 //! the laws.
 
 ghost use Rattle.snd_wave.specs.Laws.{CountIsStated, FieldsAreApart, LayoutsAgree, NoPieceBehind, NumbersStandBefore, TrailingIsStated};
-ghost use Rattle.snd_wave.specs.Sealed.{CountedReadsBack, HeadIsCounted};
+ghost use Rattle.snd_wave.specs.Sealed.{CountedReadsBack, CutReadsBack, HeadIsCounted, RoomMayBeCounted, SealedReadsBack};
 ghost use Rattle.snd_wave.specs.Written.{HeadHasItsSize, HeadReadsBack, MadeHoldsAll, MadeInOneSector, MadeReadsBack};
 
 /// A file that has the bytes of another before its data, but for the numbers that change as the sound
@@ -48,8 +48,11 @@ pub fn made_files_read_back()
 /// Where the fields of a file are brought up to a number of frames whose data are there with their pad,
 /// its layout says so many frames and nothing behind them, and otherwise what it said before. A head that
 /// was made for no frames is then the head for so many.
-#[tactic(auto, using(crate::proofs::Counted::counted_reads_back, crate::proofs::HeadValues::head_is_counted))]
+#[tactic(auto, using(crate::proofs::Counted::counted_reads_back, crate::proofs::Counted::room_may_be_counted, crate::proofs::Counted::sealed_reads_back, crate::proofs::Counted::cut_reads_back, crate::proofs::HeadValues::head_is_counted))]
 pub fn counted_files_read_back()
     ensures layout { CountedReadsBack }
+    ensures sealed { SealedReadsBack }
+    ensures cut { CutReadsBack }
+    ensures room { RoomMayBeCounted }
     ensures head { HeadIsCounted }
 {}

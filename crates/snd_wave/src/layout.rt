@@ -1,6 +1,6 @@
 //! What a WAVE file says of itself.
 
-ghost use Rattle.std.specs.Prelude.{◌≡◌, ◌⊎◌, ◌+◌, ◌-◌, ◌^◌, ◌≤◌, ◌++◌, true, false, None, Some, All, IfSome, IfOk, Ok, Err, length};
+ghost use Rattle.std.specs.Prelude.{◌≡◌, ◌⊎◌, ◌+◌, ◌-◌, ◌^◌, ◌<◌, ◌≤◌, ◌++◌, true, false, None, Some, All, IfSome, IfOk, Ok, Err, length};
 ghost use Rattle.snd_disk.specs.Device.{AsksAtMost, OnlyReadsOn, IfOkTold};
 ghost use Rattle.snd_chunks.specs.Chunks.{chunk_at, tail};
 ghost use Rattle.snd_chunks.specs.Walks.{EndsBy, IsSound, CountsWalk};
@@ -173,6 +173,8 @@ pub fn open_layout<D: Disk>(alloc: Global, disk: &mut D) -> Result<Layout, OpenE
     ensures opened { OpensAs D.state disk.old wave_layout result }
     ensures held { IfOk result (λ l. end l l.frames ≤ (D.state disk.old).size) }
     ensures pieces_held { IfOk result (λ l. All (EndsIn (D.state disk.old).size) l.pieces) }
+    ensures declared { IfOk result (λ l. l.declared < 2 ^ 32) }
+    ensures early { IfOk result (λ l. l.start < 2 ^ 42) }
     ensures faults { CountsOpening D.state disk.old disk.new result }
     ensures reads { OnlyReadsOn D.state D.may_leave D.left_between disk.old disk.new }
     ensures asked { AsksAtMost D.state 8192 disk.old disk.new }

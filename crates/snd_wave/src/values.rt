@@ -18,8 +18,8 @@ use snd_layout::{Layout, Params};
 /// size.
 const JOINED_SIZE: u8 = 12;
 
-/// One more than the greatest place at which data may end: the RIFF size is even and has 32 bits, and the
-/// first 8 bytes are not counted.
+/// The greatest place at which data may end: the RIFF size, in which the first 8 bytes are not counted, is
+/// even and has 32 bits.
 const MOST_END: u64 = (1 << 32) + 6;
 
 // The bytes of so many frames, which stand in whole blocks.

@@ -18,4 +18,4 @@ returns-clause-told g c = λ b told.
 pub returns-clause-held : goal.returns-clause-held
 returns-clause-held g c =
     is_held c.args.size c.args.parts c.in-Ok.params c.in_ok-count.count c.in_ok-riff.riff c.in_ok-pieces.pieces c.layout_of.result c.ends_of-ends.result c.layout_of.ensures.value c.ends_of-ends.ensures
-    c.layout_of.ensures.short c.requires.placed.sound.within c.in_ok-pieces.ensures.held
+    c.layout_of.ensures.short c.requires.placed.sound c.in_ok-pieces.ensures.held
