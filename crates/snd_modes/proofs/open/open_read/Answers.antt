@@ -9,7 +9,7 @@ use Rattle.snd_modes.proofs.Opening.{opened_ok, opened_refused, opened_not_built
 use Rattle.snd_modes.proofs.open.open_read.Goals as goal
 
 pub returns-in-Err-clause-refused : goal.returns-in-Err-clause-refused
-returns-in-Err-clause-refused g c = λ r b is told. opened_refused b r (c.in-Err.ensures.refused r b is told)
+returns-in-Err-clause-refused g c = λ r b is told. opened_refused b r (c.in-Err.ensures.opened r b is told)
 
 pub returns-then-is_none-clause-refused : goal.returns-then-is_none-clause-refused
 returns-then-is_none-clause-refused g c = λ r b is told.
