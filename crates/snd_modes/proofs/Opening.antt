@@ -9,20 +9,20 @@ use Rattle.snd_pcm.specs.Groups.{groups}
 use Rattle.snd_pcm.specs.Pcm.{byte_count, samples}
 use Rattle.snd_pcm.specs.declared.linear.Linear.{Linear}
 use Rattle.snd_container.specs.Sound.{decoded, decoded_as, layout_of, linear_of, sound_bytes}
-use Rattle.snd_modes.specs.Editing.{Editing, frames_read, opened, opened_as, opening}
+use Rattle.snd_modes.specs.Editing.{Editing, first_editing, frames_read, opening_as, opening_of}
 use Rattle.snd_modes.proofs.SoundFrames.{count_frames, linear_bytes}
 
-pub opened_ok : (b : List ℕ) (s : Shape) → layout_of b ≡ Ok s → is_none (linear_of s.params.codec) ≡ false → opened b ≡ Ok (opening b s)
-unfolding opened
-opened_ok b s is linear = ap (opened_as b) is ∙ ap (λ (t : Bool). if t then Err NotBuilt else Ok (opening b s)) linear
+pub opening_ok : (b : List ℕ) (s : Shape) → layout_of b ≡ Ok s → is_none (linear_of s.params.codec) ≡ false → opening_of b ≡ Ok (first_editing b s)
+unfolding opening_of
+opening_ok b s is linear = ap (opening_as b) is ∙ ap (λ (t : Bool). if t then Err NotBuilt else Ok (first_editing b s)) linear
 
-pub opened_refused : (b : List ℕ) (r : OpenRefusal) → layout_of b ≡ Err r → opened b ≡ Err r
-unfolding opened
-opened_refused b r is = ap (opened_as b) is
+pub opening_refused : (b : List ℕ) (r : OpenRefusal) → layout_of b ≡ Err r → opening_of b ≡ Err r
+unfolding opening_of
+opening_refused b r is = ap (opening_as b) is
 
-pub opened_not_built : (b : List ℕ) (s : Shape) → layout_of b ≡ Ok s → is_none (linear_of s.params.codec) ≡ true → opened b ≡ Err NotBuilt
-unfolding opened
-opened_not_built b s is other = ap (opened_as b) is ∙ ap (λ (t : Bool). if t then Err NotBuilt else Ok (opening b s)) other
+pub opening_not_built : (b : List ℕ) (s : Shape) → layout_of b ≡ Ok s → is_none (linear_of s.params.codec) ≡ true → opening_of b ≡ Err NotBuilt
+unfolding opening_of
+opening_not_built b s is other = ap (opening_as b) is ∙ ap (λ (t : Bool). if t then Err NotBuilt else Ok (first_editing b s)) other
 
 count_as : (b : List ℕ) (s : Shape) (o : Option Linear) → linear_of s.params.codec ≡ o → is_none o ≡ false → 1 ≤ s.params.channels → end s s.frames ≤ length b
     → s.frames ≡ length (decoded s.params (sound_bytes b s))

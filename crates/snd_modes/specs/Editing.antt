@@ -1,5 +1,5 @@
--- An open file, as whoever reads it sees it: its bytes, what they say, its frames, and the frame to read next. None of the
--- frames is held by the code.
+-- An open file, as whoever reads it sees it: its bytes, what they say, its frames, and the frame to read next. The code keeps
+-- none of the frames.
 use Rattle.std.specs.Prelude.{ℕ, ℤ, ◌+◌, ◌-◌, List, Result, Ok, Err, length, take, drop, min, is_none, if◌then◌else◌}
 use Rattle.snd_layout.specs.declared.refusal.OpenRefusal.{OpenRefusal}
 use Rattle.snd_layout.specs.declared.refusal.OpenRefusal.TheVariants.{NotBuilt}
@@ -13,17 +13,18 @@ pub record Editing : Type 0 where
   -- the frame to read next
   pub place : ℕ
 
-abbrev pub opening : List ℕ → Shape → Editing
-opening b s = record { bytes = b; shape = s; frames = decoded s.params (sound_bytes b s); place = 0 }
+-- the state in which editing begins
+abbrev pub first_editing : List ℕ → Shape → Editing
+first_editing b s = record { bytes = b; shape = s; frames = decoded s.params (sound_bytes b s); place = 0 }
 
 -- linear codecs are opened; the laws and ADPCM are not built yet
-abbrev pub opened_as : List ℕ → Result Shape OpenRefusal → Result Editing OpenRefusal
-opened_as b (Err refusal) = Err refusal
-opened_as b (Ok s) = if is_none (linear_of s.params.codec) then Err NotBuilt else Ok (opening b s)
+abbrev pub opening_as : List ℕ → Result Shape OpenRefusal → Result Editing OpenRefusal
+opening_as b (Err refusal) = Err refusal
+opening_as b (Ok s) = if is_none (linear_of s.params.codec) then Err NotBuilt else Ok (first_editing b s)
 
--- a file's bytes opened for reading, or the first reason why not
-unfoldable pub opened : List ℕ → Result Editing OpenRefusal
-opened b = opened_as b (layout_of b)
+-- what opening a file of these bytes gives, or the first reason why it is not opened
+unfoldable pub opening_of : List ℕ → Result Editing OpenRefusal
+opening_of b = opening_as b (layout_of b)
 
 -- how many of n wanted frames there are from the place on, and which
 abbrev pub frames_left : Editing → ℕ → ℕ
@@ -38,3 +39,12 @@ moved_by n e = record e { place = e.place + n }
 
 abbrev pub moved_to : ℕ → Editing → Editing
 moved_to n e = record e { place = n }
+
+-- the state that a read leaves, and the one that seeking leaves
+abbrev pub state_read : {E : Type 0} → Result ℕ E → Editing → Editing
+state_read (Ok n) e = moved_by n e
+state_read (Err error) e = e
+
+abbrev pub state_sought : {T E : Type 0} → ℕ → Result T E → Editing → Editing
+state_sought to (Ok done) e = moved_to to e
+state_sought to (Err error) e = e

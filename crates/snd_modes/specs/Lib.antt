@@ -1,3 +1,5 @@
-pub mod Causes
+pub mod Calls
 pub mod Editing
 pub mod Handle
+pub mod Loans
+pub mod Reading

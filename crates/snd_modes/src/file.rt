@@ -1,49 +1,46 @@
 //! The calls of an open file.
 
-ghost use Rattle.std.specs.Prelude.{◌≡◌, ◌+◌, ◌-◌, ◌*◌, ◌/◌, ◌%◌, ◌≤◌, None, Some, All, MatchResult, IfOk, OnOk, IfErr, OnErr, length, take, drop, min};
-ghost use Rattle.snd_disk.specs.Device.{AsksAtMost, OnlyReadsOn};
-ghost use Rattle.snd_pcm.specs.Groups.{first_groups};
-ghost use Rattle.snd_pcm.specs.Pcm.{InRange};
-ghost use Rattle.snd_pcm.specs.declared.linear.Linear.{Linear as linear};
-ghost use Rattle.snd_layout.specs.Blocks.{block_align};
-ghost use Rattle.snd_container.specs.Sound.{linear_of};
-ghost use Rattle.snd_modes.specs.Editing.{Editing, frames_read, moved_by, moved_to};
-ghost use Rattle.snd_modes.specs.Handle.{Stands, disk_of, held_of, loan_of};
-ghost use Rattle.snd_modes.specs.Causes.{IsReadCause, IsSeekCause};
+ghost use Rattle.std.specs.Prelude.{◌≡◌, IfOk, length};
+ghost use Rattle.snd_disk.specs.Device.{OnlyReadsOn};
+ghost use Rattle.snd_modes.specs.Calls.{AsksForFrames, CountsReading, ReadLeaves, SeekLeaves};
+ghost use Rattle.snd_modes.specs.Editing.{state_read, state_sought};
+ghost use Rattle.snd_modes.specs.Handle.{IfOkStanding, StandsAfter, channels_of, codec_of, disk_of, known_of, loan_of};
+ghost use Rattle.snd_modes.specs.Loans.{disk_back, fault_of, loan_back};
+ghost use Rattle.snd_modes.specs.Reading.{FitCodec, GivesFrames, front_of, rest_of};
 
 use crate::error::{DiskFault, ReadError, SeekError};
 use crate::frames::{channels_of, frames_ahead, read_from};
 use crate::handle::{CanRead, File};
-use snd_disk::{Disk, Failed, Step};
+use snd_disk::Disk;
 use snd_layout::{Kind, Params};
 
 impl<'d, D: Disk, M> File<'d, D, M> {
     /// How many frames the file holds.
     pub fn frames(&self) -> u64
-        ensures { result ≡ (held_of self.now).shape.frames }
+        ensures { result ≡ (known_of self.now).shape.frames }
     {
         self.layout.frames
     }
 
     /// The parameters of its sound.
     pub fn params(&self) -> Params
-        ensures { result ≡ (held_of self.now).shape.params }
+        ensures { result ≡ (known_of self.now).shape.params }
     {
         self.layout.params
     }
 
     /// The container that the file is.
     pub fn kind(&self) -> Kind
-        ensures { result ≡ (held_of self.now).shape.kind }
+        ensures { result ≡ (known_of self.now).shape.kind }
     {
         self.layout.kind
     }
 
     /// Gives the disk back. The answer is the step at which the disk failed, where it did.
     pub fn close(self) -> Result<&'d mut D, (DiskFault, &'d mut D)>
-        ensures lends { MatchResult result (λ r. r.ghost_name ≡ loan_of self.entry) (λ e. e.1.ghost_name ≡ loan_of self.entry) }
-        ensures back { MatchResult result (λ r. r.now ≡ disk_of self.entry) (λ e. e.1.now ≡ disk_of self.entry) }
-        ensures cause { MatchResult result (λ r. (held_of self.entry).broken ≡ None) (λ e. (held_of self.entry).broken ≡ Some e.0.0) }
+        ensures lends { loan_back result ≡ loan_of self.entry }
+        ensures back { disk_back result ≡ disk_of self.entry }
+        ensures cause { (known_of self.entry).broken ≡ fault_of result }
     {
         let File {
             disk,
@@ -69,17 +66,14 @@ impl<'d, D: Disk, M> File<'d, D, M> {
     where
         M: CanRead,
         ensures loan { loan_of self.new ≡ loan_of self.old }
-        ensures ready { OnOk result (((held_of self.old).broken ≡ None) × (length into.old % (held_of self.old).shape.params.channels ≡ 0)) }
-        ensures count { IfOk result (λ k. k ≡ min (length into.old / (held_of self.old).shape.params.channels) ((held_of self.old).shape.frames - (held_of self.old).place)) }
-        ensures held { IfOk result (λ k. held_of self.new ≡ record (held_of self.old) { place = (held_of self.old).place + k }) }
-        ensures read { IfOk result (λ k. (e : Editing) → Stands D.state self.old e → first_groups (held_of self.old).shape.params.channels k into.new ≡ frames_read e k) }
-        ensures in_range { IfOk result (λ k. (form : linear) → linear_of (held_of self.old).shape.params.codec ≡ Some form → All (InRange form) (take (k * (held_of self.old).shape.params.channels) into.new)) }
-        ensures rest { IfOk result (λ k. drop (k * (held_of self.old).shape.params.channels) into.new ≡ drop (k * (held_of self.old).shape.params.channels) into.old) }
-        ensures stands { (e : Editing) → Stands D.state self.old e → MatchResult result (λ k. Stands D.state self.new (moved_by k e)) (λ error. Stands D.state self.new e) }
-        ensures cause { IfErr result (IsReadCause (length into.old) (held_of self.old) (held_of self.new) (D.state (disk_of self.old)).faults (D.state (disk_of self.new)).faults) }
-        ensures calm { OnOk result ((D.state (disk_of self.new)).faults ≡ (D.state (disk_of self.old)).faults) }
+        ensures left { ReadLeaves (length into.old) (known_of self.old) (known_of self.new) result }
+        ensures read { IfOkStanding D.state self.old result (GivesFrames (channels_of self.old) into.new) }
+        ensures in_range { IfOk result (λ k. FitCodec (codec_of self.old) (front_of self.old k into.new)) }
+        ensures rest { IfOk result (λ k. rest_of self.old k into.new ≡ rest_of self.old k into.old) }
+        ensures stands { StandsAfter D.state self.old self.new (state_read result) }
+        ensures faults { CountsReading D.state (disk_of self.old) (disk_of self.new) result }
         ensures reads { OnlyReadsOn D.state D.may_leave D.left_between (disk_of self.old) (disk_of self.new) }
-        ensures asked { AsksAtMost D.state (length into.old / (held_of self.old).shape.params.channels * block_align (held_of self.old).shape.params.channels (held_of self.old).shape.params.codec + 16384) (disk_of self.old) (disk_of self.new) }
+        ensures asked { AsksForFrames D.state (length into.old) self.old self.new }
     {
         if let Some(step) = self.broken {
             return Err(ReadError::Broken(step));
@@ -95,9 +89,9 @@ impl<'d, D: Disk, M> File<'d, D, M> {
                 self.read_place += count as u64;
                 Ok(count)
             }
-            Err(Failed) => {
-                self.broken = Some(Step::Read);
-                Err(ReadError::DiskFault(Step::Read))
+            Err(step) => {
+                self.broken = Some(step);
+                Err(ReadError::DiskFault(step))
             }
         }
     }
@@ -110,10 +104,8 @@ impl<'d, D: Disk, M> File<'d, D, M> {
         M: CanRead,
         ensures loan { loan_of self.new ≡ loan_of self.old }
         ensures same_disk { disk_of self.new ≡ disk_of self.old }
-        ensures sought { OnOk result (((held_of self.old).broken ≡ None) × (to ≤ (held_of self.old).shape.frames) × (held_of self.new ≡ record (held_of self.old) { place = to })) }
-        ensures stands { (e : Editing) → Stands D.state self.old e → MatchResult result (λ _. Stands D.state self.new (moved_to to e)) (λ error. Stands D.state self.new e) }
-        ensures cause { IfErr result (IsSeekCause to (held_of self.old)) }
-        ensures kept { OnErr result (held_of self.new ≡ held_of self.old) }
+        ensures left { SeekLeaves to (known_of self.old) (known_of self.new) result }
+        ensures stands { StandsAfter D.state self.old self.new (state_sought to result) }
     {
         if let Some(step) = self.broken {
             return Err(SeekError::Broken(step));

@@ -1,17 +1,15 @@
 //! Frames read from a disk, by a layout.
 
-ghost use Rattle.std.specs.Prelude.{◌≡◌, ◌+◌, ◌-◌, ◌*◌, ◌≤◌, List, ℕ, Some, false, All, OnOk, is_none, length, take, drop, min};
-ghost use Rattle.snd_disk.specs.Device.{AsksAtMost, CountsOn, OnlyReadsOn, Tells};
-ghost use Rattle.snd_pcm.specs.Groups.{first_groups};
-ghost use Rattle.snd_pcm.specs.Pcm.{InRange, byte_count};
-ghost use Rattle.snd_pcm.specs.declared.linear.Linear.{Linear as linear};
-ghost use Rattle.snd_layout.specs.Blocks.{block_align};
+ghost use Rattle.std.specs.Prelude.{◌≡◌, ◌+◌, ◌-◌, ◌*◌, ◌≤◌, Some, false, OnOk, is_none, length, min};
+ghost use Rattle.snd_disk.specs.Device.{AsksAtMost, CountsOn, IfOkTold, OnlyReadsOn};
+ghost use Rattle.snd_pcm.specs.Pcm.{byte_count};
 ghost use Rattle.snd_layout.specs.Shape.{end};
-ghost use Rattle.snd_container.specs.Sound.{decoded, linear_of, sound_bytes};
+ghost use Rattle.snd_container.specs.Sound.{linear_of};
+ghost use Rattle.snd_modes.specs.Reading.{FitCodec, HasFrames, bytes_of_frames};
 
 use crate::codec::form_of;
 use crate::reads::read_run;
-use snd_disk::{Disk, Failed};
+use snd_disk::{Disk, Step};
 use snd_layout::Layout;
 use snd_pcm::Linear;
 
@@ -49,16 +47,16 @@ pub(crate) fn read_from<D: Disk>(
     place: u64,
     count: usize,
     into: &mut [i32],
-) -> Result<(), Failed>
+) -> Result<(), Step>
     requires linear { is_none (linear_of layout.now.params.codec) ≡ false }
     requires held { end layout.now layout.now.frames ≤ (D.state disk.old).size }
     requires within { place + count ≤ layout.now.frames }
     requires room { length into.old ≡ count * layout.now.params.channels }
-    ensures told { OnOk result ((b : List ℕ) → Tells D.state disk.old b → first_groups layout.now.params.channels count into.new ≡ take count (drop place (decoded layout.now.params (sound_bytes b layout.now)))) }
-    ensures in_range { OnOk result ((form : linear) → linear_of layout.now.params.codec ≡ Some form → All (InRange form) into.new) }
+    ensures told { IfOkTold D.state disk.old result (λ b _. HasFrames b layout.now place count into.new) }
+    ensures in_range { OnOk result (FitCodec layout.now.params.codec into.new) }
     ensures faults { CountsOn D.state disk.old disk.new result }
     ensures reads { OnlyReadsOn D.state D.may_leave D.left_between disk.old disk.new }
-    ensures asked { AsksAtMost D.state (count * block_align layout.now.params.channels layout.now.params.codec) disk.old disk.new }
+    ensures asked { AsksAtMost D.state (bytes_of_frames layout.now.params count) disk.old disk.new }
 {
     let Some(form) = form_of(layout) else {
         unreachable!()

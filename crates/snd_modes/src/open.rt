@@ -1,12 +1,10 @@
 //! Files that are opened.
 
-ghost use Rattle.std.specs.Prelude.{◌≡◌, List, ℕ, Ok, Err, None, IfOk, IfErr, MatchResult};
-ghost use Rattle.snd_disk.specs.Device.{AsksAtMost, OnlyReadsOn, Tells};
-ghost use Rattle.snd_layout.specs.Opened.{IsCause};
-ghost use Rattle.snd_layout.specs.declared.error.OpenError.TheVariants.{Refused};
-ghost use Rattle.snd_layout.specs.declared.refusal.OpenRefusal.{OpenRefusal as refusal};
-ghost use Rattle.snd_modes.specs.Editing.{Editing, opened};
-ghost use Rattle.snd_modes.specs.Handle.{Stands, disk_of, held_of, loan_of};
+ghost use Rattle.std.specs.Prelude.{◌≡◌, None, IfOk};
+ghost use Rattle.snd_disk.specs.Device.{AsksAtMost, OnlyReadsOn};
+ghost use Rattle.snd_layout.specs.Opened.{CountsOpening};
+ghost use Rattle.snd_modes.specs.Handle.{known_of};
+ghost use Rattle.snd_modes.specs.Loans.{OpensFile, answer_of, disk_after, loan_after};
 
 use crate::codec::form_of;
 use crate::handle::{File, Read};
@@ -26,15 +24,12 @@ pub fn open_read<'d, D: Disk>(
     alloc: Global,
     disk: &'d mut D,
 ) -> Result<File<'d, D, Read>, (OpenError, &'d mut D)>
-    ensures lends { MatchResult result (λ f. loan_of f ≡ disk.entry.ghost_name) (λ e. e.1.ghost_name ≡ disk.entry.ghost_name) }
-    ensures opened { IfOk result (λ f. (b : List ℕ) → Tells D.state disk.old b → (e : Editing) × (opened b ≡ Ok e) × Stands D.state f e) }
-    ensures refused { IfErr result (λ e. (r : refusal) (b : List ℕ) → e.0 ≡ Refused r → Tells D.state disk.old b → opened b ≡ Err r) }
-    ensures cause { IfErr result (λ e. IsCause (D.state disk.old).faults (D.state e.1.now).faults e.0) }
-    ensures calm { IfOk result (λ f. (D.state (disk_of f)).faults ≡ (D.state disk.old).faults) }
-    ensures fresh { IfOk result (λ f. ((held_of f).place ≡ 0) × ((held_of f).broken ≡ None)) }
-    ensures reads { MatchResult result (λ f. OnlyReadsOn D.state D.may_leave D.left_between disk.old (disk_of f))
-        (λ e. OnlyReadsOn D.state D.may_leave D.left_between disk.old e.1.now) }
-    ensures asked { MatchResult result (λ f. AsksAtMost D.state 16384 disk.old (disk_of f)) (λ e. AsksAtMost D.state 16384 disk.old e.1.now) }
+    ensures lends { loan_after result ≡ disk.entry.ghost_name }
+    ensures opened { OpensFile D.state disk.old (answer_of result) }
+    ensures fresh { IfOk result (λ f. ((known_of f).place ≡ 0) × ((known_of f).broken ≡ None)) }
+    ensures faults { CountsOpening D.state disk.old (disk_after result) (answer_of result) }
+    ensures reads { OnlyReadsOn D.state D.may_leave D.left_between disk.old (disk_after result) }
+    ensures asked { AsksAtMost D.state 16384 disk.old (disk_after result) }
 {
     let layout = match open_layout(alloc, disk) {
         Ok(layout) => layout,

@@ -1,39 +1,28 @@
 //! Linear samples read from a disk, a block at a time.
 
-ghost use Rattle.std.specs.Prelude.{◌≡◌, ◌+◌, ◌-◌, ◌*◌, ◌<◌, ◌≤◌, List, ℕ, All, IfOk, OnOk, OnErr, length, take, drop};
-ghost use Rattle.snd_disk.specs.Device.{AsksAtMost, CountsOn, OnlyReadsOn, Tells};
-ghost use Rattle.snd_pcm.specs.Pcm.{InRange, byte_count, samples};
+ghost use Rattle.std.specs.Prelude.{◌+◌, ◌-◌, ◌*◌, ◌<◌, ◌≤◌, All, IfOk, OnOk, OnErr, length};
+ghost use Rattle.snd_disk.specs.Device.{CountsOn, IfOkTold, OnlyReadsOn};
+ghost use Rattle.snd_pcm.specs.Pcm.{InRange, byte_count};
+ghost use Rattle.snd_modes.specs.Reading.{AreInRange, AreSamples, AsksFor, ReadsOn};
 
-use snd_disk::{Disk, Failed};
+use snd_disk::{Disk, Step, fill};
 use snd_pcm::{Linear, read_samples};
 
 const BLOCK_BYTES: usize = 16384;
 
-// Fills a slice with bytes that the disk has.
-fn fill_from<D: Disk>(disk: &mut D, at: u64, into: &mut [u8]) -> Result<(), Failed>
-    requires { at + length into.old ≤ (D.state disk.old).size }
-    ensures told { OnOk result ((b : List ℕ) → Tells D.state disk.old b → into.new ≡ take (length into.old) (drop at b)) }
-    ensures faults { CountsOn D.state disk.old disk.new result }
-    ensures reads { OnlyReadsOn D.state D.may_leave D.left_between disk.old disk.new }
-    ensures asked { AsksAtMost D.state (length into.old) disk.old disk.new }
-{
-    disk.read_at(at, into)?;
-    Ok(())
-}
-
 // Reads samples that the disk has from a place on, at most one block.
-fn read_block<D: Disk>(disk: &mut D, form: Linear, at: u64, into: &mut [i32]) -> Result<(), Failed>
+fn read_block<D: Disk>(disk: &mut D, form: Linear, at: u64, into: &mut [i32]) -> Result<(), Step>
     requires held { at + byte_count form * length into.old ≤ (D.state disk.old).size }
     requires small { byte_count form * length into.old ≤ 16384 }
-    ensures told { OnOk result ((b : List ℕ) → Tells D.state disk.old b → into.new ≡ samples form (take (byte_count form * length into.old) (drop at b))) }
+    ensures told { IfOkTold D.state disk.old result (λ b _. AreSamples form b at into.new) }
     ensures in_range { OnOk result (All (InRange form) into.new) }
     ensures faults { CountsOn D.state disk.old disk.new result }
     ensures reads { OnlyReadsOn D.state D.may_leave D.left_between disk.old disk.new }
-    ensures asked { AsksAtMost D.state (byte_count form * length into.old) disk.old disk.new }
+    ensures asked { AsksFor D.state form (length into.old) disk.old disk.new }
 {
     let mut block = [0u8; BLOCK_BYTES];
     let bytes = &mut block[..form.bytes() * into.len()];
-    fill_from(disk, at, bytes)?;
+    fill(disk, at, bytes)?;
     read_samples(form, bytes, into);
     Ok(())
 }
@@ -45,16 +34,16 @@ fn read_next<D: Disk>(
     at: u64,
     into: &mut [i32],
     done: usize,
-) -> Result<usize, Failed>
+) -> Result<usize, Step>
     requires some { done < length into.old }
     requires held { at + byte_count form * length into.old ≤ (D.state disk.old).size }
     ensures more { IfOk result (λ n. (done < n) × (n ≤ length into.old)) }
-    ensures told { IfOk result (λ n. (b : List ℕ) → Tells D.state disk.old b → take done into.old ≡ samples form (take (byte_count form * done) (drop at b)) → take n into.new ≡ samples form (take (byte_count form * n) (drop at b))) }
-    ensures in_range { IfOk result (λ n. All (InRange form) (take done into.old) → All (InRange form) (take n into.new)) }
+    ensures told { IfOkTold D.state disk.old result (λ b n. ReadsOn form b at done n into.old into.new) }
+    ensures in_range { IfOk result (λ n. AreInRange form done into.old → AreInRange form n into.new) }
     ensures faults { CountsOn D.state disk.old disk.new result }
     ensures reads { OnlyReadsOn D.state D.may_leave D.left_between disk.old disk.new }
-    ensures asked { IfOk result (λ n. AsksAtMost D.state (byte_count form * (n - done)) disk.old disk.new) }
-    ensures asked_in_vain { OnErr result (AsksAtMost D.state (byte_count form * (length into.old - done)) disk.old disk.new) }
+    ensures asked { IfOk result (λ n. AsksFor D.state form (n - done) disk.old disk.new) }
+    ensures in_vain { OnErr result (AsksFor D.state form (length into.old - done) disk.old disk.new) }
 {
     let width = form.bytes();
     let count = (into.len() - done).min(BLOCK_BYTES / width);
@@ -74,13 +63,13 @@ pub(crate) fn read_run<D: Disk>(
     form: Linear,
     at: u64,
     into: &mut [i32],
-) -> Result<(), Failed>
+) -> Result<(), Step>
     requires { at + byte_count form * length into.old ≤ (D.state disk.old).size }
-    ensures told { OnOk result ((b : List ℕ) → Tells D.state disk.old b → into.new ≡ samples form (take (byte_count form * length into.old) (drop at b))) }
+    ensures told { IfOkTold D.state disk.old result (λ b _. AreSamples form b at into.new) }
     ensures in_range { OnOk result (All (InRange form) into.new) }
     ensures faults { CountsOn D.state disk.old disk.new result }
     ensures reads { OnlyReadsOn D.state D.may_leave D.left_between disk.old disk.new }
-    ensures asked { AsksAtMost D.state (byte_count form * length into.old) disk.old disk.new }
+    ensures asked { AsksFor D.state form (length into.old) disk.old disk.new }
 {
     let mut done = 0;
     while done < into.len() {

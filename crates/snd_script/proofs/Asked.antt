@@ -1,5 +1,5 @@
 -- How many bytes are asked for frames.
-use Rattle.std.proofs.Common.{◌≡◌, ◌+◌, ◌*◌, ◌/◌, ◌%◌, ◌≤◌, ℕ, false, ◌∙◌, ap, arith}
+use Rattle.std.proofs.Common.{◌≡◌, ◌+◌, ◌*◌, ◌/◌, ◌%◌, ◌-◌, ◌≤◌, ℕ, false, min, ◌∙◌, ap, arith}
 use Rattle.std.proofs.Math.Nat.{mul-div_cancel, mul-le-mul_left, mul-mod_left}
 use Rattle.std.specs.Prelude.{is_none}
 use Rattle.snd_disk.specs.State.{AtMost}
@@ -7,6 +7,8 @@ use Rattle.snd_layout.specs.declared.codec.Codec.{Codec}
 use Rattle.snd_layout.specs.declared.codec.Codec.TheVariants.{U8, S8, S16, S24, S32, MuLaw, ALaw, Ima, Ms}
 use Rattle.snd_layout.specs.Blocks.{block_align}
 use Rattle.snd_container.specs.Sound.{linear_of}
+use Rattle.snd_modes.specs.Handle.{Held}
+use Rattle.snd_script.specs.Stepped.{read_held}
 
 -- a frame of a linear codec has at most 1024 bytes
 pub linear_frame : (channels : ℕ) (codec : Codec) → is_none (linear_of codec) ≡ false → channels ≤ 256 → block_align channels codec ≤ 1024
@@ -33,3 +35,11 @@ asked_for_frames old new size count wanted channels align asked e some few small
     let least : count * align ≤ count * 1024 = mul-le-mul_left count small in
     let frames : size / channels * align ≡ count * align = ap (λ n. n * align) (whole_frames size count channels e some) in
     record { later = asked.later; most = omega (arith, asked.most, least, frames, few) }
+
+-- as many frames are read as are wanted and are left
+pub read_on : (old new : Held) (wanted k size count channels : ℕ) → new ≡ record old { place = old.place + k } → k ≡ min (size / channels) (old.shape.frames - old.place) → size ≡ count * channels → 1 ≤ channels
+    → count ≡ min wanted old.shape.frames → new ≡ read_held wanted old
+read_on old new wanted k size count channels is read e some few =
+    let frames = whole_frames size count channels e some in
+    let all : k ≡ min wanted (old.shape.frames - old.place) = omega arith in
+    is ∙ ap (λ n. record old { place = old.place + n }) all

@@ -1,5 +1,5 @@
 -- One command: what is answered, and what is open afterwards. A refused command leaves all as it was.
-use Rattle.std.specs.Prelude.{ℕ, ◌+◌, List, Option, None, Some, Result, Ok, Err, length, nat_le, if◌then◌else◌}
+use Rattle.std.specs.Prelude.{◌≡◌, ℕ, ◌+◌, List, Option, None, Some, Result, Ok, Err, length, nat_le, if◌then◌else◌}
 use Rattle.snd_command.specs.Line.{command_of}
 use Rattle.snd_command.specs.Said.{Said}
 use Rattle.snd_command.specs.declared.refusal.ScriptRefusal.{ScriptRefusal}
@@ -67,3 +67,7 @@ line_edit files file (Err line.BadCommand) = refused BadCommand file
 
 abbrev pub edit_line : Files → Option Editing → List ℕ → Edited
 edit_line files file line = line_edit files file (command_of line)
+
+-- the refusal of a line that is no command
+abbrev pub RefusesLine : ScriptRefusal → Refusal → Type 0
+RefusesLine no_command refusal = (files : Files) (file : Option Editing) → line_edit files file (Err no_command) ≡ refused refusal file

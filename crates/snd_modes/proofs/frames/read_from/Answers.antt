@@ -24,7 +24,7 @@ returns-clause-told g c = λ b told.
     let w = byte_count form in
     let channels = s.params.channels in
     let is : linear_of s.params.codec ≡ Some form = sym c.in-Some.ensures.form in
-    let room : length c.args.into.now ≡ channels * c.args.count = omega (arith, c.requires.room) in
+    let room : length c.read_run.new.into ≡ channels * c.args.count = omega (arith, c.requires.room, c.read_run.auto.into) in
     let fits : end s s.frames ≤ length b = omega (arith, c.requires.held, g.met.D.Disk.size_told c.args.disk.now b told) in
     ap (first_groups channels c.args.count) (c.in_ok-read_run.ensures.told b told)
     ∙ ap (λ (m : ℕ). first_groups channels c.args.count (samples form (take (w * m) (drop c.place_of.result b)))) room

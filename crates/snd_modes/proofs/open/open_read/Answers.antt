@@ -4,26 +4,26 @@ use Rattle.snd_container.specs.Sound.{linear_of}
 use Rattle.snd_layout.specs.declared.refusal.OpenRefusal.{OpenRefusal as refusal}
 use Rattle.snd_layout.specs.declared.refusal.OpenRefusal.TheVariants.{NotBuilt}
 use Rattle.snd_layout.specs.Shape.{end}
-use Rattle.snd_modes.specs.Editing.{opening}
-use Rattle.snd_modes.proofs.Opening.{opened_ok, opened_refused, opened_not_built, count_opened}
+use Rattle.snd_modes.specs.Editing.{first_editing}
+use Rattle.snd_modes.proofs.Opening.{count_opened, opening_not_built, opening_ok, opening_refused}
 use Rattle.snd_modes.proofs.open.open_read.Goals as goal
 
-pub returns-in-Err-clause-refused : goal.returns-in-Err-clause-refused
-returns-in-Err-clause-refused g c = λ r b is told. opened_refused b r (c.in-Err.ensures.refused r b is told)
+pub returns-in-Err-clause-opened : goal.returns-in-Err-clause-opened
+returns-in-Err-clause-opened g c = λ r b is told. opening_refused b r (c.in-Err.ensures.opened r b is told)
 
-pub returns-then-is_none-clause-refused : goal.returns-then-is_none-clause-refused
-returns-then-is_none-clause-refused g c = λ r b is told.
+pub returns-then-is_none-clause-opened : goal.returns-then-is_none-clause-opened
+returns-then-is_none-clause-opened g c = λ r b is told.
     let same : NotBuilt ≡ r = cc in
     let other : is_none (linear_of c.in-Ok.layout.params.codec) ≡ true = search rules in
-    opened_not_built b c.in-Ok.layout (c.in-Ok.ensures.opened b told) other ∙ ap (λ (x : refusal). Err x) same
+    opening_not_built b c.in-Ok.layout (c.in-Ok.ensures.opened b told) other ∙ ap (λ (x : refusal). Err x) same
 
 pub returns-clause-opened : goal.returns-clause-opened
 returns-clause-opened g c = λ b told.
     let linear : is_none (linear_of c.in-Ok.layout.params.codec) ≡ false = search rules in
     let size = g.met.D.Disk.size_told c.args.disk.now b told in
     let fits : end c.in-Ok.layout c.in-Ok.layout.frames ≤ length b = omega (arith, c.in-Ok.ensures.held, size) in (
-      opening b c.in-Ok.layout,
-      opened_ok b c.in-Ok.layout (c.in-Ok.ensures.opened b told) linear,
+      first_editing b c.in-Ok.layout,
+      opening_ok b c.in-Ok.layout (c.in-Ok.ensures.opened b told) linear,
       record {
         bytes = c.open_layout.ensures.reads.keeps.contents ∙ told;
         shape = refl;

@@ -1,17 +1,17 @@
-use Rattle.std.proofs.Common.{◌≡◌, ◌-◌, ◌*◌, ◌≤◌, ℕ, List, Some, All, take, drop, length}
-use Rattle.snd_disk.specs.State.{AtMost, OnlyReads}
-use Rattle.snd_pcm.specs.Pcm.{InRange, byte_count, samples}
+use Rattle.std.proofs.Common.{◌≡◌, ◌-◌, ◌≤◌, ℕ, List, length, take}
+use Rattle.snd_disk.specs.Device.{OnlyReadsOn, Tells}
+use Rattle.snd_modes.specs.Reading.{AreInRange, AsksFor, samples_at}
 use Rattle.snd_modes.proofs.reads.read_run.Given as goal
 
 abbrev pub invariant-loop-done : goal.invariant-loop-done
 invariant-loop-done g l =
     record {
       within : l.done ≤ length l.into;
-      told : (b : List ℕ) → (g.D.Disk.state l.fn.disk).contents ≡ Some b → take l.done l.into ≡ samples l.form (take (byte_count l.form * l.done) (drop l.at b));
-      in_range : All (InRange l.form) (take l.done l.into);
+      told : (b : List ℕ) → Tells g.D.Disk.state l.fn.disk b → take l.done l.into ≡ samples_at l.form b l.at l.done;
+      in_range : AreInRange l.form l.done l.into;
       calm : (g.D.Disk.state l.disk).faults ≡ (g.D.Disk.state l.fn.disk).faults;
-      reads : OnlyReads (g.D.Disk.state l.fn.disk) (g.D.Disk.state l.disk) (g.D.Disk.may_leave l.fn.disk) (g.D.Disk.may_leave l.disk) (g.D.Disk.left_between l.fn.disk) (g.D.Disk.left_between l.disk);
-      asked : AtMost (g.D.Disk.state l.fn.disk).asked (byte_count l.form * l.done) (g.D.Disk.state l.disk).asked;
+      reads : OnlyReadsOn g.D.Disk.state g.D.Disk.may_leave g.D.Disk.left_between l.fn.disk l.disk;
+      asked : AsksFor g.D.Disk.state l.form l.done l.fn.disk l.disk;
     }
 
 abbrev pub decreases-loop-done : goal.decreases-loop-done

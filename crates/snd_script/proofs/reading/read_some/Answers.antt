@@ -1,5 +1,5 @@
 use Rattle.std.proofs.Common.{arith, rules}
-use Rattle.snd_script.proofs.Asked.{asked_for_frames, linear_frame, no_part}
+use Rattle.snd_script.proofs.Asked.{asked_for_frames, linear_frame, no_part, read_on}
 use Rattle.snd_script.proofs.reading.read_some.Goals as goal
 
 pub returns-in-Ok-read_frames-clause-asked : goal.returns-in-Ok-read_frames-clause-asked
@@ -16,3 +16,7 @@ pub unreachable-requires-in-Err-PartFrame : goal.unreachable-requires-in-Err-Par
 unreachable-requires-in-Err-PartFrame g c =
     let cause = rw c.in-Err-PartFrame.field-0-is at c.in-Err-PartFrame.ensures.cause in
     cause.1 (no_part _ c.min-count.result c.args.file.now.layout.params.channels (search rules))
+
+pub returns-in-Ok-read_frames-clause-held : goal.returns-in-Ok-read_frames-clause-held
+returns-in-Ok-read_frames-clause-held g c =
+    read_on _ _ c.args.wanted c.in-Ok-read_frames.frames _ c.min-count.result _ c.in-Ok-read_frames.ensures.held c.in-Ok-read_frames.ensures.count (search rules) (search rules) (search rules)

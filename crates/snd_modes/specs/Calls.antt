@@ -1,0 +1,48 @@
+-- How a call leaves what an open file knows, by what was done: read, sought, refused or broken. Each cause is exact.
+use Rattle.std.specs.Prelude.{◌≡◌, ◌≢◌, ℕ, ◌+◌, ◌-◌, ◌*◌, ◌/◌, ◌%◌, ◌<◌, ◌≤◌, None, Some, min, Result, Ok, Err}
+use Rattle.snd_disk.specs.declared.disk.Disk.{Ghosts}
+use Rattle.snd_disk.specs.Device.{AsksAtMost}
+use Rattle.snd_disk.specs.State.{Rises, State}
+use Rattle.snd_modes.specs.declared.error.ReadError.{ReadError}
+use Rattle.snd_modes.specs.declared.error.ReadError.TheVariants as read
+use Rattle.snd_modes.specs.declared.error.SeekError.{SeekError}
+use Rattle.snd_modes.specs.declared.error.SeekError.TheVariants as seek
+use Rattle.snd_modes.specs.declared.handle.File.{File}
+use Rattle.snd_modes.specs.Handle.{Known, disk_of, known_of}
+use Rattle.snd_modes.specs.Reading.{bytes_of_frames}
+
+-- frames can be read into a slice of so many places: no disk call has failed, and the places are for whole frames
+pub record IsReady (places : ℕ) (known : Known) : Type 0 where
+  pub working : known.broken ≡ None
+  pub whole : places % known.shape.params.channels ≡ 0
+
+-- how many frames are read: as many as there are places for, fewer only at the end
+abbrev pub count_read : ℕ → Known → ℕ
+count_read places known = min (places / known.shape.params.channels) (known.shape.frames - known.place)
+
+-- for them at most this is asked of the disk: the bytes of as many frames as there are places for, and 16384
+abbrev pub AsksForFrames : {D M : Type 0} {ghosts : Ghosts D} → (D → State) → ℕ → File D M ghosts → File D M ghosts → Type 0
+AsksForFrames state places old new =
+    let known = known_of old in
+    AsksAtMost state (bytes_of_frames known.shape.params (places / known.shape.params.channels) + 16384) (disk_of old) (disk_of new)
+
+-- A read moves the place by the frames that were read. A disk call that fails breaks the file. A refused read changes nothing.
+abbrev pub ReadLeaves : ℕ → Known → Known → Result ℕ ReadError → Type 0
+ReadLeaves places old new (Ok count) =
+    IsReady places old × (count ≡ count_read places old) × (new ≡ record old { place = old.place + count })
+ReadLeaves places old new (Err (read.Broken step)) = (old.broken ≡ Some step) × (new ≡ old)
+ReadLeaves places old new (Err read.PartFrame) = (old.broken ≡ None) × (places % old.shape.params.channels ≢ 0) × (new ≡ old)
+ReadLeaves places old new (Err read.BadBlock) = ⊥
+ReadLeaves places old new (Err (read.DiskFault step)) = IsReady places old × (new ≡ record old { broken = Some step })
+
+-- the count of faults rises where the answer is a fault of the disk, and there alone
+abbrev pub CountsReading : {D T : Type 0} → (D → State) → D → D → Result T ReadError → Type 0
+CountsReading state old new (Err (read.DiskFault step)) = ((state old).faults ≤ (state new).faults) × Rises (state old).faults (state new).faults
+CountsReading state old new result = (state new).faults ≡ (state old).faults
+
+-- A place that is sought is the one to read next. A refused one changes nothing.
+abbrev pub SeekLeaves : {T : Type 0} → ℕ → Known → Known → Result T SeekError → Type 0
+SeekLeaves to old new (Ok done) = (old.broken ≡ None) × (to ≤ old.shape.frames) × (new ≡ record old { place = to })
+SeekLeaves to old new (Err (seek.Broken step)) = (old.broken ≡ Some step) × (new ≡ old)
+SeekLeaves to old new (Err seek.AdpcmSeek) = ⊥
+SeekLeaves to old new (Err seek.SeekRange) = (old.broken ≡ None) × (old.shape.frames < to) × (new ≡ old)
