@@ -6,7 +6,7 @@ use Rattle.snd_command.specs.declared.refusal.ScriptRefusal.{ScriptRefusal}
 use Rattle.snd_command.specs.declared.refusal.ScriptRefusal.TheVariants as line
 use Rattle.snd_disk.specs.Shelf.{Files}
 use Rattle.snd_layout.specs.declared.refusal.OpenRefusal.{OpenRefusal}
-use Rattle.snd_modes.specs.Editing.{Editing, opened, frames_left, frames_read, moved_by, moved_to}
+use Rattle.snd_modes.specs.Editing.{Editing, opening_of, frames_left, frames_read, moved_by, moved_to}
 use Rattle.snd_script.specs.Replies.{Answer, nothing, says, refuses, file_line, ok_line, frames_text}
 use Rattle.snd_script.specs.declared.refusal.Refusal.{Refusal}
 use Rattle.snd_script.specs.declared.refusal.Refusal.TheVariants.{Open, SeekRange, BadCommand, LineTooLong, NotOpen, AlreadyOpen, MissingFile, NotBuilt}
@@ -29,7 +29,7 @@ open_edit_of (Ok e) = said_by (file_line e.shape) e
 
 abbrev pub open_edit : Option (List ℕ) → Edited
 open_edit None = refused MissingFile None
-open_edit (Some bytes) = open_edit_of (opened bytes)
+open_edit (Some bytes) = open_edit_of (opening_of bytes)
 
 -- with no file open; the commands that are not named are not built yet
 abbrev pub edit_closed : Files → Said → Edited

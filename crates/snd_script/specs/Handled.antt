@@ -6,9 +6,9 @@ use Rattle.snd_disk.specs.Device.{AsksAtMost, OnlyReadsOn}
 use Rattle.snd_disk.specs.declared.disk.Disk.{Ghosts}
 use Rattle.snd_disk.specs.State.{State}
 use Rattle.snd_modes.specs.Editing.{Editing}
-use Rattle.snd_modes.specs.Handle.{Held, Stands, disk_of, held_of, loan_of}
+use Rattle.snd_modes.specs.Handle.{Known, Stands, disk_of, known_of, loan_of}
 use Rattle.snd_script.specs.Edit.{edit_open}
-use Rattle.snd_script.specs.Stepped.{IsSaid, IsStepCause, Knows, file_after, held_after, reply_on}
+use Rattle.snd_script.specs.Stepped.{IsSaid, IsStepCause, Knows, file_after, known_after, reply_on}
 use Rattle.snd_script.specs.declared.handle.Handle.{Handle}
 use Rattle.snd_script.specs.declared.handle.Handle.TheVariants.{R}
 use Rattle.snd_script.specs.declared.handle.Reply.{Reply}
@@ -22,8 +22,8 @@ abbrev pub handle_loan : {D : Type 0} {ghosts : Ghosts D} → Handle D ghosts �
 handle_loan (R file) = loan_of file
 
 -- what it knows over every disk
-abbrev pub handle_held : {D : Type 0} {ghosts : Ghosts D} → Handle D ghosts → Held
-handle_held (R file) = held_of file
+abbrev pub handle_known : {D : Type 0} {ghosts : Ghosts D} → Handle D ghosts → Known
+handle_known (R file) = known_of file
 
 -- it stands for an editing state
 abbrev pub HandleStands : {D : Type 0} {ghosts : Ghosts D} → (D → State) → Handle D ghosts → Editing → Type 0
@@ -44,7 +44,7 @@ HandleAsks state n old new = AsksAtMost state n (handle_disk old) (handle_disk n
 
 -- One command on it: the reply and what it knows afterwards, over every disk
 abbrev pub KnowsAfter : {D : Type 0} {ghosts : Ghosts D} → Result Reply StepFault → Said → Handle D ghosts → Handle D ghosts → Type 0
-KnowsAfter result said old new = Knows result (reply_on said (handle_held old)) (held_after said (handle_held old)) (handle_held old) (handle_held new)
+KnowsAfter result said old new = Knows result (reply_on said (handle_known old)) (known_after said (handle_known old)) (handle_known old) (handle_known new)
 
 -- .. the file that it stands for, and what is appended, where the disk tells the file
 abbrev pub LeavesOpen : {D : Type 0} {ghosts : Ghosts D} → (D → State) → Result Reply StepFault → Said → Handle D ghosts → Handle D ghosts → Type 0

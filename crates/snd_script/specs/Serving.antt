@@ -11,7 +11,7 @@ use Rattle.snd_disk.specs.Streams.{AppendsFront}
 use Rattle.snd_disk.specs.declared.disk.Step.{Step}
 use Rattle.snd_layout.specs.declared.error.OpenError.{OpenError}
 use Rattle.snd_layout.specs.declared.error.OpenError.TheVariants as cause
-use Rattle.snd_modes.specs.Editing.{Editing, opened}
+use Rattle.snd_modes.specs.Editing.{Editing, opening_of}
 use Rattle.snd_script.specs.Edit.{Edited, edit_open, open_edit_of}
 use Rattle.snd_script.specs.Handled.{HandleStands, handle_disk}
 use Rattle.snd_script.specs.Lines.{Reading, TakesUp}
@@ -188,7 +188,7 @@ ServesLine state left told edited result shelf run script out run' script' out' 
 abbrev pub ServesDisk : {D R O T : Type 0} → (D → State) → (R → Option (List ℕ)) → (O → Option (List ℕ)) → Result T Stop → D → Run → R → O → Run → R → O → Type 0
 ServesDisk state left told result disk run script out run' script' out' =
     (files : Files) (b s : List ℕ) → Tells state disk b → left script ≡ Some s →
-    IsServedOn result files (is_longer (moment_of left told run script out) s) (answers_from files (open_edit_of (opened b)) (moment_of left told run script out) s)
+    IsServedOn result files (is_longer (moment_of left told run script out) s) (answers_from files (open_edit_of (opening_of b)) (moment_of left told run script out) s)
     (moment_of left told run script out) (moment_of left told run' script' out')
 
 -- .. with a file open, up to its close

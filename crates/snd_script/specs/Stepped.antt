@@ -5,7 +5,7 @@ use Rattle.snd_disk.specs.State.{Rises}
 use Rattle.snd_disk.specs.Streams.{AppendsFront}
 use Rattle.snd_disk.specs.declared.disk.Step.{Step}
 use Rattle.snd_modes.specs.Editing.{Editing}
-use Rattle.snd_modes.specs.Handle.{Held}
+use Rattle.snd_modes.specs.Handle.{Known}
 use Rattle.snd_script.specs.Edit.{Edited, edit_open}
 use Rattle.snd_script.specs.Replies.{Answer, refuses, refusal_number, text_of}
 use Rattle.snd_script.specs.declared.handle.Reply.{Reply}
@@ -64,23 +64,23 @@ IsStepCause (Err Out) disk disk' out out' = (disk' ≡ disk) × Rose out out'
 IsStepCause (Err Memory) disk disk' out out' = (disk' ≡ disk) × (out' ≡ out)
 
 -- which reply comes to `seek`, from what the handle knows alone; and what it knows afterwards
-abbrev pub seek_reply : ℕ → Held → Reply
+abbrev pub seek_reply : ℕ → Known → Reply
 seek_reply n h = if nat_le n h.shape.frames then reply.Ok else reply.Refused (refusal_number SeekRange)
 
-abbrev pub done_reply : Held → Reply
+abbrev pub done_reply : Known → Reply
 done_reply h = reply.Ok
 
-abbrev pub same_held : Held → Held
-same_held h = h
+abbrev pub same_known : Known → Known
+same_known h = h
 
-abbrev pub seek_held : ℕ → Held → Held
-seek_held n h = if nat_le n h.shape.frames then record h { place = n } else h
+abbrev pub seek_known : ℕ → Known → Known
+seek_known n h = if nat_le n h.shape.frames then record h { place = n } else h
 
-abbrev pub read_held : ℕ → Held → Held
-read_held n h = record h { place = h.place + min n (h.shape.frames - h.place) }
+abbrev pub read_known : ℕ → Known → Known
+read_known n h = record h { place = h.place + min n (h.shape.frames - h.place) }
 
 -- .. to any command that does not close the file
-abbrev pub reply_on : Said → Held → Reply
+abbrev pub reply_on : Said → Known → Reply
 reply_on Said.info h = reply.Ok
 reply_on (Said.read n) h = reply.Ok
 reply_on (Said.seek_read n) h = seek_reply n h
@@ -89,14 +89,14 @@ reply_on (Said.open_read name) h = reply.Refused (refusal_number AlreadyOpen)
 reply_on said h = reply.Refused (refusal_number NotBuilt)
 
 -- What the handle knows once a command was carried out or refused: `read` and `seek` move the place, nothing else changes.
-abbrev pub held_after : Said → Held → Held
-held_after (Said.read n) h = read_held n h
-held_after (Said.seek_read n) h = seek_held n h
-held_after (Said.seek_both n) h = seek_held n h
-held_after said h = h
+abbrev pub known_after : Said → Known → Known
+known_after (Said.read n) h = read_known n h
+known_after (Said.seek_read n) h = seek_known n h
+known_after (Said.seek_both n) h = seek_known n h
+known_after said h = h
 
 -- The reply, and what the handle knows afterwards, over every disk. A fault of the disk breaks it, and nothing else does.
-abbrev pub Knows : Result Reply StepFault → Reply → Held → Held → Held → Type 0
+abbrev pub Knows : Result Reply StepFault → Reply → Known → Known → Known → Type 0
 Knows (Ok reply) due after old new = (reply ≡ due) × (new ≡ after)
 Knows (Err Out) due after old new = new ≡ after
 Knows (Err Disk) due after old new = (step : Step) × (new ≡ record old { broken = Some step })

@@ -7,12 +7,12 @@ use Rattle.snd_disk.specs.State.{State}
 use Rattle.snd_disk.specs.declared.disk.Disk.{Ghosts}
 use Rattle.snd_disk.specs.declared.disk.Step.{Step}
 use Rattle.snd_modes.specs.Editing.{Editing, frames_left, frames_read, moved_by}
-use Rattle.snd_modes.specs.Handle.{Held, Stands, disk_of, held_of}
+use Rattle.snd_modes.specs.Handle.{Known, Stands, channels_of, disk_of, known_of}
 use Rattle.snd_modes.specs.declared.handle.File.{File}
 use Rattle.snd_pcm.specs.Groups.{first_groups}
 use Rattle.snd_script.specs.Edit.{Edited, open_edit, refused, said_by, seek_edit}
 use Rattle.snd_script.specs.Replies.{file_line, frames_text, ok_line, refusal_number, says}
-use Rattle.snd_script.specs.Stepped.{IsSaid, IsStepCause, Knows, Rose, file_left, read_held, seek_held, seek_reply}
+use Rattle.snd_script.specs.Stepped.{IsSaid, IsStepCause, Knows, Rose, file_left, read_known, seek_known, seek_reply}
 use Rattle.snd_script.specs.declared.handle.Reply.{Reply}
 use Rattle.snd_script.specs.declared.handle.Reply.TheVariants as reply
 use Rattle.snd_script.specs.declared.handle.StepFault.{StepFault}
@@ -55,7 +55,7 @@ abbrev pub work_closes : Work → Bool
 work_closes Close = true
 work_closes work = false
 
-abbrev pub work_reply : Work → Held → Reply
+abbrev pub work_reply : Work → Known → Reply
 work_reply (Open name) h = reply.Refused (refusal_number AlreadyOpen)
 work_reply NotBuilt h = reply.Refused (refusal_number refusal.NotBuilt)
 work_reply (Seek n) h = seek_reply n h
@@ -63,10 +63,10 @@ work_reply Tell h = reply.Ok
 work_reply (Read n) h = reply.Ok
 work_reply Close h = reply.Refused (refusal_number refusal.NotBuilt)
 
-abbrev pub work_held : Work → Held → Held
-work_held (Seek n) h = seek_held n h
-work_held (Read n) h = read_held n h
-work_held work h = h
+abbrev pub work_known : Work → Known → Known
+work_known (Seek n) h = seek_known n h
+work_known (Read n) h = read_known n h
+work_known work h = h
 
 abbrev pub work_asks : Work → ℕ
 work_asks (Read n) = 1024 * n + 16384
@@ -88,15 +88,12 @@ IsSent (Err Disk) faults faults' = ⊥
 IsSent (Err Memory) faults faults' = ⊥
 
 -- why no frames are read: what the handle knew before and after, with the counts of the disk's faults
-abbrev pub IsReadFault : Held → Held → ℕ → ℕ → StepFault → Type 0
+abbrev pub IsReadFault : Known → Known → ℕ → ℕ → StepFault → Type 0
 IsReadFault old new faults faults' Disk = ((step : Step) × (new ≡ record old { broken = Some step })) × Rose faults faults'
 IsReadFault old new faults faults' Memory = (new ≡ old) × (faults' ≡ faults)
 IsReadFault old new faults faults' Out = ⊥
 
 -- WHOLE FILES. The first arguments are the meanings of the disk.
-
-abbrev pub channels_of : {D M : Type 0} {ghosts : Ghosts D} → File D M ghosts → ℕ
-channels_of file = (held_of file).shape.params.channels
 
 abbrev pub FileReads : {D M : Type 0} {ghosts : Ghosts D} → (D → State) → (D → List ℕ → Type 0) → (D → ℕ → ℕ → List ℕ → Type 0) → File D M ghosts → File D M ghosts → Type 0
 FileReads state may_leave left_between old new = OnlyReadsOn state may_leave left_between (disk_of old) (disk_of new)
@@ -109,11 +106,11 @@ FileCounts state faults result old out new out' =
     IsStepCause result (state (disk_of old)).faults (state (disk_of new)).faults (faults out) (faults out')
 
 abbrev pub FileFault : {D M : Type 0} {ghosts : Ghosts D} → (D → State) → File D M ghosts → File D M ghosts → StepFault → Type 0
-FileFault state old new fault = IsReadFault (held_of old) (held_of new) (state (disk_of old)).faults (state (disk_of new)).faults fault
+FileFault state old new fault = IsReadFault (known_of old) (known_of new) (state (disk_of old)).faults (state (disk_of new)).faults fault
 
 -- the reply and what the file knows afterwards, by what it knew
-abbrev pub FileKnows : {D M : Type 0} {ghosts : Ghosts D} → (Held → Reply) → (Held → Held) → Result Reply StepFault → File D M ghosts → File D M ghosts → Type 0
-FileKnows due after result old new = Knows result (due (held_of old)) (after (held_of old)) (held_of old) (held_of new)
+abbrev pub FileKnows : {D M : Type 0} {ghosts : Ghosts D} → (Known → Reply) → (Known → Known) → Result Reply StepFault → File D M ghosts → File D M ghosts → Type 0
+FileKnows due after result old new = Knows result (due (known_of old)) (after (known_of old)) (known_of old) (known_of new)
 
 -- the file that it stands for afterwards, and what is appended, by an edit
 abbrev pub FileLeaves : {D M : Type 0} {ghosts : Ghosts D} → (D → State) → (Editing → Edited) → Result Reply StepFault → File D M ghosts → File D M ghosts → Type 0

@@ -4,7 +4,7 @@ ghost use Rattle.std.specs.Prelude.{◌≡◌, ◌≤◌, None, Some, OnOk};
 ghost use Rattle.snd_command.specs.Said.{said_of};
 ghost use Rattle.snd_disk.specs.Shelf.{Files};
 ghost use Rattle.snd_script.specs.Edit.{edit_line, edit_open};
-ghost use Rattle.snd_script.specs.Handled.{handle_held, LeavesHandle};
+ghost use Rattle.snd_script.specs.Handled.{handle_known, LeavesHandle};
 ghost use Rattle.snd_script.specs.Serving.{IsWhole, ServesOpen, AnswersOpen, CountsHandle, CountsLine, TakesLines};
 
 use crate::handle::Handle;
@@ -23,10 +23,10 @@ fn open_command<'d, D: Disk, O: Sink>(
     out: &mut O,
     run: &mut Run,
 ) -> Result<Next, Stop>
-    requires { (handle_held handle.old).broken ≡ None }
+    requires { (handle_known handle.old).broken ≡ None }
     ensures answered { AnswersOpen D.state O.told (λ e. edit_open e (said_of command.now)) result handle.old run.old out.old handle.new run.new out.new }
     ensures lines { run.new.lines ≡ run.old.lines }
-    ensures whole { IsWhole result (handle_held handle.new).broken }
+    ensures whole { IsWhole result (handle_known handle.new).broken }
     ensures counted { CountsLine D.state O.faults result handle.old out.old handle.new out.new }
     ensures leaves { LeavesHandle D.state D.may_leave D.left_between handle.old handle.new }
 {
@@ -46,10 +46,10 @@ fn open_line<'d, D: Disk, O: Sink>(
     out: &mut O,
     run: &mut Run,
 ) -> Result<Next, Stop>
-    requires { (handle_held handle.old).broken ≡ None }
+    requires { (handle_known handle.old).broken ≡ None }
     ensures answered { (f : Files) → AnswersOpen D.state O.told (λ e. edit_line f (Some e) line.now) result handle.old run.old out.old handle.new run.new out.new }
     ensures lines { run.new.lines ≡ run.old.lines }
-    ensures whole { IsWhole result (handle_held handle.new).broken }
+    ensures whole { IsWhole result (handle_known handle.new).broken }
     ensures counted { CountsLine D.state O.faults result handle.old out.old handle.new out.new }
     ensures leaves { LeavesHandle D.state D.may_leave D.left_between handle.old handle.new }
 {
@@ -71,11 +71,11 @@ pub fn serve_open<'d, D: Disk, R: Source, O: Sink>(
     out: &mut O,
     run: &mut Run,
 ) -> Result<(), Stop>
-    requires { (handle_held handle.old).broken ≡ None }
+    requires { (handle_known handle.old).broken ≡ None }
     ensures served { ServesOpen D.state R.left O.told result handle.old run.old script.old out.old handle.new run.new script.new out.new }
     ensures fewer { OnOk result (run.new.lines.room ≤ run.old.lines.room) }
     ensures given { TakesLines R.given run.old script.old run.new script.new }
-    ensures whole { IsWhole result (handle_held handle.new).broken }
+    ensures whole { IsWhole result (handle_known handle.new).broken }
     ensures counted { CountsHandle D.state R.faults O.faults result handle.old script.old out.old handle.new script.new out.new }
     ensures leaves { LeavesHandle D.state D.may_leave D.left_between handle.old handle.new }
 {

@@ -3,7 +3,7 @@
 ghost use Rattle.std.specs.Prelude.{◌≡◌, ◌≤◌, false, Ok, None, OnOk};
 ghost use Rattle.snd_disk.specs.Device.{OnlyReadsOn};
 ghost use Rattle.snd_script.specs.Edit.{open_edit_of};
-ghost use Rattle.snd_script.specs.Handled.{HandleReads, handle_held, handle_loan, LeavesHandle};
+ghost use Rattle.snd_script.specs.Handled.{HandleReads, handle_known, handle_loan, LeavesHandle};
 ghost use Rattle.snd_script.specs.Serving.{AnswersClose, AnswersError, CountsClosed, IsCountedOnce, IsReadError, IsWhole, ServesDisk, ServesHandle, ServesToClose, CountsDisk, CountsHandle, TakesLines};
 
 use crate::handle::Handle;
@@ -25,11 +25,11 @@ fn serve_opened<'d, D: Disk, R: Source, O: Sink>(
     out: &mut O,
     run: &mut Run,
 ) -> Result<(), Stop>
-    requires { (handle_held handle.old).broken ≡ None }
+    requires { (handle_known handle.old).broken ≡ None }
     ensures served { ServesToClose D.state R.left O.told (λ e. open_edit_of (Ok e)) result handle.old run.old script.old out.old handle.new run.new script.new out.new }
     ensures fewer { OnOk result (run.new.lines.room ≤ run.old.lines.room) }
     ensures given { TakesLines R.given run.old script.old run.new script.new }
-    ensures whole { IsWhole result (handle_held handle.new).broken }
+    ensures whole { IsWhole result (handle_known handle.new).broken }
     ensures counted { CountsHandle D.state R.faults O.faults result handle.old script.old out.old handle.new script.new out.new }
     ensures leaves { LeavesHandle D.state D.may_leave D.left_between handle.old handle.new }
 {
@@ -57,7 +57,7 @@ fn serve_handle<'d, D: Disk, R: Source, O: Sink>(
     out: &mut O,
     run: &mut Run,
 ) -> (Result<(), Stop>, &'d mut D)
-    requires { (handle_held handle).broken ≡ None }
+    requires { (handle_known handle).broken ≡ None }
     ensures lends { result.1.ghost_name ≡ handle_loan handle.entry }
     ensures served { ServesHandle D.state R.left O.told result.0 handle.entry run.old script.old out.old run.new script.new out.new }
     ensures fewer { OnOk result.0 (run.new.lines.room ≤ run.old.lines.room) }

@@ -1,9 +1,9 @@
 //! Frames read for a command.
 
 ghost use Rattle.std.specs.Prelude.{◌≡◌, ◌+◌, ◌*◌, ◌≤◌, None, IfOk, IfErr, OnOk, length};
-ghost use Rattle.snd_modes.specs.Handle.{held_of, loan_of};
-ghost use Rattle.snd_script.specs.Stepped.{read_held};
-ghost use Rattle.snd_script.specs.Work.{CountsLeft, FileAsks, FileCalm, FileFault, FileReads, MovesOn, ReadsFrames, channels_of};
+ghost use Rattle.snd_modes.specs.Handle.{channels_of, known_of, loan_of};
+ghost use Rattle.snd_script.specs.Stepped.{read_known};
+ghost use Rattle.snd_script.specs.Work.{CountsLeft, FileAsks, FileCalm, FileFault, FileReads, MovesOn, ReadsFrames};
 
 use crate::handle::StepFault;
 use snd_disk::Disk;
@@ -16,9 +16,9 @@ pub fn read_some<'d, D: Disk>(
     samples: &mut Vec<i32>,
     wanted: u64,
 ) -> Result<usize, StepFault>
-    requires { (held_of file.old).broken ≡ None }
+    requires { (known_of file.old).broken ≡ None }
     ensures loan { loan_of file.new ≡ loan_of file.old }
-    ensures held { OnOk result (held_of file.new ≡ read_held wanted (held_of file.old)) }
+    ensures held { OnOk result (known_of file.new ≡ read_known wanted (known_of file.old)) }
     ensures size { IfOk result (λ k. k * channels_of file.old ≤ length samples.new.items) }
     ensures count { IfOk result (CountsLeft D.state wanted file.old) }
     ensures read { IfOk result (λ k. ReadsFrames D.state k file.old samples.new.items) }

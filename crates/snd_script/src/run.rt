@@ -3,7 +3,7 @@
 ghost use Rattle.std.specs.Prelude.{◌≡◌, ◌<◌, ◌≤◌, false, None, OnOk};
 ghost use Rattle.snd_script.specs.Stepped.{is_close};
 ghost use Rattle.snd_command.specs.Said.{said_of};
-ghost use Rattle.snd_script.specs.Handled.{handle_held, LeavesHandle};
+ghost use Rattle.snd_script.specs.Handled.{handle_known, LeavesHandle};
 ghost use Rattle.snd_script.specs.Replies.{refuses};
 ghost use Rattle.snd_script.specs.Serving.{IsCountedOnce, IsWhole, Answers, CountsLine, TakesLines, BringsLine, StaysOpen, AnswersStep};
 
@@ -62,12 +62,12 @@ impl Run {
         command: &Command<'_>,
         out: &mut O,
     ) -> Result<(), Stop>
-        requires whole { (handle_held handle.old).broken ≡ None }
+        requires whole { (handle_known handle.old).broken ≡ None }
         requires step { is_close (said_of command.now) ≡ false }
         ensures stands { OnOk result (StaysOpen D.state (said_of command.now) handle.old handle.new) }
         ensures answered { AnswersStep D.state O.told (said_of command.now) result handle.old self.old out.old self.new out.new }
         ensures lines { self.new.lines ≡ self.old.lines }
-        ensures whole { IsWhole result (handle_held handle.new).broken }
+        ensures whole { IsWhole result (handle_known handle.new).broken }
         ensures counted { CountsLine D.state O.faults result handle.old out.old handle.new out.new }
         ensures leaves { LeavesHandle D.state D.may_leave D.left_between handle.old handle.new }
     {

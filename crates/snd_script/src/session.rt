@@ -2,7 +2,7 @@
 
 ghost use Rattle.std.specs.Prelude.{◌≡◌, true, false, None, Some, IfOk, IfErr, IsErrOf, IsOk, OnOk};
 ghost use Rattle.snd_command.specs.Said.{said_of};
-ghost use Rattle.snd_script.specs.Handled.{CountsFrames, CountsStep, HandleAsks, KnowsAfter, LeavesHandle, LeavesOpen, SaysReply, handle_disk, handle_held, handle_loan};
+ghost use Rattle.snd_script.specs.Handled.{CountsFrames, CountsStep, HandleAsks, KnowsAfter, LeavesHandle, LeavesOpen, SaysReply, handle_disk, handle_known, handle_loan};
 ghost use Rattle.snd_script.specs.Stepped.{IsSilent, is_close, most_asked, takes_memory};
 
 use crate::carry::{read, seek, tell};
@@ -51,7 +51,7 @@ impl Session {
         command: &Command<'_>,
         out: &mut O,
     ) -> Result<Reply, StepFault>
-        requires whole { (handle_held handle.old).broken ≡ None }
+        requires whole { (handle_known handle.old).broken ≡ None }
         requires step { is_close (said_of command.now) ≡ false }
         ensures stands { LeavesOpen D.state result (said_of command.now) handle.old handle.new }
         ensures said { SaysReply D.state O.told result (said_of command.now) handle.old out.old out.new }
@@ -82,12 +82,12 @@ impl Session {
     ) -> Result<(u64, &'d mut D), (Step, &'d mut D)>
         ensures lends { IfOk result (λ r. r.1.ghost_name ≡ handle_loan handle.entry) }
         ensures back { IfOk result (λ r. r.1.now ≡ handle_disk handle.entry) }
-        ensures whole { OnOk result ((handle_held handle.entry).broken ≡ None) }
-        ensures count { IfOk result (λ r. r.0 ≡ (handle_held handle.entry).shape.frames) }
+        ensures whole { OnOk result ((handle_known handle.entry).broken ≡ None) }
+        ensures count { IfOk result (λ r. r.0 ≡ (handle_known handle.entry).shape.frames) }
         ensures frames { IfOk result (λ r. CountsFrames D.state handle.entry r.0) }
         ensures lends_broken { IfErr result (λ e. e.1.ghost_name ≡ handle_loan handle.entry) }
         ensures back_broken { IfErr result (λ e. e.1.now ≡ handle_disk handle.entry) }
-        ensures cause { IfErr result (λ e. (handle_held handle.entry).broken ≡ Some e.0) }
+        ensures cause { IfErr result (λ e. (handle_known handle.entry).broken ≡ Some e.0) }
     {
         match handle {
             Handle::R(file) => {

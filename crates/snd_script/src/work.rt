@@ -4,10 +4,10 @@ ghost use Rattle.std.specs.Prelude.{◌≡◌};
 ghost use Rattle.snd_command.specs.Said.{said_of};
 ghost use Rattle.snd_disk.specs.Shelf.{Files};
 ghost use Rattle.snd_modes.specs.Editing.{Editing};
-ghost use Rattle.snd_modes.specs.Handle.{Held};
+ghost use Rattle.snd_modes.specs.Handle.{Known};
 ghost use Rattle.snd_script.specs.Edit.{edit_closed, edit_open};
-ghost use Rattle.snd_script.specs.Stepped.{held_after, is_close, most_asked, reply_on, takes_memory};
-ghost use Rattle.snd_script.specs.Work.{NamesFile, work_asks, work_closed, work_closes, work_held, work_open, work_reply, work_takes_memory};
+ghost use Rattle.snd_script.specs.Stepped.{known_after, is_close, most_asked, reply_on, takes_memory};
+ghost use Rattle.snd_script.specs.Work.{NamesFile, work_asks, work_closed, work_closes, work_known, work_open, work_reply, work_takes_memory};
 
 use snd_command::Command;
 
@@ -34,8 +34,8 @@ pub fn work_of<'a>(command: &Command<'a>) -> Work<'a>
     ensures closed { (f : Files) → edit_closed f (said_of command.now) ≡ work_closed result f }
     ensures named { NamesFile result (said_of command.now) }
     ensures closes { is_close (said_of command.now) ≡ work_closes result }
-    ensures reply { (h : Held) → reply_on (said_of command.now) h ≡ work_reply result h }
-    ensures held { (h : Held) → held_after (said_of command.now) h ≡ work_held result h }
+    ensures reply { (h : Known) → reply_on (said_of command.now) h ≡ work_reply result h }
+    ensures held { (h : Known) → known_after (said_of command.now) h ≡ work_known result h }
     ensures asks { most_asked (said_of command.now) ≡ work_asks result }
     ensures memory { takes_memory (said_of command.now) ≡ work_takes_memory result }
 {

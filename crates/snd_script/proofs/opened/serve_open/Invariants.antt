@@ -1,7 +1,7 @@
 use Rattle.std.proofs.Common.{◌≡◌, ◌+◌, ◌≤◌, List, ℕ, None, Some}
 use Rattle.snd_disk.specs.Shelf.{Files}
 use Rattle.snd_modes.specs.Editing.{Editing}
-use Rattle.snd_script.specs.Handled.{HandleStands, LeavesHandle, handle_disk, handle_held}
+use Rattle.snd_script.specs.Handled.{HandleStands, LeavesHandle, handle_disk, handle_known}
 use Rattle.snd_script.specs.Lines.{to_take}
 use Rattle.snd_script.specs.Served.{SameCounts}
 use Rattle.snd_script.specs.Serving.{Serves, answers_left, disk_faults_of, is_longer, moment_of}
@@ -17,7 +17,7 @@ invariant-loop-line g l = record {
       (moment_of g.R.Source.left g.O.Sink.told l.run l.script l.out)
       × (is_longer (moment_of g.R.Source.left g.O.Sink.told l.run l.script l.out) s'
       ≡ is_longer (moment_of g.R.Source.left g.O.Sink.told l.fn.run l.fn.script l.fn.out) s);
-  whole : (handle_held l.handle).broken ≡ None;
+  whole : (handle_known l.handle).broken ≡ None;
   fewer : l.run.lines.room ≤ l.fn.run.lines.room;
   given : g.R.Source.given l.script + to_take l.run.lines ≤ g.R.Source.given l.fn.script + to_take l.fn.run.lines;
   counted : SameCounts (disk_faults_of g.D.Disk.state g.R.Source.faults g.O.Sink.faults (handle_disk l.fn.handle) l.fn.script l.fn.out) (disk_faults_of g.D.Disk.state g.R.Source.faults g.O.Sink.faults (handle_disk l.handle) l.script l.out);
