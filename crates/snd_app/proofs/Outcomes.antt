@@ -4,7 +4,7 @@ use Rattle.snd_disk.specs.Streams.{AppendsFront}
 use Rattle.snd_app.specs.declared.look.Found.{Found}
 use Rattle.snd_app.specs.declared.look.Found.TheVariants.{Missing, Refused, Sound}
 use Rattle.snd_app.specs.Outcome.{Outcome, info, text_of, is_refused}
-use Rattle.snd_app.specs.Run.{Faults, Told, Appends, PrintsFront, IsOutcome, PutsText}
+use Rattle.snd_app.specs.Run.{Faults, Told, Appends, PrintsFront, IsOutcome, IsPut}
 
 -- nothing is put to a sink
 pub none_put : (sink : Told) → sink.after ≡ sink.before → Appends sink []
@@ -18,14 +18,14 @@ no_front_put o out err same_out same_err = record { on_out = no_front out o.out 
 
 -- a text that is put to `out`, or to `err`, is the outcome that has this text alone
 put_out : (result : ℕ) (text : List ℕ) (old new : Faults) (out err : Told) → new.shelf ≡ old.shelf → new.script ≡ old.script → new.err ≡ old.err → err.after ≡ err.before
-    → PutsText result 0 text old.out new.out out → IsOutcome result (record { out = text; err = []; status = 0 }) old new out err
+    → IsPut result 0 text old.out new.out out → IsOutcome result (record { out = text; err = []; status = 0 }) old new out err
 put_out result text old new out err shelf script other same (inl done) =
     inl (done.0, record { shelf = shelf; script = script; out = done.1; err = other }, record { on_out = done.2; on_err = none_put err same })
 put_out result text old new out err shelf script other same (inr failed) =
     inr (inl (failed.0, inr (inr (inl failed.1)), record { on_out = failed.2; on_err = no_front err [] same }))
 
 put_err : (result status : ℕ) (text : List ℕ) (old new : Faults) (out err : Told) → new.shelf ≡ old.shelf → new.script ≡ old.script → new.out ≡ old.out → out.after ≡ out.before
-    → PutsText result status text old.err new.err err → IsOutcome result (record { out = []; err = text; status = status }) old new out err
+    → IsPut result status text old.err new.err err → IsOutcome result (record { out = []; err = text; status = status }) old new out err
 put_err result status text old new out err shelf script other same (inl done) =
     inl (done.0, record { shelf = shelf; script = script; out = other; err = done.1 }, record { on_out = none_put out same; on_err = done.2 })
 put_err result status text old new out err shelf script other same (inr failed) =
@@ -42,10 +42,10 @@ described_is name (Refused why) is = absurd (cc)
 described_is name (Sound layout) is = refl
 
 module _ (result : ℕ) (old new : Faults) (out err : Told) (o : Outcome) where
-  pub is_put_out : (text : List ℕ) → record { out = text; err = []; status = 0 } ≡ o → new.shelf ≡ old.shelf → new.script ≡ old.script → new.err ≡ old.err → err.after ≡ err.before → PutsText result 0 text old.out new.out out → IsOutcome result o old new out err
+  pub is_put_out : (text : List ℕ) → record { out = text; err = []; status = 0 } ≡ o → new.shelf ≡ old.shelf → new.script ≡ old.script → new.err ≡ old.err → err.after ≡ err.before → IsPut result 0 text old.out new.out out → IsOutcome result o old new out err
   is_put_out text is shelf script other same puts = subst (λ (o : Outcome). IsOutcome result o old new out err) is (put_out result text old new out err shelf script other same puts)
 
-  pub is_put_err : (status : ℕ) (text : List ℕ) → record { out = []; err = text; status = status } ≡ o → new.shelf ≡ old.shelf → new.script ≡ old.script → new.out ≡ old.out → out.after ≡ out.before → PutsText result status text old.err new.err err → IsOutcome result o old new out err
+  pub is_put_err : (status : ℕ) (text : List ℕ) → record { out = []; err = text; status = status } ≡ o → new.shelf ≡ old.shelf → new.script ≡ old.script → new.out ≡ old.out → out.after ≡ out.before → IsPut result status text old.err new.err err → IsOutcome result o old new out err
   is_put_err status text is shelf script other same puts = subst (λ (o : Outcome). IsOutcome result o old new out err) is (put_err result status text old new out err shelf script other same puts)
 
   -- the outcome, told otherwise

@@ -6,7 +6,7 @@ use Rattle.snd_script.specs.declared.serving.ScriptEnd.TheVariants.{TooLong, Fau
 use Rattle.snd_script.specs.Script.{Answered}
 use Rattle.snd_script.specs.Served.{Counts, IsServed, AnyCountRises, SameCounts}
 use Rattle.snd_app.specs.Outcome.{script_outcome}
-use Rattle.snd_app.specs.Run.{Faults, Told, Appends, AnyRises, IsOutcome, PutsText}
+use Rattle.snd_app.specs.Run.{Faults, Told, Appends, AnyRises, IsOutcome, IsPut}
 use Rattle.snd_app.proofs.Outcomes.{no_front}
 
 -- the counts that serving sees
@@ -24,12 +24,12 @@ any_rose old new (inr (inr sink)) = inr (inr (inl sink))
 
 -- the script is too long, and the message on this is put to `err`
 module _ (result : ℕ) (a : Answered) (old new : Faults) (out err : Told) where
-  too_long_said : SameCounts (counts_of old) (counts_of new) → Appends out a.out → PutsText result 2 (codes "snd: script too long\n") old.err new.err err
+  too_long_said : SameCounts (counts_of old) (counts_of new) → Appends out a.out → IsPut result 2 (codes "snd: script too long\n") old.err new.err err
       → IsOutcome result (script_outcome true a) old new out err
   too_long_said same put (inl done) = inl (done.0, record { shelf = same.shelf; script = same.script; out = same.out; err = done.1 }, record { on_out = put; on_err = done.2 })
   too_long_said same put (inr failed) = inr (inl (failed.0, inr (inr (inr failed.1)), record { on_out = whole_front out a.out put; on_err = failed.2 }))
 
-  pub too_long_is : (longer : Bool) → IsServed TooLong longer a (counts_of old) (counts_of new) out.before out.after → PutsText result 2 (codes "snd: script too long\n") old.err new.err err
+  pub too_long_is : (longer : Bool) → IsServed TooLong longer a (counts_of old) (counts_of new) out.before out.after → IsPut result 2 (codes "snd: script too long\n") old.err new.err err
       → IsOutcome result (script_outcome longer a) old new out err
   too_long_is true (inl served) puts = too_long_said served.1 served.2 puts
   too_long_is false (inl served) puts = absurd (cc)

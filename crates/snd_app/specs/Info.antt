@@ -22,6 +22,10 @@ shown c = if c == 32 then 95 else (if is_printed c then c else 63)
 abbrev pub chunk_line : Piece → List ℕ
 chunk_line piece = line (codes "chunk") (map shown piece.id.0 ++ 32 ∷ [] ++ decimal piece.len)
 
+-- how long so many frames take
+abbrev pub duration_line : ℕ → ℕ → List ℕ
+duration_line frames rate = line (codes "duration") (clock (milliseconds frames rate))
+
 abbrev pub description : List ℕ → Shape → List ℕ
 description name s =
     line (codes "name") name
@@ -30,5 +34,5 @@ description name s =
     ++ line (codes "channels") (decimal s.params.channels)
     ++ line (codes "rate") (decimal s.params.rate)
     ++ line (codes "frames") (decimal s.frames)
-    ++ line (codes "duration") (clock (milliseconds s.frames s.params.rate))
+    ++ duration_line s.frames s.params.rate
     ++ flat_map chunk_line s.pieces

@@ -1,4 +1,5 @@
 pub mod Info
+pub mod Look
 pub mod Outcome
 pub mod Run
 pub mod Text

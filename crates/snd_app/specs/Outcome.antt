@@ -57,6 +57,12 @@ answers a = record { out = a.out; err = []; status = if a.refused then 1 else 0 
 abbrev pub script_outcome : Bool → Answered → Outcome
 script_outcome longer a = if longer then too_long (answers a) else answers a
 
+abbrev pub outcome_of_script : Files → List ℕ → Outcome
+outcome_of_script files text = script_outcome (is_too_long most_bytes text) (script_answered files text)
+
+abbrev pub outcome_of_info : List ℕ → Files → Outcome
+outcome_of_info name files = info name (found_in (files name))
+
 -- what the words ask for: `info NAME`, or `script`
 pub data Asked : Type 0 where
   info_of : List ℕ → Asked
@@ -70,8 +76,8 @@ asked words = Asked.nothing
 
 abbrev pub outcome_of : Asked → Files → List ℕ → Outcome
 outcome_of Asked.nothing files text = bad_words
-outcome_of (Asked.info_of name) files text = info name (found_in (files name))
-outcome_of Asked.script files text = script_outcome (is_too_long most_bytes text) (script_answered files text)
+outcome_of (Asked.info_of name) files text = outcome_of_info name files
+outcome_of Asked.script files text = outcome_of_script files text
 
 -- the outcome of the words, over these files and with this script to come
 abbrev pub outcome : List (List ℕ) → Files → List ℕ → Outcome

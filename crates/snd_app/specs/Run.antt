@@ -1,8 +1,13 @@
--- How a run leaves the shelf and the two streams.
+-- How a run leaves the shelf and the streams. Relations over these take their meanings first, and then the shelf, the
+-- script, `out` and `err`, before and after.
 use Rattle.std.specs.Prelude.{◌≡◌, ◌⊎◌, ℕ, List, ◌++◌, false, Option, Some}
 use Rattle.snd_disk.specs.State.{Rises}
-use Rattle.snd_disk.specs.Shelf.{ShelfState}
+use Rattle.snd_disk.specs.Shelf.{Files, ShelfState}
+use Rattle.snd_disk.specs.Shelves.{TellsFiles}
 use Rattle.snd_disk.specs.Streams.{AppendsFront}
+use Rattle.snd_disk.specs.declared.shelf.Shelf.{Ghosts as ShelfMeaning}
+use Rattle.snd_disk.specs.declared.streams.Sink.{Ghosts as SinkMeaning}
+use Rattle.snd_disk.specs.declared.streams.Source.{Ghosts as SourceMeaning}
 use Rattle.snd_app.specs.Outcome.{Outcome}
 
 -- no name is taken out
@@ -49,7 +54,44 @@ IsOutcome status o old new out err =
     ((status ≡ o.status) × SameFaults old new × Prints o out err)
     ⊎ (((status ≡ 3) × AnyRises old new × PrintsFront o out err) ⊎ ((status ≡ 4) × PrintsFront o out err))
 
+-- the counts at a moment, with the script's given, or with the script itself
+abbrev pub faults_with : {S D O E : Type 0} → ShelfMeaning S D → SinkMeaning O → SinkMeaning E → ℕ → S → O → E → Faults
+faults_with s o e script shelf out err = record { shelf = (s.state shelf).faults; script = script; out = o.faults out; err = e.faults err }
+
+abbrev pub faults_of : {S D R O E : Type 0} → ShelfMeaning S D → SourceMeaning R → SinkMeaning O → SinkMeaning E → S → R → O → E → Faults
+faults_of s r o e shelf script out err = faults_with s o e (r.faults script) shelf out err
+
+-- the text on a sink before and after
+abbrev pub told_by : {O : Type 0} → SinkMeaning O → O → O → Told
+told_by o out out' = record { before = o.told out; after = o.told out' }
+
+-- the run is this outcome
+abbrev pub EndsAs : {S D R O E : Type 0} → ShelfMeaning S D → SourceMeaning R → SinkMeaning O → SinkMeaning E → Outcome → S → R → O → E → S → R → O → E → ℕ → Type 0
+EndsAs s r o e given shelf script out err shelf' script' out' err' status =
+    IsOutcome status given (faults_of s r o e shelf script out err) (faults_of s r o e shelf' script' out' err') (told_by o out out') (told_by e err err')
+
+-- over files and a script that are told, it is the outcome of these
+abbrev pub RunsAs : {S D R O E : Type 0} → ShelfMeaning S D → SourceMeaning R → SinkMeaning O → SinkMeaning E → (Files → List ℕ → Outcome) → S → R → O → E → S → R → O → E → ℕ → Type 0
+RunsAs s r o e given shelf script out err shelf' script' out' err' status =
+    (files : Files) (text : List ℕ) → TellsFiles s.state shelf files → r.left script ≡ Some text → EndsAs s r o e (given files text) shelf script out err shelf' script' out' err' status
+
+-- a count of faults rises
+abbrev pub FaultRises : {S D R O E : Type 0} → ShelfMeaning S D → SourceMeaning R → SinkMeaning O → SinkMeaning E → S → R → O → E → S → R → O → E → Type 0
+FaultRises s r o e shelf script out err shelf' script' out' err' = AnyRises (faults_of s r o e shelf script out err) (faults_of s r o e shelf' script' out' err')
+
+-- the same without a script, whose count stays, whatever it is
+abbrev pub DescribesAs : {S D O E : Type 0} → ShelfMeaning S D → SinkMeaning O → SinkMeaning E → (Files → Outcome) → S → O → E → S → O → E → ℕ → Type 0
+DescribesAs s o e given shelf out err shelf' out' err' status =
+    (files : Files) (script : ℕ) → TellsFiles s.state shelf files
+    → IsOutcome status (given files) (faults_with s o e script shelf out err) (faults_with s o e script shelf' out' err') (told_by o out out') (told_by e err err')
+
+abbrev pub DescribingFaultRises : {S D O E : Type 0} → ShelfMeaning S D → SinkMeaning O → SinkMeaning E → S → O → E → S → O → E → Type 0
+DescribingFaultRises s o e shelf out err shelf' out' err' = (script : ℕ) → AnyRises (faults_with s o e script shelf out err) (faults_with s o e script shelf' out' err')
+
 -- a text was appended to one sink, and the status is the given one; or 3, where the sink's count of faults rose
-abbrev pub PutsText : ℕ → ℕ → List ℕ → ℕ → ℕ → Told → Type 0
-PutsText result status text old new sink =
-    ((result ≡ status) × (new ≡ old) × Appends sink text) ⊎ ((result ≡ 3) × Rises old new × AppendsFront sink.before sink.after text)
+abbrev pub IsPut : ℕ → ℕ → List ℕ → ℕ → ℕ → Told → Type 0
+IsPut status given text old new sink =
+    ((status ≡ given) × (new ≡ old) × Appends sink text) ⊎ ((status ≡ 3) × Rises old new × AppendsFront sink.before sink.after text)
+
+abbrev pub PutsText : {O : Type 0} → SinkMeaning O → ℕ → List ℕ → O → O → ℕ → Type 0
+PutsText o given text old new status = IsPut status given text (o.faults old) (o.faults new) (told_by o old new)

@@ -1,6 +1,6 @@
-ghost use Rattle.std.specs.Prelude.{◌≡◌, ◌*◌, ◌<◌, ◌≤◌, ◌^◌, ◌++◌, OnOk, IfOk, codes, decimal};
+ghost use Rattle.std.specs.Prelude.{◌≡◌, ◌*◌, ◌<◌, ◌≤◌, ◌^◌, ◌++◌, OnOk, IfOk, decimal};
 ghost use Rattle.std.specs.List.{flat_map};
-ghost use Rattle.snd_app.specs.Info.{chunk_line, clock, description, milliseconds, shown};
+ghost use Rattle.snd_app.specs.Info.{chunk_line, clock, description, duration_line, shown};
 ghost use Rattle.snd_app.specs.Text.{line, refusal as message};
 
 use crate::text::{is_printed, push_line, push_number, push_padded};
@@ -42,7 +42,7 @@ fn push_number_line(text: &mut Vec<u8>, key: &[u8], number: u64) -> Result<(), A
 /// Appends the line on how long so many frames take.
 fn push_duration(text: &mut Vec<u8>, frames: u64, rate: u32) -> Result<(), AllocError>
     requires { 1 ≤ rate }
-    ensures { OnOk result (text.new.items ≡ text.old.items ++ line (codes "duration") (clock (milliseconds frames rate))) }
+    ensures { OnOk result (text.new.items ≡ text.old.items ++ duration_line frames rate) }
 {
     text.extend_from_slice(b"duration ")?;
     push_clock(text, u128::from(frames) * 1000 / u128::from(rate))?;

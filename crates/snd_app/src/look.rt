@@ -1,11 +1,11 @@
 //! What stands under a name.
 
-ghost use Rattle.std.specs.Prelude.{◌≡◌, ◌≤◌, List, ℕ, false, IfOk, OnOk, IsErrOf};
-ghost use Rattle.snd_disk.specs.Device.{AsksAtMost, OnlyReadsOn, Tells};
-ghost use Rattle.snd_disk.specs.Shelves.{KeepsFileImages, TellsFiles};
-ghost use Rattle.snd_disk.specs.Shelf.{Files, KeepsFiles};
-ghost use Rattle.snd_disk.specs.State.{Rises};
+ghost use Rattle.std.specs.Prelude.{◌≡◌, List, ℕ, false};
+ghost use Rattle.snd_disk.specs.Device.{AsksAtMost, IfOkTold, OnlyReadsOn};
+ghost use Rattle.snd_disk.specs.Shelf.{KeepsFiles};
+ghost use Rattle.snd_disk.specs.Shelves.{KeepsFileImages};
 ghost use Rattle.snd_container.specs.Sound.{layout_of};
+ghost use Rattle.snd_app.specs.Look.{CountsStop, IfOkFiles};
 ghost use Rattle.snd_app.specs.Outcome.{found_in, found_of};
 
 use snd_container::open_layout;
@@ -43,10 +43,8 @@ impl Found {
 }
 
 fn found_on<D: Disk>(alloc: Global, disk: &mut D) -> Result<Found, Stop>
-    ensures found { IfOk result (λ found. (b : List ℕ) → Tells D.state disk.old b → found ≡ found_of (layout_of b)) }
-    ensures failed { IsErrOf result Stop.Fault → Rises (D.state disk.old).faults (D.state disk.new).faults }
-    ensures calm { OnOk result ((D.state disk.new).faults ≡ (D.state disk.old).faults) }
-    ensures later { (D.state disk.old).faults ≤ (D.state disk.new).faults }
+    ensures found { IfOkTold D.state disk.old result (λ b found. found ≡ found_of (layout_of b)) }
+    ensures faults { CountsStop (D.state disk.old).faults (D.state disk.new).faults result }
     ensures reads { OnlyReadsOn D.state D.may_leave D.left_between disk.old disk.new }
     ensures asked { AsksAtMost D.state 16384 disk.old disk.new }
 {
@@ -61,12 +59,11 @@ fn found_on<D: Disk>(alloc: Global, disk: &mut D) -> Result<Found, Stop>
 /// Looks at the file of a name. The shelf has it back, as it was.
 pub fn look<S: Shelf>(alloc: Global, shelf: &mut S, name: &str) -> Result<Found, Stop>
     requires { (S.state shelf.old).out name.now ≡ false }
-    ensures found { IfOk result (λ found. (files : Files) → TellsFiles S.state shelf.old files → found ≡ found_in (files name.now)) }
+    ensures found { IfOkFiles S.state shelf.old result (λ f found. found ≡ found_in (f name.now)) }
+    ensures faults { CountsStop (S.state shelf.old).faults (S.state shelf.new).faults result }
     ensures back { (n : List ℕ) → (S.state shelf.new).out n ≡ (S.state shelf.old).out n }
     ensures files { KeepsFiles (S.state shelf.old) (S.state shelf.new) }
     ensures images { KeepsFileImages S.state S.may_leave S.left_between shelf.old shelf.new }
-    ensures failed { IsErrOf result Stop.Fault → Rises (S.state shelf.old).faults (S.state shelf.new).faults }
-    ensures calm { OnOk result ((S.state shelf.new).faults ≡ (S.state shelf.old).faults) }
 {
     let mut disk = match shelf.take(name, false) {
         Ok(disk) => disk,

@@ -1,13 +1,11 @@
 //! What the program does with its words.
 
-ghost use Rattle.std.specs.Prelude.{◌≡◌, ◌⊎◌, ◌≤◌, ◌+◌, List, ℕ, Option, Some, None, IfOk};
+ghost use Rattle.std.specs.Prelude.{◌≡◌, ◌≤◌, ◌+◌, IfOk};
 ghost use Rattle.std.specs.List.{list_all};
-ghost use Rattle.snd_disk.specs.Shelves.{KeepsFileImages, TellsFiles};
-ghost use Rattle.snd_disk.specs.Shelf.{Files, KeepsFiles};
-ghost use Rattle.snd_disk.specs.State.{Rises};
-ghost use Rattle.snd_script.specs.Script.{is_too_long, most_bytes, script_answered};
-ghost use Rattle.snd_app.specs.Outcome.{Asked, asked, bad_words, found_in, info, is_name, outcome, script_outcome, text_of};
-ghost use Rattle.snd_app.specs.Run.{IsAllIn, IsOutcome, PutsText};
+ghost use Rattle.snd_disk.specs.Shelf.{KeepsFiles};
+ghost use Rattle.snd_disk.specs.Shelves.{KeepsFileImages};
+ghost use Rattle.snd_app.specs.Outcome.{Asked, asked, bad_words, is_name, outcome, outcome_of_info, outcome_of_script, text_of};
+ghost use Rattle.snd_app.specs.Run.{DescribesAs, DescribingFaultRises, EndsAs, FaultRises, IsAllIn, PutsText, RunsAs};
 ghost use Rattle.snd_app.specs.Text.{is_printed};
 ghost use Rattle.snd_app.specs.Words.{asked_by};
 
@@ -72,7 +70,7 @@ fn text_for(alloc: Global, name: &str, found: &Found) -> Result<Vec<u8>, AllocEr
 
 /// Puts a text, and answers a status where all of it was appended.
 fn put_text<O: Sink>(sink: &mut O, text: &[u8], status: u8) -> u8
-    ensures { PutsText result status text.now (O.faults sink.old) (O.faults sink.new) (record { before = O.told sink.old; after = O.told sink.new }) }
+    ensures { PutsText O.Sink status text.now sink.old sink.new result }
 {
     match sink.put(text) {
         Ok(()) => status,
@@ -89,11 +87,10 @@ fn run_info<S: Shelf, O: Sink, E: Sink>(
     err: &mut E,
 ) -> u8
     requires { IsAllIn (S.state shelf.old) }
-    ensures outcome { (files : Files) (script : ℕ) → TellsFiles S.state shelf.old files →
-        IsOutcome result (info name.now (found_in (files name.now)))
-        (record { shelf = (S.state shelf.old).faults; script = script; out = O.faults out.old; err = E.faults err.old }) (record { shelf = (S.state shelf.new).faults; script = script; out = O.faults out.new; err = E.faults err.new })
-        (record { before = O.told out.old; after = O.told out.new }) (record { before = E.told err.old; after = E.told err.new }) }
-    ensures fault { result ≡ 3 → Rises (S.state shelf.old).faults (S.state shelf.new).faults ⊎ (Rises (O.faults out.old) (O.faults out.new) ⊎ Rises (E.faults err.old) (E.faults err.new)) }
+    ensures outcome { DescribesAs S.Shelf O.Sink E.Sink (outcome_of_info name.now)
+        shelf.old out.old err.old shelf.new out.new err.new result }
+    ensures fault { result ≡ 3 →
+        DescribingFaultRises S.Shelf O.Sink E.Sink shelf.old out.old err.old shelf.new out.new err.new }
     ensures back { IsAllIn (S.state shelf.new) }
     ensures files { KeepsFiles (S.state shelf.old) (S.state shelf.new) }
     ensures images { KeepsFileImages S.state S.may_leave S.left_between shelf.old shelf.new }
@@ -122,11 +119,10 @@ fn run_script<S: Shelf, R: Source, O: Sink, E: Sink>(
     err: &mut E,
 ) -> u8
     requires { IsAllIn (S.state shelf.old) }
-    ensures outcome { (files : Files) (text : List ℕ) → TellsFiles S.state shelf.old files → R.left script.old ≡ Some text →
-        IsOutcome result (script_outcome (is_too_long most_bytes text) (script_answered files text))
-        (record { shelf = (S.state shelf.old).faults; script = R.faults script.old; out = O.faults out.old; err = E.faults err.old }) (record { shelf = (S.state shelf.new).faults; script = R.faults script.new; out = O.faults out.new; err = E.faults err.new })
-        (record { before = O.told out.old; after = O.told out.new }) (record { before = E.told err.old; after = E.told err.new }) }
-    ensures fault { result ≡ 3 → Rises (S.state shelf.old).faults (S.state shelf.new).faults ⊎ (Rises (R.faults script.old) (R.faults script.new) ⊎ (Rises (O.faults out.old) (O.faults out.new) ⊎ Rises (E.faults err.old) (E.faults err.new))) }
+    ensures outcome { RunsAs S.Shelf R.Source O.Sink E.Sink outcome_of_script
+        shelf.old script.old out.old err.old shelf.new script.new out.new err.new result }
+    ensures fault { result ≡ 3 → FaultRises S.Shelf R.Source O.Sink E.Sink
+        shelf.old script.old out.old err.old shelf.new script.new out.new err.new }
     ensures taken { R.given script.new ≤ R.given script.old + 16777217 }
     ensures back { IsAllIn (S.state shelf.new) }
     ensures files { KeepsFiles (S.state shelf.old) (S.state shelf.new) }
@@ -157,19 +153,16 @@ pub fn run<S: Shelf, R: Source, O: Sink, E: Sink>(
 
     // The headline: over files and a script that are told, the run is the outcome of the words, the
     // files and the script.
-    ensures headline { (files : Files) (text : List ℕ) → TellsFiles S.state shelf.old files → R.left script.old ≡ Some text →
-        IsOutcome result (outcome words.now files text)
-        (record { shelf = (S.state shelf.old).faults; script = R.faults script.old; out = O.faults out.old; err = E.faults err.old }) (record { shelf = (S.state shelf.new).faults; script = R.faults script.new; out = O.faults out.new; err = E.faults err.new })
-        (record { before = O.told out.old; after = O.told out.new }) (record { before = E.told err.old; after = E.told err.new }) }
+    ensures headline { RunsAs S.Shelf R.Source O.Sink E.Sink (outcome words.now)
+        shelf.old script.old out.old err.old shelf.new script.new out.new err.new result }
 
     // Words that are refused need no file and no script.
-    ensures bad_words { asked words.now ≡ Asked.nothing →
-        IsOutcome result bad_words
-        (record { shelf = (S.state shelf.old).faults; script = R.faults script.old; out = O.faults out.old; err = E.faults err.old }) (record { shelf = (S.state shelf.new).faults; script = R.faults script.new; out = O.faults out.new; err = E.faults err.new })
-        (record { before = O.told out.old; after = O.told out.new }) (record { before = E.told err.old; after = E.told err.new }) }
+    ensures bad_words { asked words.now ≡ Asked.nothing → EndsAs S.Shelf R.Source O.Sink E.Sink bad_words
+        shelf.old script.old out.old err.old shelf.new script.new out.new err.new result }
 
     // Also over files and scripts that are not told.
-    ensures fault { result ≡ 3 → Rises (S.state shelf.old).faults (S.state shelf.new).faults ⊎ (Rises (R.faults script.old) (R.faults script.new) ⊎ (Rises (O.faults out.old) (O.faults out.new) ⊎ Rises (E.faults err.old) (E.faults err.new))) }
+    ensures fault { result ≡ 3 → FaultRises S.Shelf R.Source O.Sink E.Sink
+        shelf.old script.old out.old err.old shelf.new script.new out.new err.new }
 
     // A script that never ends is no exception.
     ensures taken { R.given script.new ≤ R.given script.old + 16777217 }

@@ -1,5 +1,5 @@
 -- From the headline to what was printed.
-use Rattle.std.proofs.Common.{◌≡◌, inl, inr, ℕ, List, [], ◌++◌, Some, None, refl, sym, ◌∙◌, ap}
+use Rattle.std.proofs.Common.{◌≡◌, inl, inr, ℕ, List, [], ◌++◌, Bool, true, false, cond, Some, None, refl, sym, ◌∙◌, ap}
 use Rattle.snd_disk.specs.Shelf.{Files, SameFiles}
 use Rattle.snd_script.proofs.SameFilesServed.{same_answers}
 use Rattle.snd_script.specs.Script.{is_too_long, lines_within, most_bytes, script_answered}
@@ -21,6 +21,11 @@ module _ (f g : Files) (same : SameFiles f g) where
 
   pub outcome_same : (words : List (List ℕ)) (text : List ℕ) → outcome words g text ≡ outcome words f text
   outcome_same words text = by_asked (asked words) text
+
+-- no name is out where one was put back
+pub none_out : (named out : Bool) → out ≡ false → cond named false out ≡ false
+none_out true out is = refl
+none_out false out is = is
 
 started_empty : (o o' text : List ℕ) → Some o ≡ Some ([] ++ text) → o' ≡ o → o' ≡ text
 started_empty o o' text told copied = let is : o ≡ text = cc in copied ∙ is

@@ -4,6 +4,8 @@
 
 #[cfg(test)]
 mod conditions;
+#[cfg(test)]
+mod kinds;
 mod memory;
 #[cfg(test)]
 mod tests;

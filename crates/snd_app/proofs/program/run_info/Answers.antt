@@ -8,11 +8,11 @@ returns-then-is_refused-clause-outcome g c = λ files script told.
     let text : c.deref.result.now ≡ text_of c.args.name.now c.in-Ok.found = search rules in
     is_put_err c.put_text.result _ _ _ _ (info c.args.name.now (found_in (files c.args.name.now))) 1 c.deref.result.now
     (ap (λ t. record { out = []; err = t; status = 1 }) text ∙ refused_is c.args.name.now c.in-Ok.found (search rules) ∙ ap (info c.args.name.now) (c.in-Ok.ensures.found files told))
-    c.in-Ok.ensures.calm refl refl refl c.put_text.ensures
+    c.in-Ok.ensures.faults refl refl refl c.put_text.ensures
 
 pub returns-clause-outcome : goal.returns-clause-outcome
 returns-clause-outcome g c = λ files script told.
     let text : c.deref-else-is_refused.result.now ≡ text_of c.args.name.now c.in-Ok.found = search rules in
     is_put_out c.put_text-else-is_refused.result _ _ _ _ (info c.args.name.now (found_in (files c.args.name.now))) c.deref-else-is_refused.result.now
     (ap (λ t. record { out = t; err = []; status = 0 }) text ∙ described_is c.args.name.now c.in-Ok.found (search rules) ∙ ap (info c.args.name.now) (c.in-Ok.ensures.found files told))
-    c.in-Ok.ensures.calm refl refl refl c.put_text-else-is_refused.ensures
+    c.in-Ok.ensures.faults refl refl refl c.put_text-else-is_refused.ensures
