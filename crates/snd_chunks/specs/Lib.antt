@@ -1,3 +1,4 @@
 pub mod Chunks
+pub mod Opening
 pub mod Walks
 pub mod Written

@@ -1,9 +1,11 @@
 //! Why a walk stops.
 
 ghost use Rattle.std.specs.Prelude.{◌≡◌};
+ghost use Rattle.snd_chunks.specs.Opening.{open_error};
 ghost use Rattle.snd_chunks.specs.declared.error.WalkError.TheVariants.{Fault, Memory};
 
 use snd_disk::Step;
+use snd_layout::OpenError;
 use std::alloc::AllocError;
 
 /// Why a walk stops before its end.
@@ -28,5 +30,16 @@ impl From<AllocError> for WalkError {
 
     fn from(_e: AllocError) -> WalkError {
         WalkError::Memory
+    }
+}
+
+impl From<WalkError> for OpenError {
+    ghost from_gives = { λ walk e. e ≡ open_error walk };
+
+    fn from(walk: WalkError) -> OpenError {
+        match walk {
+            WalkError::Fault(step) => OpenError::DiskFault(step),
+            WalkError::Memory => OpenError::Memory,
+        }
     }
 }

@@ -1,47 +1,33 @@
 -- The layout of a file, from its parts.
 use Rattle.std.proofs.Common.{◌≡◌, ℕ, ◌+◌, ◌≤◌, List, All, Option, None, Some, Ok, Err, length, refl, sym, ap, ◌∙◌, arith}
 use Rattle.std.proofs.lemmas.Bool.{and_parts, leb-true}
-use Rattle.std.specs.Prelude.{IfOk, IfSome, Result, codes, nat_le, option_map}
+use Rattle.std.specs.Prelude.{IfSome, Result, codes, nat_le, option_map}
 use Rattle.snd_chunks.proofs.Chains.{find_has}
 use Rattle.snd_chunks.specs.declared.chunk.Chunk.{Chunk}
 use Rattle.snd_chunks.specs.declared.front.Ending.TheVariants.{AtSound}
 use Rattle.snd_chunks.specs.declared.front.Front.{Front}
 use Rattle.snd_chunks.specs.Chunks.{chunk_at, front}
-use Rattle.snd_chunks.specs.Walks.{EndsBy, IsFront, IsSound}
+use Rattle.snd_chunks.specs.Walks.{EndsBy, IsFront}
 use Rattle.snd_fields.specs.Field.{number}
 use Rattle.snd_fields.specs.declared.field.Order.TheVariants.{Little}
 use Rattle.snd_layout.specs.Format.{format_of}
-use Rattle.snd_layout.specs.Opened.{EndsIn}
-use Rattle.snd_layout.specs.Params.{Parameters, data_bytes}
+use Rattle.snd_layout.specs.Params.{Parameters}
 use Rattle.snd_layout.specs.Shape.{Shape}
 use Rattle.snd_layout.specs.declared.piece.Piece.{Piece}
 use Rattle.snd_layout.specs.declared.refusal.OpenRefusal.{OpenRefusal}
 use Rattle.snd_wave.specs.declared.ends.Ends.{Ends}
 use Rattle.snd_wave.specs.declared.parts.Parts.{Parts}
 use Rattle.snd_wave.specs.Layout.{body_of, fact_chunk, fact_count, front_refusal, held, is_fact, wave_front, wave_layout, with_format}
-use Rattle.snd_wave.specs.Parts.{AreParts, ArePlaced, IsFact, IsHeld, all_pieces, ends_of, shape_of, with_params}
+use Rattle.snd_wave.specs.Parts.{AreParts, ArePlaced, IsFact, all_pieces, ends_of, shape_of, with_params}
 
 pub built : (b : List ℕ) (front : Front) (parts : Parts) (p : Parameters) (r : Result Parameters OpenRefusal) (count : Option ℕ) (ends : Ends) (pieces : List Piece) (layout : Shape)
-    → Ok p ≡ r → count ≡ option_map (fact_count b) parts.fact → ends ≡ ends_of (length b) (number Little b 4 4) parts.sound → pieces ≡ all_pieces b front ends
-    → layout ≡ shape_of p parts count ends pieces → Ok layout ≡ with_params b front parts r
+    → r ≡ Ok p → count ≡ option_map (fact_count b) parts.fact → ends ≡ ends_of (length b) (number Little b 4 4) parts.sound → pieces ≡ all_pieces b front ends
+    → layout ≡ shape_of p parts count ends pieces → with_params b front parts r ≡ Ok layout
 built b front parts p r count ends pieces layout params counted ended found is =
-    rw (← params) (ap (λ (s : Shape). Ok s) (is ∙ rw (found, ended, counted) refl))
+    rw params (ap (λ (s : Shape). Ok s) (sym (is ∙ rw (found, ended, counted) refl)))
 
 pub held_few : (size : ℕ) (sound : Chunk) → held size sound ≤ sound.len
 held_few size sound = omega arith
-
-pub is_held : (size : ℕ) (parts : Parts) (p : Parameters) (count : Option ℕ) (riff : ℕ) (pieces : List Piece) (layout : Shape) (ends : Ends) → layout ≡ shape_of p parts count ends pieces → ends ≡ ends_of size riff parts.sound
-    → data_bytes layout.params layout.frames ≤ ends.held → IsSound size 12 257 parts.sound → All (EndsIn size) pieces → IsHeld size layout
-is_held size parts p count riff pieces layout ends is ended short placed inside =
-    let start : layout.start ≡ parts.sound.at = ap (λ (s : Shape). s.start) is in
-    let held_is : ends.held ≡ held size parts.sound = ap (λ (e : Ends). e.held) ended in
-    let pieces_are : layout.pieces ≡ pieces = ap (λ (s : Shape). s.pieces) is in
-    record {
-      sound = omega (arith, start, held_is, short, placed.within);
-      pieces = rw pieces_are inside;
-      declared = omega (arith, ap (λ (s : Shape). s.declared) is, placed.len);
-      early = omega (arith, start, placed.near);
-    }
 
 fact_placed : (chunks : List Chunk) (sound : Chunk) (fact : Option Chunk) → fact ≡ fact_chunk chunks → All (λ chunk. chunk.at + chunk.len + 8 ≤ sound.at) chunks → IfSome fact (IsFact sound)
 fact_placed chunks sound None is before = tt
@@ -60,7 +46,7 @@ parts_placed size front parts is are = record {
 pub same_ends : (size size' riff riff' : ℕ) (sound : Chunk) → size ≡ size' → riff ≡ riff' → ends_of size riff sound ≡ ends_of size' riff' sound
 same_ends size size' riff riff' sound s r = ap (λ n. ends_of n riff sound) s ∙ ap (λ n. ends_of size' n sound) r
 
-pub refusal_is : (b : List ℕ) (front : Front) (refusal : OpenRefusal) → front ≡ wave_front b → front_refusal front ≡ Some refusal → Err refusal ≡ wave_layout b
+pub refusal_is : (b : List ℕ) (front : Front) (refusal : OpenRefusal) → front ≡ wave_front b → front_refusal front ≡ Some refusal → wave_layout b ≡ Err refusal
 unfolding wave_layout
 refusal_is b front refusal walked is = rw (← walked, is) refl
 
@@ -80,8 +66,3 @@ layout_is b front parts walked are =
 pub walked : (b : List ℕ) (seen : Front) (id : List ℕ) → id ≡ codes "data" → seen ≡ front (chunk_at Little b) id (length b) 257 12 → seen ≡ wave_front b
 unfolding wave_front
 walked b seen id is told = told ∙ ap (λ (i : List ℕ). front (chunk_at Little b) i (length b) 257 12) is
-
-pub told_on : {R E : Type 0} (r : Result R E) (old now : Option (List ℕ)) (f h : List ℕ → R) → now ≡ old → ((b : List ℕ) → old ≡ Some b → f b ≡ h b)
-    → IfOk r (λ x. (b : List ℕ) → now ≡ Some b → x ≡ f b) → IfOk r (λ x. (b : List ℕ) → old ≡ Some b → x ≡ h b)
-told_on (Ok x) old now f h same means told = λ b is. told b (same ∙ is) ∙ means b is
-told_on (Err e) old now f h same means told = tt

@@ -1,5 +1,6 @@
 mod Bodies
 pub mod Agreements
+pub mod Answered
 pub mod Counted
 pub mod Counts
 pub mod Standing

@@ -7,6 +7,7 @@ use Rattle.snd_chunks.specs.Chunks.{chunk_at, padded_end, tail}
 use Rattle.snd_chunks.specs.Walks.{EndsBy, IsSound}
 use Rattle.snd_fields.specs.Field.{number}
 use Rattle.snd_fields.specs.declared.field.Order.TheVariants.{Little}
+use Rattle.snd_layout.specs.Format.{format_of}
 use Rattle.snd_layout.specs.Opened.{EndsIn}
 use Rattle.snd_layout.specs.Params.{Parameters}
 use Rattle.snd_layout.specs.Shape.{Shape, end}
@@ -15,7 +16,7 @@ use Rattle.snd_layout.specs.declared.piece.Piece.{Piece}
 use Rattle.snd_layout.specs.declared.refusal.OpenRefusal.{OpenRefusal}
 use Rattle.snd_wave.specs.declared.ends.Ends.{Ends}
 use Rattle.snd_wave.specs.declared.parts.Parts.{Parts}
-use Rattle.snd_wave.specs.Layout.{fact_chunk, fact_count, pieces_of, format_chunk, frame_count, front_refusal, held, inner_field, side_field}
+use Rattle.snd_wave.specs.Layout.{body_of, fact_chunk, fact_count, pieces_of, format_chunk, frame_count, front_refusal, held, inner_field, side_field}
 
 -- the chunks that a walk up to the data found, where it is not refused
 pub record AreParts (front : Front) (parts : Parts) : Type 0 where
@@ -66,6 +67,10 @@ shape_of p parts count ends pieces = record {
 abbrev pub with_params : List ℕ → Front → Parts → Result Parameters OpenRefusal → Result Shape OpenRefusal
 with_params b front parts (Err refusal) = Err refusal
 with_params b front parts (Ok p) = Ok (shape_of p parts (option_map (fact_count b) parts.fact) (ends_of (length b) (number Little b 4 4) parts.sound) (all_pieces b front (ends_of (length b) (number Little b 4 4) parts.sound)))
+
+-- the layout with these parts, or why their format is refused
+abbrev pub layout_with : List ℕ → Front → Parts → Result Shape OpenRefusal
+layout_with b front parts = with_params b front parts (format_of (body_of b parts.format))
 
 -- the data and the pieces end within a file of so many bytes; the declared size has four bytes, and the chunks before the
 -- data are so few and so small that the data begin early

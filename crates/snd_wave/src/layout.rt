@@ -1,30 +1,25 @@
 //! What a WAVE file says of itself.
 
-ghost use Rattle.std.specs.Prelude.{◌≡◌, ◌⊎◌, ◌+◌, ◌-◌, ◌^◌, ◌<◌, ◌≤◌, ◌++◌, true, false, None, Some, All, IfSome, IfOk, Ok, Err, length};
+ghost use Rattle.std.specs.Prelude.{◌≡◌, ◌^◌, ◌<◌, ◌≤◌, None, All, IfSome, IfOk};
 ghost use Rattle.snd_disk.specs.Device.{AsksAtMost, OnlyReadsOn, IfOkTold};
-ghost use Rattle.snd_chunks.specs.Chunks.{chunk_at, tail};
-ghost use Rattle.snd_chunks.specs.Walks.{EndsBy, IsSound, CountsWalk};
-ghost use Rattle.snd_fields.specs.declared.field.Order.TheVariants.{Little};
+ghost use Rattle.snd_chunks.specs.Walks.{CountsWalk, EndsBy, IsSound};
 ghost use Rattle.snd_layout.specs.Fit.{fit_refusal};
-ghost use Rattle.snd_layout.specs.Format.{format_of};
+ghost use Rattle.snd_layout.specs.Opened.{CountsOpening, EndsIn, OpensAs};
 ghost use Rattle.snd_layout.specs.Params.{data_bytes};
 ghost use Rattle.snd_layout.specs.Shape.{IsPlaced, end};
 ghost use Rattle.snd_layout.specs.declared.kind.Kind.TheVariants.{Wave};
-ghost use Rattle.snd_layout.specs.declared.refusal.OpenRefusal.{OpenRefusal as refusal};
-ghost use Rattle.snd_layout.specs.declared.error.OpenError.TheVariants.{Refused};
-ghost use Rattle.snd_wave.specs.Layout.{body_of, pieces_of, wave_layout};
-ghost use Rattle.snd_wave.specs.Parts.{ArePlaced, IsFact, IsHeld, shape_of, with_params};
-ghost use Rattle.snd_layout.specs.Opened.{EndsIn, CountsOpening, OpensAs};
+ghost use Rattle.snd_wave.specs.Layout.{wave_layout};
+ghost use Rattle.snd_wave.specs.Parts.{ArePlaced, IsFact, IsHeld, all_pieces, layout_with, shape_of};
 
 use crate::ends::{Ends, ends_of, frame_count};
 use crate::fields::{inner_field, side_field};
 use crate::parts::{Parts, parts_of};
 use crate::pieces::add_pieces;
 use crate::reads::{read_count, read_format, read_number};
-use snd_chunks::{Chunk, Front, WalkError, walk_front, walk_tail};
+use snd_chunks::{Front, WalkError, walk_front, walk_tail};
 use snd_disk::{Disk, Step};
 use snd_fields::{Id4, Order};
-use snd_layout::{Field, Kind, Layout, OpenError, OpenRefusal, Params, PieceList};
+use snd_layout::{Field, Kind, Layout, OpenError, Params, PieceList};
 use std::alloc::Global;
 
 /// The place of the first chunk, behind `RIFF`, its size and `WAVE`.
@@ -86,7 +81,7 @@ fn find_pieces<D: Disk>(
     requires size { size ≡ (D.state disk.old).size }
     requires whole { All (EndsBy size) front.now.chunks }
     requires outer { ends.outer_end ≤ size }
-    ensures told { IfOkTold D.state disk.old result (λ b pieces. pieces ≡ pieces_of false front.now.chunks ++ pieces_of true (tail (chunk_at Little b) ends.outer_end (256 - length front.now.chunks) ends.data_end)) }
+    ensures told { IfOkTold D.state disk.old result (λ b pieces. pieces ≡ all_pieces b front.now ends) }
     ensures held { IfOk result (All (EndsIn size)) }
     ensures faults { CountsWalk D.state disk.old disk.new result }
     ensures reads { OnlyReadsOn D.state D.may_leave D.left_between disk.old disk.new }
@@ -115,37 +110,30 @@ fn layout_at<D: Disk>(
     size: u64,
     front: &Front,
     parts: Parts,
-) -> Result<Result<Layout, OpenRefusal>, WalkError>
+) -> Result<Layout, OpenError>
     requires size { size ≡ (D.state disk.old).size }
     requires whole { All (EndsBy size) front.now.chunks }
     requires placed { ArePlaced size parts }
-    ensures told { IfOkTold D.state disk.old result (λ b r. r ≡ with_params b front.now parts (format_of (body_of b parts.format))) }
-    ensures held { IfOk result (λ r. IfOk r (IsHeld size)) }
-    ensures faults { CountsWalk D.state disk.old disk.new result }
+    ensures told { OpensAs D.state disk.old (λ b. layout_with b front.now parts) result }
+    ensures held { IfOk result (IsHeld size) }
+    ensures faults { CountsOpening D.state disk.old disk.new result }
     ensures reads { OnlyReadsOn D.state D.may_leave D.left_between disk.old disk.new }
     ensures asked { AsksAtMost D.state 2106 disk.old disk.new }
 {
-    let params = match read_format(disk, parts.format)? {
-        Ok(params) => params,
-        Err(refusal) => return Ok(Err(refusal)),
-    };
+    let params = read_format(disk, parts.format)?;
     let count = read_count(disk, parts.fact)?;
     let riff = read_number(disk, RIFF_SIZE.at)?;
     let ends = ends_of(size, riff, parts.sound);
     let pieces = find_pieces(alloc, disk, size, front, ends)?;
-    Ok(Ok(layout_of(params, parts, count, ends, pieces)))
+    Ok(layout_of(params, parts, count, ends, pieces))
 }
 
 // The layout of a file of this size, or why it is refused.
-fn find_layout<D: Disk>(
-    alloc: Global,
-    disk: &mut D,
-    size: u64,
-) -> Result<Result<Layout, OpenRefusal>, WalkError>
+fn find_layout<D: Disk>(alloc: Global, disk: &mut D, size: u64) -> Result<Layout, OpenError>
     requires { size ≡ (D.state disk.old).size }
-    ensures told { IfOkTold D.state disk.old result (λ b r. r ≡ wave_layout b) }
-    ensures held { IfOk result (λ r. IfOk r (IsHeld size)) }
-    ensures faults { CountsWalk D.state disk.old disk.new result }
+    ensures told { OpensAs D.state disk.old wave_layout result }
+    ensures held { IfOk result (IsHeld size) }
+    ensures faults { CountsOpening D.state disk.old disk.new result }
     ensures reads { OnlyReadsOn D.state D.may_leave D.left_between disk.old disk.new }
     ensures asked { AsksAtMost D.state 4162 disk.old disk.new }
 {
@@ -158,10 +146,8 @@ fn find_layout<D: Disk>(
         FIRST_CHUNK,
         MOST_CHUNKS + 1,
     )?;
-    match parts_of(&front) {
-        Ok(parts) => layout_at(alloc, disk, size, &front, parts),
-        Err(refusal) => Ok(Err(refusal)),
-    }
+    let parts = parts_of(&front)?;
+    layout_at(alloc, disk, size, &front, parts)
 }
 
 /// Reads what a WAVE file says of itself, after the RIFF specification of IBM and Microsoft (1991). It
@@ -182,10 +168,5 @@ pub fn open_layout<D: Disk>(alloc: Global, disk: &mut D) -> Result<Layout, OpenE
     let Ok(size) = disk.len() else {
         return Err(OpenError::DiskFault(Step::Len));
     };
-    match find_layout(alloc, disk, size) {
-        Ok(Ok(layout)) => Ok(layout),
-        Ok(Err(refusal)) => Err(OpenError::Refused(refusal)),
-        Err(WalkError::Fault(step)) => Err(OpenError::DiskFault(step)),
-        Err(WalkError::Memory) => Err(OpenError::Memory),
-    }
+    find_layout(alloc, disk, size)
 }

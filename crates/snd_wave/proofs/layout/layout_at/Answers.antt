@@ -1,6 +1,15 @@
-use Rattle.std.proofs.Common.{◌≡◌, ◌∙◌, sym, length}
-use Rattle.snd_wave.proofs.Layouts.{built, is_held, same_ends}
+use Rattle.std.proofs.Common.{rules, ◌≡◌, ◌∙◌, ap, length}
+use Rattle.snd_layout.specs.Format.{format_of}
+use Rattle.snd_wave.proofs.Answered.{passed_on}
+use Rattle.snd_wave.proofs.Layouts.{built, same_ends}
+use Rattle.snd_wave.specs.Layout.{body_of}
+use Rattle.snd_wave.specs.Parts.{layout_with, with_params}
 use Rattle.snd_wave.proofs.layout.layout_at.Goals as goal
+
+pub returns-in_err-params-clause-told : goal.returns-in_err-params-clause-told
+returns-in_err-params-clause-told g c =
+    passed_on g.D.Disk.state c.args.disk.now (λ b. format_of (body_of b c.args.parts.format)) (λ b. layout_with b c.args.front.now c.args.parts) c.from_residual.result c.in_err-params.field-0.0 (search rules)
+    (λ b refusal is. ap (with_params b c.args.front.now c.args.parts) is) c.in_err-params.ensures.told
 
 pub returns-clause-told : goal.returns-clause-told
 returns-clause-told g c = λ b told.
@@ -8,14 +17,9 @@ returns-clause-told g c = λ b told.
     let told_then = c.read_format.ensures.reads.keeps.contents ∙ told in
     let told_counted = c.read_count.ensures.reads.keeps.contents ∙ told_then in
     let told_sized = c.read_number.ensures.reads.keeps.contents ∙ told_counted in
-    built b c.args.front.now c.args.parts c.in-Ok.params _ c.in_ok-count.count c.ends_of-ends.result c.in_ok-pieces.pieces c.layout_of.result
-    (sym c.in-Ok.is ∙ c.in_ok-params.ensures.told b told)
+    built b c.args.front.now c.args.parts c.in_ok-params.params _ c.in_ok-count.count c.ends_of-ends.result c.in_ok-pieces.pieces c.layout_of.result
+    (c.in_ok-params.ensures.told b told)
     (c.in_ok-count.ensures.told b told_then)
     (c.ends_of-ends.ensures ∙ same_ends _ _ _ _ c.args.parts.sound size (c.in_ok-riff.ensures.told b told_counted))
     (c.in_ok-pieces.ensures.told b told_sized)
     c.layout_of.ensures.value
-
-pub returns-clause-held : goal.returns-clause-held
-returns-clause-held g c =
-    is_held c.args.size c.args.parts c.in-Ok.params c.in_ok-count.count c.in_ok-riff.riff c.in_ok-pieces.pieces c.layout_of.result c.ends_of-ends.result c.layout_of.ensures.value c.ends_of-ends.ensures
-    c.layout_of.ensures.short c.requires.placed.sound c.in_ok-pieces.ensures.held
