@@ -44,12 +44,8 @@ pub fn open_layout<D: Disk>(alloc: Global, disk: &mut D) -> Result<Layout, OpenE
 {
     match kind_on(disk)? {
         Kind::Wave => snd_wave::open_layout(alloc, disk),
-        Kind::Rf64
-        | Kind::W64
-        | Kind::Au
-        | Kind::Dns
-        | Kind::Voc
-        | Kind::Svx
-        | Kind::Sphere => Err(OpenError::Refused(OpenRefusal::NotBuilt)),
+        Kind::Rf64 | Kind::W64 | Kind::Au | Kind::Dns | Kind::Voc | Kind::Svx | Kind::Sphere => Err(
+            OpenError::Refused(OpenRefusal::NotBuilt),
+        ),
     }
 }
