@@ -5,6 +5,8 @@
 mod fields;
 pub mod laws;
 mod steps;
+#[cfg(test)]
+mod tests;
 mod update;
 
 pub use update::{grow, seal, shrink};

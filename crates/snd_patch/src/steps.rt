@@ -2,7 +2,7 @@
 
 ghost use Rattle.std.specs.Prelude.{◌≡◌, ◌+◌, ◌<◌, ◌≤◌, ◌^◌, [], ◌∷◌, ℕ, length, take, OnOk};
 ghost use Rattle.snd_disk.specs.Bytes.{over};
-ghost use Rattle.snd_disk.specs.Device.{CountsOn, IsStable};
+ghost use Rattle.snd_disk.specs.Device.{CountsOn, GoesOnFrom, IsStable};
 ghost use Rattle.snd_disk.specs.Runs.{Since};
 ghost use Rattle.snd_disk.specs.State.{IsCut, IsWritten, Keeps};
 ghost use Rattle.snd_layout.specs.Shape.{Shape, end};
@@ -15,8 +15,10 @@ pub(crate) fn settle<D: Disk>(disk: &mut D) -> Result<(), Step>
     ensures same { Keeps (D.state disk.old) (D.state disk.new) }
     ensures stable { OnOk result (IsStable D.state D.may_leave disk.new) }
     ensures run { Since D.state D.may_leave D.left_between disk.old disk.new [] }
-    ensures updates { (h : Shape) (n : ℕ) → Updates D.state D.left_between h n 0 disk.old disk.new }
+    ensures time { GoesOnFrom D.state D.left_between disk.old disk.new }
     ensures faults { CountsOn D.state disk.old disk.new result }
+    ensures written { (D.state disk.new).written ≡ (D.state disk.old).written }
+    ensures asked { (D.state disk.new).asked ≡ (D.state disk.old).asked }
 {
     match disk.sync() {
         Ok(()) => Ok(()),

@@ -139,7 +139,8 @@ pub fn seal<D: Disk>(disk: &mut D, layout: &mut Layout) -> Result<(), Step>
     ensures asked { (D.state disk.new).asked ≡ (D.state disk.old).asked }
 {
     if layout.trailing {
-        return settle(disk);
+        settle(disk)?;
+        return Ok(());
     }
     let frames = layout.frames;
     close_data(disk, layout, frames)?;

@@ -2,7 +2,7 @@ use Rattle.std.proofs.Common.{Option, ap, arith, subst, sym}
 use Rattle.snd_layout.specs.Shape.{Shape}
 use Rattle.snd_layout.specs.declared.field.Field.{Field}
 use Rattle.snd_patch.proofs.Places.{outer_is_field, side_is_field}
-use Rattle.snd_patch.proofs.Updating.{updates_more, updates_then}
+use Rattle.snd_patch.proofs.Updating.{settled, updates_more, updates_then}
 use Rattle.snd_patch.specs.Steps.{IsFieldOf}
 use Rattle.snd_patch.proofs.fields.put_others.Goals as goal
 
@@ -25,4 +25,4 @@ returns-clause-updates g c =
     updates_then g.D.Disk.state g.D.Disk.left_between c.args.layout.now c.args.to c.args.disk.now c.put_field-2.new.disk c.settle.new.disk 16 0 16 (omega arith)
     (updates_then g.D.Disk.state g.D.Disk.left_between c.args.layout.now c.args.to c.args.disk.now c.put_field.new.disk c.put_field-2.new.disk 8 8 16 (omega arith)
     (c.put_field.ensures.updates c.args.layout.now c.args.to outer) (c.put_field-2.ensures.updates c.args.layout.now c.args.to side))
-    (c.settle.ensures.updates c.args.layout.now c.args.to)
+    (settled g.D.Disk.state g.D.Disk.left_between c.args.layout.now c.args.to c.put_field-2.new.disk c.settle.new.disk c.settle.ensures.same c.settle.ensures.time c.settle.ensures.written c.settle.ensures.asked)
