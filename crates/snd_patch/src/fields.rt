@@ -1,12 +1,12 @@
 //! The fields of a head and what closes the data, put on a disk.
 
-ghost use Rattle.std.specs.Prelude.{◌≡◌, ◌+◌, ◌<◌, ◌≤◌, ◌^◌, ℕ, IfOk, IfSome, length, max, nat_lt, OnOk};
+ghost use Rattle.std.specs.Prelude.{◌≡◌, ◌+◌, ◌<◌, ◌≤◌, ◌^◌, [], ◌∷◌, ℕ, IfOk, IfSome, length, max, nat_lt, OnOk};
 ghost use Rattle.snd_disk.specs.Device.{CountsOn, IsStable};
 ghost use Rattle.snd_disk.specs.State.{Keeps};
 ghost use Rattle.snd_layout.specs.Shape.{EndsBy, Shape, end};
 ghost use Rattle.snd_container.specs.Values.{FitsField};
-ghost use Rattle.snd_patch.specs.Sealed.{closed, closed_end, over_closing, over_field, with_fewer, with_fields, with_inner, with_others};
-ghost use Rattle.snd_patch.specs.Steps.{Becomes, IsFieldOf, KeepsSize, MayCount, Updates};
+ghost use Rattle.snd_patch.specs.Sealed.{closed, closed_end, held_field, held_others, over_closing, over_field, with_fewer, with_fields, with_inner, with_others};
+ghost use Rattle.snd_patch.specs.Steps.{Becomes, IsFieldOf, KeepsSize, MayCount, Runs, Updates};
 
 use crate::steps::{put_bytes, settle};
 use snd_container::{closing_bytes, data_bytes, inner_bytes, outer_bytes, side_bytes};
@@ -27,6 +27,7 @@ pub(crate) fn put_inner<D: Disk>(disk: &mut D, layout: &Layout, to: u64) -> Resu
     ensures contents { OnOk result (Becomes D.state (λ b. with_inner b layout.now to) disk.old disk.new) }
     ensures size { OnOk result (KeepsSize D.state disk.old disk.new) }
     ensures stable { OnOk result (IsStable D.state D.may_leave disk.new) }
+    ensures run { Runs D.state D.may_leave D.left_between (λ b. with_inner b layout.now to ∷ []) disk.old disk.new }
     ensures updates { Updates D.state D.left_between layout.now to 32 disk.old disk.new }
     ensures faults { CountsOn D.state disk.old disk.new result }
 {
@@ -43,6 +44,7 @@ fn put_field<D: Disk>(disk: &mut D, field: Option<Field>, bytes: &[u8]) -> Resul
     requires there { IfSome field (EndsBy (D.state disk.old).size) }
     ensures contents { OnOk result (Becomes D.state (λ b. over_field field b bytes.now) disk.old disk.new) }
     ensures size { OnOk result (KeepsSize D.state disk.old disk.new) }
+    ensures run { Runs D.state D.may_leave D.left_between (λ b. held_field field b bytes.now) disk.old disk.new }
     ensures updates { (h : Shape) (n : ℕ) → IsFieldOf h field → Updates D.state D.left_between h n 8 disk.old disk.new }
     ensures faults { CountsOn D.state disk.old disk.new result }
 {
@@ -58,6 +60,7 @@ pub(crate) fn put_others<D: Disk>(disk: &mut D, layout: &Layout, to: u64) -> Res
     ensures contents { OnOk result (Becomes D.state (λ b. with_others b layout.now to) disk.old disk.new) }
     ensures size { OnOk result (KeepsSize D.state disk.old disk.new) }
     ensures stable { OnOk result (IsStable D.state D.may_leave disk.new) }
+    ensures run { Runs D.state D.may_leave D.left_between (λ b. held_others b layout.now to) disk.old disk.new }
     ensures updates { Updates D.state D.left_between layout.now to 16 disk.old disk.new }
     ensures faults { CountsOn D.state disk.old disk.new result }
 {
@@ -103,6 +106,7 @@ pub(crate) fn put_closing<D: Disk>(disk: &mut D, layout: &Layout, to: u64) -> Re
     ensures place { IfOk result (λ place. place ≡ closed_end layout.now to) }
     ensures contents { OnOk result (Becomes D.state (λ b. over_closing b layout.now to) disk.old disk.new) }
     ensures size { OnOk result ((D.state disk.new).size ≡ max (D.state disk.old).size (closed_end layout.now to)) }
+    ensures run { Runs D.state D.may_leave D.left_between (λ b. over_closing b layout.now to ∷ []) disk.old disk.new }
     ensures updates { Updates D.state D.left_between layout.now to 8 disk.old disk.new }
     ensures faults { CountsOn D.state disk.old disk.new result }
 {
