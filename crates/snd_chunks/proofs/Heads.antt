@@ -12,6 +12,10 @@ use Rattle.snd_chunks.specs.Chunks.{chunk_at, padded_end}
 pub agree_from : (n p : ℕ) (x b : List ℕ) → take n x ≡ take n (drop p b) → (i : ℕ) → i < n → get_or x i 0 ≡ get_or b (p + i) 0
 agree_from n p x b same i lt = sym (get_or-take n x i 0 lt) ∙ ap (λ (l : List ℕ). get_or l i 0) same ∙ get_or-take n (drop p b) i 0 lt ∙ get_or-drop p b i 0
 
+-- .. and so where the list is no longer than that
+pub agree_whole : (n p : ℕ) (x b : List ℕ) → x ≡ take n (drop p b) → (i : ℕ) → i < n → get_or x i 0 ≡ get_or b (p + i) 0
+agree_whole n p x b same i lt = ap (λ (l : List ℕ). get_or l i 0) same ∙ get_or-take n (drop p b) i 0 lt ∙ get_or-drop p b i 0
+
 -- the front of a list that agrees with another from a place on
 pub same_front : (k p : ℕ) (x b : List ℕ) → k ≤ length x → p + k ≤ length b → ((i : ℕ) → i < k → get_or x i 0 ≡ get_or b (p + i) 0) → take k x ≡ take k (drop p b)
 same_front k p x b long within same = same_lists _ _ (grind (arith, places)) (λ i d lt. grind (arith, places, same))

@@ -1,13 +1,13 @@
 //! The heads of chunks.
 
-ghost use Rattle.std.specs.Prelude.{◌≡◌, ◌+◌, ◌<◌, ◌≤◌, ◌^◌, List, ℕ, Some, IfSome, IfOk, OnOk, length, slice_index, take};
-ghost use Rattle.snd_disk.specs.Device.{AsksAtMost, CountsOn, OnlyReadsOn, Tells, IfOkTold};
+ghost use Rattle.std.specs.Prelude.{◌≡◌, ◌+◌, ◌<◌, ◌≤◌, ◌^◌, Some, IfSome, IfOk, length, take};
+ghost use Rattle.snd_disk.specs.Device.{AsksAtMost, CountsOn, OnlyReadsOn, IfOkTold};
 ghost use Rattle.snd_fields.specs.Field.{number};
 ghost use Rattle.snd_chunks.specs.Chunks.{chunk_at, padded_end};
 ghost use Rattle.snd_chunks.specs.Walks.{HasHeadAt};
 
 use crate::chunk::Chunk;
-use snd_disk::{Disk, Step};
+use snd_disk::{Disk, Step, fill};
 use snd_fields::{Id4, Order, u32_at};
 
 const HEAD_SIZE: u64 = 8;
@@ -32,22 +32,6 @@ fn chunk_of(order: Order, head: &[u8], place: u64) -> Chunk
     }
 }
 
-// Fills a head with the 8 bytes from a place on, which a disk of this size has.
-fn read_head<D: Disk>(disk: &mut D, head: &mut [u8], place: u64) -> Result<(), Step>
-    requires size { length head.old ≡ 8 }
-    requires within { place + 8 ≤ (D.state disk.old).size }
-    ensures told { OnOk result ((b : List ℕ) → Tells D.state disk.old b → (i : ℕ) → i < 8 → slice_index head.new i ≡ slice_index b (place + i)) }
-    ensures len { length head.new ≡ 8 }
-    ensures faults { CountsOn D.state disk.old disk.new result }
-    ensures reads { OnlyReadsOn D.state D.may_leave D.left_between disk.old disk.new }
-    ensures asked { AsksAtMost D.state 8 disk.old disk.new }
-{
-    let Ok(_) = disk.read_at(place, head) else {
-        return Err(Step::Read);
-    };
-    Ok(())
-}
-
 /// Reads the head of the chunk at a place of a disk of `size` bytes: none where its 8 bytes are not all
 /// in the file.
 pub fn head_at<D: Disk>(
@@ -67,6 +51,6 @@ pub fn head_at<D: Disk>(
         return Ok(None);
     }
     let mut head = [0; HEAD_SIZE as usize];
-    read_head(disk, &mut head, place)?;
+    fill(disk, place, &mut head)?;
     Ok(Some(chunk_of(order, &head, place)))
 }
