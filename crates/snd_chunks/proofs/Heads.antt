@@ -1,7 +1,7 @@
 -- A head of 8 bytes, and the chunk that it is the head of.
 use Rattle.std.proofs.Common.{◌≡◌, ℕ, ◌+◌, ◌<◌, ◌≤◌, List, length, take, drop, get_or, true, Some, refl, sym, ap, ◌∙◌, arith, add_assoc}
 use Rattle.std.proofs.lemmas.Bool.{le-leb}
-use Rattle.std.proofs.lemmas.List.{get_or-take, get_or-drop, places, same_lists}
+use Rattle.std.proofs.lemmas.List.{get_or-take, get_or-drop, length-drop, length-take, places, same_lists}
 use Rattle.std.specs.Prelude.{nat_le}
 use Rattle.snd_fields.proofs.Numbers.{number_same}
 use Rattle.snd_fields.specs.Field.{number}
@@ -15,6 +15,9 @@ agree_from n p x b same i lt = sym (get_or-take n x i 0 lt) ∙ ap (λ (l : List
 -- .. and so where the list is no longer than that
 pub agree_whole : (n p : ℕ) (x b : List ℕ) → x ≡ take n (drop p b) → (i : ℕ) → i < n → get_or x i 0 ≡ get_or b (p + i) 0
 agree_whole n p x b same i lt = ap (λ (l : List ℕ). get_or l i 0) same ∙ get_or-take n (drop p b) i 0 lt ∙ get_or-drop p b i 0
+
+pub whole_length : (n p : ℕ) (x b : List ℕ) → x ≡ take n (drop p b) → p + n ≤ length b → length x ≡ n
+whole_length n p x b same within = ap length same ∙ omega (arith, length-take n (drop p b), length-drop p b)
 
 -- the front of a list that agrees with another from a place on
 pub same_front : (k p : ℕ) (x b : List ℕ) → k ≤ length x → p + k ≤ length b → ((i : ℕ) → i < k → get_or x i 0 ≡ get_or b (p + i) 0) → take k x ≡ take k (drop p b)
