@@ -1,5 +1,5 @@
 -- What is answered of a file where a part of the work has answered.
-use Rattle.std.proofs.Common.{◌≡◌, ℕ, List, Ok, Err, ap, ◌∙◌}
+use Rattle.std.proofs.Common.{◌≡◌, ℕ, List, Ok, Err, refl, ap, ◌∙◌}
 use Rattle.std.specs.Prelude.{Result}
 use Rattle.snd_disk.specs.Device.{Tells}
 use Rattle.snd_disk.specs.State.{State}
@@ -25,3 +25,7 @@ pub opens_on : {D T : Type 0} (state : D → State) (old mid : D) (given given' 
     → ((b : List ℕ) → Tells state old b → given' b ≡ given b) → OpensAs state mid given r → OpensAs state old given' r
 opens_on state old mid given given' (Ok x) same means found = λ b told. means b told ∙ found b (same ∙ told)
 opens_on state old mid given given' (Err e) same means found = λ refusal b by told. means b told ∙ found refusal b by (same ∙ told)
+
+-- what is answered of what a disk held then, it held before
+pub opens_from : {D T : Type 0} (state : D → State) (old mid : D) (given : List ℕ → Result T OpenRefusal) (r : Result T OpenError) → (state mid).contents ≡ (state old).contents → OpensAs state mid given r → OpensAs state old given r
+opens_from state old mid given r same found = opens_on state old mid given given r same (λ b told. refl) found
