@@ -1,2 +1,5 @@
+pub mod Blocks
 mod Fronts
+mod Laid
 mod OfKinds
+pub mod Widths

@@ -1,2 +1,4 @@
+pub mod Made
 pub mod Recognised
 pub mod Sound
+pub mod Values

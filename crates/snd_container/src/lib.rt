@@ -1,8 +1,13 @@
-//! Sound files of every kind, by one call: which container a file is, and what it says of itself.
+//! Sound files of every kind, by one call: which container a file is, what it says of itself, and how one
+//! is made.
 #![tactic(auto)]
 
+mod fields;
+mod made;
 mod open;
 mod recognition;
 
+pub use fields::{closing_bytes, data_bytes, inner_bytes, outer_bytes, room, side_bytes};
+pub use made::{fit, lay_head};
 pub use open::open_layout;
 pub use recognition::recognise;

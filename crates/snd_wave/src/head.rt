@@ -6,6 +6,7 @@ ghost use Rattle.arrayvec.specs.ArrayVec.{array_vec_len};
 ghost use Rattle.snd_chunks.specs.Written.{chunks_bytes};
 ghost use Rattle.snd_fields.specs.declared.field.Order.TheVariants.{Little};
 ghost use Rattle.snd_layout.specs.Fit.{fit_refusal};
+ghost use Rattle.snd_layout.specs.Opened.{CountsOpening};
 ghost use Rattle.snd_layout.specs.declared.kind.Kind.TheVariants.{Wave};
 ghost use Rattle.snd_wave.specs.Written.{Becomes, IsLayCause, has_fact, inner_at, made_shape, new_fact, plain_start, side_at, wave_head};
 
@@ -176,7 +177,7 @@ pub fn lay_head<D: Disk>(alloc: Global, disk: &mut D, params: Params) -> Result<
     ensures laid { OnOk result (Becomes (wave_head params []) (D.state disk.old) (D.state disk.new)) }
     ensures layout { IfOk result (λ l. l ≡ made_shape params [] 0) }
     ensures cause { IfErr result (IsLayCause (D.state disk.old).faults (D.state disk.new).faults) }
-    ensures calm { OnOk result ((D.state disk.new).faults ≡ (D.state disk.old).faults) }
+    ensures faults { CountsOpening D.state disk.old disk.new result }
     ensures name { (D.state disk.new).name ≡ (D.state disk.old).name }
     ensures written { WritesAtMost D.state 2048 disk.old disk.new }
     ensures asked { (D.state disk.new).asked ≡ (D.state disk.old).asked }

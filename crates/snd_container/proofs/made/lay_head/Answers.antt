@@ -1,0 +1,5 @@
+use Rattle.snd_container.proofs.Laid.{laid}
+use Rattle.snd_container.proofs.made.lay_head.Goals as goal
+
+pub returns-in-Wave-clause-laid : goal.returns-in-Wave-clause-laid
+returns-in-Wave-clause-laid g c = laid c.lay_head.result c.args.kind c.args.params (g.D.Disk.state c.args.disk.now) (g.D.Disk.state c.lay_head.new.disk) c.in-Wave.is c.lay_head.ensures.laid

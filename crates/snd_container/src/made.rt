@@ -1,0 +1,54 @@
+//! Files of every kind that are made.
+
+ghost use Rattle.std.specs.Prelude.{◌≡◌, Err, IfErr, IfOk, None, OnOk, Ok, Some, length};
+ghost use Rattle.snd_disk.specs.Device.{WritesAtMost};
+ghost use Rattle.snd_disk.specs.State.{IsMeant};
+ghost use Rattle.snd_layout.specs.Fit.{fit_refusal};
+ghost use Rattle.snd_layout.specs.Opened.{CountsOpening};
+ghost use Rattle.snd_layout.specs.declared.error.OpenError.TheVariants.{Refused};
+ghost use Rattle.snd_layout.specs.declared.refusal.OpenRefusal.{OpenRefusal};
+ghost use Rattle.snd_container.specs.Made.{IsMakeCause, new_file, new_layout};
+
+use snd_disk::Disk;
+use snd_layout::{Kind, Layout, OpenError, OpenRefusal, Params};
+use std::alloc::Global;
+
+/// Whether a file of a kind is made with some parameters: BadRate where it is 8SVX and the rate is above
+/// 65535, then BadPair where the kind does not hold the codec, its order or the channels.
+pub fn fit(kind: Kind, params: Params) -> Result<(), OpenRefusal>
+    ensures fits { OnOk result (fit_refusal kind params ≡ None) }
+    ensures refused { IfErr result (λ refusal. fit_refusal kind params ≡ Some refusal) }
+{
+    match kind.refusal_of(&params) {
+        Some(refusal) => Err(refusal),
+        None => Ok(()),
+    }
+}
+
+/// Makes a disk a file of a kind with these parameters, no frames and no pieces, whatever it held before.
+/// The kind holds the parameters. It writes at most 2048 bytes and reads none. The answer is
+/// `DiskFault` where a call of the disk failed, and `Refused` where the kind is not built yet: then the
+/// disk is not touched.
+pub fn lay_head<D: Disk>(
+    alloc: Global,
+    disk: &mut D,
+    kind: Kind,
+    params: Params,
+) -> Result<Layout, OpenError>
+    requires { fit_refusal kind params ≡ None }
+    ensures laid { OnOk result (IsMeant (length (new_file kind params)) (λ b. new_file kind params) (D.state disk.old) (D.state disk.new)) }
+    ensures layout { IfOk result (λ l. new_layout kind params ≡ Ok l) }
+    ensures cause { IfErr result (IsMakeCause (new_layout kind params) (D.state disk.old).faults (D.state disk.new).faults) }
+    ensures untouched { (refusal : OpenRefusal) → new_layout kind params ≡ Err refusal → disk.new ≡ disk.old }
+    ensures faults { CountsOpening D.state disk.old disk.new result }
+    ensures name { (D.state disk.new).name ≡ (D.state disk.old).name }
+    ensures written { WritesAtMost D.state 2048 disk.old disk.new }
+    ensures asked { (D.state disk.new).asked ≡ (D.state disk.old).asked }
+{
+    match kind {
+        Kind::Wave => snd_wave::lay_head(alloc, disk, params),
+        Kind::Rf64 | Kind::W64 | Kind::Au | Kind::Dns | Kind::Voc | Kind::Svx | Kind::Sphere => Err(
+            OpenError::Refused(OpenRefusal::NotBuilt),
+        ),
+    }
+}

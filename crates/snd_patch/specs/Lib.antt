@@ -1,0 +1,3 @@
+pub mod Laws
+pub mod Sealed
+pub mod Steps
