@@ -10,11 +10,12 @@ ghost use Rattle.snd_modes.specs.Reading.{FitCodec, GivesFrames, front_of, rest_
 
 use crate::error::{DiskFault, ReadError, SeekError};
 use crate::frames::{channels_of, frames_ahead, read_from};
-use crate::handle::{CanRead, File};
+use crate::handle::File;
+use crate::mode::{CanRead, Mode};
 use snd_disk::Disk;
 use snd_layout::{Kind, Params};
 
-impl<'d, D: Disk, M> File<'d, D, M> {
+impl<'d, D: Disk, M: Mode> File<'d, D, M> {
     /// How many frames the file holds.
     pub fn frames(&self) -> u64
         ensures { result ≡ (known_of self.now).shape.frames }
@@ -46,6 +47,9 @@ impl<'d, D: Disk, M> File<'d, D, M> {
             disk,
             layout: _,
             read_place: _,
+            write_place: _,
+            automatic: _,
+            written: _,
             broken,
             mode: _,
         } = self;
@@ -54,7 +58,9 @@ impl<'d, D: Disk, M> File<'d, D, M> {
             None => Ok(disk),
         }
     }
+}
 
+impl<'d, D: Disk, M: CanRead> File<'d, D, M> {
     /// Reads frames, from the one to read next on: as many as the slice has places for, fewer only at the
     /// end. A frame has one number for each channel, in turn, each in the range of the codec. The answer is
     /// how many frames were read; the place moves by that number, and the rest of the slice stays.
@@ -63,8 +69,6 @@ impl<'d, D: Disk, M> File<'d, D, M> {
     /// have places for whole frames; these leave all as it was. `DiskFault` where a call of the disk failed
     /// now: the place stays, and from then on the file is broken.
     pub fn read_frames(&mut self, into: &mut [i32]) -> Result<usize, ReadError>
-    where
-        M: CanRead,
         ensures loan { loan_of self.new ≡ loan_of self.old }
         ensures left { ReadLeaves (length into.old) (known_of self.old) (known_of self.new) result }
         ensures read { IfOkStanding D.state self.old result (GivesFrames (channels_of self.old) into.new) }
@@ -100,8 +104,6 @@ impl<'d, D: Disk, M> File<'d, D, M> {
     /// not touched. `Broken` where a call of the disk failed before, and then `SeekRange` exactly where
     /// the place is past the end; the place stays.
     pub fn seek_read(&mut self, to: u64) -> Result<(), SeekError>
-    where
-        M: CanRead,
         ensures loan { loan_of self.new ≡ loan_of self.old }
         ensures same_disk { disk_of self.new ≡ disk_of self.old }
         ensures left { SeekLeaves to (known_of self.old) (known_of self.new) result }

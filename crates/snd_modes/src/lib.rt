@@ -7,10 +7,12 @@ mod error;
 mod file;
 mod frames;
 mod handle;
+mod mode;
 mod open;
 mod reads;
 
 pub use codec::linear_form;
 pub use error::{DiskFault, ReadError, SeekError};
-pub use handle::{CanRead, File, Read};
+pub use handle::File;
+pub use mode::{CanRead, CanShrink, CanWrite, Mode, Read, Update, Write};
 pub use open::open_read;
