@@ -1,3 +1,5 @@
 pub mod Opening
+pub mod Overwritten
+pub mod PutBlocks
 pub mod Runs
 pub mod SoundFrames

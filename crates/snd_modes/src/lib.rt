@@ -10,6 +10,7 @@ mod handle;
 mod mode;
 mod open;
 mod reads;
+mod writes;
 
 pub use codec::linear_form;
 pub use error::{DiskFault, ReadError, SeekError};
