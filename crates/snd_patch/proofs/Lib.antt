@@ -1,4 +1,5 @@
 pub mod Bytes
 pub mod Lists
 pub mod Places
+pub mod Running
 pub mod Updating

@@ -78,3 +78,7 @@ module _ {D : Type 0} (state : D → State) (left_between : D → ℕ → ℕ �
 
     pub broken_cut_updates : (len : ℕ) → end h n ≤ len → IsBetween len (take len) (state a) (state b) → Updates state left_between h n most a b
     broken_cut_updates len behind broken = broken_updates len (take len) broken (λ l x mix i lt other. cut_before l len x mix i (omega (arith, lt, behind)))
+
+  -- a sync keeps all
+  pub settled : (a b : D) → Keeps (state a) (state b) → GoesOnFrom state left_between a b → (state b).written ≡ (state a).written → (state b).asked ≡ (state a).asked → Updates state left_between h n 0 a b
+  settled a b keeps time written asked = kept_updates a b 0 time (record { later = omega (arith, written); most = omega (arith, written) }) asked keeps

@@ -1,6 +1,6 @@
 -- A file whose fields are brought up to a number of frames. The order of the fields is this library's own rule: so a crash
 -- leaves the old number of frames or the new one.
-use Rattle.std.specs.Prelude.{◌≡◌, ℕ, ◌+◌, ◌<◌, Bool, false, ◌||◌, ◌&&◌, List, length, max, take, get_or, Option, None, Some, IfSome, nat_le, nat_lt, if◌then◌else◌}
+use Rattle.std.specs.Prelude.{◌≡◌, ℕ, ◌+◌, ◌<◌, Bool, false, ◌||◌, ◌&&◌, List, [], ◌∷◌, ◌++◌, length, max, take, get_or, Option, None, Some, IfSome, nat_le, nat_lt, if◌then◌else◌}
 use Rattle.snd_disk.specs.Bytes.{over}
 use Rattle.snd_disk.specs.Runs.{AreApart}
 use Rattle.snd_layout.specs.Params.{data_bytes}
@@ -13,9 +13,18 @@ abbrev pub over_field : Option Field → List ℕ → List ℕ → List ℕ
 over_field None b bytes = b
 over_field (Some field) b bytes = over b field.at bytes
 
+-- what is held on the way: nothing more where the field is not there
+abbrev pub held_field : Option Field → List ℕ → List ℕ → List (List ℕ)
+held_field None b bytes = []
+held_field (Some field) b bytes = over b field.at bytes ∷ []
+
 -- b with the size of the whole of n frames, and the count that is not read
 abbrev pub with_others : List ℕ → Shape → ℕ → List ℕ
 with_others b h n = over_field h.side (over_field h.outer b (outer_value h n)) (side_value h n)
+
+-- .. and what is held on the way
+abbrev pub held_others : List ℕ → Shape → ℕ → List (List ℕ)
+held_others b h n = held_field h.outer b (outer_value h n) ++ held_field h.side (over_field h.outer b (outer_value h n)) (side_value h n)
 
 -- b with the number that decides the count
 abbrev pub with_inner : List ℕ → Shape → ℕ → List ℕ

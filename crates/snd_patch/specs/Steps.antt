@@ -1,7 +1,7 @@
 -- How the steps of an update leave a disk. The first arguments are its meanings.
-use Rattle.std.specs.Prelude.{◌≡◌, ℕ, ◌+◌, ◌^◌, ◌<◌, ◌≤◌, false, List, Option, IfSome, is_some}
+use Rattle.std.specs.Prelude.{◌≡◌, ℕ, ◌+◌, ◌^◌, ◌<◌, ◌≤◌, false, List, Option, IfSome, is_some, option_map}
 use Rattle.snd_disk.specs.Device.{GoesOnFrom, Tells, WritesAtMost}
-use Rattle.snd_disk.specs.Runs.{IsBeside}
+use Rattle.snd_disk.specs.Runs.{IsBeside, Since}
 use Rattle.snd_disk.specs.State.{State}
 use Rattle.snd_layout.specs.Shape.{Shape, end}
 use Rattle.snd_container.specs.Values.{HasRoomFor}
@@ -23,6 +23,17 @@ pub record StillTells (old new : State) : Type 0 where
 abbrev pub KeepsBeside : {D : Type 0} → (D → State) → Shape → ℕ → D → D → Type 0
 KeepsBeside state h n old new =
     (b : List ℕ) → Tells state old b → (x : List ℕ) × Tells state new x × SameBesideFields h n b x
+
+-- where the disk tells what it holds, it holds then what was meant; and it has the length that it had
+abbrev pub Becomes : {D : Type 0} → (D → State) → (List ℕ → List ℕ) → D → D → Type 0
+Becomes state meant old new = (state new).contents ≡ option_map meant (state old).contents
+
+abbrev pub KeepsSize : {D : Type 0} → (D → State) → D → D → Type 0
+KeepsSize state old new = (state new).size ≡ (state old).size
+
+-- where the disk tells what it holds, the calls were a run in which it held these lists
+abbrev pub Runs : {D : Type 0} → (D → State) → (D → List ℕ → Type 0) → (D → ℕ → ℕ → List ℕ → Type 0) → (List ℕ → List (List ℕ)) → D → D → Type 0
+Runs state may_leave left_between held old new = (b : List ℕ) → Tells state old b → Since state may_leave left_between old new (held b)
 
 -- the places from one on are none of the first n frames nor before them, but for those of the fields
 abbrev pub IsOutside : Shape → ℕ → ℕ → ℕ → Type 0

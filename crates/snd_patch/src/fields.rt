@@ -1,12 +1,12 @@
 //! The fields of a head and what closes the data, put on a disk.
 
-ghost use Rattle.std.specs.Prelude.{◌≡◌, ◌+◌, ◌<◌, ◌≤◌, ◌^◌, ℕ, IfOk, IfSome, length, max, nat_lt, OnOk, option_map};
+ghost use Rattle.std.specs.Prelude.{◌≡◌, ◌+◌, ◌<◌, ◌≤◌, ◌^◌, [], ◌∷◌, ℕ, IfOk, IfSome, length, max, nat_lt, OnOk};
 ghost use Rattle.snd_disk.specs.Device.{CountsOn, IsStable};
 ghost use Rattle.snd_disk.specs.State.{Keeps};
 ghost use Rattle.snd_layout.specs.Shape.{EndsBy, Shape, end};
 ghost use Rattle.snd_container.specs.Values.{FitsField};
-ghost use Rattle.snd_patch.specs.Sealed.{closed, closed_end, over_closing, over_field, with_fewer, with_fields, with_inner, with_others};
-ghost use Rattle.snd_patch.specs.Steps.{IsFieldOf, MayCount, Updates};
+ghost use Rattle.snd_patch.specs.Sealed.{closed, closed_end, held_field, held_others, over_closing, over_field, with_fewer, with_fields, with_inner, with_others};
+ghost use Rattle.snd_patch.specs.Steps.{Becomes, IsFieldOf, KeepsSize, MayCount, Runs, Updates};
 
 use crate::steps::{put_bytes, settle};
 use snd_container::{closing_bytes, data_bytes, inner_bytes, outer_bytes, side_bytes};
@@ -24,9 +24,10 @@ pub(crate) fn data_end(layout: &Layout, frames: u64) -> u64
 /// Puts the number that decides the count, and makes it stable.
 pub(crate) fn put_inner<D: Disk>(disk: &mut D, layout: &Layout, to: u64) -> Result<(), Step>
     requires { MayCount layout.now to (D.state disk.old).size }
-    ensures contents { OnOk result ((D.state disk.new).contents ≡ option_map (λ b. with_inner b layout.now to) (D.state disk.old).contents) }
-    ensures size { OnOk result ((D.state disk.new).size ≡ (D.state disk.old).size) }
+    ensures contents { OnOk result (Becomes D.state (λ b. with_inner b layout.now to) disk.old disk.new) }
+    ensures size { OnOk result (KeepsSize D.state disk.old disk.new) }
     ensures stable { OnOk result (IsStable D.state D.may_leave disk.new) }
+    ensures run { Runs D.state D.may_leave D.left_between (λ b. with_inner b layout.now to ∷ []) disk.old disk.new }
     ensures updates { Updates D.state D.left_between layout.now to 32 disk.old disk.new }
     ensures faults { CountsOn D.state disk.old disk.new result }
 {
@@ -41,8 +42,9 @@ fn put_field<D: Disk>(disk: &mut D, field: Option<Field>, bytes: &[u8]) -> Resul
     requires fits { FitsField field bytes.now }
     requires few { length bytes.now ≤ 8 }
     requires there { IfSome field (EndsBy (D.state disk.old).size) }
-    ensures contents { OnOk result ((D.state disk.new).contents ≡ option_map (λ b. over_field field b bytes.now) (D.state disk.old).contents) }
-    ensures size { OnOk result ((D.state disk.new).size ≡ (D.state disk.old).size) }
+    ensures contents { OnOk result (Becomes D.state (λ b. over_field field b bytes.now) disk.old disk.new) }
+    ensures size { OnOk result (KeepsSize D.state disk.old disk.new) }
+    ensures run { Runs D.state D.may_leave D.left_between (λ b. held_field field b bytes.now) disk.old disk.new }
     ensures updates { (h : Shape) (n : ℕ) → IsFieldOf h field → Updates D.state D.left_between h n 8 disk.old disk.new }
     ensures faults { CountsOn D.state disk.old disk.new result }
 {
@@ -55,9 +57,10 @@ fn put_field<D: Disk>(disk: &mut D, field: Option<Field>, bytes: &[u8]) -> Resul
 /// Puts the size of the whole and the count that is not read, and makes them stable.
 pub(crate) fn put_others<D: Disk>(disk: &mut D, layout: &Layout, to: u64) -> Result<(), Step>
     requires { MayCount layout.now to (D.state disk.old).size }
-    ensures contents { OnOk result ((D.state disk.new).contents ≡ option_map (λ b. with_others b layout.now to) (D.state disk.old).contents) }
-    ensures size { OnOk result ((D.state disk.new).size ≡ (D.state disk.old).size) }
+    ensures contents { OnOk result (Becomes D.state (λ b. with_others b layout.now to) disk.old disk.new) }
+    ensures size { OnOk result (KeepsSize D.state disk.old disk.new) }
     ensures stable { OnOk result (IsStable D.state D.may_leave disk.new) }
+    ensures run { Runs D.state D.may_leave D.left_between (λ b. held_others b layout.now to) disk.old disk.new }
     ensures updates { Updates D.state D.left_between layout.now to 16 disk.old disk.new }
     ensures faults { CountsOn D.state disk.old disk.new result }
 {
@@ -72,8 +75,8 @@ pub(crate) fn put_others<D: Disk>(disk: &mut D, layout: &Layout, to: u64) -> Res
 /// Puts the fields in the order in which a count grows.
 pub(crate) fn raise<D: Disk>(disk: &mut D, layout: &Layout, to: u64) -> Result<(), Step>
     requires { MayCount layout.now to (D.state disk.old).size }
-    ensures contents { OnOk result ((D.state disk.new).contents ≡ option_map (λ b. with_fields b layout.now to) (D.state disk.old).contents) }
-    ensures size { OnOk result ((D.state disk.new).size ≡ (D.state disk.old).size) }
+    ensures contents { OnOk result (Becomes D.state (λ b. with_fields b layout.now to) disk.old disk.new) }
+    ensures size { OnOk result (KeepsSize D.state disk.old disk.new) }
     ensures stable { OnOk result (IsStable D.state D.may_leave disk.new) }
     ensures updates { Updates D.state D.left_between layout.now to 48 disk.old disk.new }
     ensures faults { CountsOn D.state disk.old disk.new result }
@@ -86,8 +89,8 @@ pub(crate) fn raise<D: Disk>(disk: &mut D, layout: &Layout, to: u64) -> Result<(
 /// Puts the fields in the order in which a count shrinks.
 pub(crate) fn lower<D: Disk>(disk: &mut D, layout: &Layout, to: u64) -> Result<(), Step>
     requires { MayCount layout.now to (D.state disk.old).size }
-    ensures contents { OnOk result ((D.state disk.new).contents ≡ option_map (λ b. with_fewer b layout.now to) (D.state disk.old).contents) }
-    ensures size { OnOk result ((D.state disk.new).size ≡ (D.state disk.old).size) }
+    ensures contents { OnOk result (Becomes D.state (λ b. with_fewer b layout.now to) disk.old disk.new) }
+    ensures size { OnOk result (KeepsSize D.state disk.old disk.new) }
     ensures stable { OnOk result (IsStable D.state D.may_leave disk.new) }
     ensures updates { Updates D.state D.left_between layout.now to 48 disk.old disk.new }
     ensures faults { CountsOn D.state disk.old disk.new result }
@@ -98,11 +101,12 @@ pub(crate) fn lower<D: Disk>(disk: &mut D, layout: &Layout, to: u64) -> Result<(
 }
 
 /// Puts what closes the data of so many frames, and gives the place behind it.
-pub(crate) fn put_closing<D: Disk>(disk: &mut D, layout: &Layout, to: u64) -> Result<u64, Step>
+pub fn put_closing<D: Disk>(disk: &mut D, layout: &Layout, to: u64) -> Result<u64, Step>
     requires { MayCount layout.now to (D.state disk.old).size }
     ensures place { IfOk result (λ place. place ≡ closed_end layout.now to) }
-    ensures contents { OnOk result ((D.state disk.new).contents ≡ option_map (λ b. over_closing b layout.now to) (D.state disk.old).contents) }
+    ensures contents { OnOk result (Becomes D.state (λ b. over_closing b layout.now to) disk.old disk.new) }
     ensures size { OnOk result ((D.state disk.new).size ≡ max (D.state disk.old).size (closed_end layout.now to)) }
+    ensures run { Runs D.state D.may_leave D.left_between (λ b. over_closing b layout.now to ∷ []) disk.old disk.new }
     ensures updates { Updates D.state D.left_between layout.now to 8 disk.old disk.new }
     ensures faults { CountsOn D.state disk.old disk.new result }
 {
@@ -131,7 +135,7 @@ fn lacks_closing<D: Disk>(disk: &mut D, layout: &Layout, to: u64) -> Result<bool
 /// Puts what closes the data of so many frames, where it is not all there.
 pub(crate) fn close_data<D: Disk>(disk: &mut D, layout: &Layout, to: u64) -> Result<(), Step>
     requires { MayCount layout.now to (D.state disk.old).size }
-    ensures contents { OnOk result ((D.state disk.new).contents ≡ option_map (λ b. closed b layout.now to) (D.state disk.old).contents) }
+    ensures contents { OnOk result (Becomes D.state (λ b. closed b layout.now to) disk.old disk.new) }
     ensures size { OnOk result ((D.state disk.new).size ≡ max (D.state disk.old).size (closed_end layout.now to)) }
     ensures updates { Updates D.state D.left_between layout.now to 8 disk.old disk.new }
     ensures faults { CountsOn D.state disk.old disk.new result }

@@ -5,6 +5,9 @@
 mod fields;
 pub mod laws;
 mod steps;
+#[cfg(test)]
+mod tests;
 mod update;
 
-pub use update::{grow, seal, shrink};
+pub use fields::put_closing;
+pub use update::{cut_behind, grow, seal, shrink};

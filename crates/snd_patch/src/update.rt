@@ -1,11 +1,11 @@
 //! The number of frames that a file says, changed.
 
-ghost use Rattle.std.specs.Prelude.{◌≡◌, ◌+◌, ◌^◌, ◌<◌, ◌≤◌, false, true, OnErr, OnOk, option_map, take};
+ghost use Rattle.std.specs.Prelude.{◌≡◌, ◌+◌, ◌^◌, ◌<◌, ◌≤◌, false, true, OnErr, OnOk, take};
 ghost use Rattle.snd_disk.specs.Device.{CountsOn, GoesOnFrom, IsStable, WritesAtMost};
 ghost use Rattle.snd_layout.specs.Shape.{end};
 ghost use Rattle.snd_container.specs.Values.{HasRoomFor};
 ghost use Rattle.snd_patch.specs.Sealed.{closed_end, counted, grown, over_closing, patched, sealed, sealed_size, shrunk};
-ghost use Rattle.snd_patch.specs.Steps.{KeepsBeside, MayCount, StillTells, Updates};
+ghost use Rattle.snd_patch.specs.Steps.{Becomes, KeepsBeside, KeepsSize, MayCount, StillTells, Updates};
 
 use crate::fields::{close_data, lower, put_closing, raise};
 use crate::steps::{cut_to, settle};
@@ -29,8 +29,8 @@ fn count(layout: &mut Layout, to: u64)
 // Puts the fields, in the order for the data that the head declares.
 fn patch<D: Disk>(disk: &mut D, layout: &Layout, to: u64) -> Result<(), Step>
     requires { MayCount layout.now to (D.state disk.old).size }
-    ensures contents { OnOk result ((D.state disk.new).contents ≡ option_map (λ b. patched b layout.now to) (D.state disk.old).contents) }
-    ensures size { OnOk result ((D.state disk.new).size ≡ (D.state disk.old).size) }
+    ensures contents { OnOk result (Becomes D.state (λ b. patched b layout.now to) disk.old disk.new) }
+    ensures size { OnOk result (KeepsSize D.state disk.old disk.new) }
     ensures stable { OnOk result (IsStable D.state D.may_leave disk.new) }
     ensures updates { Updates D.state D.left_between layout.now to 48 disk.old disk.new }
     ensures faults { CountsOn D.state disk.old disk.new result }
@@ -42,10 +42,11 @@ fn patch<D: Disk>(disk: &mut D, layout: &Layout, to: u64) -> Result<(), Step>
     }
 }
 
-// Puts what closes the data of so many frames, and cuts all behind it.
-fn cut_behind<D: Disk>(disk: &mut D, layout: &Layout, to: u64) -> Result<(), Step>
+/// Puts what closes the data of so many frames, which are on the disk already, cuts all behind it, and
+/// makes that stable.
+pub fn cut_behind<D: Disk>(disk: &mut D, layout: &Layout, to: u64) -> Result<(), Step>
     requires { MayCount layout.now to (D.state disk.old).size }
-    ensures contents { OnOk result ((D.state disk.new).contents ≡ option_map (λ b. take (closed_end layout.now to) (over_closing b layout.now to)) (D.state disk.old).contents) }
+    ensures contents { OnOk result (Becomes D.state (λ b. take (closed_end layout.now to) (over_closing b layout.now to)) disk.old disk.new) }
     ensures size { OnOk result ((D.state disk.new).size ≡ closed_end layout.now to) }
     ensures stable { OnOk result (IsStable D.state D.may_leave disk.new) }
     ensures updates { Updates D.state D.left_between layout.now to 8 disk.old disk.new }
@@ -65,8 +66,8 @@ pub fn grow<D: Disk>(disk: &mut D, layout: &mut Layout, to: u64) -> Result<(), S
     requires counts { MayCount layout.old to (D.state disk.old).size }
     requires more { layout.old.frames ≤ to }
     requires stays { layout.old.trailing ≡ true → layout.old.frames ≡ to }
-    ensures contents { OnOk result ((D.state disk.new).contents ≡ option_map (λ b. grown b layout.old to) (D.state disk.old).contents) }
-    ensures size { OnOk result ((D.state disk.new).size ≡ (D.state disk.old).size) }
+    ensures contents { OnOk result (Becomes D.state (λ b. grown b layout.old to) disk.old disk.new) }
+    ensures size { OnOk result (KeepsSize D.state disk.old disk.new) }
     ensures stable { OnOk result (IsStable D.state D.may_leave disk.new) }
     ensures layout { OnOk result (layout.new ≡ counted layout.old to) }
 
@@ -96,7 +97,7 @@ pub fn shrink<D: Disk>(disk: &mut D, layout: &mut Layout, to: u64) -> Result<(),
     requires counts { MayCount layout.old to (D.state disk.old).size }
     requires fewer { to < layout.old.frames }
     requires free { layout.old.trailing ≡ false }
-    ensures contents { OnOk result ((D.state disk.new).contents ≡ option_map (λ b. shrunk b layout.old to) (D.state disk.old).contents) }
+    ensures contents { OnOk result (Becomes D.state (λ b. shrunk b layout.old to) disk.old disk.new) }
     ensures size { OnOk result ((D.state disk.new).size ≡ closed_end layout.old to) }
     ensures stable { OnOk result (IsStable D.state D.may_leave disk.new) }
     ensures layout { OnOk result (layout.new ≡ counted layout.old to) }
@@ -124,7 +125,7 @@ pub fn shrink<D: Disk>(disk: &mut D, layout: &mut Layout, to: u64) -> Result<(),
 /// file goes on behind its data, a sync alone. Where one fails, so does this call, and the layout stays.
 pub fn seal<D: Disk>(disk: &mut D, layout: &mut Layout) -> Result<(), Step>
     requires counts { MayCount layout.old layout.old.frames (D.state disk.old).size }
-    ensures contents { OnOk result ((D.state disk.new).contents ≡ option_map (λ b. sealed b layout.old layout.old.frames) (D.state disk.old).contents) }
+    ensures contents { OnOk result (Becomes D.state (λ b. sealed b layout.old layout.old.frames) disk.old disk.new) }
     ensures size { OnOk result ((D.state disk.new).size ≡ sealed_size (D.state disk.old).size layout.old layout.old.frames) }
     ensures stable { OnOk result (IsStable D.state D.may_leave disk.new) }
     ensures layout { OnOk result (layout.new ≡ counted layout.old layout.old.frames) }
@@ -139,7 +140,8 @@ pub fn seal<D: Disk>(disk: &mut D, layout: &mut Layout) -> Result<(), Step>
     ensures asked { (D.state disk.new).asked ≡ (D.state disk.old).asked }
 {
     if layout.trailing {
-        return settle(disk);
+        settle(disk)?;
+        return Ok(());
     }
     let frames = layout.frames;
     close_data(disk, layout, frames)?;
