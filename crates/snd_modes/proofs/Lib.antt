@@ -1,5 +1,10 @@
+pub mod EditedFrames
+pub mod Opened
 pub mod Opening
 pub mod Overwritten
 pub mod PutBlocks
+pub mod Rooms
 pub mod Runs
+pub mod SealedFrames
+pub mod Sealing
 pub mod SoundFrames

@@ -23,7 +23,7 @@ over_over b at s t = same_lists _ _ (grind (arith, places)) (λ k d lt. grind (a
 pub over_none : (b : List ℕ) (at : ℕ) → at ≤ length b → over b at [] ≡ b
 over_none b at there = same_lists _ _ (grind (arith, places)) (λ k d lt. grind (arith, places))
 
-mapped_twice : (f g h : List ℕ → List ℕ) (o : Option (List ℕ)) → ((b : List ℕ) → g (f b) ≡ h b) → option_map g (option_map f o) ≡ option_map h o
+pub mapped_twice : (f g h : List ℕ → List ℕ) (o : Option (List ℕ)) → ((b : List ℕ) → g (f b) ≡ h b) → option_map g (option_map f o) ≡ option_map h o
 mapped_twice f g h None same = refl
 mapped_twice f g h (Some b) same = ap (λ (l : List ℕ). Some l) (same b)
 
@@ -86,7 +86,7 @@ module _ {D : Type 0} (state : D → State) (left_between : D → ℕ → ℕ �
 
 -- ---- the samples of the blocks so far, and of the next one
 
-same_mapped : (f : List ℕ → List ℕ) (o : Option (List ℕ)) → ((b : List ℕ) → o ≡ Some b → f b ≡ b) → o ≡ option_map f o
+pub same_mapped : (f : List ℕ → List ℕ) (o : Option (List ℕ)) → ((b : List ℕ) → o ≡ Some b → f b ≡ b) → o ≡ option_map f o
 same_mapped f None same = refl
 same_mapped f (Some b) same = ap (λ (l : List ℕ). Some l) (sym (same b refl))
 

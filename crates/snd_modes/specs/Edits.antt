@@ -57,7 +57,7 @@ written_frames k xs e =
       place = e.place;
       write_place = e.write_place + k;
       automatic = e.automatic;
-      written = nat_lt 0 k || e.written;
+      written = e.written || nat_lt 0 k;
     }
 
 abbrev pub written_to : List ℤ → Editing → Editing

@@ -1,5 +1,5 @@
 -- What is seen of a handle. Its fields are named here alone.
-use Rattle.std.specs.Prelude.{◌≡◌, ℕ, Bool, Option, Some, Result, IfOk, length}
+use Rattle.std.specs.Prelude.{◌≡◌, ℕ, Bool, false, Option, None, Some, Result, IfOk, length}
 use Rattle.std.specs.Borrow.{GName}
 use Rattle.snd_disk.specs.declared.disk.Disk.{Ghosts}
 use Rattle.snd_disk.specs.declared.disk.Step.{Step}
@@ -37,6 +37,14 @@ known_of file = record {
   written = file.written;
   broken = file.broken;
 }
+
+-- .. as a file is opened
+pub record IsFresh (known : Known) : Type 0 where
+  pub place : known.place ≡ 0
+  pub write_place : known.write_place ≡ 0
+  pub automatic : known.automatic ≡ false
+  pub written : known.written ≡ false
+  pub broken : known.broken ≡ None
 
 -- of which: the numbers of a frame, and their codec
 abbrev pub channels_of : {D M : Type 0} {ghosts : Ghosts D} {mode : ModeGhosts M} → File D M ghosts mode → ℕ

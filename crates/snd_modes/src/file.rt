@@ -1,11 +1,13 @@
 //! The calls of an open file.
 
-ghost use Rattle.std.specs.Prelude.{◌≡◌, IfOk, length};
-ghost use Rattle.snd_disk.specs.Device.{OnlyReadsOn};
+ghost use Rattle.std.specs.Prelude.{◌≡◌, true, IfOk, OnOk, length};
+ghost use Rattle.snd_disk.specs.Device.{GoesOnFrom, IsStable, OnlyReadsOn, WritesAtMost};
+ghost use Rattle.snd_patch.specs.Steps.{KeepsBeside, StillTells};
 ghost use Rattle.snd_modes.specs.Calls.{AsksForFrames, CountsReading, ReadLeaves, SeekLeaves};
+ghost use Rattle.snd_modes.specs.Closing.{ClosesFile, IsCloseCause};
 ghost use Rattle.snd_modes.specs.Editing.{state_read, state_sought};
 ghost use Rattle.snd_modes.specs.Handle.{IfOkStanding, StandsAfter, channels_of, codec_of, disk_of, known_of, loan_of};
-ghost use Rattle.snd_modes.specs.Loans.{disk_back, fault_of, loan_back};
+ghost use Rattle.snd_modes.specs.Loans.{disk_back, loan_back};
 ghost use Rattle.snd_modes.specs.Reading.{FitCodec, GivesFrames, front_of, rest_of};
 
 use crate::error::{DiskFault, ReadError, SeekError};
@@ -14,6 +16,7 @@ use crate::handle::File;
 use crate::mode::{CanRead, Mode};
 use snd_disk::Disk;
 use snd_layout::{Kind, Params};
+use snd_patch::seal;
 
 impl<'d, D: Disk, M: Mode> File<'d, D, M> {
     /// How many frames the file holds.
@@ -37,15 +40,26 @@ impl<'d, D: Disk, M: Mode> File<'d, D, M> {
         self.layout.kind
     }
 
-    /// Gives the disk back. The answer is the step at which the disk failed, where it did.
+    /// Gives the disk back. In a mode that writes, the file is sealed first, as `update_now` does; else the
+    /// disk is as it was. It writes at most 72 bytes and takes no memory.
+    ///
+    /// The answer is the step at which the disk failed, where it did: before, and then nothing is done; or
+    /// now, in a mode that writes.
     pub fn close(self) -> Result<&'d mut D, (DiskFault, &'d mut D)>
         ensures lends { loan_back result ≡ loan_of self.entry }
-        ensures back { disk_back result ≡ disk_of self.entry }
-        ensures cause { (known_of self.entry).broken ≡ fault_of result }
+        ensures back { ClosesFile M.WRITES D.state self.entry result }
+        ensures cause { IsCloseCause M.WRITES D.state self.entry result }
+        ensures stable { M.WRITES ≡ true → OnOk result (IsStable D.state D.may_leave (disk_back result)) }
+
+        ensures beside { KeepsBeside D.state (known_of self.entry).shape (known_of self.entry).shape.frames (disk_of self.entry) (disk_back result) }
+        ensures tells { StillTells (D.state (disk_of self.entry)) (D.state (disk_back result)) }
+        ensures time { GoesOnFrom D.state D.left_between (disk_of self.entry) (disk_back result) }
+        ensures written { WritesAtMost D.state 72 (disk_of self.entry) (disk_back result) }
+        ensures asked { (D.state (disk_back result)).asked ≡ (D.state (disk_of self.entry)).asked }
     {
         let File {
             disk,
-            layout: _,
+            mut layout,
             read_place: _,
             write_place: _,
             automatic: _,
@@ -53,9 +67,16 @@ impl<'d, D: Disk, M: Mode> File<'d, D, M> {
             broken,
             mode: _,
         } = self;
-        match broken {
-            Some(step) => Err((DiskFault(step), disk)),
-            None => Ok(disk),
+        if let Some(step) = broken {
+            return Err((DiskFault(step), disk));
+        }
+        if !M::WRITES {
+            return Ok(disk);
+        }
+        layout.keeps_rule();
+        match seal(disk, &mut layout) {
+            Ok(()) => Ok(disk),
+            Err(step) => Err((DiskFault(step), disk)),
         }
     }
 }

@@ -31,7 +31,7 @@ pub(crate) fn frames_ahead(layout: &Layout, place: u64, wanted: usize) -> usize
 }
 
 // The place of a frame's first byte.
-fn place_of(layout: &Layout, form: Linear, frame: u64) -> u64
+pub(crate) fn place_of(layout: &Layout, form: Linear, frame: u64) -> u64
     requires linear { linear_of layout.now.params.codec ≡ Some form }
     requires within { frame ≤ layout.now.frames }
     ensures { result ≡ layout.now.start + byte_count form * (layout.now.params.channels * frame) }
