@@ -205,7 +205,7 @@ written_count e k xs can count =
     frames_where e.automatic e.shape (count_written e.shape e.write_place k) ∙ (let e : max e.shape.frames (e.write_place + k) ≡ length (put_frames e.frames e.write_place gs) = omega (arith, total, some, count) in e)
 
 -- what closes the data does not hang on how many frames there were
-closing_by : (kind : Kind) (h h' : Shape) (n : ℕ) → h.params ≡ h'.params → closing_of_kind kind h n ≡ closing_of_kind kind h' n
+pub closing_by : (kind : Kind) (h h' : Shape) (n : ℕ) → h.params ≡ h'.params → closing_of_kind kind h n ≡ closing_of_kind kind h' n
 unfolding wave_closing
 closing_by Wave h h' n same = ap (λ (p : Parameters). pad (data_bytes p n)) same
 closing_by _ h h' n same = refl

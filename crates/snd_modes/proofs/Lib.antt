@@ -1,3 +1,4 @@
+pub mod CutFrames
 pub mod EditedFrames
 pub mod Opened
 pub mod Opening

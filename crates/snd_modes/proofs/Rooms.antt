@@ -34,7 +34,7 @@ room_holds p form n r w channels is width count some =
     (λ few. omega (arith, bytes, div_le n r (w * channels) some few), λ few. le_div n r (w * channels) some (omega (arith, bytes, few)))
 
 -- linear samples stand in no blocks
-not_adpcm : (codec : Codec) → is_none (linear_of codec) ≡ false → is_adpcm codec ≡ false
+pub not_adpcm : (codec : Codec) → is_none (linear_of codec) ≡ false → is_adpcm codec ≡ false
 not_adpcm (Ima align per_block) linear = absurd (cc)
 not_adpcm (Ms align per_block) linear = absurd (cc)
 not_adpcm _ linear = refl

@@ -84,9 +84,16 @@ cut_to n e = record e {
 abbrev pub truncated_to : ℕ → Editing → Editing
 truncated_to n e = if nat_lt n e.shape.frames then cut_to n e else sealed_to e
 
--- sealed, and all cut off that stands behind what closes the data
+-- all cut off that stands behind what closes the data
+abbrev pub cut_off : List ℕ → Shape → ℕ → List ℕ
+cut_off b h n = take (closed_end h n) (over_closing b h n)
+
+abbrev pub without_tail : Editing → Editing
+without_tail e = record e { bytes = cut_off e.bytes e.shape e.shape.frames; shape = record e.shape { trailing = false } }
+
+-- sealed, and then that
 abbrev pub trimmed : List ℕ → Shape → ℕ → List ℕ
-trimmed b h n = take (closed_end h n) (over_closing (sealed b h n) h n)
+trimmed b h n = cut_off (sealed b h n) h n
 
 abbrev pub trimmed_shape : Shape → ℕ → Shape
 trimmed_shape h n = record (counted h n) { trailing = false }

@@ -120,6 +120,9 @@ pub record MayTrim (k : Known) : Type 0 where
   pub working : k.broken ≡ None
   pub free : k.shape.trailing ≡ true → k.shape.kind ≡ Voc
 
+abbrev pub known_without_tail : Known → Known
+known_without_tail k = record k { shape = record k.shape { trailing = false } }
+
 abbrev pub known_trimmed : Known → Known
 known_trimmed k = record k { shape = trimmed_shape k.shape k.shape.frames }
 

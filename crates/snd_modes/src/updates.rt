@@ -9,7 +9,7 @@ ghost use Rattle.snd_container.specs.Sound.{linear_of};
 ghost use Rattle.snd_container.specs.Values.{HasRoomFor};
 ghost use Rattle.snd_patch.specs.Sealed.{closed_end};
 ghost use Rattle.snd_patch.specs.Steps.{Becomes, KeepsSize, MayCount, Updates};
-ghost use Rattle.snd_modes.specs.Edits.{closed_behind, coded, count_written, sealed_where, written_bytes, written_shape};
+ghost use Rattle.snd_modes.specs.Edits.{closed_behind, coded, count_written, cut_off, sealed_where, written_bytes, written_shape};
 ghost use Rattle.snd_modes.specs.Reading.{FitCodec, bytes_of_frames};
 ghost use Rattle.snd_modes.specs.WriteCalls.{MayWrite};
 ghost use Rattle.snd_modes.specs.Writing.{IsKeptUp, PutsAt, closed_size, most_fields};
@@ -19,7 +19,7 @@ use crate::frames::place_of;
 use crate::writes::write_run;
 use snd_disk::{Disk, Step};
 use snd_layout::Layout;
-use snd_patch::{grow, put_closing};
+use snd_patch::{cut_behind, grow, put_closing};
 
 // Writes the numbers of frames over the data from a frame on, which is at most the end.
 fn write_data<D: Disk>(disk: &mut D, layout: &Layout, place: u64, from: &[i32]) -> Result<(), Step>
@@ -157,4 +157,21 @@ pub(crate) fn write_over<D: Disk>(
     layout.params.are_good();
     let to = layout.frames.max(place + count);
     put_frames(disk, layout, place, to, from, automatic)
+}
+
+// Cuts off all that stands behind what closes the data, and notes that.
+pub(crate) fn cut_off<D: Disk>(disk: &mut D, layout: &mut Layout) -> Result<(), Step>
+    requires { MayCount layout.old layout.old.frames (D.state disk.old).size }
+    ensures contents { OnOk result (Becomes D.state (λ b. cut_off b layout.old layout.old.frames) disk.old disk.new) }
+    ensures size { OnOk result ((D.state disk.new).size ≡ closed_end layout.old layout.old.frames) }
+    ensures stable { OnOk result (IsStable D.state D.may_leave disk.new) }
+    ensures layout { OnOk result (layout.new ≡ record layout.old { trailing = false }) }
+    ensures kept { OnErr result (layout.new ≡ layout.old) }
+    ensures updates { Updates D.state D.left_between layout.old layout.old.frames 8 disk.old disk.new }
+    ensures faults { CountsOn D.state disk.old disk.new result }
+{
+    let frames = layout.frames;
+    cut_behind(disk, layout, frames)?;
+    layout.trailing = false;
+    Ok(())
 }
