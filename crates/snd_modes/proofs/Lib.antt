@@ -1,5 +1,6 @@
 pub mod CutFrames
 pub mod EditedFrames
+pub mod NewFiles
 pub mod Opened
 pub mod Opening
 pub mod Overwritten

@@ -4,6 +4,7 @@ pub mod Editing
 pub mod Edits
 pub mod Handle
 pub mod Loans
+pub mod Making
 pub mod Outcomes
 pub mod Reading
 pub mod Updating
