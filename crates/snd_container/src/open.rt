@@ -1,6 +1,6 @@
 //! The layout of a file of any kind.
 
-ghost use Rattle.std.specs.Prelude.{◌≡◌, ◌≤◌, All, IfOk, take};
+ghost use Rattle.std.specs.Prelude.{◌≡◌, ◌^◌, ◌<◌, ◌≤◌, All, IfOk, take};
 ghost use Rattle.snd_disk.specs.Device.{AsksAtMost, OnlyReadsOn};
 ghost use Rattle.snd_layout.specs.Opened.{CountsOpening, EndsIn, OpensAs};
 ghost use Rattle.snd_layout.specs.Shape.{end};
@@ -37,6 +37,7 @@ fn kind_on<D: Disk>(disk: &mut D) -> Result<Kind, OpenError>
 pub fn open_layout<D: Disk>(alloc: Global, disk: &mut D) -> Result<Layout, OpenError>
     ensures opened { OpensAs D.state disk.old layout_of result }
     ensures held { IfOk result (λ l. end l l.frames ≤ (D.state disk.old).size) }
+    ensures early { IfOk result (λ l. l.start < 2 ^ 62) }
     ensures pieces_held { IfOk result (λ l. All (EndsIn (D.state disk.old).size) l.pieces) }
     ensures faults { CountsOpening D.state disk.old disk.new result }
     ensures reads { OnlyReadsOn D.state D.may_leave D.left_between disk.old disk.new }

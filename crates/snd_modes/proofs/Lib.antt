@@ -1,3 +1,12 @@
+pub mod CutFrames
+pub mod EditedFrames
+pub mod NewFiles
+pub mod Opened
 pub mod Opening
+pub mod Overwritten
+pub mod PutBlocks
+pub mod Rooms
 pub mod Runs
+pub mod SealedFrames
+pub mod Sealing
 pub mod SoundFrames

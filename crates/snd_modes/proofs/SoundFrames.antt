@@ -68,12 +68,12 @@ module _ {X : Type 0} (k : ℕ) where
   pub groups_of_piece : (n : ℕ) (piece rest : List X) → length piece ≡ k * n → first_groups k n (piece ++ rest) ≡ first_groups k n piece
   groups_of_piece n piece rest size = sym (groups_of_front n (piece ++ rest)) ∙ ap (first_groups k n) (take_at piece rest (k * n) size)
 
-  front_of_groups : (n all : ℕ) (xs : List X) → n ≤ all → take n (first_groups k all xs) ≡ first_groups k n xs
+  pub front_of_groups : (n all : ℕ) (xs : List X) → n ≤ all → take n (first_groups k all xs) ≡ first_groups k n xs
   front_of_groups zero all xs within = refl
   front_of_groups (suc n) zero xs within = absurd (omega arith)
   front_of_groups (suc n) (suc all) xs within = ap (λ l. take k xs ∷ l) (front_of_groups n all (drop k xs) (omega arith))
 
-  rest_of_groups : (n all : ℕ) (xs : List X) → n ≤ all → drop n (first_groups k all xs) ≡ first_groups k (all - n) (drop (k * n) xs)
+  pub rest_of_groups : (n all : ℕ) (xs : List X) → n ≤ all → drop n (first_groups k all xs) ≡ first_groups k (all - n) (drop (k * n) xs)
   rest_of_groups zero all xs within =
       ap (λ (i : ℕ). first_groups k i xs) (let e : all ≡ all - 0 = omega arith in e)
       ∙ ap (λ (i : ℕ). first_groups k (all - 0) (drop i xs)) (let e : 0 ≡ k * 0 = omega arith in e)

@@ -8,6 +8,7 @@ use Rattle.snd_modes.specs.declared.error.ReadError.TheVariants as read
 use Rattle.snd_modes.specs.declared.error.SeekError.{SeekError}
 use Rattle.snd_modes.specs.declared.error.SeekError.TheVariants as seek
 use Rattle.snd_modes.specs.declared.handle.File.{File}
+use Rattle.snd_modes.specs.declared.mode.Mode.{Ghosts as ModeGhosts}
 use Rattle.snd_modes.specs.Handle.{Known, disk_of, known_of}
 use Rattle.snd_modes.specs.Reading.{bytes_of_frames}
 
@@ -21,7 +22,7 @@ abbrev pub count_read : ℕ → Known → ℕ
 count_read places known = min (places / known.shape.params.channels) (known.shape.frames - known.place)
 
 -- for them at most this is asked of the disk: the bytes of as many frames as there are places for, and 16384
-abbrev pub AsksForFrames : {D M : Type 0} {ghosts : Ghosts D} → (D → State) → ℕ → File D M ghosts → File D M ghosts → Type 0
+abbrev pub AsksForFrames : {D M : Type 0} {ghosts : Ghosts D} {mode : ModeGhosts M} → (D → State) → ℕ → File D M ghosts mode → File D M ghosts mode → Type 0
 AsksForFrames state places old new =
     let known = known_of old in
     AsksAtMost state (bytes_of_frames known.shape.params (places / known.shape.params.channels) + 16384) (disk_of old) (disk_of new)

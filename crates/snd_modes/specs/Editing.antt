@@ -1,6 +1,6 @@
--- An open file, as whoever reads it sees it: its bytes, what they say, its frames, and the frame to read next. The code keeps
--- none of the frames.
-use Rattle.std.specs.Prelude.{ℕ, ℤ, ◌+◌, ◌-◌, List, Result, Ok, Err, length, take, drop, min, is_none, if◌then◌else◌}
+-- An open file, as whoever reads and writes it sees it: its bytes, what they say, its frames, and the frames to read and to
+-- write next. The code keeps none of the frames.
+use Rattle.std.specs.Prelude.{ℕ, ℤ, Bool, false, ◌+◌, ◌-◌, List, Result, Ok, Err, length, take, drop, min, is_none, if◌then◌else◌}
 use Rattle.snd_layout.specs.declared.refusal.OpenRefusal.{OpenRefusal}
 use Rattle.snd_layout.specs.declared.refusal.OpenRefusal.TheVariants.{NotBuilt}
 use Rattle.snd_layout.specs.Shape.{Shape}
@@ -10,12 +10,25 @@ pub record Editing : Type 0 where
   pub bytes : List ℕ
   pub shape : Shape
   pub frames : List (List ℤ)
-  -- the frame to read next
+  -- the frame to read next, and the frame to write next
   pub place : ℕ
+  pub write_place : ℕ
+  -- whether each write brings the head up to date
+  pub automatic : Bool
+  -- whether a frame was written since the file was opened
+  pub written : Bool
 
 -- the state in which editing begins
 abbrev pub first_editing : List ℕ → Shape → Editing
-first_editing b s = record { bytes = b; shape = s; frames = decoded s.params (sound_bytes b s); place = 0 }
+first_editing b s = record {
+  bytes = b;
+  shape = s;
+  frames = decoded s.params (sound_bytes b s);
+  place = 0;
+  write_place = 0;
+  automatic = false;
+  written = false;
+}
 
 -- linear codecs are opened; the laws and ADPCM are not built yet
 abbrev pub opening_as : List ℕ → Result Shape OpenRefusal → Result Editing OpenRefusal

@@ -1,5 +1,5 @@
 -- What is seen of a handle. Its fields are named here alone.
-use Rattle.std.specs.Prelude.{◌≡◌, ℕ, Option, Some, Result, IfOk, length}
+use Rattle.std.specs.Prelude.{◌≡◌, ℕ, Bool, false, Option, None, Some, Result, IfOk, length}
 use Rattle.std.specs.Borrow.{GName}
 use Rattle.snd_disk.specs.declared.disk.Disk.{Ghosts}
 use Rattle.snd_disk.specs.declared.disk.Step.{Step}
@@ -8,43 +8,66 @@ use Rattle.snd_layout.specs.declared.codec.Codec.{Codec}
 use Rattle.snd_layout.specs.Shape.{Shape}
 use Rattle.snd_container.specs.Sound.{decoded, sound_bytes}
 use Rattle.snd_modes.specs.declared.handle.File.{File}
+use Rattle.snd_modes.specs.declared.mode.Mode.{Ghosts as ModeGhosts}
 use Rattle.snd_modes.specs.Editing.{Editing}
 
 -- the disk that a handle holds, and the loan by which it holds it
-abbrev pub disk_of : {D M : Type 0} {ghosts : Ghosts D} → File D M ghosts → D
+abbrev pub disk_of : {D M : Type 0} {ghosts : Ghosts D} {mode : ModeGhosts M} → File D M ghosts mode → D
 disk_of file = file.disk.now
 
-abbrev pub loan_of : {D M : Type 0} {ghosts : Ghosts D} → File D M ghosts → GName
+abbrev pub loan_of : {D M : Type 0} {ghosts : Ghosts D} {mode : ModeGhosts M} → File D M ghosts mode → GName
 loan_of file = file.disk.ghost_name
 
--- what a handle knows over every disk: the layout, the frame to read next, and the step that failed, where one did
+-- what a handle knows over every disk: the layout, the frames to read and to write next, whether it is updated automatically,
+-- whether a frame was written through it, and the step that failed, where one did
 pub record Known : Type 0 where
   pub shape : Shape
   pub place : ℕ
+  pub write_place : ℕ
+  pub automatic : Bool
+  pub written : Bool
   pub broken : Option Step
 
-abbrev pub known_of : {D M : Type 0} {ghosts : Ghosts D} → File D M ghosts → Known
-known_of file = record { shape = file.layout; place = file.read_place; broken = file.broken }
+abbrev pub known_of : {D M : Type 0} {ghosts : Ghosts D} {mode : ModeGhosts M} → File D M ghosts mode → Known
+known_of file = record {
+  shape = file.layout;
+  place = file.read_place;
+  write_place = file.write_place;
+  automatic = file.automatic;
+  written = file.written;
+  broken = file.broken;
+}
+
+-- .. as a file is opened
+pub record IsFresh (known : Known) : Type 0 where
+  pub place : known.place ≡ 0
+  pub write_place : known.write_place ≡ 0
+  pub automatic : known.automatic ≡ false
+  pub written : known.written ≡ false
+  pub broken : known.broken ≡ None
 
 -- of which: the numbers of a frame, and their codec
-abbrev pub channels_of : {D M : Type 0} {ghosts : Ghosts D} → File D M ghosts → ℕ
+abbrev pub channels_of : {D M : Type 0} {ghosts : Ghosts D} {mode : ModeGhosts M} → File D M ghosts mode → ℕ
 channels_of file = (known_of file).shape.params.channels
 
-abbrev pub codec_of : {D M : Type 0} {ghosts : Ghosts D} → File D M ghosts → Codec
+abbrev pub codec_of : {D M : Type 0} {ghosts : Ghosts D} {mode : ModeGhosts M} → File D M ghosts mode → Codec
 codec_of file = (known_of file).shape.params.codec
 
 -- The handle with its disk stands for an editing state. The disk tells its contents.
-pub record Stands {D M : Type 0} {ghosts : Ghosts D} (state : D → State) (file : File D M ghosts) (e : Editing) : Type 0 where
+pub record Stands {D M : Type 0} {ghosts : Ghosts D} {mode : ModeGhosts M} (state : D → State) (file : File D M ghosts mode) (e : Editing) : Type 0 where
   pub bytes : (state (disk_of file)).contents ≡ Some e.bytes
   pub shape : (known_of file).shape ≡ e.shape
   pub place : (known_of file).place ≡ e.place
+  pub write_place : (known_of file).write_place ≡ e.write_place
+  pub automatic : (known_of file).automatic ≡ e.automatic
+  pub written : (known_of file).written ≡ e.written
   pub sound : e.frames ≡ decoded e.shape.params (sound_bytes e.bytes e.shape)
   pub count : e.shape.frames ≡ length e.frames
 
 -- what a call that succeeds answers is right by the editing state for which the handle stands
-abbrev pub IfOkStanding : {D M T E : Type 0} {ghosts : Ghosts D} → (D → State) → File D M ghosts → Result T E → (Editing → T → Type 0) → Type 0
+abbrev pub IfOkStanding : {D M T E : Type 0} {ghosts : Ghosts D} {mode : ModeGhosts M} → (D → State) → File D M ghosts mode → Result T E → (Editing → T → Type 0) → Type 0
 IfOkStanding state file result P = IfOk result (λ value. (e : Editing) → Stands state file e → P e value)
 
 -- the handle then stands for the editing state that this one becomes
-abbrev pub StandsAfter : {D M : Type 0} {ghosts : Ghosts D} → (D → State) → File D M ghosts → File D M ghosts → (Editing → Editing) → Type 0
+abbrev pub StandsAfter : {D M : Type 0} {ghosts : Ghosts D} {mode : ModeGhosts M} → (D → State) → File D M ghosts mode → File D M ghosts mode → (Editing → Editing) → Type 0
 StandsAfter state old new next = (e : Editing) → Stands state old e → Stands state new (next e)

@@ -1,5 +1,12 @@
 pub mod Calls
+pub mod Closing
 pub mod Editing
+pub mod Edits
 pub mod Handle
 pub mod Loans
+pub mod Making
+pub mod Outcomes
 pub mod Reading
+pub mod Updating
+pub mod WriteCalls
+pub mod Writing

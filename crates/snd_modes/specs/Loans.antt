@@ -10,16 +10,17 @@ use Rattle.snd_layout.specs.declared.error.OpenError.TheVariants.{Refused}
 use Rattle.snd_layout.specs.declared.refusal.OpenRefusal.{OpenRefusal}
 use Rattle.snd_modes.specs.declared.error.DiskFault.{DiskFault}
 use Rattle.snd_modes.specs.declared.handle.File.{File}
+use Rattle.snd_modes.specs.declared.mode.Mode.{Ghosts as ModeGhosts}
 use Rattle.snd_modes.specs.Editing.{Editing, opening_of}
 use Rattle.snd_modes.specs.Handle.{Stands, disk_of, loan_of}
 
 -- ---- a file that is opened, or not
 
-abbrev pub disk_after : {D M E : Type 0} {ghosts : Ghosts D} → Result (File D M ghosts) (E × MutBor D) → D
+abbrev pub disk_after : {D M E : Type 0} {ghosts : Ghosts D} {mode : ModeGhosts M} → Result (File D M ghosts mode) (E × MutBor D) → D
 disk_after (Ok file) = disk_of file
 disk_after (Err error) = error.1.now
 
-abbrev pub loan_after : {D M E : Type 0} {ghosts : Ghosts D} → Result (File D M ghosts) (E × MutBor D) → GName
+abbrev pub loan_after : {D M E : Type 0} {ghosts : Ghosts D} {mode : ModeGhosts M} → Result (File D M ghosts mode) (E × MutBor D) → GName
 loan_after (Ok file) = loan_of file
 loan_after (Err error) = error.1.ghost_name
 
@@ -29,7 +30,7 @@ answer_of (Ok value) = Ok value
 answer_of (Err error) = Err error.0
 
 -- What is answered is what the contents give, where the disk tells them: a handle that stands for the editing state, or the refusal.
-abbrev pub OpensFile : {D M : Type 0} {ghosts : Ghosts D} → (D → State) → D → Result (File D M ghosts) OpenError → Type 0
+abbrev pub OpensFile : {D M : Type 0} {ghosts : Ghosts D} {mode : ModeGhosts M} → (D → State) → D → Result (File D M ghosts mode) OpenError → Type 0
 OpensFile state disk (Ok file) = (b : List ℕ) → Tells state disk b → (e : Editing) × (opening_of b ≡ Ok e) × Stands state file e
 OpensFile state disk (Err error) = (refusal : OpenRefusal) (b : List ℕ) → error ≡ Refused refusal → Tells state disk b → opening_of b ≡ Err refusal
 

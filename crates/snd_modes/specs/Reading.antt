@@ -12,6 +12,7 @@ use Rattle.snd_pcm.specs.Pcm.{InRange, byte_count, samples}
 use Rattle.snd_pcm.specs.declared.linear.Linear.{Linear}
 use Rattle.snd_container.specs.Sound.{decoded, linear_of, sound_bytes}
 use Rattle.snd_modes.specs.declared.handle.File.{File}
+use Rattle.snd_modes.specs.declared.mode.Mode.{Ghosts as ModeGhosts}
 use Rattle.snd_modes.specs.Editing.{Editing, frames_read}
 use Rattle.snd_modes.specs.Handle.{channels_of}
 
@@ -48,10 +49,10 @@ abbrev pub bytes_of_frames : Parameters → ℕ → ℕ
 bytes_of_frames p count = count * block_align p.channels p.codec
 
 -- the front of a slice, with so many frames of a file, and the rest of the slice
-abbrev pub front_of : {D M : Type 0} {ghosts : Ghosts D} → File D M ghosts → ℕ → List ℤ → List ℤ
+abbrev pub front_of : {D M : Type 0} {ghosts : Ghosts D} {mode : ModeGhosts M} → File D M ghosts mode → ℕ → List ℤ → List ℤ
 front_of file count xs = take (count * channels_of file) xs
 
-abbrev pub rest_of : {D M : Type 0} {ghosts : Ghosts D} → File D M ghosts → ℕ → List ℤ → List ℤ
+abbrev pub rest_of : {D M : Type 0} {ghosts : Ghosts D} {mode : ModeGhosts M} → File D M ghosts mode → ℕ → List ℤ → List ℤ
 rest_of file count xs = drop (count * channels_of file) xs
 
 -- a slice has so many of the frames that are next

@@ -1,11 +1,19 @@
 //! The codecs whose samples are linear.
 
 ghost use Rattle.std.specs.Prelude.{◌≡◌};
+ghost use Rattle.snd_layout.specs.Blocks.{is_adpcm};
 ghost use Rattle.snd_layout.specs.Params.{AreParams};
 ghost use Rattle.snd_container.specs.Sound.{linear_of};
 
 use snd_layout::{Codec, Layout};
 use snd_pcm::Linear;
+
+// Whether a codec's samples stand in blocks.
+pub(crate) fn is_adpcm(codec: Codec) -> bool
+    ensures { result ≡ is_adpcm codec }
+{
+    matches!(codec, Codec::Ima { .. } | Codec::Ms { .. })
+}
 
 /// The linear form of a codec's samples; none for the G.711 laws and for ADPCM.
 pub fn linear_form(codec: Codec) -> Option<Linear>

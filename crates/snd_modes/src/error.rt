@@ -1,5 +1,10 @@
 //! Why a call of an open file is refused, and how it fails.
 
+ghost use Rattle.std.specs.Prelude.{◌≡◌};
+ghost use Rattle.snd_modes.specs.declared.error.AutoError.TheVariants as auto_error;
+ghost use Rattle.snd_modes.specs.declared.error.ShrinkError.TheVariants as shrink;
+ghost use Rattle.snd_modes.specs.declared.error.UpdateError.TheVariants as update;
+
 use snd_disk::Step;
 use thiserror::Error;
 
@@ -37,4 +42,96 @@ pub enum SeekError {
     /// The place is past the end.
     #[error("the place is past the end")]
     SeekRange,
+}
+
+/// Why frames are not written.
+#[derive(Clone, Copy, Debug, PartialEq, Eq, Error)]
+pub enum WriteError {
+    /// The file is broken since a fault at this step.
+    #[error("the file is broken")]
+    Broken(Step),
+    /// The slice does not hold whole frames.
+    #[error("the slice does not hold whole frames")]
+    PartFrame,
+    /// A number is not in the range of the codec.
+    #[error("a sample is out of range")]
+    SampleRange,
+    /// The file goes on behind its data, which then do not grow.
+    #[error("the file goes on behind its sound")]
+    TrailingData,
+    /// The head has no room for so many data.
+    #[error("the file holds no more frames")]
+    ContainerFull,
+    /// A call of the disk failed at this step.
+    #[error("the disk failed")]
+    DiskFault(Step),
+}
+
+/// Why a file is not brought up to date.
+#[derive(Clone, Copy, Debug, PartialEq, Eq, Error)]
+pub enum UpdateError {
+    /// The file is broken since a fault at this step.
+    #[error("the file is broken")]
+    Broken(Step),
+    /// A call of the disk failed at this step.
+    #[error("the disk failed")]
+    DiskFault(Step),
+}
+
+impl From<Step> for UpdateError {
+    ghost from_gives = { λ step e. e ≡ update.DiskFault step };
+
+    fn from(step: Step) -> UpdateError {
+        UpdateError::DiskFault(step)
+    }
+}
+
+/// Why a file is not updated automatically.
+#[derive(Clone, Copy, Debug, PartialEq, Eq, Error)]
+pub enum AutoError {
+    /// The file is broken since a fault at this step.
+    #[error("the file is broken")]
+    Broken(Step),
+    /// The field that decides the count lies in two sectors, of which a crash may leave one old.
+    #[error("the count lies in two sectors")]
+    Straddle,
+    /// A call of the disk failed at this step.
+    #[error("the disk failed")]
+    DiskFault(Step),
+}
+
+impl From<Step> for AutoError {
+    ghost from_gives = { λ step e. e ≡ auto_error.DiskFault step };
+
+    fn from(step: Step) -> AutoError {
+        AutoError::DiskFault(step)
+    }
+}
+
+/// Why a file is not cut.
+#[derive(Clone, Copy, Debug, PartialEq, Eq, Error)]
+pub enum ShrinkError {
+    /// The file is broken since a fault at this step.
+    #[error("the file is broken")]
+    Broken(Step),
+    /// A file of ADPCM blocks is not cut.
+    #[error("an ADPCM file is not cut")]
+    AdpcmUpdate,
+    /// The place is past the end.
+    #[error("the place is past the end")]
+    SeekRange,
+    /// The file goes on behind its data, which then do not shrink.
+    #[error("the file goes on behind its sound")]
+    TrailingData,
+    /// A call of the disk failed at this step.
+    #[error("the disk failed")]
+    DiskFault(Step),
+}
+
+impl From<Step> for ShrinkError {
+    ghost from_gives = { λ step e. e ≡ shrink.DiskFault step };
+
+    fn from(step: Step) -> ShrinkError {
+        ShrinkError::DiskFault(step)
+    }
 }

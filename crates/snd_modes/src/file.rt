@@ -1,20 +1,24 @@
 //! The calls of an open file.
 
-ghost use Rattle.std.specs.Prelude.{◌≡◌, IfOk, length};
-ghost use Rattle.snd_disk.specs.Device.{OnlyReadsOn};
+ghost use Rattle.std.specs.Prelude.{◌≡◌, true, IfOk, OnOk, length};
+ghost use Rattle.snd_disk.specs.Device.{GoesOnFrom, IsStable, OnlyReadsOn, WritesAtMost};
+ghost use Rattle.snd_patch.specs.Steps.{KeepsBeside, StillTells};
 ghost use Rattle.snd_modes.specs.Calls.{AsksForFrames, CountsReading, ReadLeaves, SeekLeaves};
+ghost use Rattle.snd_modes.specs.Closing.{ClosesFile, IsCloseCause};
 ghost use Rattle.snd_modes.specs.Editing.{state_read, state_sought};
 ghost use Rattle.snd_modes.specs.Handle.{IfOkStanding, StandsAfter, channels_of, codec_of, disk_of, known_of, loan_of};
-ghost use Rattle.snd_modes.specs.Loans.{disk_back, fault_of, loan_back};
+ghost use Rattle.snd_modes.specs.Loans.{disk_back, loan_back};
 ghost use Rattle.snd_modes.specs.Reading.{FitCodec, GivesFrames, front_of, rest_of};
 
 use crate::error::{DiskFault, ReadError, SeekError};
 use crate::frames::{channels_of, frames_ahead, read_from};
-use crate::handle::{CanRead, File};
+use crate::handle::File;
+use crate::mode::{CanRead, Mode};
 use snd_disk::Disk;
 use snd_layout::{Kind, Params};
+use snd_patch::seal;
 
-impl<'d, D: Disk, M> File<'d, D, M> {
+impl<'d, D: Disk, M: Mode> File<'d, D, M> {
     /// How many frames the file holds.
     pub fn frames(&self) -> u64
         ensures { result ≡ (known_of self.now).shape.frames }
@@ -36,25 +40,48 @@ impl<'d, D: Disk, M> File<'d, D, M> {
         self.layout.kind
     }
 
-    /// Gives the disk back. The answer is the step at which the disk failed, where it did.
+    /// Gives the disk back. In a mode that writes, the file is sealed first, as `update_now` does; else the
+    /// disk is as it was. It writes at most 72 bytes and takes no memory.
+    ///
+    /// The answer is the step at which the disk failed, where it did: before, and then nothing is done; or
+    /// now, in a mode that writes.
     pub fn close(self) -> Result<&'d mut D, (DiskFault, &'d mut D)>
         ensures lends { loan_back result ≡ loan_of self.entry }
-        ensures back { disk_back result ≡ disk_of self.entry }
-        ensures cause { (known_of self.entry).broken ≡ fault_of result }
+        ensures back { ClosesFile M.WRITES D.state self.entry result }
+        ensures cause { IsCloseCause M.WRITES D.state self.entry result }
+        ensures stable { M.WRITES ≡ true → OnOk result (IsStable D.state D.may_leave (disk_back result)) }
+
+        ensures beside { KeepsBeside D.state (known_of self.entry).shape (known_of self.entry).shape.frames (disk_of self.entry) (disk_back result) }
+        ensures tells { StillTells (D.state (disk_of self.entry)) (D.state (disk_back result)) }
+        ensures time { GoesOnFrom D.state D.left_between (disk_of self.entry) (disk_back result) }
+        ensures written { WritesAtMost D.state 72 (disk_of self.entry) (disk_back result) }
+        ensures asked { (D.state (disk_back result)).asked ≡ (D.state (disk_of self.entry)).asked }
     {
         let File {
             disk,
-            layout: _,
+            mut layout,
             read_place: _,
+            write_place: _,
+            automatic: _,
+            written: _,
             broken,
             mode: _,
         } = self;
-        match broken {
-            Some(step) => Err((DiskFault(step), disk)),
-            None => Ok(disk),
+        if let Some(step) = broken {
+            return Err((DiskFault(step), disk));
+        }
+        if !M::WRITES {
+            return Ok(disk);
+        }
+        layout.keeps_rule();
+        match seal(disk, &mut layout) {
+            Ok(()) => Ok(disk),
+            Err(step) => Err((DiskFault(step), disk)),
         }
     }
+}
 
+impl<'d, D: Disk, M: CanRead> File<'d, D, M> {
     /// Reads frames, from the one to read next on: as many as the slice has places for, fewer only at the
     /// end. A frame has one number for each channel, in turn, each in the range of the codec. The answer is
     /// how many frames were read; the place moves by that number, and the rest of the slice stays.
@@ -63,8 +90,6 @@ impl<'d, D: Disk, M> File<'d, D, M> {
     /// have places for whole frames; these leave all as it was. `DiskFault` where a call of the disk failed
     /// now: the place stays, and from then on the file is broken.
     pub fn read_frames(&mut self, into: &mut [i32]) -> Result<usize, ReadError>
-    where
-        M: CanRead,
         ensures loan { loan_of self.new ≡ loan_of self.old }
         ensures left { ReadLeaves (length into.old) (known_of self.old) (known_of self.new) result }
         ensures read { IfOkStanding D.state self.old result (GivesFrames (channels_of self.old) into.new) }
@@ -100,8 +125,6 @@ impl<'d, D: Disk, M> File<'d, D, M> {
     /// not touched. `Broken` where a call of the disk failed before, and then `SeekRange` exactly where
     /// the place is past the end; the place stays.
     pub fn seek_read(&mut self, to: u64) -> Result<(), SeekError>
-    where
-        M: CanRead,
         ensures loan { loan_of self.new ≡ loan_of self.old }
         ensures same_disk { disk_of self.new ≡ disk_of self.old }
         ensures left { SeekLeaves to (known_of self.old) (known_of self.new) result }

@@ -3,7 +3,8 @@
 ghost use Rattle.std.specs.Prelude.{◌≡◌, ◌+◌, ◌-◌, ◌*◌, ◌≤◌, Some, false, OnOk, is_none, length, min};
 ghost use Rattle.snd_disk.specs.Device.{AsksAtMost, CountsOn, IfOkTold, OnlyReadsOn};
 ghost use Rattle.snd_pcm.specs.Pcm.{byte_count};
-ghost use Rattle.snd_layout.specs.Shape.{end};
+ghost use Rattle.snd_layout.specs.Shape.{KeepsRule, end};
+ghost use Rattle.snd_layout.specs.Params.{AreParams};
 ghost use Rattle.snd_container.specs.Sound.{linear_of};
 ghost use Rattle.snd_modes.specs.Reading.{FitCodec, HasFrames, bytes_of_frames};
 
@@ -12,6 +13,15 @@ use crate::reads::read_run;
 use snd_disk::{Disk, Step};
 use snd_layout::Layout;
 use snd_pcm::Linear;
+
+// What holds of every layout, and of its parameters.
+pub(crate) fn keeps_rules(layout: &Layout)
+    ensures rule { KeepsRule layout.now }
+    ensures params { AreParams layout.now.params }
+{
+    layout.keeps_rule();
+    layout.params.are_good();
+}
 
 // The numbers of a frame.
 pub(crate) fn channels_of(layout: &Layout) -> usize
@@ -31,7 +41,7 @@ pub(crate) fn frames_ahead(layout: &Layout, place: u64, wanted: usize) -> usize
 }
 
 // The place of a frame's first byte.
-fn place_of(layout: &Layout, form: Linear, frame: u64) -> u64
+pub(crate) fn place_of(layout: &Layout, form: Linear, frame: u64) -> u64
     requires linear { linear_of layout.now.params.codec ≡ Some form }
     requires within { frame ≤ layout.now.frames }
     ensures { result ≡ layout.now.start + byte_count form * (layout.now.params.channels * frame) }

@@ -1,30 +1,36 @@
 //! The handle of one open file.
 
-ghost use Rattle.std.specs.Prelude.{◌≡◌, ◌≤◌, false, is_none};
+ghost use Rattle.std.specs.Prelude.{◌≡◌, ◌≢◌, ◌<◌, ◌≤◌, ◌^◌, None, false, true, is_none};
 ghost use Rattle.snd_container.specs.Sound.{linear_of};
+ghost use Rattle.snd_layout.specs.Params.{data_bytes};
 ghost use Rattle.snd_layout.specs.Shape.{end};
+ghost use Rattle.snd_layout.specs.declared.kind.Kind.TheVariants.{Voc};
+ghost use Rattle.snd_patch.specs.Sealed.{closed_end};
 
+use crate::mode::Mode;
 use snd_disk::{Disk, Step};
 use snd_layout::Layout;
 use std::marker::PhantomData;
 
-/// The mode of a file that is read.
-pub struct Read;
-
-/// The modes in which frames are read.
-pub trait CanRead {}
-
-impl CanRead for Read {}
-
-/// An open file, in the mode `M`. It holds its disk, and is closed to give it back. The data of its
-/// frames lie within the disk, and the frame to read next is at most the number of frames.
-pub struct File<'d, D: Disk, M> {
+/// An open file, in the mode `M`. It holds its disk, and is closed to give it back. The frames to read
+/// and to write next are at most the number of frames. Until a call of the disk fails, the data of the
+/// frames lie within the disk; and while the file is updated automatically, its head says how many bytes
+/// they have, and what closes them is there.
+pub struct File<'d, D: Disk, M: Mode> {
     pub(crate) disk: &'d mut D,
     pub(crate) layout: Layout,
     pub(crate) read_place: u64,
+    pub(crate) write_place: u64,
+    pub(crate) automatic: bool,
+    pub(crate) written: bool,
     pub(crate) broken: Option<Step>,
     pub(crate) mode: PhantomData<M>,
-    ghost stands: { end layout layout.frames ≤ (D.state disk.now).size },
+    ghost stands: { broken ≡ None → end layout layout.frames ≤ (D.state disk.now).size },
     ghost placed: { read_place ≤ layout.frames },
+    ghost write_placed: { write_place ≤ layout.frames },
     ghost linear: { is_none (linear_of layout.params.codec) ≡ false },
+    ghost early: { layout.start < 2 ^ 62 },
+    ghost sized: { M.WRITES ≡ true → layout.unknown_length ≡ false },
+    ghost counted: { automatic ≡ true → broken ≡ None → layout.trailing ≡ false → layout.kind ≢ Voc → layout.declared ≡ data_bytes layout.params layout.frames },
+    ghost closed: { automatic ≡ true → broken ≡ None → layout.trailing ≡ false → closed_end layout layout.frames ≤ (D.state disk.now).size },
 }

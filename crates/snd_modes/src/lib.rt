@@ -3,14 +3,25 @@
 #![tactic(auto)]
 
 mod codec;
+mod cutting;
 mod error;
 mod file;
 mod frames;
+mod growth;
 mod handle;
+mod making;
+mod mode;
 mod open;
 mod reads;
+mod updates;
+mod updating;
+mod writes;
+mod writing;
 
 pub use codec::linear_form;
-pub use error::{DiskFault, ReadError, SeekError};
-pub use handle::{CanRead, File, Read};
+pub use error::{AutoError, DiskFault, ReadError, SeekError, ShrinkError, UpdateError, WriteError};
+pub use handle::File;
+pub use mode::{CanRead, CanShrink, CanWrite, Mode, Read, Update, Write};
+pub use making::create;
 pub use open::open_read;
+pub use updating::open_update;

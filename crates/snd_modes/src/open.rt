@@ -7,7 +7,8 @@ ghost use Rattle.snd_modes.specs.Handle.{known_of};
 ghost use Rattle.snd_modes.specs.Loans.{OpensFile, answer_of, disk_after, loan_after};
 
 use crate::codec::form_of;
-use crate::handle::{File, Read};
+use crate::handle::File;
+use crate::mode::Read;
 use snd_container::open_layout;
 use snd_disk::Disk;
 use snd_layout::{OpenError, OpenRefusal};
@@ -42,6 +43,9 @@ pub fn open_read<'d, D: Disk>(
         disk,
         layout,
         read_place: 0,
+        write_place: 0,
+        automatic: false,
+        written: false,
         broken: None,
         mode: PhantomData,
     })

@@ -36,10 +36,10 @@ fields_same b h n rule = λ i lt out. others_same (with_inner b h n) h n rule i 
 fewer_same : (b : List ℕ) (h : Shape) (n : ℕ) → KeepsRule h → SameBesideFields h n b (with_fewer b h n)
 fewer_same b h n rule = λ i lt out. inner_same (with_others b h n) h n rule i lt out ∙ others_same b h n rule i lt out
 
-closing_same : (b : List ℕ) (h : Shape) (n : ℕ) → SameBesideFields h n b (over_closing b h n)
+pub closing_same : (b : List ℕ) (h : Shape) (n : ℕ) → SameBesideFields h n b (over_closing b h n)
 closing_same b h n = λ i lt out. over_beside b (end h n) (closing h n) i (inl lt)
 
-closed_same : (b : List ℕ) (h : Shape) (n : ℕ) → SameBesideFields h n b (closed b h n)
+pub closed_same : (b : List ℕ) (h : Shape) (n : ℕ) → SameBesideFields h n b (closed b h n)
 closed_same b h n = elim (cases_Bool (nat_lt (length b) (closed_end h n))) [
   | inl is ↦ rw is (closing_same b h n)
   | inr other ↦ rw other (λ i lt out. refl)

@@ -10,11 +10,11 @@ use Rattle.snd_patch.specs.Sealed.{SameBesideFields}
 use Rattle.snd_patch.specs.Steps.{IsOutside, Updates}
 use Rattle.snd_patch.proofs.Bytes.{cut_before, mix_beside, over_beside, take_before}
 
-told_mapped : (f : List ℕ → List ℕ) (o : Option (List ℕ)) → is_some (option_map f o) ≡ is_some o
+pub told_mapped : (f : List ℕ → List ℕ) (o : Option (List ℕ)) → is_some (option_map f o) ≡ is_some o
 told_mapped f None = refl
 told_mapped f (Some b) = refl
 
-told_between : (old new : Option (List ℕ)) → ((b : List ℕ) → old ≡ Some b → (x : List ℕ) × (new ≡ Some x)) → ((x : List ℕ) → new ≡ Some x → (b : List ℕ) × (old ≡ Some b)) → is_some new ≡ is_some old
+pub told_between : (old new : Option (List ℕ)) → ((b : List ℕ) → old ≡ Some b → (x : List ℕ) × (new ≡ Some x)) → ((x : List ℕ) → new ≡ Some x → (b : List ℕ) × (old ≡ Some b)) → is_some new ≡ is_some old
 told_between None None there back = refl
 told_between None (Some x) there back = absurd (let no = (back x refl).1 in cc)
 told_between (Some b) None there back = absurd (let no = (there b refl).1 in cc)

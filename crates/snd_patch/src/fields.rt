@@ -101,7 +101,7 @@ pub(crate) fn lower<D: Disk>(disk: &mut D, layout: &Layout, to: u64) -> Result<(
 }
 
 /// Puts what closes the data of so many frames, and gives the place behind it.
-pub(crate) fn put_closing<D: Disk>(disk: &mut D, layout: &Layout, to: u64) -> Result<u64, Step>
+pub fn put_closing<D: Disk>(disk: &mut D, layout: &Layout, to: u64) -> Result<u64, Step>
     requires { MayCount layout.now to (D.state disk.old).size }
     ensures place { IfOk result (λ place. place ≡ closed_end layout.now to) }
     ensures contents { OnOk result (Becomes D.state (λ b. over_closing b layout.now to) disk.old disk.new) }

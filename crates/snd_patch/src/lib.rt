@@ -9,4 +9,5 @@ mod steps;
 mod tests;
 mod update;
 
-pub use update::{grow, seal, shrink};
+pub use fields::put_closing;
+pub use update::{cut_behind, grow, seal, shrink};

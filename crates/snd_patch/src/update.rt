@@ -42,8 +42,9 @@ fn patch<D: Disk>(disk: &mut D, layout: &Layout, to: u64) -> Result<(), Step>
     }
 }
 
-// Puts what closes the data of so many frames, and cuts all behind it.
-fn cut_behind<D: Disk>(disk: &mut D, layout: &Layout, to: u64) -> Result<(), Step>
+/// Puts what closes the data of so many frames, which are on the disk already, cuts all behind it, and
+/// makes that stable.
+pub fn cut_behind<D: Disk>(disk: &mut D, layout: &Layout, to: u64) -> Result<(), Step>
     requires { MayCount layout.now to (D.state disk.old).size }
     ensures contents { OnOk result (Becomes D.state (λ b. take (closed_end layout.now to) (over_closing b layout.now to)) disk.old disk.new) }
     ensures size { OnOk result ((D.state disk.new).size ≡ closed_end layout.now to) }

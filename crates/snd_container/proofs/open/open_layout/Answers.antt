@@ -22,6 +22,7 @@ returns-in-Rf64 g c = record {
       ∙ not_built c.in_ok-kind_on.field-0 b c.in-Rf64.is
       ∙ ap (λ (x : OpenRefusal). Err x) same;
   held = search rules;
+  early = search rules;
   pieces_held = search rules;
   faults = search rules;
   reads = search rules;

@@ -28,6 +28,9 @@ returns-clause-opened g c = λ b told.
         bytes = c.open_layout.ensures.reads.keeps.contents ∙ told;
         shape = refl;
         place = refl;
+        write_place = refl;
+        automatic = refl;
+        written = refl;
         sound = refl;
         count = count_opened b c.in-Ok.layout linear c.form_of.ensures.params.some_channel fits;
       },

@@ -1,0 +1,29 @@
+use Rattle.std.proofs.Common.{◌≡◌, ◌∙◌, ap, subst, ℕ, ◌≤◌, List, Some, option_map, length, false, arith}
+use Rattle.snd_layout.specs.Shape.{KeepsRule, Shape, end}
+use Rattle.snd_patch.specs.Sealed.{closed_end}
+use Rattle.snd_modes.specs.Edits.{cut_off}
+use Rattle.snd_modes.proofs.CutFrames.{off_decoded}
+use Rattle.snd_modes.proofs.handle.File.cut_tail.Goals as goal
+
+pub returns-in-Ok-clause-stands : goal.returns-in-Ok-clause-stands
+returns-in-Ok-clause-stands g c = λ e stands.
+    let h = c.args.self.now.layout in
+    let told = g.met.D.Disk.size_told c.args.self.now.disk.now e.bytes stands.bytes in
+    let held : end h h.frames ≤ length e.bytes = omega (arith, told, c.args.self.now.stands c.requires.working) in
+    let fits : end e.shape e.shape.frames ≤ length e.bytes = subst (λ (s : Shape). end s s.frames ≤ length e.bytes) stands.shape held in
+    let bytes : (g.D.Disk.state c.cut_off.new.disk).contents ≡ Some (cut_off e.bytes e.shape e.shape.frames) =
+    c.in-Ok.ensures.contents
+    ∙ ap (option_map (λ (b : List ℕ). cut_off b h h.frames)) stands.bytes
+    ∙ ap (λ (s : Shape). Some (cut_off e.bytes s s.frames)) stands.shape in
+    let ends : closed_end h h.frames ≡ closed_end e.shape e.shape.frames = ap (λ (s : Shape). closed_end s s.frames) stands.shape in
+    let long : end e.shape e.shape.frames ≤ length (cut_off e.bytes e.shape e.shape.frames) = omega (arith, ends, c.in-Ok.ensures.size, g.met.D.Disk.size_told c.cut_off.new.disk _ bytes) in
+    record {
+      bytes = bytes;
+      shape = c.in-Ok.ensures.layout ∙ ap (λ (s : Shape). record s { trailing = false }) stands.shape;
+      place = stands.place;
+      write_place = stands.write_place;
+      automatic = stands.automatic;
+      written = stands.written;
+      sound = stands.sound ∙ off_decoded e.bytes e.shape (subst KeepsRule stands.shape c.keeps_rules.ensures.rule) fits long;
+      count = stands.count;
+    }

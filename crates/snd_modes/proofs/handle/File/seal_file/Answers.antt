@@ -1,0 +1,33 @@
+use Rattle.std.proofs.Common.{◌≡◌, ◌∙◌, ap, sym, subst, ℕ, ◌≤◌, List, Some, option_map, length, arith}
+use Rattle.snd_layout.specs.Shape.{KeepsRule, Shape, end}
+use Rattle.snd_patch.specs.Sealed.{closed_end, counted, sealed}
+use Rattle.snd_modes.proofs.SealedFrames.{sealed_closed, sealed_decoded, sealed_no_less}
+use Rattle.snd_modes.proofs.handle.File.seal_file.Goals as goal
+
+pub returns-in-Ok-clause-stands : goal.returns-in-Ok-clause-stands
+returns-in-Ok-clause-stands g c = λ e stands.
+    let h = c.args.self.now.layout in
+    let told = g.met.D.Disk.size_told c.args.self.now.disk.now e.bytes stands.bytes in
+    let held : end h h.frames ≤ length e.bytes = omega (arith, told, c.args.self.now.stands c.requires) in
+    let fits : end e.shape e.shape.frames ≤ length e.bytes = subst (λ (s : Shape). end s s.frames ≤ length e.bytes) stands.shape held in
+    let bytes : (g.D.Disk.state c.seal.new.disk).contents ≡ Some (sealed e.bytes e.shape e.shape.frames) =
+    c.in-Ok.ensures.contents
+    ∙ ap (option_map (λ (b : List ℕ). sealed b h h.frames)) stands.bytes
+    ∙ ap (λ (s : Shape). Some (sealed e.bytes s s.frames)) stands.shape in
+    let long : length e.bytes ≤ length (sealed e.bytes e.shape e.shape.frames) =
+    omega (arith, told, c.in-Ok.ensures.size, sealed_no_less (g.D.Disk.state c.args.self.now.disk.now).size h h.frames, g.met.D.Disk.size_told c.seal.new.disk _ bytes) in
+    record {
+      bytes = bytes;
+      shape = c.in-Ok.ensures.layout ∙ ap (λ (s : Shape). counted s s.frames) stands.shape;
+      place = stands.place;
+      write_place = stands.write_place;
+      automatic = stands.automatic;
+      written = stands.written;
+      sound = stands.sound ∙ sealed_decoded e.bytes e.shape (subst KeepsRule stands.shape c.keeps_rule.ensures) fits (omega (arith, fits, long));
+      count = stands.count;
+    }
+
+pub returns-in-Ok-clause-closed : goal.returns-in-Ok-clause-closed
+returns-in-Ok-clause-closed g c = λ free.
+    let h = c.args.self.now.layout in
+    subst (λ (s : Shape). closed_end s s.frames ≤ (g.D.Disk.state c.seal.new.disk).size) (sym c.in-Ok.ensures.layout) (sealed_closed _ h h.frames _ c.in-Ok.ensures.size free)

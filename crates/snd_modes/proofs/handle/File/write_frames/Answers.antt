@@ -1,0 +1,67 @@
+use Rattle.std.proofs.Common.{rules, ◌≡◌, ◌∙◌, ap, subst, refl, ℕ, ◌-◌, ◌/◌, ◌≤◌, Bool, ◌||◌, Some, None, option_map, length, arith}
+use Rattle.std.specs.Prelude.{nat_lt}
+use Rattle.snd_layout.specs.Shape.{Shape, end}
+use Rattle.snd_modes.specs.Edits.{count_written, written_bytes, written_shape}
+use Rattle.snd_modes.specs.Handle.{known_of}
+use Rattle.snd_modes.proofs.EditedFrames.{CanPut, known_is, still_closed, whole_frames, written_count, written_sound}
+use Rattle.snd_modes.proofs.handle.File.write_frames.Goals as goal
+
+pub invariant_of-self-clause-closed : goal.invariant_of-self-clause-closed
+invariant_of-self-clause-closed g c = λ auto working free.
+    let h = c.args.self.now.layout in
+    still_closed c.args.self.now.automatic h c.write_over.new.layout _ _ c.in-Ok.ensures.layout (c.in-Ok.ensures.closed auto) free
+
+pub returns-in-Ok-clause-stands : goal.returns-in-Ok-clause-stands
+returns-in-Ok-clause-stands g c = λ e stands.
+    let xs = c.args.from.now in
+    let h = c.args.self.now.layout in
+    let place = c.args.self.now.write_place in
+    let auto = c.args.self.now.automatic in
+    let k = length xs / e.shape.params.channels in
+    let working : c.args.self.now.broken ≡ None = search rules in
+    let total : c.in_ok-next.next - place ≡ k = omega (arith, c.in_ok-next.ensures.value, ap (λ (s : Shape). length xs / s.params.channels) stands.shape) in
+    let told = g.met.D.Disk.size_told c.args.self.now.disk.now e.bytes stands.bytes in
+    let can : CanPut h e.bytes place (length xs / h.params.channels) xs = record {
+      rule = c.end_of_write.ensures.rule;
+      linear = c.args.self.now.linear;
+      some = c.end_of_write.ensures.some;
+      fits = omega (arith, told, c.args.self.now.stands working);
+      within = c.args.self.now.write_placed;
+      whole = whole_frames (length xs) h.params.channels _ c.end_of_write.ensures.some c.in_ok-next.ensures.ready.frames.whole refl;
+      fit = c.in_ok-next.ensures.ready.frames.in_range;
+    } in
+    let can' : CanPut e.shape e.bytes e.write_place k xs =
+    subst (λ (p : ℕ). CanPut e.shape e.bytes p k xs) stands.write_place (subst (λ (s : Shape). CanPut s e.bytes place (length xs / s.params.channels) xs) stands.shape can) in
+    let n = count_written e.shape e.write_place k in
+    let bytes : (g.D.Disk.state c.write_over.new.disk).contents ≡ Some (written_bytes e.automatic e.bytes e.shape e.write_place n xs) =
+    c.in-Ok.ensures.contents
+    ∙ ap (option_map (λ b. written_bytes auto b h place (count_written h place (c.in_ok-next.next - place)) xs)) stands.bytes
+    ∙ ap (λ (m : ℕ). Some (written_bytes auto e.bytes h place (count_written h place m) xs)) total
+    ∙ ap (λ (s : Shape). Some (written_bytes auto e.bytes s place (count_written s place k) xs)) stands.shape
+    ∙ ap (λ (p : ℕ). Some (written_bytes auto e.bytes e.shape p (count_written e.shape p k) xs)) stands.write_place
+    ∙ ap (λ (a : Bool). Some (written_bytes a e.bytes e.shape e.write_place n xs)) stands.automatic in
+    let shape : c.write_over.new.layout ≡ written_shape e.automatic e.shape n =
+    c.in-Ok.ensures.layout
+    ∙ ap (λ (m : ℕ). written_shape auto h (count_written h place m)) total
+    ∙ ap (λ (s : Shape). written_shape auto s (count_written s place k)) stands.shape
+    ∙ ap (λ (p : ℕ). written_shape auto e.shape (count_written e.shape p k)) stands.write_place
+    ∙ ap (λ (a : Bool). written_shape a e.shape n) stands.automatic in
+    let ends : end h (count_written h place (c.in_ok-next.next - place)) ≡ end e.shape n =
+    ap (λ (m : ℕ). end h (count_written h place m)) total ∙ ap (λ (s : Shape). end s (count_written s place k)) stands.shape ∙ ap (λ (p : ℕ). end e.shape (count_written e.shape p k)) stands.write_place in
+    let long : end e.shape n ≤ length (written_bytes e.automatic e.bytes e.shape e.write_place n xs) =
+    omega (arith, ends, c.in-Ok.ensures.size, g.met.D.Disk.size_told c.write_over.new.disk _ bytes) in
+    record {
+      bytes = bytes;
+      shape = shape;
+      place = stands.place;
+      write_place = omega (arith, c.in_ok-next.ensures.value, stands.write_place, ap (λ (s : Shape). length xs / s.params.channels) stands.shape);
+      automatic = stands.automatic;
+      written = ap (λ (t : Bool). t || nat_lt 0 (c.in_ok-next.next - place)) stands.written ∙ ap (λ (m : ℕ). e.written || nat_lt 0 m) total;
+      sound = written_sound e k xs can' stands.sound long;
+      count = written_count e k xs can' stands.count;
+    }
+
+pub returns-in-Ok-clause-left : goal.returns-in-Ok-clause-left
+returns-in-Ok-clause-left g c =
+    let working : c.args.self.now.broken ≡ None = search rules in
+    (working, c.in_ok-next.ensures.ready, known_is c.args.from.now (known_of c.args.self.now) c.write_over.new.layout c.in_ok-next.next c.in_ok-next.ensures.value c.in-Ok.ensures.layout)

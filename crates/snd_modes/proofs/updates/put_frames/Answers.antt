@@ -1,0 +1,26 @@
+use Rattle.std.proofs.Common.{◌+◌, ◌≤◌, length, arith}
+use Rattle.snd_layout.specs.Shape.{end}
+use Rattle.snd_patch.proofs.Updating.{updates_then}
+use Rattle.snd_modes.specs.Edits.{coded}
+use Rattle.snd_modes.specs.Writing.{most_fields}
+use Rattle.snd_modes.proofs.Sealing.{puts_update, still_kept_up, updates_before}
+use Rattle.snd_modes.proofs.updates.put_frames.Goals as goal
+
+pub bring_up-requires-clause-kept_up : goal.bring_up-requires-clause-kept_up
+bring_up-requires-clause-kept_up g c = λ auto free.
+    still_kept_up c.args.layout.now c.args.to (g.D.Disk.state c.args.disk.now).size (g.D.Disk.state c.write_data.new.disk).size (g.D.Disk.state c.close_behind.new.disk).size
+    c.requires.linear c.requires.more (c.requires.kept_up auto free) (omega (arith, c.in_ok-write_data.ensures.done.size)) c.in_ok-close_behind.ensures.size
+
+pub returns-clause-updates : goal.returns-clause-updates
+returns-clause-updates g c =
+    let h = c.args.layout.now in
+    let state = g.D.Disk.state in
+    let between = g.D.Disk.left_between in
+    let n = length (coded h.params c.args.from.now) in
+    let place = c.args.place in
+    let before : end h place ≤ end h c.args.to = omega (arith, c.requires.within) in
+    updates_then state between h place c.args.disk.now c.close_behind.new.disk c.bring_up.new.disk (n + 8) (most_fields c.args.automatic) _ (omega arith)
+    (updates_then state between h place c.args.disk.now c.write_data.new.disk c.close_behind.new.disk n 8 _ (omega arith)
+    (puts_update state between h place n c.args.disk.now c.write_data.new.disk c.write_data.ensures.puts)
+    (updates_before state between h place c.args.to 8 c.write_data.new.disk c.close_behind.new.disk before c.close_behind.ensures.updates))
+    (updates_before state between h place c.args.to (most_fields c.args.automatic) c.close_behind.new.disk c.bring_up.new.disk before c.bring_up.ensures.updates)

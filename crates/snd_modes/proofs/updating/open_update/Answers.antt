@@ -1,0 +1,51 @@
+use Rattle.std.proofs.Common.{rules, ◌≡◌, ◌∙◌, refl, arith, ◌≤◌, length, true, false}
+use Rattle.std.specs.Prelude.{is_none}
+use Rattle.snd_container.specs.Sound.{linear_of}
+use Rattle.snd_layout.specs.Blocks.{is_adpcm}
+use Rattle.snd_layout.specs.Shape.{end}
+use Rattle.snd_modes.specs.Editing.{first_editing}
+use Rattle.snd_modes.proofs.Opened.{refused_update, update_adpcm, update_law, update_ok, update_open}
+use Rattle.snd_modes.proofs.Opening.{count_opened}
+use Rattle.snd_modes.proofs.updating.open_update.Goals as goal
+
+pub returns-in-Err-clause-opened : goal.returns-in-Err-clause-opened
+returns-in-Err-clause-opened g c = refused_update g.D.Disk.state c.args.disk.now _ _ c.in-Err.error c.in-Err.ensures.faults c.in-Err.ensures.opened
+
+pub returns-then-is_adpcm-clause-opened : goal.returns-then-is_adpcm-clause-opened
+returns-then-is_adpcm-clause-opened g c = λ b told.
+    let blocks : is_adpcm c.in-Ok.layout.params.codec ≡ true = search rules in
+    update_adpcm b c.in-Ok.layout (c.in-Ok.ensures.opened b told) blocks
+
+pub returns-then-layout-clause-opened : goal.returns-then-layout-clause-opened
+returns-then-layout-clause-opened g c = λ b told.
+    let blocks : is_adpcm c.in-Ok.layout.params.codec ≡ false = search rules in
+    let open_end : c.in-Ok.layout.unknown_length ≡ true = search rules in
+    update_open b c.in-Ok.layout (c.in-Ok.ensures.opened b told) blocks open_end
+
+pub returns-then-is_none-clause-opened : goal.returns-then-is_none-clause-opened
+returns-then-is_none-clause-opened g c = λ b told.
+    let blocks : is_adpcm c.in-Ok.layout.params.codec ≡ false = search rules in
+    let closed_end : c.in-Ok.layout.unknown_length ≡ false = search rules in
+    let law : is_none (linear_of c.in-Ok.layout.params.codec) ≡ true = search rules in
+    update_law b c.in-Ok.layout (c.in-Ok.ensures.opened b told) blocks closed_end law
+
+pub returns-clause-opened : goal.returns-clause-opened
+returns-clause-opened g c = λ b told.
+    let blocks : is_adpcm c.in-Ok.layout.params.codec ≡ false = search rules in
+    let closed_end : c.in-Ok.layout.unknown_length ≡ false = search rules in
+    let linear : is_none (linear_of c.in-Ok.layout.params.codec) ≡ false = search rules in
+    let size = g.met.D.Disk.size_told c.args.disk.now b told in
+    let fits : end c.in-Ok.layout c.in-Ok.layout.frames ≤ length b = omega (arith, c.in-Ok.ensures.held, size) in (
+      first_editing b c.in-Ok.layout,
+      update_ok b c.in-Ok.layout (c.in-Ok.ensures.opened b told) blocks closed_end linear,
+      record {
+        bytes = c.open_layout.ensures.reads.keeps.contents ∙ told;
+        shape = refl;
+        place = refl;
+        write_place = refl;
+        automatic = refl;
+        written = refl;
+        sound = refl;
+        count = count_opened b c.in-Ok.layout linear c.form_of.ensures.params.some_channel fits;
+      },
+    )

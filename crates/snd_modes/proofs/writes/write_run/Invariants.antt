@@ -1,0 +1,15 @@
+use Rattle.std.proofs.Common.{◌≡◌, ◌-◌, ◌≤◌, length, take}
+use Rattle.snd_modes.specs.Writing.{HasWritten, PutsSamples}
+use Rattle.snd_modes.proofs.writes.write_run.Given as goal
+
+abbrev pub invariant-loop-done : goal.invariant-loop-done
+invariant-loop-done g l =
+    record {
+      within : l.done ≤ length l.from;
+      done : HasWritten g.D.Disk.state l.form l.at (take l.done l.from) l.fn.disk l.disk;
+      puts : PutsSamples g.D.Disk.state g.D.Disk.left_between l.form l.at l.done l.fn.disk l.disk;
+      calm : (g.D.Disk.state l.disk).faults ≡ (g.D.Disk.state l.fn.disk).faults;
+    }
+
+abbrev pub decreases-loop-done : goal.decreases-loop-done
+decreases-loop-done g l = length l.from - l.done

@@ -1,0 +1,60 @@
+-- How a call that may write leaves an open file and its disk, by what became of the call.
+use Rattle.std.specs.Prelude.{◌≡◌, ℕ, ◌≤◌, Result, Ok, Err}
+use Rattle.snd_disk.specs.declared.disk.Disk.{Ghosts}
+use Rattle.snd_disk.specs.State.{Rises, State}
+use Rattle.snd_modes.specs.declared.error.AutoError.{AutoError}
+use Rattle.snd_modes.specs.declared.error.AutoError.TheVariants as auto_error
+use Rattle.snd_modes.specs.declared.error.ShrinkError.{ShrinkError}
+use Rattle.snd_modes.specs.declared.error.ShrinkError.TheVariants as shrink
+use Rattle.snd_modes.specs.declared.error.UpdateError.{UpdateError}
+use Rattle.snd_modes.specs.declared.error.UpdateError.TheVariants as update
+use Rattle.snd_modes.specs.declared.error.WriteError.{WriteError}
+use Rattle.snd_modes.specs.declared.error.WriteError.TheVariants as write
+use Rattle.snd_modes.specs.declared.handle.File.{File}
+use Rattle.snd_modes.specs.declared.mode.Mode.{Ghosts as ModeGhosts}
+use Rattle.snd_modes.specs.Editing.{Editing}
+use Rattle.snd_modes.specs.Handle.{StandsAfter, disk_of}
+
+-- a call was carried out, was refused, or failed with its disk
+pub data Outcome : Type 0 where
+  Done : Outcome
+  Refused : Outcome
+  Faulted : Outcome
+
+abbrev pub write_outcome : {T : Type 0} → Result T WriteError → Outcome
+write_outcome (Ok value) = Done
+write_outcome (Err (write.DiskFault step)) = Faulted
+write_outcome (Err refusal) = Refused
+
+abbrev pub update_outcome : {T : Type 0} → Result T UpdateError → Outcome
+update_outcome (Ok value) = Done
+update_outcome (Err (update.DiskFault step)) = Faulted
+update_outcome (Err refusal) = Refused
+
+abbrev pub auto_outcome : {T : Type 0} → Result T AutoError → Outcome
+auto_outcome (Ok value) = Done
+auto_outcome (Err (auto_error.DiskFault step)) = Faulted
+auto_outcome (Err refusal) = Refused
+
+abbrev pub shrink_outcome : {T : Type 0} → Result T ShrinkError → Outcome
+shrink_outcome (Ok value) = Done
+shrink_outcome (Err (shrink.DiskFault step)) = Faulted
+shrink_outcome (Err refusal) = Refused
+
+-- A call that is carried out takes one step of the editing state; one that is refused leaves the disk as it was.
+abbrev pub StandsOn : {D M : Type 0} {ghosts : Ghosts D} {mode : ModeGhosts M} → Outcome → (D → State) → File D M ghosts mode → File D M ghosts mode → (Editing → Editing) → Type 0
+StandsOn Done state old new step = StandsAfter state old new step
+StandsOn Refused state old new step = disk_of new ≡ disk_of old
+StandsOn Faulted state old new step = Unit {0}
+
+-- the count of faults rises where the disk failed, and there alone
+abbrev pub CountsOutcome : Outcome → ℕ → ℕ → Type 0
+CountsOutcome Done old new = new ≡ old
+CountsOutcome Refused old new = new ≡ old
+CountsOutcome Faulted old new = (old ≤ new) × Rises old new
+
+-- a fact that holds where the call was carried out
+abbrev pub WhereDone : Outcome → Type 0 → Type 0
+WhereDone Done P = P
+WhereDone Refused P = Unit {0}
+WhereDone Faulted P = Unit {0}

@@ -1,0 +1,45 @@
+-- A file that is opened to be updated in place.
+use Rattle.std.specs.Prelude.{◌≡◌, ℕ, ◌≤◌, List, Result, Ok, Err, is_none, if◌then◌else◌}
+use Rattle.snd_disk.specs.declared.disk.Disk.{Ghosts}
+use Rattle.snd_disk.specs.Device.{Tells}
+use Rattle.snd_disk.specs.State.{Rises, State}
+use Rattle.snd_layout.specs.Blocks.{is_adpcm}
+use Rattle.snd_layout.specs.Shape.{Shape}
+use Rattle.snd_layout.specs.declared.error.OpenError.{OpenError}
+use Rattle.snd_layout.specs.declared.error.OpenError.TheVariants.{Refused, AdpcmUpdate, UnknownLength, DiskFault, Memory}
+use Rattle.snd_layout.specs.declared.refusal.OpenRefusal.{OpenRefusal}
+use Rattle.snd_layout.specs.declared.refusal.OpenRefusal.TheVariants.{NotBuilt}
+use Rattle.snd_container.specs.Sound.{layout_of, linear_of}
+use Rattle.snd_modes.specs.declared.handle.File.{File}
+use Rattle.snd_modes.specs.declared.mode.Mode.{Ghosts as ModeGhosts}
+use Rattle.snd_modes.specs.Editing.{Editing, first_editing}
+use Rattle.snd_modes.specs.Handle.{Stands}
+
+-- A file is updated in place where it is opened to be read, its samples stand in no blocks, and its head says its length. The
+-- laws are not built yet.
+abbrev pub updating_as : List ℕ → Result Shape OpenRefusal → Result Editing OpenError
+updating_as b (Err refusal) = Err (Refused refusal)
+updating_as b (Ok s) =
+    if is_adpcm s.params.codec then Err AdpcmUpdate
+    else (if s.unknown_length then Err UnknownLength
+    else (if is_none (linear_of s.params.codec) then Err (Refused NotBuilt) else Ok (first_editing b s)))
+
+-- what opening a file of these bytes to be updated gives, or the first reason why it is not opened
+unfoldable pub updating_of : List ℕ → Result Editing OpenError
+updating_of b = updating_as b (layout_of b)
+
+-- What is refused is what the contents refuse, where the disk tells them.
+abbrev pub RefusesUpdate : {D : Type 0} → (D → State) → D → OpenError → Type 0
+RefusesUpdate state disk (DiskFault step) = Unit {0}
+RefusesUpdate state disk Memory = Unit {0}
+RefusesUpdate state disk refusal = (b : List ℕ) → Tells state disk b → updating_of b ≡ Err refusal
+
+-- What is opened is a handle that stands for the editing state that they give.
+abbrev pub UpdatesFile : {D M : Type 0} {ghosts : Ghosts D} {mode : ModeGhosts M} → (D → State) → D → Result (File D M ghosts mode) OpenError → Type 0
+UpdatesFile state disk (Ok file) = (b : List ℕ) → Tells state disk b → (e : Editing) × (updating_of b ≡ Ok e) × Stands state file e
+UpdatesFile state disk (Err error) = RefusesUpdate state disk error
+
+-- the count of faults rises where the answer is a fault of the disk, and there alone
+abbrev pub CountsUpdating : {D T : Type 0} → (D → State) → D → D → Result T OpenError → Type 0
+CountsUpdating state old new (Err (DiskFault step)) = ((state old).faults ≤ (state new).faults) × Rises (state old).faults (state new).faults
+CountsUpdating state old new result = (state new).faults ≡ (state old).faults

@@ -1,0 +1,42 @@
+-- Bytes that are put on a disk by several calls, one of which may fail, and what is put when frames are written.
+use Rattle.std.specs.Prelude.{◌≡◌, ◌≢◌, ℕ, ◌*◌, ◌≤◌, Bool, List, ℤ, get_or, max, nat_lt, if◌then◌else◌}
+use Rattle.snd_disk.specs.Device.{GoesOnFrom, Tells, WritesAtMost}
+use Rattle.snd_disk.specs.Runs.{IsBeside}
+use Rattle.snd_disk.specs.State.{IsWritten, State}
+use Rattle.snd_layout.specs.Params.{data_bytes}
+use Rattle.snd_layout.specs.Shape.{Shape}
+use Rattle.snd_layout.specs.declared.kind.Kind.TheVariants.{Voc}
+use Rattle.snd_patch.specs.Sealed.{closed_end}
+use Rattle.snd_patch.specs.Steps.{StillTells}
+use Rattle.snd_pcm.specs.Pcm.{byte_count, samples_bytes}
+use Rattle.snd_pcm.specs.declared.linear.Linear.{Linear}
+
+-- every byte but the n from a place on is as it was, and no more than n were passed to writes
+pub record PutsAt {D : Type 0} (state : D → State) (left_between : D → ℕ → ℕ → List ℕ → Type 0) (at n : ℕ) (old new : D) : Type 0 where
+  pub beside : (b : List ℕ) → Tells state old b → (x : List ℕ) × Tells state new x × ((i : ℕ) → IsBeside i at n → get_or x i 0 ≡ get_or b i 0)
+  pub tells : StillTells (state old) (state new)
+  pub time : GoesOnFrom state left_between old new
+  pub written : WritesAtMost state n old new
+  pub asked : (state new).asked ≡ (state old).asked
+
+-- of so many samples
+abbrev pub PutsSamples : {D : Type 0} → (D → State) → (D → ℕ → ℕ → List ℕ → Type 0) → Linear → ℕ → ℕ → D → D → Type 0
+PutsSamples state left_between form at count old new = PutsAt state left_between at (byte_count form * count) old new
+
+-- samples stand at a place
+abbrev pub HasWritten : {D : Type 0} → (D → State) → Linear → ℕ → List ℤ → D → D → Type 0
+HasWritten state form at xs old new = IsWritten at (samples_bytes form xs) (state old) (state new)
+
+-- the length, once what closes the data of n frames stands behind them, where these are more than there were
+abbrev pub closed_size : ℕ → Shape → ℕ → ℕ
+closed_size size h n = if nat_lt h.frames n then max size (closed_end h n) else size
+
+-- what closes the data of n frames is there, and the head declares no more than these; a Creative Voice file, which has a
+-- single field, may declare more
+pub record IsKeptUp (h : Shape) (n size : ℕ) : Type 0 where
+  pub closed : closed_end h n ≤ size
+  pub declared : h.kind ≢ Voc → h.declared ≤ data_bytes h.params n
+
+-- the bytes that bring the head up, where that is automatic
+abbrev pub most_fields : Bool → ℕ
+most_fields automatic = if automatic then 64 else 0

@@ -1,0 +1,89 @@
+//! Which frames may be written.
+
+ghost use Rattle.std.specs.Prelude.{◌≡◌, ◌+◌, ◌/◌, ◌<◌, ◌≤◌, ◌↔◌, false, IfErr, IfOk, IsTrue, OnOk, is_none, length};
+ghost use Rattle.snd_layout.specs.Params.{data_bytes};
+ghost use Rattle.snd_layout.specs.Shape.{KeepsRule, room as shape_room};
+ghost use Rattle.snd_container.specs.Sound.{linear_of};
+ghost use Rattle.snd_modes.specs.Reading.{FitCodec};
+ghost use Rattle.snd_modes.specs.WriteCalls.{IsGrowthRefusal, IsWriteRefusal, MayWrite, is_whole_field};
+
+use crate::codec::form_of;
+use crate::error::WriteError;
+use crate::frames::channels_of;
+use snd_container::room;
+use snd_layout::{Layout, one_sector};
+use snd_pcm::in_range;
+
+// Whether numbers are in the range of the codec.
+fn fits_codec(layout: &Layout, from: &[i32]) -> bool
+    requires { is_none (linear_of layout.now.params.codec) ≡ false }
+    ensures { IsTrue result ↔ FitCodec layout.now.params.codec from.now }
+{
+    let Some(form) = form_of(layout) else {
+        unreachable!()
+    };
+    in_range(form, from)
+}
+
+// Whether the head has room for the data of so many frames.
+fn has_room(layout: &Layout, frames: u64) -> bool
+    requires { is_none (linear_of layout.now.params.codec) ≡ false }
+    ensures { IsTrue result ↔ (data_bytes layout.now.params frames ≤ shape_room layout.now) }
+{
+    let Some(form) = form_of(layout) else {
+        unreachable!()
+    };
+    let align = form.bytes() as u64 * channels_of(layout) as u64;
+    frames <= room(layout) / align
+}
+
+// Whether there may be so many frames, more than there are.
+fn may_grow(layout: &Layout, to: u64) -> Result<(), WriteError>
+    requires { is_none (linear_of layout.now.params.codec) ≡ false }
+    ensures free { OnOk result (layout.now.trailing ≡ false) }
+    ensures in_room { OnOk result (data_bytes layout.now.params to ≤ shape_room layout.now) }
+    ensures refused { IfErr result (IsGrowthRefusal layout.now to) }
+{
+    if layout.trailing {
+        return Err(WriteError::TrailingData);
+    }
+    if !has_room(layout, to) {
+        return Err(WriteError::ContainerFull);
+    }
+    Ok(())
+}
+
+// The frame behind those that the numbers are, where these may be written from a frame on, which is at
+// most the end.
+pub(crate) fn end_of_write(layout: &Layout, place: u64, from: &[i32]) -> Result<u64, WriteError>
+    requires linear { is_none (linear_of layout.now.params.codec) ≡ false }
+    requires placed { place ≤ layout.now.frames }
+    ensures value { IfOk result (λ end. end ≡ place + length from.now / layout.now.params.channels) }
+    ensures some { 1 ≤ layout.now.params.channels }
+    ensures rule { KeepsRule layout.now }
+    ensures ready { OnOk result (MayWrite from.now layout.now place) }
+    ensures refused { IfErr result (IsWriteRefusal from.now layout.now place) }
+{
+    layout.keeps_rule();
+    let channels = channels_of(layout);
+    if !from.len().is_multiple_of(channels) {
+        return Err(WriteError::PartFrame);
+    }
+    if !fits_codec(layout, from) {
+        return Err(WriteError::SampleRange);
+    }
+    let count = (from.len() / channels) as u64;
+    let end = place + count;
+    if end > layout.frames {
+        may_grow(layout, end)?;
+    }
+    Ok(end)
+}
+
+// Whether the field that decides the count lies in one sector.
+pub(crate) fn has_whole_field(layout: &Layout) -> bool
+    ensures { result ≡ is_whole_field layout.now }
+{
+    layout.keeps_rule();
+    one_sector(layout.inner)
+}

@@ -1,0 +1,177 @@
+//! Frames put on a disk, and the head brought up to them.
+
+ghost use Rattle.std.specs.Prelude.{◌≡◌, ◌+◌, ◌/◌, ◌<◌, ◌≤◌, ◌^◌, false, true, OnErr, OnOk, is_none, length, max};
+ghost use Rattle.snd_disk.specs.Device.{CountsOn, IsStable};
+ghost use Rattle.snd_disk.specs.State.{IsWritten};
+ghost use Rattle.snd_layout.specs.Params.{data_bytes};
+ghost use Rattle.snd_layout.specs.Shape.{end};
+ghost use Rattle.snd_container.specs.Sound.{linear_of};
+ghost use Rattle.snd_container.specs.Values.{HasRoomFor};
+ghost use Rattle.snd_patch.specs.Sealed.{closed_end};
+ghost use Rattle.snd_patch.specs.Steps.{Becomes, KeepsSize, MayCount, Updates};
+ghost use Rattle.snd_modes.specs.Edits.{closed_behind, coded, count_written, cut_off, sealed_where, written_bytes, written_shape};
+ghost use Rattle.snd_modes.specs.Reading.{FitCodec, bytes_of_frames};
+ghost use Rattle.snd_modes.specs.WriteCalls.{MayWrite};
+ghost use Rattle.snd_modes.specs.Writing.{IsKeptUp, PutsAt, closed_size, most_fields};
+
+use crate::codec::form_of;
+use crate::frames::place_of;
+use crate::writes::write_run;
+use snd_disk::{Disk, Step};
+use snd_layout::Layout;
+use snd_patch::{cut_behind, grow, put_closing};
+
+// Writes the numbers of frames over the data from a frame on, which is at most the end.
+fn write_data<D: Disk>(disk: &mut D, layout: &Layout, place: u64, from: &[i32]) -> Result<(), Step>
+    requires linear { is_none (linear_of layout.now.params.codec) ≡ false }
+    requires fit { FitCodec layout.now.params.codec from.now }
+    requires placed { place ≤ layout.now.frames }
+    requires held { end layout.now layout.now.frames ≤ (D.state disk.old).size }
+    requires fits { end layout.now place + length (coded layout.now.params from.now) < 2 ^ 63 }
+    ensures done { OnOk result (IsWritten (end layout.now place) (coded layout.now.params from.now) (D.state disk.old) (D.state disk.new)) }
+    ensures puts { PutsAt D.state D.left_between (end layout.now place) (length (coded layout.now.params from.now)) disk.old disk.new }
+    ensures faults { CountsOn D.state disk.old disk.new result }
+{
+    let Some(form) = form_of(layout) else {
+        unreachable!()
+    };
+    write_run(disk, form, place_of(layout, form, place), from)
+}
+
+// Puts what closes the data of so many frames behind them, where these are more than there were.
+fn close_behind<D: Disk>(disk: &mut D, layout: &Layout, to: u64) -> Result<(), Step>
+    requires { MayCount layout.now to (D.state disk.old).size }
+    ensures contents { OnOk result (Becomes D.state (λ b. closed_behind b layout.now to) disk.old disk.new) }
+    ensures size { OnOk result ((D.state disk.new).size ≡ closed_size (D.state disk.old).size layout.now to) }
+    ensures updates { Updates D.state D.left_between layout.now to 8 disk.old disk.new }
+    ensures faults { CountsOn D.state disk.old disk.new result }
+{
+    if layout.frames < to {
+        put_closing(disk, layout, to)?;
+    }
+    Ok(())
+}
+
+// Notes that there are so many frames, of which the head does not say.
+fn count(layout: &mut Layout, to: u64)
+    requires room { HasRoomFor layout.old to }
+    requires on_disk { end layout.old to + 8 ≤ 2 ^ 63 }
+    ensures { layout.new ≡ record layout.old { frames = to } }
+{
+    layout.keeps_rule();
+    layout.frames = to;
+}
+
+// Brings the head up to so many frames, where that is automatic.
+fn bring_up<D: Disk>(
+    disk: &mut D,
+    layout: &mut Layout,
+    to: u64,
+    automatic: bool,
+) -> Result<(), Step>
+    requires counts { MayCount layout.old to (D.state disk.old).size }
+    requires more { layout.old.frames ≤ to }
+    requires stays { layout.old.trailing ≡ true → layout.old.frames ≡ to }
+    requires kept_up { automatic ≡ true → layout.old.trailing ≡ false → IsKeptUp layout.old to (D.state disk.old).size }
+    ensures contents { OnOk result (Becomes D.state (λ b. sealed_where automatic b layout.old to) disk.old disk.new) }
+    ensures size { OnOk result (KeepsSize D.state disk.old disk.new) }
+    ensures stable { OnOk result (automatic ≡ true → IsStable D.state D.may_leave disk.new) }
+    ensures layout { OnOk result (layout.new ≡ written_shape automatic layout.old to) }
+    ensures kept { OnErr result (layout.new ≡ layout.old) }
+    ensures updates { Updates D.state D.left_between layout.old to (most_fields automatic) disk.old disk.new }
+    ensures faults { CountsOn D.state disk.old disk.new result }
+{
+    layout.keeps_rule();
+    if !automatic {
+        count(layout, to);
+        return Ok(());
+    }
+    grow(disk, layout, to)?;
+    Ok(())
+}
+
+// Writes the numbers of frames from a frame on, which is at most the end, where there are so many frames
+// then. Where that is automatic, the head is brought up to them.
+fn put_frames<D: Disk>(
+    disk: &mut D,
+    layout: &mut Layout,
+    place: u64,
+    to: u64,
+    from: &[i32],
+    automatic: bool,
+) -> Result<(), Step>
+    requires linear { is_none (linear_of layout.old.params.codec) ≡ false }
+    requires fit { FitCodec layout.old.params.codec from.now }
+    requires placed { place ≤ layout.old.frames }
+    requires held { end layout.old layout.old.frames ≤ (D.state disk.old).size }
+    requires more { layout.old.frames ≤ to }
+    requires stays { layout.old.trailing ≡ true → layout.old.frames ≡ to }
+    requires within { end layout.old place + length (coded layout.old.params from.now) ≤ end layout.old to }
+    requires reaches { end layout.old to ≤ max (end layout.old layout.old.frames) (end layout.old place + length (coded layout.old.params from.now)) }
+    requires room { HasRoomFor layout.old to }
+    requires on_disk { end layout.old to + 8 ≤ 2 ^ 63 }
+    requires kept_up { automatic ≡ true → layout.old.trailing ≡ false → IsKeptUp layout.old layout.old.frames (D.state disk.old).size }
+    ensures contents { OnOk result (Becomes D.state (λ b. written_bytes automatic b layout.old place to from.now) disk.old disk.new) }
+    ensures size { OnOk result (end layout.old to ≤ (D.state disk.new).size) }
+    ensures closed { OnOk result (automatic ≡ true → layout.old.trailing ≡ false → closed_end layout.old to ≤ (D.state disk.new).size) }
+    ensures stable { OnOk result (automatic ≡ true → IsStable D.state D.may_leave disk.new) }
+    ensures layout { OnOk result (layout.new ≡ written_shape automatic layout.old to) }
+    ensures kept { OnErr result (layout.new ≡ layout.old) }
+    ensures updates { Updates D.state D.left_between layout.old place (length (coded layout.old.params from.now) + 8 + most_fields automatic) disk.old disk.new }
+    ensures faults { CountsOn D.state disk.old disk.new result }
+{
+    write_data(disk, layout, place, from)?;
+    close_behind(disk, layout, to)?;
+    bring_up(disk, layout, to, automatic)
+}
+
+// Writes so many frames, given by their numbers, from a frame on, which is at most the end. There are then
+// the frames that there were, or those up to the last one that is written. Where that is automatic, the
+// head is brought up to them.
+pub(crate) fn write_over<D: Disk>(
+    disk: &mut D,
+    layout: &mut Layout,
+    place: u64,
+    count: u64,
+    from: &[i32],
+    automatic: bool,
+) -> Result<(), Step>
+    requires linear { is_none (linear_of layout.old.params.codec) ≡ false }
+    requires early { layout.old.start < 2 ^ 62 }
+    requires sized { layout.old.unknown_length ≡ false }
+    requires placed { place ≤ layout.old.frames }
+    requires held { end layout.old layout.old.frames ≤ (D.state disk.old).size }
+    requires ready { MayWrite from.now layout.old place }
+    requires count { count ≡ length from.now / layout.old.params.channels }
+    requires kept_up { automatic ≡ true → layout.old.trailing ≡ false → IsKeptUp layout.old layout.old.frames (D.state disk.old).size }
+    ensures contents { OnOk result (Becomes D.state (λ b. written_bytes automatic b layout.old place (count_written layout.old place count) from.now) disk.old disk.new) }
+    ensures size { OnOk result (end layout.old (count_written layout.old place count) ≤ (D.state disk.new).size) }
+    ensures closed { OnOk result (automatic ≡ true → layout.old.trailing ≡ false → closed_end layout.old (count_written layout.old place count) ≤ (D.state disk.new).size) }
+    ensures stable { OnOk result (automatic ≡ true → IsStable D.state D.may_leave disk.new) }
+    ensures layout { OnOk result (layout.new ≡ written_shape automatic layout.old (count_written layout.old place count)) }
+    ensures kept { OnErr result (layout.new ≡ layout.old) }
+    ensures updates { Updates D.state D.left_between layout.old place (bytes_of_frames layout.old.params count + 8 + most_fields automatic) disk.old disk.new }
+    ensures faults { CountsOn D.state disk.old disk.new result }
+{
+    layout.keeps_rule();
+    layout.params.are_good();
+    let to = layout.frames.max(place + count);
+    put_frames(disk, layout, place, to, from, automatic)
+}
+
+// Cuts off all that stands behind what closes the data, and notes that.
+pub(crate) fn cut_off<D: Disk>(disk: &mut D, layout: &mut Layout) -> Result<(), Step>
+    requires { MayCount layout.old layout.old.frames (D.state disk.old).size }
+    ensures contents { OnOk result (Becomes D.state (λ b. cut_off b layout.old layout.old.frames) disk.old disk.new) }
+    ensures size { OnOk result ((D.state disk.new).size ≡ closed_end layout.old layout.old.frames) }
+    ensures stable { OnOk result (IsStable D.state D.may_leave disk.new) }
+    ensures layout { OnOk result (layout.new ≡ record layout.old { trailing = false }) }
+    ensures kept { OnErr result (layout.new ≡ layout.old) }
+    ensures updates { Updates D.state D.left_between layout.old layout.old.frames 8 disk.old disk.new }
+    ensures faults { CountsOn D.state disk.old disk.new result }
+{
+    let frames = layout.frames;
+    cut_behind(disk, layout, frames)?;
+    layout.trailing = false;
+    Ok(())
+}

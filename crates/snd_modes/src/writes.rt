@@ -1,0 +1,76 @@
+//! Linear samples written on a disk, a block at a time.
+
+ghost use Rattle.std.specs.Prelude.{◌+◌, ◌-◌, ◌*◌, ◌<◌, ◌≤◌, ◌^◌, All, IfOk, OnErr, OnOk, drop, length, take};
+ghost use Rattle.snd_disk.specs.Device.{CountsOn};
+ghost use Rattle.snd_pcm.specs.Pcm.{InRange, byte_count};
+ghost use Rattle.snd_modes.specs.Writing.{HasWritten, PutsSamples};
+
+use snd_disk::{Disk, Failed, Step};
+use snd_pcm::{Linear, put_samples};
+
+const BLOCK_BYTES: usize = 16384;
+
+// Writes samples at a place, at most one block.
+fn write_block<D: Disk>(disk: &mut D, form: Linear, at: u64, from: &[i32]) -> Result<(), Step>
+    requires fits { at + byte_count form * length from.now < 2 ^ 63 }
+    requires small { byte_count form * length from.now ≤ 16384 }
+    requires in_range { All (InRange form) from.now }
+    ensures done { OnOk result (HasWritten D.state form at from.now disk.old disk.new) }
+    ensures puts { PutsSamples D.state D.left_between form at (length from.now) disk.old disk.new }
+    ensures faults { CountsOn D.state disk.old disk.new result }
+{
+    let mut block = [0u8; BLOCK_BYTES];
+    let bytes = &mut block[..form.bytes() * from.len()];
+    put_samples(form, from, bytes);
+    match disk.write_at(at, bytes) {
+        Ok(()) => Ok(()),
+        Err(Failed) => Err(Step::Write),
+    }
+}
+
+// Writes on behind the first `done` samples, as far as one block goes. The answer is how many are done
+// then.
+fn write_next<D: Disk>(
+    disk: &mut D,
+    form: Linear,
+    at: u64,
+    from: &[i32],
+    done: usize,
+) -> Result<usize, Step>
+    requires some { done < length from.now }
+    requires fits { at + byte_count form * length from.now < 2 ^ 63 }
+    requires in_range { All (InRange form) from.now }
+    ensures more { IfOk result (λ n. (done < n) × (n ≤ length from.now)) }
+    ensures done { IfOk result (λ n. HasWritten D.state form (at + byte_count form * done) (take (n - done) (drop done from.now)) disk.old disk.new) }
+    ensures puts { IfOk result (λ n. PutsSamples D.state D.left_between form (at + byte_count form * done) (n - done) disk.old disk.new) }
+    ensures broken { OnErr result (PutsSamples D.state D.left_between form (at + byte_count form * done) (length from.now - done) disk.old disk.new) }
+    ensures faults { CountsOn D.state disk.old disk.new result }
+{
+    let width = form.bytes();
+    let count = (from.len() - done).min(BLOCK_BYTES / width);
+    let next = done + count;
+    write_block(disk, form, at + (width * done) as u64, &from[done..next])?;
+    Ok(next)
+}
+
+// Writes samples, each in the range of the form, from a place on, a block at a time. The place is at most
+// the disk's end.
+pub(crate) fn write_run<D: Disk>(
+    disk: &mut D,
+    form: Linear,
+    at: u64,
+    from: &[i32],
+) -> Result<(), Step>
+    requires there { at ≤ (D.state disk.old).size }
+    requires fits { at + byte_count form * length from.now < 2 ^ 63 }
+    requires in_range { All (InRange form) from.now }
+    ensures done { OnOk result (HasWritten D.state form at from.now disk.old disk.new) }
+    ensures puts { PutsSamples D.state D.left_between form at (length from.now) disk.old disk.new }
+    ensures faults { CountsOn D.state disk.old disk.new result }
+{
+    let mut done = 0;
+    while done < from.len() {
+        done = write_next(disk, form, at, from, done)?;
+    }
+    Ok(())
+}

@@ -1,0 +1,175 @@
+//! The calls of an open file that write.
+
+ghost use Rattle.std.specs.Prelude.{◌≡◌, ◌+◌, ◌/◌, ◌≤◌, None, Some, false, true, MatchResult, OnOk, length};
+ghost use Rattle.snd_disk.specs.Device.{CountsOn, GoesOnFrom, IsStable, WritesAtMost};
+ghost use Rattle.snd_patch.specs.Sealed.{closed_end};
+ghost use Rattle.snd_patch.specs.Steps.{KeepsBeside, StillTells};
+ghost use Rattle.snd_modes.specs.Edits.{automatic_to, moved_write_to, sealed_to, state_after, written_to};
+ghost use Rattle.snd_modes.specs.Handle.{StandsAfter, disk_of, known_of, loan_of};
+ghost use Rattle.snd_modes.specs.Outcomes.{CountsOutcome, StandsOn, WhereDone, auto_outcome, update_outcome, write_outcome};
+ghost use Rattle.snd_modes.specs.Reading.{bytes_of_frames};
+ghost use Rattle.snd_modes.specs.WriteCalls.{AutoLeaves, SeekWriteLeaves, UpdateLeaves, WriteLeaves, known_sealed};
+ghost use Rattle.snd_modes.specs.Writing.{most_fields};
+
+use crate::error::{AutoError, SeekError, UpdateError, WriteError};
+use crate::growth::{end_of_write, has_whole_field};
+use crate::handle::File;
+use crate::mode::CanWrite;
+use crate::updates::write_over;
+use snd_disk::{Disk, Step};
+use snd_patch::seal;
+
+impl<'d, D: Disk, M: CanWrite> File<'d, D, M> {
+    /// Makes a frame the one to write next: from 0 to the number of frames, which is the end. The disk is
+    /// not touched. `Broken` where a call of the disk failed before, and then `SeekRange` exactly where
+    /// the place is past the end; the place stays.
+    pub fn seek_write(&mut self, to: u64) -> Result<(), SeekError>
+        ensures loan { loan_of self.new ≡ loan_of self.old }
+        ensures same_disk { disk_of self.new ≡ disk_of self.old }
+        ensures left { SeekWriteLeaves to (known_of self.old) (known_of self.new) result }
+        ensures stands { StandsAfter D.state self.old self.new (state_after (moved_write_to to) result) }
+    {
+        if let Some(step) = self.broken {
+            return Err(SeekError::Broken(step));
+        }
+        if to > self.layout.frames {
+            return Err(SeekError::SeekRange);
+        }
+        self.write_place = to;
+        Ok(())
+    }
+
+    /// Writes frames from the one to write next on, over old frames and past the end, and moves the place
+    /// behind them. A frame has one number for each channel, in turn. Where the end moves, what closes the
+    /// data is put behind it; where updates are automatic, the head is brought up to the frames and all is
+    /// made stable. It writes the bytes of the frames and at most 8 more, and 64 more where updates are
+    /// automatic; it takes no memory.
+    ///
+    /// `Broken` where a call of the disk failed before; then `PartFrame` exactly where the slice does not
+    /// hold whole frames; `SampleRange` exactly where a number is outside the codec's range;
+    /// `TrailingData` exactly where the end would move and the file goes on behind its data;
+    /// `ContainerFull` exactly where the end would move and the head has no room for the data: these
+    /// leave all as it was. `DiskFault` where a call of the disk failed now: from then on the file is
+    /// broken; what stands before the place, beside the fields of the head, is as it was.
+    pub fn write_frames(&mut self, from: &[i32]) -> Result<(), WriteError>
+        ensures loan { loan_of self.new ≡ loan_of self.old }
+        ensures left { WriteLeaves from.now (known_of self.old) (known_of self.new) result }
+        ensures stands { StandsOn (write_outcome result) D.state self.old self.new (written_to from.now) }
+        ensures stable { OnOk result ((known_of self.old).automatic ≡ true → IsStable D.state D.may_leave (disk_of self.new)) }
+
+        ensures beside { KeepsBeside D.state (known_of self.old).shape (known_of self.old).write_place (disk_of self.old) (disk_of self.new) }
+        ensures tells { StillTells (D.state (disk_of self.old)) (D.state (disk_of self.new)) }
+        ensures time { GoesOnFrom D.state D.left_between (disk_of self.old) (disk_of self.new) }
+        ensures faults { CountsOutcome (write_outcome result) (D.state (disk_of self.old)).faults (D.state (disk_of self.new)).faults }
+        ensures written { WritesAtMost D.state (bytes_of_frames (known_of self.old).shape.params (length from.now / (known_of self.old).shape.params.channels) + 8 + most_fields (known_of self.old).automatic) (disk_of self.old) (disk_of self.new) }
+        ensures asked { (D.state (disk_of self.new)).asked ≡ (D.state (disk_of self.old)).asked }
+    {
+        if let Some(step) = self.broken {
+            return Err(WriteError::Broken(step));
+        }
+        let place = self.write_place;
+        let next = end_of_write(&self.layout, place, from)?;
+        let count = next - place;
+        match write_over(
+            self.disk,
+            &mut self.layout,
+            place,
+            count,
+            from,
+            self.automatic,
+        ) {
+            Ok(()) => {
+                self.write_place = next;
+                self.written |= count > 0;
+                Ok(())
+            }
+            Err(step) => {
+                self.broken = Some(step);
+                Err(WriteError::DiskFault(step))
+            }
+        }
+    }
+
+    /// Brings the head up to the frames, and makes the file stable: what closes the data is put behind it
+    /// where it is missing. A file that goes on behind its data is made stable as it is. The answer is how
+    /// many frames the head then says. It writes at most 72 bytes and takes no memory.
+    ///
+    /// `Broken` where a call of the disk failed before, which leaves all as it was. `DiskFault` where a
+    /// call of the disk failed now: from then on the file is broken; what stands before the end of the
+    /// data, beside the fields of the head, is as it was.
+    pub fn update_now(&mut self) -> Result<u64, UpdateError>
+        ensures loan { loan_of self.new ≡ loan_of self.old }
+        ensures left { UpdateLeaves (known_of self.old) (known_of self.new) result }
+        ensures stands { StandsOn (update_outcome result) D.state self.old self.new sealed_to }
+        ensures stable { OnOk result (IsStable D.state D.may_leave (disk_of self.new)) }
+
+        ensures beside { KeepsBeside D.state (known_of self.old).shape (known_of self.old).shape.frames (disk_of self.old) (disk_of self.new) }
+        ensures tells { StillTells (D.state (disk_of self.old)) (D.state (disk_of self.new)) }
+        ensures time { GoesOnFrom D.state D.left_between (disk_of self.old) (disk_of self.new) }
+        ensures faults { CountsOutcome (update_outcome result) (D.state (disk_of self.old)).faults (D.state (disk_of self.new)).faults }
+        ensures written { WritesAtMost D.state 72 (disk_of self.old) (disk_of self.new) }
+        ensures asked { (D.state (disk_of self.new)).asked ≡ (D.state (disk_of self.old)).asked }
+    {
+        if let Some(step) = self.broken {
+            return Err(UpdateError::Broken(step));
+        }
+        self.seal_file()?;
+        Ok(self.layout.frames)
+    }
+
+    /// Seals the file as `update_now` does, and from then on each write does so, or none does. The answer
+    /// is how many frames the head then says. It writes at most 72 bytes and takes no memory.
+    ///
+    /// `Broken` where a call of the disk failed before; then `Straddle` exactly where updates are to be
+    /// automatic and the field that decides the count does not lie in one sector of 512 bytes: these leave
+    /// all as it was. `DiskFault` as in `update_now`.
+    pub fn set_auto(&mut self, on: bool) -> Result<u64, AutoError>
+        ensures loan { loan_of self.new ≡ loan_of self.old }
+        ensures left { AutoLeaves on (known_of self.old) (known_of self.new) result }
+        ensures stands { StandsOn (auto_outcome result) D.state self.old self.new (automatic_to on) }
+        ensures stable { OnOk result (IsStable D.state D.may_leave (disk_of self.new)) }
+
+        ensures beside { KeepsBeside D.state (known_of self.old).shape (known_of self.old).shape.frames (disk_of self.old) (disk_of self.new) }
+        ensures tells { StillTells (D.state (disk_of self.old)) (D.state (disk_of self.new)) }
+        ensures time { GoesOnFrom D.state D.left_between (disk_of self.old) (disk_of self.new) }
+        ensures faults { CountsOutcome (auto_outcome result) (D.state (disk_of self.old)).faults (D.state (disk_of self.new)).faults }
+        ensures written { WritesAtMost D.state 72 (disk_of self.old) (disk_of self.new) }
+        ensures asked { (D.state (disk_of self.new)).asked ≡ (D.state (disk_of self.old)).asked }
+    {
+        if let Some(step) = self.broken {
+            return Err(AutoError::Broken(step));
+        }
+        if on && !has_whole_field(&self.layout) {
+            return Err(AutoError::Straddle);
+        }
+        self.seal_file()?;
+        self.automatic = on;
+        Ok(self.layout.frames)
+    }
+
+    // Seals the file, no call of whose disk has failed. Where one fails now, the file is broken.
+    pub(crate) fn seal_file(&mut self) -> Result<(), Step>
+        requires { (known_of self.old).broken ≡ None }
+        ensures loan { loan_of self.new ≡ loan_of self.old }
+        ensures left { MatchResult result (λ _. known_of self.new ≡ known_sealed (known_of self.old)) (λ step. known_of self.new ≡ record (known_of self.old) { broken = Some step }) }
+        ensures stands { OnOk result (StandsAfter D.state self.old self.new sealed_to) }
+        ensures closed { OnOk result ((known_of self.old).shape.trailing ≡ false → closed_end (known_of self.new).shape (known_of self.new).shape.frames ≤ (D.state (disk_of self.new)).size) }
+        ensures stable { OnOk result (IsStable D.state D.may_leave (disk_of self.new)) }
+
+        ensures beside { KeepsBeside D.state (known_of self.old).shape (known_of self.old).shape.frames (disk_of self.old) (disk_of self.new) }
+        ensures tells { StillTells (D.state (disk_of self.old)) (D.state (disk_of self.new)) }
+        ensures time { GoesOnFrom D.state D.left_between (disk_of self.old) (disk_of self.new) }
+        ensures faults { CountsOn D.state (disk_of self.old) (disk_of self.new) result }
+        ensures written { WritesAtMost D.state 72 (disk_of self.old) (disk_of self.new) }
+        ensures asked { (D.state (disk_of self.new)).asked ≡ (D.state (disk_of self.old)).asked }
+    {
+        self.layout.keeps_rule();
+        match seal(self.disk, &mut self.layout) {
+            Ok(()) => Ok(()),
+            Err(step) => {
+                self.broken = Some(step);
+                Err(step)
+            }
+        }
+    }
+}
