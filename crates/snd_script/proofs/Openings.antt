@@ -7,7 +7,7 @@ use Rattle.snd_layout.specs.Opened.{IsCause}
 use Rattle.snd_layout.specs.declared.error.OpenError.{OpenError}
 use Rattle.snd_layout.specs.declared.error.OpenError.TheVariants as cause
 use Rattle.snd_layout.specs.declared.refusal.OpenRefusal.{OpenRefusal}
-use Rattle.snd_modes.specs.Editing.{Editing, opened}
+use Rattle.snd_modes.specs.Editing.{Editing, opening_of}
 use Rattle.snd_script.specs.Edit.{Edited, edit_open, open_edit_of}
 use Rattle.snd_script.specs.Lines.{Reading}
 use Rattle.snd_script.specs.Replies.{ok_line, says}
@@ -90,16 +90,16 @@ answered_on (Err stop) files left reading reading' refused refused' t t' s edite
 
 -- a file was not opened
 pub not_opened_on : {T : Type 0} (error : OpenError) (r : Result T Stop) (files : Files) (b : List ℕ) (left : Option (List ℕ)) (reading reading' : Reading) (refused refused' : Bool) (t t' : Option (List ℕ)) (faults faults' : ℕ) (s : List ℕ)
-    → IsReadError error → IsNotOpened error r refused refused' t t' faults faults' → ((x : OpenRefusal) → error ≡ cause.Refused x → opened b ≡ Err x) → reading' ≡ reading → left ≡ Some s
-    → IsServedOn r files (is_longer (moment reading left refused t) s) (answers_from files (open_edit_of (opened b)) (moment reading left refused t) s) (moment reading left refused t) (moment reading' left refused' t')
+    → IsReadError error → IsNotOpened error r refused refused' t t' faults faults' → ((x : OpenRefusal) → error ≡ cause.Refused x → opening_of b ≡ Err x) → reading' ≡ reading → left ≡ Some s
+    → IsServedOn r files (is_longer (moment reading left refused t) s) (answers_from files (open_edit_of (opening_of b)) (moment reading left refused t) s) (moment reading left refused t) (moment reading' left refused' t')
 not_opened_on (cause.Refused x) r files b left reading reading' refused refused' t t' faults faults' s able said why same here =
     subst (λ (o : Result Editing OpenRefusal). IsServedOn r files (is_longer (moment reading left refused t) s) (answers_from files (open_edit_of o) (moment reading left refused t) s) (moment reading left refused t) (moment reading' left refused' t')) (sym (why x refl))
     (answered_on r files left reading reading' refused refused' t t' s (open_edit_of (Err x)) same here refl said.0)
 not_opened_on (cause.DiskFault step) r files b left reading reading' refused refused' t t' faults faults' s able said why same here =
-    subst (λ (r : Result _ Stop). IsServedOn r files (is_longer (moment reading left refused t) s) (answers_from files (open_edit_of (opened b)) (moment reading left refused t) s) (moment reading left refused t) (moment reading' left refused' t')) (sym said.0)
+    subst (λ (r : Result _ Stop). IsServedOn r files (is_longer (moment reading left refused t) s) (answers_from files (open_edit_of (opening_of b)) (moment reading left refused t) s) (moment reading left refused t) (moment reading' left refused' t')) (sym said.0)
     (no_text t t' _ said.1)
 not_opened_on cause.Memory r files b left reading reading' refused refused' t t' faults faults' s able said why same here =
-    subst (λ (r : Result _ Stop). IsServedOn r files (is_longer (moment reading left refused t) s) (answers_from files (open_edit_of (opened b)) (moment reading left refused t) s) (moment reading left refused t) (moment reading' left refused' t')) (sym said.0)
+    subst (λ (r : Result _ Stop). IsServedOn r files (is_longer (moment reading left refused t) s) (answers_from files (open_edit_of (opening_of b)) (moment reading left refused t) s) (moment reading left refused t) (moment reading' left refused' t')) (sym said.0)
     (no_text t t' _ said.1)
 not_opened_on cause.AdpcmUpdate r files b left reading reading' refused refused' t t' faults faults' s able said why same here = absurd able
 not_opened_on cause.UnknownLength r files b left reading reading' refused refused' t t' faults faults' s able said why same here = absurd able

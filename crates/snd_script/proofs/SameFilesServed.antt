@@ -1,16 +1,17 @@
 -- A script is answered the same from the same files; and what is known of a shelf after one step and then another.
-use Rattle.std.proofs.Common.{◌≡◌, ℕ, List, [], ◌∷◌, Bool, Option, None, Some, Result, Ok, Err, refl, ◌∙◌, ap, subst}
+use Rattle.std.proofs.Common.{◌≡◌, ⊎_elim, ℕ, List, [], ◌∷◌, Bool, false, true, Option, None, Some, Result, Ok, Err, refl, ◌∙◌, ap, subst}
 use Rattle.snd_command.specs.Line.{command_of}
 use Rattle.snd_command.specs.Said.{Said}
 use Rattle.snd_command.specs.declared.refusal.ScriptRefusal.{ScriptRefusal}
 use Rattle.snd_command.specs.declared.refusal.ScriptRefusal.TheVariants.{LineTooLong, BadCommand}
 use Rattle.snd_disk.proofs.Chains.{keeps_images_then}
-use Rattle.snd_disk.proofs.Returned.{KeepsFileImages}
-use Rattle.snd_disk.specs.Shelf.{Files, KeepsFiles, SameFiles, ShelfState}
+use Rattle.snd_disk.proofs.Returned.{stayed_images}
+use Rattle.snd_disk.specs.Shelf.{Files, KeepsFiles, SameFiles, ShelfState, Stays}
+use Rattle.snd_disk.specs.Shelves.{HandsOutNone, KeepsOthers}
 use Rattle.snd_modes.specs.Editing.{Editing}
 use Rattle.snd_script.specs.Edit.{edit_closed, edit_line, line_edit, open_edit}
 use Rattle.snd_script.specs.Script.{Answered, answered, answered_first}
-use Rattle.snd_script.specs.Serving.{Moment, Serves, IsServedOn, IsStopped, answers_left, lines_left}
+use Rattle.snd_script.specs.Serving.{LeavesShelf, Moment, Serves, IsServedOn, IsStopped, answers_left, lines_left}
 use Rattle.snd_script.specs.declared.stop.Stop.{Stop}
 
 module _ (files files' : Files) (same : SameFiles files files') where
@@ -54,8 +55,27 @@ keeps_files_then a b c first second f told =
     let end = second mid.0 mid.1 in
     (end.0, end.1, same_files_then f mid.0 end.0 mid.2 end.2)
 
-module _ (a b : ShelfState) (clock clock' clock'' : List ℕ → ℕ) (before mid after : List ℕ → List ℕ → Type 0) (past then since : List ℕ → ℕ → ℕ → List ℕ → Type 0) where
-  pub file_images_then : KeepsFiles a b → KeepsFileImages a clock clock' before mid past then → KeepsFileImages b clock' clock'' mid after then since → KeepsFileImages a clock clock'' before after past since
-  file_images_then kept first second f n bytes told is =
-      let there = kept f told in
-      keeps_images_then (clock n) (clock' n) (clock'' n) (before n) (mid n) (after n) (past n) (then n) (since n) (first f n bytes told is) (second there.0 n bytes there.1 (there.2 n ∙ is))
+-- nothing was handed out
+stayed_files : (old new : ShelfState) (name : List ℕ) → Stays old new name false → KeepsFiles old new
+stayed_files old new name stays f told =
+    let there = stays.files f told in
+    (there.0, there.1, ⊎_elim (λ same. same) (λ made. absurd (cc (made.0))) there.2)
+
+pub stayed : {S : Type 0} (state : S → ShelfState) (may_leave : S → List ℕ → List ℕ → Type 0) (left_between : S → List ℕ → ℕ → ℕ → List ℕ → Type 0) (name : List ℕ) (old new : S)
+    → Stays (state old) (state new) name false → HandsOutNone state may_leave left_between name old new → KeepsOthers state may_leave left_between name old new → LeavesShelf state may_leave left_between old new
+stayed state may_leave left_between name old new stays handed others = record {
+  back = stays.out;
+  files = stayed_files (state old) (state new) name stays;
+  images = stayed_images state may_leave left_between name old new handed others;
+}
+
+module _ {S : Type 0} (state : S → ShelfState) (may_leave : S → List ℕ → List ℕ → Type 0) (left_between : S → List ℕ → ℕ → ℕ → List ℕ → Type 0) (a b c : S) where
+  pub leaves_shelf_then : LeavesShelf state may_leave left_between a b → LeavesShelf state may_leave left_between b c → LeavesShelf state may_leave left_between a c
+  leaves_shelf_then first second = record {
+    back = λ n. second.back n ∙ first.back n;
+    files = keeps_files_then (state a) (state b) (state c) first.files second.files;
+    images = λ f n bytes told is.
+        let there = first.files f told in
+        keeps_images_then ((state a).clock n) ((state b).clock n) ((state c).clock n) (may_leave a n) (may_leave b n) (may_leave c n) (left_between a n) (left_between b n) (left_between c n)
+        (first.images f n bytes told is) (second.images there.0 n bytes there.1 (there.2 n ∙ is));
+  }

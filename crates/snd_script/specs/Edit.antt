@@ -1,12 +1,12 @@
 -- One command: what is answered, and what is open afterwards. A refused command leaves all as it was.
-use Rattle.std.specs.Prelude.{ℕ, ◌+◌, List, Option, None, Some, Result, Ok, Err, length, nat_le, if◌then◌else◌}
+use Rattle.std.specs.Prelude.{◌≡◌, ℕ, ◌+◌, List, Option, None, Some, Result, Ok, Err, length, nat_le, if◌then◌else◌}
 use Rattle.snd_command.specs.Line.{command_of}
 use Rattle.snd_command.specs.Said.{Said}
 use Rattle.snd_command.specs.declared.refusal.ScriptRefusal.{ScriptRefusal}
 use Rattle.snd_command.specs.declared.refusal.ScriptRefusal.TheVariants as line
 use Rattle.snd_disk.specs.Shelf.{Files}
 use Rattle.snd_layout.specs.declared.refusal.OpenRefusal.{OpenRefusal}
-use Rattle.snd_modes.specs.Editing.{Editing, opened, frames_left, frames_read, moved_by, moved_to}
+use Rattle.snd_modes.specs.Editing.{Editing, opening_of, frames_left, frames_read, moved_by, moved_to}
 use Rattle.snd_script.specs.Replies.{Answer, nothing, says, refuses, file_line, ok_line, frames_text}
 use Rattle.snd_script.specs.declared.refusal.Refusal.{Refusal}
 use Rattle.snd_script.specs.declared.refusal.Refusal.TheVariants.{Open, SeekRange, BadCommand, LineTooLong, NotOpen, AlreadyOpen, MissingFile, NotBuilt}
@@ -29,7 +29,7 @@ open_edit_of (Ok e) = said_by (file_line e.shape) e
 
 abbrev pub open_edit : Option (List ℕ) → Edited
 open_edit None = refused MissingFile None
-open_edit (Some bytes) = open_edit_of (opened bytes)
+open_edit (Some bytes) = open_edit_of (opening_of bytes)
 
 -- with no file open; the commands that are not named are not built yet
 abbrev pub edit_closed : Files → Said → Edited
@@ -67,3 +67,7 @@ line_edit files file (Err line.BadCommand) = refused BadCommand file
 
 abbrev pub edit_line : Files → Option Editing → List ℕ → Edited
 edit_line files file line = line_edit files file (command_of line)
+
+-- the refusal of a line that is no command
+abbrev pub RefusesLine : ScriptRefusal → Refusal → Type 0
+RefusesLine no_command refusal = (files : Files) (file : Option Editing) → line_edit files file (Err no_command) ≡ refused refusal file

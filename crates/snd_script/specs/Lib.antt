@@ -1,6 +1,5 @@
 pub mod Edit
 pub mod Handled
-pub mod Kinds
 pub mod Lines
 pub mod Replies
 pub mod Script

@@ -1,5 +1,5 @@
 -- The lines of a script, one after the other, as they come.
-use Rattle.std.specs.Prelude.{◌≡◌, ◌⊎◌, ℕ, ◌+◌, ◌-◌, ◌<◌, List, [], ◌∷◌, ◌++◌, Bool, true, false, length, take}
+use Rattle.std.specs.Prelude.{◌≡◌, ◌⊎◌, ℕ, ◌+◌, ◌-◌, ◌<◌, ◌≤◌, Option, Some, List, [], ◌∷◌, ◌++◌, Bool, true, false, length, take}
 use Rattle.std.specs.List.{All}
 use Rattle.snd_script.specs.declared.reader.NextLine.{NextLine}
 use Rattle.snd_script.specs.declared.reader.NextLine.TheVariants.{Line, End, TooLong}
@@ -73,3 +73,25 @@ pub record IsUnderWay (start now : Reading) (kept s b c : List ℕ) : Type 0 whe
   pub room : start.room ≡ length c + now.room
   pub line : kept ≡ take most_kept c
   pub no_feed : HasNoFeed c
+
+-- SOURCES. The first argument is what a source has left, or how many bytes it gave.
+
+-- a source that tells its bytes has given these
+abbrev pub GivesBytes : {R : Type 0} → (R → Option (List ℕ)) → List ℕ → R → R → Type 0
+GivesBytes left bytes old new = (s : List ℕ) → left old ≡ Some s → (b : List ℕ) × (left new ≡ Some b) × (s ≡ bytes ++ b)
+
+abbrev pub IsAtEnd : {R : Type 0} → (R → Option (List ℕ)) → R → Type 0
+IsAtEnd left script = (s : List ℕ) → left script ≡ Some s → s ≡ []
+
+-- what comes next of the bytes in hand and in the source
+abbrev pub ReadsOn : {R : Type 0} → (R → Option (List ℕ)) → List ℕ → Reading → R → Reading → R → NextLine → Type 0
+ReadsOn left kept old script new script' next =
+    (s : List ℕ) → left script ≡ Some s → (b : List ℕ) × (left script' ≡ Some b) × IsNext next old.room (old.rest ++ s) kept new.room (new.rest ++ b)
+
+-- no more is taken than may be
+abbrev pub TakesUp : {R : Type 0} → (R → ℕ) → Reading → R → Reading → R → Type 0
+TakesUp given old script new script' = given script' + to_take new ≤ given script + to_take old
+
+-- where a line feed stands in what is in hand and may be served, the source is not asked
+abbrev pub IsPrompt : {R : Type 0} → Reading → R → R → Type 0
+IsPrompt r script script' = (before after : List ℕ) → r.rest ≡ before ++ 10 ∷ after → length before < r.room → script' ≡ script

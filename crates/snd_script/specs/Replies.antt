@@ -1,10 +1,12 @@
 -- The replies of a script.
-use Rattle.std.specs.Prelude.{ℕ, ℤ, List, [], ◌∷◌, ◌++◌, Bool, true, false, length, codes, decimal}
+use Rattle.std.specs.Prelude.{◌≡◌, ◌⊎◌, ℕ, ℤ, List, [], ◌∷◌, ◌++◌, Bool, true, false, Option, option_map, length, codes, decimal}
 use Rattle.std.specs.Fmt.{signed_decimal}
 use Rattle.std.specs.List.{flat_map}
+use Rattle.snd_disk.specs.Streams.{AppendsFront}
 use Rattle.snd_layout.specs.Names.{codec_name, kind_name, refusal_name as open_name, refusal_number as open_number}
 use Rattle.snd_layout.specs.Params.{Parameters}
 use Rattle.snd_layout.specs.Shape.{Shape}
+use Rattle.snd_pcm.specs.Groups.{first_groups}
 use Rattle.snd_layout.specs.declared.kind.Kind.{Kind}
 use Rattle.snd_script.specs.declared.refusal.Refusal.{Refusal}
 use Rattle.snd_script.specs.declared.refusal.Refusal.TheVariants.{Open, SeekRange, BadCommand, LineTooLong, NotOpen, AlreadyOpen, MissingFile, NotBuilt}
@@ -43,6 +45,10 @@ error_line refusal = codes "error " ++ decimal (refusal_number refusal) ++ 32 �
 abbrev pub ok_line : ℕ → List ℕ
 ok_line n = codes "ok " ++ decimal n ++ 10 ∷ []
 
+-- `FRAMES CHANNELS RATE `
+abbrev pub counts_text : ℕ → Parameters → List ℕ
+counts_text frames params = decimal frames ++ 32 ∷ [] ++ decimal params.channels ++ 32 ∷ [] ++ decimal params.rate ++ 32 ∷ []
+
 -- `ok FRAMES CHANNELS RATE KIND CODEC`
 abbrev pub described : ℕ → Parameters → Kind → List ℕ
 described frames params kind = codes "ok " ++ decimal frames ++ 32 ∷ [] ++ decimal params.channels ++ 32 ∷ [] ++ decimal params.rate ++ 32 ∷ []
@@ -71,3 +77,18 @@ text_of (refuses refusal) = error_line refusal
 abbrev pub is_refusal : Answer → Bool
 is_refusal (refuses refusal) = true
 is_refusal answer = false
+
+-- the text of frames that stand one behind the other, of so many numbers each
+abbrev pub read_text : ℕ → ℕ → List ℤ → List ℕ
+read_text channels frames samples = frames_text (first_groups channels frames samples)
+
+-- a text was put behind what the sink tells; or a front of it
+abbrev pub PutsAll : {O : Type 0} → (O → Option (List ℕ)) → List ℕ → O → O → Type 0
+PutsAll told text old new = told new ≡ option_map (λ t. t ++ text) (told old)
+
+abbrev pub PutsFront : {O : Type 0} → (O → Option (List ℕ)) → List ℕ → O → O → Type 0
+PutsFront told text old new = AppendsFront (told old) (told new) text
+
+-- the text that was gathered is as it was, and nothing was put; or it was put, and none is left
+abbrev pub MakesRoom : {O : Type 0} → (O → Option (List ℕ)) → List ℕ → List ℕ → O → O → Type 0
+MakesRoom told page page' old new = ((page' ≡ page) × (told new ≡ told old)) ⊎ ((page' ≡ []) × PutsAll told page old new)

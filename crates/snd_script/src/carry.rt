@@ -1,12 +1,10 @@
 //! What a command does to a file that is open to be read, and its reply.
 
 ghost use Rattle.std.specs.Prelude.{◌≡◌, ◌+◌, ◌*◌, None, IfErr};
-ghost use Rattle.snd_disk.specs.Device.{AsksAtMost, OnlyReadsOn};
-ghost use Rattle.snd_modes.specs.Editing.{Editing};
-ghost use Rattle.snd_modes.specs.Handle.{Stands, disk_of, held_of, loan_of};
+ghost use Rattle.snd_modes.specs.Handle.{disk_of, known_of, loan_of};
 ghost use Rattle.snd_script.specs.Edit.{seek_edit};
-ghost use Rattle.snd_script.specs.Stepped.{IsHeld, IsSaid, IsSilent, IsStepCause};
-ghost use Rattle.snd_script.specs.Work.{IsSent, Leaves, read_edit, tell_edit};
+ghost use Rattle.snd_script.specs.Stepped.{IsSilent, done_reply, read_known, same_known, seek_known, seek_reply};
+ghost use Rattle.snd_script.specs.Work.{FileAsks, FileCounts, FileKnows, FileLeaves, FileReads, FileSays, IsSent, read_edit, tell_edit};
 
 use crate::handle::{Reply, StepFault};
 use crate::reading::read_some;
@@ -19,8 +17,9 @@ use snd_modes::{File, Read, SeekError};
 
 /// Tells of the file.
 pub fn tell<'d, D: Disk, O: Sink>(file: &File<'d, D, Read>, out: &mut O) -> Result<Reply, StepFault>
-    ensures stands { (e : Editing) → Stands D.state file.now e → Leaves result e (tell_edit e) (Stands D.state file.now) }
-    ensures said { (e : Editing) → Stands D.state file.now e → IsSaid result (tell_edit e).answer (O.told out.old) (O.told out.new) }
+    ensures stands { FileLeaves D.state tell_edit result file.now file.now }
+    ensures said { FileSays D.state O.told tell_edit result file.now out.old out.new }
+    ensures knows { FileKnows done_reply same_known result file.now file.now }
     ensures sent { IsSent result (O.faults out.old) (O.faults out.new) }
 {
     say_file(out, file.frames(), file.params(), file.kind())
@@ -32,13 +31,13 @@ pub fn seek<'d, D: Disk, O: Sink>(
     to: u64,
     out: &mut O,
 ) -> Result<Reply, StepFault>
-    requires { (held_of file.old).broken ≡ None }
+    requires { (known_of file.old).broken ≡ None }
     ensures loan { loan_of file.new ≡ loan_of file.old }
     ensures same_disk { disk_of file.new ≡ disk_of file.old }
-    ensures stands { (e : Editing) → Stands D.state file.old e → Leaves result e (seek_edit to e) (Stands D.state file.new) }
-    ensures said { (e : Editing) → Stands D.state file.old e → IsSaid result (seek_edit to e).answer (O.told out.old) (O.told out.new) }
+    ensures stands { FileLeaves D.state (seek_edit to) result file.old file.new }
+    ensures said { FileSays D.state O.told (seek_edit to) result file.old out.old out.new }
     ensures sent { IsSent result (O.faults out.old) (O.faults out.new) }
-    ensures held { ((held_of file.new).broken ≡ None) × ((held_of file.new).shape ≡ (held_of file.old).shape) }
+    ensures knows { FileKnows (seek_reply to) (seek_known to) result file.old file.new }
 {
     match file.seek_read(to) {
         Ok(()) => say_ok(out, to),
@@ -56,15 +55,15 @@ pub fn read<'d, D: Disk, O: Sink>(
     wanted: u64,
     out: &mut O,
 ) -> Result<Reply, StepFault>
-    requires { (held_of file.old).broken ≡ None }
+    requires { (known_of file.old).broken ≡ None }
     ensures loan { loan_of file.new ≡ loan_of file.old }
-    ensures stands { (e : Editing) → Stands D.state file.old e → Leaves result e (read_edit wanted e) (Stands D.state file.new) }
-    ensures said { (e : Editing) → Stands D.state file.old e → IsSaid result (read_edit wanted e).answer (O.told out.old) (O.told out.new) }
+    ensures stands { FileLeaves D.state (read_edit wanted) result file.old file.new }
+    ensures said { FileSays D.state O.told (read_edit wanted) result file.old out.old out.new }
     ensures silent { IfErr result (λ fault. IsSilent fault (O.told out.old) (O.told out.new)) }
-    ensures cause { IsStepCause result (D.state (disk_of file.old)).faults (D.state (disk_of file.new)).faults (O.faults out.old) (O.faults out.new) }
-    ensures held { IsHeld result (held_of file.old) (held_of file.new) }
-    ensures reads { OnlyReadsOn D.state D.may_leave D.left_between (disk_of file.old) (disk_of file.new) }
-    ensures asked { AsksAtMost D.state (1024 * wanted + 16384) (disk_of file.old) (disk_of file.new) }
+    ensures cause { FileCounts D.state O.faults result file.old out.old file.new out.new }
+    ensures knows { FileKnows done_reply (read_known wanted) result file.old file.new }
+    ensures reads { FileReads D.state D.may_leave D.left_between file.old file.new }
+    ensures asked { FileAsks D.state (1024 * wanted + 16384) file.old file.new }
 {
     let channels = usize::from(file.params().channels);
     let frames = read_some(file, samples, wanted)?;

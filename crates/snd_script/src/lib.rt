@@ -4,7 +4,6 @@
 mod carry;
 mod closed;
 mod handle;
-mod kind;
 mod opened;
 mod opening;
 mod page;

@@ -1,20 +1,18 @@
 //! The lines of a script while a file is open.
 
-ghost use Rattle.std.specs.Prelude.{◌≡◌, ◌+◌, ◌≤◌, List, ℕ, None, Some, OnOk};
-ghost use Rattle.snd_disk.specs.Device.{OnlyReadsOn};
+ghost use Rattle.std.specs.Prelude.{◌≡◌, ◌≤◌, None, Some, OnOk};
 ghost use Rattle.snd_command.specs.Said.{said_of};
 ghost use Rattle.snd_disk.specs.Shelf.{Files};
-ghost use Rattle.snd_modes.specs.Editing.{Editing};
 ghost use Rattle.snd_script.specs.Edit.{edit_line, edit_open};
-ghost use Rattle.snd_script.specs.Handled.{HandleStands, handle_disk, handle_held, handle_loan};
-ghost use Rattle.snd_script.specs.Lines.{to_take};
-ghost use Rattle.snd_script.specs.Serving.{IsCounted, IsLineServed, IsServedOpen, IsWhole, answers_left, is_longer, moment};
+ghost use Rattle.snd_script.specs.Handled.{handle_known, LeavesHandle};
+ghost use Rattle.snd_script.specs.Serving.{IsWhole, ServesOpen, AnswersOpen, CountsHandle, CountsLine, TakesLines};
 
 use crate::handle::Handle;
-use crate::kind::{OpenKind, line_refusal, open_kind};
 use crate::reader::LineBytes;
+use crate::refusal::line_refusal;
 use crate::run::Run;
 use crate::stop::{Next, Stop};
+use crate::work::{Work, work_of};
 use snd_command::{Command, parse_line};
 use snd_disk::{Disk, Sink, Source};
 
@@ -25,18 +23,18 @@ fn open_command<'d, D: Disk, O: Sink>(
     out: &mut O,
     run: &mut Run,
 ) -> Result<Next, Stop>
-    requires { (handle_held handle.old).broken ≡ None }
-    ensures loan { handle_loan handle.new ≡ handle_loan handle.old }
-    ensures answered { (e : Editing) → HandleStands D.state handle.old e → IsLineServed result (edit_open e (said_of command.now)) e run.old.refused run.new.refused (O.told out.old) (O.told out.new) (HandleStands D.state handle.new) }
+    requires { (handle_known handle.old).broken ≡ None }
+    ensures answered { AnswersOpen D.state O.told (λ e. edit_open e (said_of command.now)) result handle.old run.old out.old handle.new run.new out.new }
     ensures lines { run.new.lines ≡ run.old.lines }
-    ensures whole { IsWhole result (handle_held handle.new).broken }
-    ensures counted { (script : ℕ) → IsCounted result (record { shelf = (D.state (handle_disk handle.old)).faults; script = script; out = O.faults out.old }) (record { shelf = (D.state (handle_disk handle.new)).faults; script = script; out = O.faults out.new }) }
-    ensures reads { OnlyReadsOn D.state D.may_leave D.left_between (handle_disk handle.old) (handle_disk handle.new) }
+    ensures whole { IsWhole result (handle_known handle.new).broken }
+    ensures counted { CountsLine D.state O.faults result handle.old out.old handle.new out.new }
+    ensures leaves { LeavesHandle D.state D.may_leave D.left_between handle.old handle.new }
 {
-    match open_kind(command) {
-        OpenKind::Close => return Ok(Next::Close),
-        OpenKind::Refuse(refusal) => run.refuse(refusal, out)?,
-        OpenKind::Step => run.step(handle, command, out)?,
+    match work_of(command) {
+        Work::Close => return Ok(Next::Close),
+        Work::Open(_) | Work::Tell | Work::Seek(_) | Work::Read(_) | Work::NotBuilt => {
+            run.step(handle, command, out)?
+        }
     }
     Ok(Next::Open)
 }
@@ -48,13 +46,12 @@ fn open_line<'d, D: Disk, O: Sink>(
     out: &mut O,
     run: &mut Run,
 ) -> Result<Next, Stop>
-    requires { (handle_held handle.old).broken ≡ None }
-    ensures loan { handle_loan handle.new ≡ handle_loan handle.old }
-    ensures answered { (files : Files) (e : Editing) → HandleStands D.state handle.old e → IsLineServed result (edit_line files (Some e) line.now) e run.old.refused run.new.refused (O.told out.old) (O.told out.new) (HandleStands D.state handle.new) }
+    requires { (handle_known handle.old).broken ≡ None }
+    ensures answered { (f : Files) → AnswersOpen D.state O.told (λ e. edit_line f (Some e) line.now) result handle.old run.old out.old handle.new run.new out.new }
     ensures lines { run.new.lines ≡ run.old.lines }
-    ensures whole { IsWhole result (handle_held handle.new).broken }
-    ensures counted { (script : ℕ) → IsCounted result (record { shelf = (D.state (handle_disk handle.old)).faults; script = script; out = O.faults out.old }) (record { shelf = (D.state (handle_disk handle.new)).faults; script = script; out = O.faults out.new }) }
-    ensures reads { OnlyReadsOn D.state D.may_leave D.left_between (handle_disk handle.old) (handle_disk handle.new) }
+    ensures whole { IsWhole result (handle_known handle.new).broken }
+    ensures counted { CountsLine D.state O.faults result handle.old out.old handle.new out.new }
+    ensures leaves { LeavesHandle D.state D.may_leave D.left_between handle.old handle.new }
 {
     match parse_line(line) {
         Ok(None) => Ok(Next::Open),
@@ -74,16 +71,13 @@ pub fn serve_open<'d, D: Disk, R: Source, O: Sink>(
     out: &mut O,
     run: &mut Run,
 ) -> Result<(), Stop>
-    requires { (handle_held handle.old).broken ≡ None }
-    ensures loan { handle_loan handle.new ≡ handle_loan handle.old }
-    ensures served { (files : Files) (e : Editing) (s : List ℕ) → HandleStands D.state handle.old e → R.left script.old ≡ Some s →
-        IsServedOpen result files (is_longer (moment run.old.lines (R.left script.old) run.old.refused (O.told out.old)) s) (answers_left files (Some e) (moment run.old.lines (R.left script.old) run.old.refused (O.told out.old)) s)
-        (moment run.old.lines (R.left script.old) run.old.refused (O.told out.old)) (moment run.new.lines (R.left script.new) run.new.refused (O.told out.new)) (HandleStands D.state handle.new) }
+    requires { (handle_known handle.old).broken ≡ None }
+    ensures served { ServesOpen D.state R.left O.told result handle.old run.old script.old out.old handle.new run.new script.new out.new }
     ensures fewer { OnOk result (run.new.lines.room ≤ run.old.lines.room) }
-    ensures given { R.given script.new + to_take run.new.lines ≤ R.given script.old + to_take run.old.lines }
-    ensures whole { IsWhole result (handle_held handle.new).broken }
-    ensures counted { IsCounted result (record { shelf = (D.state (handle_disk handle.old)).faults; script = R.faults script.old; out = O.faults out.old }) (record { shelf = (D.state (handle_disk handle.new)).faults; script = R.faults script.new; out = O.faults out.new }) }
-    ensures reads { OnlyReadsOn D.state D.may_leave D.left_between (handle_disk handle.old) (handle_disk handle.new) }
+    ensures given { TakesLines R.given run.old script.old run.new script.new }
+    ensures whole { IsWhole result (handle_known handle.new).broken }
+    ensures counted { CountsHandle D.state R.faults O.faults result handle.old script.old out.old handle.new script.new out.new }
+    ensures leaves { LeavesHandle D.state D.may_leave D.left_between handle.old handle.new }
 {
     let mut line = LineBytes::new();
     loop {

@@ -1,14 +1,10 @@
 //! A file that is opened, served and closed.
 
-ghost use Rattle.std.specs.Prelude.{◌≡◌, ◌+◌, ◌≤◌, List, ℕ, false, Ok, None, Some, OnOk};
-ghost use Rattle.snd_disk.specs.Device.{OnlyReadsOn, Tells};
-ghost use Rattle.snd_disk.specs.Shelf.{Files};
-ghost use Rattle.snd_modes.specs.Editing.{Editing, opened};
+ghost use Rattle.std.specs.Prelude.{◌≡◌, ◌≤◌, false, Ok, None, OnOk};
+ghost use Rattle.snd_disk.specs.Device.{OnlyReadsOn};
 ghost use Rattle.snd_script.specs.Edit.{open_edit_of};
-ghost use Rattle.snd_script.specs.Handled.{HandleStands, handle_disk, handle_held, handle_loan};
-ghost use Rattle.snd_script.specs.Lines.{to_take};
-ghost use Rattle.snd_script.specs.Replies.{ok_line, says};
-ghost use Rattle.snd_script.specs.Serving.{IsAnswered, IsCounted, IsCountedOnce, IsNotOpened, IsReadError, IsServedOn, IsServedOpen, IsWhole, answers_from, is_longer, moment};
+ghost use Rattle.snd_script.specs.Handled.{HandleReads, handle_known, handle_loan, LeavesHandle};
+ghost use Rattle.snd_script.specs.Serving.{AnswersClose, AnswersError, CountsClosed, IsCountedOnce, IsReadError, IsWhole, ServesDisk, ServesHandle, ServesToClose, CountsDisk, CountsHandle, TakesLines};
 
 use crate::handle::Handle;
 use crate::opened::serve_open;
@@ -29,16 +25,13 @@ fn serve_opened<'d, D: Disk, R: Source, O: Sink>(
     out: &mut O,
     run: &mut Run,
 ) -> Result<(), Stop>
-    requires { (handle_held handle.old).broken ≡ None }
-    ensures loan { handle_loan handle.new ≡ handle_loan handle.old }
-    ensures served { (files : Files) (e : Editing) (s : List ℕ) → HandleStands D.state handle.old e → R.left script.old ≡ Some s →
-        IsServedOpen result files (is_longer (moment run.old.lines (R.left script.old) run.old.refused (O.told out.old)) s) (answers_from files (open_edit_of (Ok e)) (moment run.old.lines (R.left script.old) run.old.refused (O.told out.old)) s)
-        (moment run.old.lines (R.left script.old) run.old.refused (O.told out.old)) (moment run.new.lines (R.left script.new) run.new.refused (O.told out.new)) (HandleStands D.state handle.new) }
+    requires { (handle_known handle.old).broken ≡ None }
+    ensures served { ServesToClose D.state R.left O.told (λ e. open_edit_of (Ok e)) result handle.old run.old script.old out.old handle.new run.new script.new out.new }
     ensures fewer { OnOk result (run.new.lines.room ≤ run.old.lines.room) }
-    ensures given { R.given script.new + to_take run.new.lines ≤ R.given script.old + to_take run.old.lines }
-    ensures whole { IsWhole result (handle_held handle.new).broken }
-    ensures counted { IsCounted result (record { shelf = (D.state (handle_disk handle.old)).faults; script = R.faults script.old; out = O.faults out.old }) (record { shelf = (D.state (handle_disk handle.new)).faults; script = R.faults script.new; out = O.faults out.new }) }
-    ensures reads { OnlyReadsOn D.state D.may_leave D.left_between (handle_disk handle.old) (handle_disk handle.new) }
+    ensures given { TakesLines R.given run.old script.old run.new script.new }
+    ensures whole { IsWhole result (handle_known handle.new).broken }
+    ensures counted { CountsHandle D.state R.faults O.faults result handle.old script.old out.old handle.new script.new out.new }
+    ensures leaves { LeavesHandle D.state D.may_leave D.left_between handle.old handle.new }
 {
     match run.step(handle, &Command::Info, out) {
         Ok(()) => serve_open(handle, script, out, run),
@@ -48,7 +41,7 @@ fn serve_opened<'d, D: Disk, R: Source, O: Sink>(
 
 // Answers that a file was closed.
 fn reply_closed<O: Sink>(frames: u64, out: &mut O) -> Result<(), Stop>
-    ensures answered { IsAnswered result (says (ok_line frames)) false false (O.told out.old) (O.told out.new) }
+    ensures answered { AnswersClose O.told frames result out.old out.new }
     ensures faults { IsCountedOnce result (O.faults out.old) (O.faults out.new) }
 {
     match put_ok(out, frames) {
@@ -64,15 +57,13 @@ fn serve_handle<'d, D: Disk, R: Source, O: Sink>(
     out: &mut O,
     run: &mut Run,
 ) -> (Result<(), Stop>, &'d mut D)
-    requires { (handle_held handle).broken ≡ None }
+    requires { (handle_known handle).broken ≡ None }
     ensures lends { result.1.ghost_name ≡ handle_loan handle.entry }
-    ensures served { (files : Files) (e : Editing) (s : List ℕ) → HandleStands D.state handle.entry e → R.left script.old ≡ Some s →
-        IsServedOn result.0 files (is_longer (moment run.old.lines (R.left script.old) run.old.refused (O.told out.old)) s) (answers_from files (open_edit_of (Ok e)) (moment run.old.lines (R.left script.old) run.old.refused (O.told out.old)) s)
-        (moment run.old.lines (R.left script.old) run.old.refused (O.told out.old)) (moment run.new.lines (R.left script.new) run.new.refused (O.told out.new)) }
+    ensures served { ServesHandle D.state R.left O.told result.0 handle.entry run.old script.old out.old run.new script.new out.new }
     ensures fewer { OnOk result.0 (run.new.lines.room ≤ run.old.lines.room) }
-    ensures given { R.given script.new + to_take run.new.lines ≤ R.given script.old + to_take run.old.lines }
-    ensures counted { IsCounted result.0 (record { shelf = (D.state (handle_disk handle.entry)).faults; script = R.faults script.old; out = O.faults out.old }) (record { shelf = (D.state result.1.now).faults; script = R.faults script.new; out = O.faults out.new }) }
-    ensures reads { OnlyReadsOn D.state D.may_leave D.left_between (handle_disk handle.entry) result.1.now }
+    ensures given { TakesLines R.given run.old script.old run.new script.new }
+    ensures counted { CountsClosed D.state R.faults O.faults result.0 handle.entry script.old out.old result.1.now script.new out.new }
+    ensures reads { HandleReads D.state D.may_leave D.left_between handle.entry result.1.now }
 {
     let mut handle = handle;
     match serve_opened(&mut handle, script, out, run) {
@@ -90,7 +81,7 @@ fn serve_handle<'d, D: Disk, R: Source, O: Sink>(
 // Answers that a file was not opened for reading.
 fn not_opened<O: Sink>(error: OpenError, out: &mut O, run: &mut Run) -> Result<(), Stop>
     requires { IsReadError error }
-    ensures answered { IsNotOpened error result run.old.refused run.new.refused (O.told out.old) (O.told out.new) (O.faults out.old) (O.faults out.new) }
+    ensures answered { AnswersError O.told O.faults error result run.old out.old run.new out.new }
     ensures lines { run.new.lines ≡ run.old.lines }
 {
     match error {
@@ -110,12 +101,10 @@ pub fn serve_disk<D: Disk, R: Source, O: Sink>(
     out: &mut O,
     run: &mut Run,
 ) -> Result<(), Stop>
-    ensures served { (files : Files) (b s : List ℕ) → Tells D.state disk.old b → R.left script.old ≡ Some s →
-        IsServedOn result files (is_longer (moment run.old.lines (R.left script.old) run.old.refused (O.told out.old)) s) (answers_from files (open_edit_of (opened b)) (moment run.old.lines (R.left script.old) run.old.refused (O.told out.old)) s)
-        (moment run.old.lines (R.left script.old) run.old.refused (O.told out.old)) (moment run.new.lines (R.left script.new) run.new.refused (O.told out.new)) }
+    ensures served { ServesDisk D.state R.left O.told result disk.old run.old script.old out.old run.new script.new out.new }
     ensures fewer { OnOk result (run.new.lines.room ≤ run.old.lines.room) }
-    ensures given { R.given script.new + to_take run.new.lines ≤ R.given script.old + to_take run.old.lines }
-    ensures counted { IsCounted result (record { shelf = (D.state disk.old).faults; script = R.faults script.old; out = O.faults out.old }) (record { shelf = (D.state disk.new).faults; script = R.faults script.new; out = O.faults out.new }) }
+    ensures given { TakesLines R.given run.old script.old run.new script.new }
+    ensures counted { CountsDisk D.state R.faults O.faults result disk.old script.old out.old disk.new script.new out.new }
     ensures reads { OnlyReadsOn D.state D.may_leave D.left_between disk.old disk.new }
 {
     match open_read(alloc, disk) {

@@ -1,9 +1,9 @@
 //! Text that is gathered before it is put, in a buffer that takes no memory.
 
-ghost use Rattle.std.specs.Prelude.{◌≡◌, ◌+◌, ◌*◌, ◌≤◌, [], ◌∷◌, ◌++◌, length, decimal};
+ghost use Rattle.std.specs.Prelude.{◌≡◌, ◌+◌, ◌*◌, ◌≤◌, ◌∷◌, ◌++◌, length, decimal};
 ghost use Rattle.std.specs.Fmt.{signed_decimal};
 ghost use Rattle.snd_layout.specs.Names.{codec_name, kind_name};
-ghost use Rattle.snd_script.specs.Replies.{described, error_line, frame_line, ok_line, refusal_name, spaced};
+ghost use Rattle.snd_script.specs.Replies.{described, error_line, frame_line, ok_line, refusal_name, spaced, counts_text};
 
 use crate::refusal::Refusal;
 use arrayvec::ArrayVec;
@@ -116,7 +116,7 @@ pub fn push_error<const N: usize>(page: &mut ArrayVec<u8, N>, refusal: Refusal)
 /// Appends the numbers of a file's line, each with a space behind it.
 fn push_counts<const N: usize>(page: &mut ArrayVec<u8, N>, frames: u64, params: Params)
     requires { length page.old.items + 63 ≤ N }
-    ensures text { page.new.items ≡ page.old.items ++ (decimal frames ++ 32 ∷ [] ++ decimal params.channels ++ 32 ∷ [] ++ decimal params.rate ++ 32 ∷ []) }
+    ensures text { page.new.items ≡ page.old.items ++ counts_text frames params }
     ensures count { length page.new.items ≤ length page.old.items + 63 }
 {
     push_number(page, frames);

@@ -1,9 +1,9 @@
 //! The lines of a script, as they come from a source.
 
-ghost use Rattle.std.specs.Prelude.{◌≡◌, ◌+◌, ◌-◌, ◌<◌, ◌≤◌, ◌↔◌, ◌++◌, ◌∷◌, List, ℕ, [], true, false, Some, IfOk, OnErr, length, take, drop, IsTrue};
+ghost use Rattle.std.specs.Prelude.{◌≡◌, ◌+◌, ◌-◌, ◌<◌, ◌≤◌, ◌↔◌, ◌++◌, ◌∷◌, List, ℕ, [], true, false, Some, IfOk, OnOk, OnErr, length, take, drop, IsTrue};
 ghost use Rattle.std.specs.List.{position};
 ghost use Rattle.snd_disk.specs.State.{Counts};
-ghost use Rattle.snd_script.specs.Lines.{Reading, IsNext, Moves, most_kept, to_take};
+ghost use Rattle.snd_script.specs.Lines.{Reading, Moves, most_kept, to_take, GivesBytes, IsAtEnd, ReadsOn, TakesUp, IsPrompt};
 ghost use Rattle.snd_script.specs.Script.{is_feed};
 
 use arrayvec::ArrayVec;
@@ -69,8 +69,8 @@ fn fill<R: Source>(script: &mut R, block: &mut [u8], most: usize) -> Result<usiz
     requires some { 0 < most }
     requires fits { most ≤ length block.old }
     ensures few { IfOk result (λ n. n ≤ most) }
-    ensures told { IfOk result (λ n. (s : List ℕ) → R.left script.old ≡ Some s → (b : List ℕ) × (R.left script.new ≡ Some b) × (s ≡ take n block.new ++ b)) }
-    ensures ended { IfOk result (λ n. n ≡ 0 → (s : List ℕ) → R.left script.old ≡ Some s → s ≡ []) }
+    ensures told { IfOk result (λ n. GivesBytes R.left (take n block.new) script.old script.new) }
+    ensures ended { IfOk result (λ n. n ≡ 0 → IsAtEnd R.left script.old) }
     ensures given { IfOk result (λ n. R.given script.new ≤ R.given script.old + n) }
     ensures not_given { OnErr result (R.given script.new ≡ R.given script.old) }
     ensures faults { Counts (R.faults script.old) (R.faults script.new) result }
@@ -101,7 +101,7 @@ impl ScriptLines {
 
     // Moves bytes in hand to the line, up to a line feed. The answer is whether one came.
     fn move_part(&mut self, line: &mut LineBytes) -> bool
-        ensures moved { (part : List ℕ) × Moves self.old self.new line.old.items line.new.items result part }
+        ensures moved { (p : List ℕ) × Moves self.old self.new line.old.items line.new.items result p }
         ensures to_take { to_take self.new ≡ to_take self.old }
     {
         let end = self.start + (self.end - self.start).min(self.room);
@@ -127,10 +127,10 @@ impl ScriptLines {
         requires { self.old.rest ≡ [] }
         ensures some { IfOk result (λ more. more ≡ true → 0 < length self.new.rest) }
         ensures none { IfOk result (λ more. more ≡ false → self.new.rest ≡ []) }
-        ensures told { IfOk result (λ more. (s : List ℕ) → R.left script.old ≡ Some s → (b : List ℕ) × (R.left script.new ≡ Some b) × (s ≡ self.new.rest ++ b)) }
-        ensures ended { IfOk result (λ more. more ≡ false → (s : List ℕ) → R.left script.old ≡ Some s → s ≡ []) }
+        ensures told { OnOk result (GivesBytes R.left self.new.rest script.old script.new) }
+        ensures ended { IfOk result (λ more. more ≡ false → IsAtEnd R.left script.old) }
         ensures room { self.new.room ≡ self.old.room }
-        ensures given { R.given script.new + to_take self.new ≤ R.given script.old + to_take self.old }
+        ensures given { TakesUp R.given self.old script.old self.new script.new }
         ensures faults { Counts (R.faults script.old) (R.faults script.new) result }
     {
         let most = BLOCK_BYTES.min(self.room + 1);
@@ -147,10 +147,10 @@ impl ScriptLines {
         script: &mut R,
         line: &mut LineBytes,
     ) -> Result<NextLine, Failed>
-        ensures next { IfOk result (λ next. (s : List ℕ) → R.left script.old ≡ Some s → (b : List ℕ) × (R.left script.new ≡ Some b) × IsNext next self.old.room (self.old.rest ++ s) line.new.items self.new.room (self.new.rest ++ b)) }
-        ensures prompt { (before after : List ℕ) → self.old.rest ≡ before ++ 10 ∷ after → length before < self.old.room → script.new ≡ script.old }
+        ensures next { IfOk result (ReadsOn R.left line.new.items self.old script.old self.new script.new) }
+        ensures prompt { IsPrompt self.old script.old script.new }
         ensures fewer { IfOk result (λ next. next ≡ NextLine.Line → self.new.room < self.old.room) }
-        ensures given { R.given script.new + to_take self.new ≤ R.given script.old + to_take self.old }
+        ensures given { TakesUp R.given self.old script.old self.new script.new }
         ensures faults { Counts (R.faults script.old) (R.faults script.new) result }
     {
         line.clear();

@@ -1,11 +1,9 @@
 //! Frames read for a command.
 
-ghost use Rattle.std.specs.Prelude.{◌≡◌, ◌+◌, ◌*◌, ◌≤◌, None, MatchResult, IfOk, IfErr, length};
-ghost use Rattle.snd_disk.specs.Device.{AsksAtMost, OnlyReadsOn};
-ghost use Rattle.snd_modes.specs.Editing.{Editing, frames_left, frames_read, moved_by};
-ghost use Rattle.snd_modes.specs.Handle.{Stands, disk_of, held_of, loan_of};
-ghost use Rattle.snd_pcm.specs.Groups.{first_groups};
-ghost use Rattle.snd_script.specs.Work.{IsReadFault};
+ghost use Rattle.std.specs.Prelude.{◌≡◌, ◌+◌, ◌*◌, ◌≤◌, None, IfOk, IfErr, OnOk, length};
+ghost use Rattle.snd_modes.specs.Handle.{channels_of, known_of, loan_of};
+ghost use Rattle.snd_script.specs.Stepped.{read_known};
+ghost use Rattle.snd_script.specs.Work.{CountsLeft, FileAsks, FileCalm, FileFault, FileReads, MovesOn, ReadsFrames};
 
 use crate::handle::StepFault;
 use snd_disk::Disk;
@@ -18,17 +16,17 @@ pub fn read_some<'d, D: Disk>(
     samples: &mut Vec<i32>,
     wanted: u64,
 ) -> Result<usize, StepFault>
-    requires { (held_of file.old).broken ≡ None }
+    requires { (known_of file.old).broken ≡ None }
     ensures loan { loan_of file.new ≡ loan_of file.old }
-    ensures held { IfOk result (λ k. held_of file.new ≡ record (held_of file.old) { place = (held_of file.old).place + k }) }
-    ensures size { IfOk result (λ k. k * (held_of file.old).shape.params.channels ≤ length samples.new.items) }
-    ensures count { IfOk result (λ k. (e : Editing) → Stands D.state file.old e → k ≡ frames_left e wanted) }
-    ensures read { IfOk result (λ k. (e : Editing) → Stands D.state file.old e → first_groups (held_of file.old).shape.params.channels k samples.new.items ≡ frames_read e k) }
-    ensures stands { (e : Editing) → Stands D.state file.old e → MatchResult result (λ k. Stands D.state file.new (moved_by k e)) (λ fault. Stands D.state file.new e) }
-    ensures cause { IfErr result (IsReadFault (held_of file.old) (held_of file.new) (D.state (disk_of file.old)).faults (D.state (disk_of file.new)).faults) }
-    ensures calm { IfOk result (λ k. (D.state (disk_of file.new)).faults ≡ (D.state (disk_of file.old)).faults) }
-    ensures reads { OnlyReadsOn D.state D.may_leave D.left_between (disk_of file.old) (disk_of file.new) }
-    ensures asked { AsksAtMost D.state (1024 * wanted + 16384) (disk_of file.old) (disk_of file.new) }
+    ensures held { OnOk result (known_of file.new ≡ read_known wanted (known_of file.old)) }
+    ensures size { IfOk result (λ k. k * channels_of file.old ≤ length samples.new.items) }
+    ensures count { IfOk result (CountsLeft D.state wanted file.old) }
+    ensures read { IfOk result (λ k. ReadsFrames D.state k file.old samples.new.items) }
+    ensures stands { MovesOn D.state result file.old file.new }
+    ensures cause { IfErr result (FileFault D.state file.old file.new) }
+    ensures calm { OnOk result (FileCalm D.state file.old file.new) }
+    ensures reads { FileReads D.state D.may_leave D.left_between file.old file.new }
+    ensures asked { FileAsks D.state (1024 * wanted + 16384) file.old file.new }
 {
     let count = wanted.min(file.frames()) as usize;
     let channels = usize::from(file.params().channels);

@@ -1,8 +1,10 @@
 //! Why a line of a script is refused.
 
 ghost use Rattle.std.specs.Prelude.{◌≡◌};
+ghost use Rattle.snd_script.specs.Edit.{RefusesLine};
 ghost use Rattle.snd_script.specs.Replies.{refusal_name, refusal_number};
 
+use snd_command::ScriptRefusal;
 use snd_layout::OpenRefusal;
 
 /// Why a line of a script is refused.
@@ -57,5 +59,15 @@ impl Refusal {
             Refusal::MissingFile => "MissingFile",
             Refusal::NotBuilt => "NotBuilt",
         }
+    }
+}
+
+/// The refusal of a line that is no command.
+pub fn line_refusal(refusal: ScriptRefusal) -> Refusal
+    ensures { RefusesLine refusal result }
+{
+    match refusal {
+        ScriptRefusal::LineTooLong => Refusal::LineTooLong,
+        ScriptRefusal::BadCommand => Refusal::BadCommand,
     }
 }

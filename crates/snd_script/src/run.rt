@@ -1,15 +1,11 @@
 //! A run over a script, and what it does for one line.
 
-ghost use Rattle.std.specs.Prelude.{◌≡◌, ◌+◌, ◌<◌, ◌≤◌, ◌++◌, List, ℕ, true, None, Some, OnOk};
-ghost use Rattle.snd_disk.specs.Device.{OnlyReadsOn};
+ghost use Rattle.std.specs.Prelude.{◌≡◌, ◌<◌, ◌≤◌, false, None, OnOk};
+ghost use Rattle.snd_script.specs.Stepped.{is_close};
 ghost use Rattle.snd_command.specs.Said.{said_of};
-ghost use Rattle.snd_modes.specs.Editing.{Editing};
-ghost use Rattle.snd_script.specs.Edit.{edit_open};
-ghost use Rattle.snd_script.specs.Handled.{HandleStands, handle_disk, handle_held, handle_loan};
-ghost use Rattle.snd_script.specs.Lines.{to_take};
+ghost use Rattle.snd_script.specs.Handled.{handle_known, LeavesHandle};
 ghost use Rattle.snd_script.specs.Replies.{refuses};
-ghost use Rattle.snd_script.specs.Serving.{IsAnswered, IsBrought, IsCounted, IsCountedOnce, IsWhole};
-ghost use Rattle.snd_script.specs.Stepped.{is_step};
+ghost use Rattle.snd_script.specs.Serving.{IsCountedOnce, IsWhole, Answers, CountsLine, TakesLines, BringsLine, StaysOpen, AnswersStep};
 
 use crate::handle::{Handle, Reply, StepFault};
 use crate::reader::{LineBytes, NextLine, ScriptLines};
@@ -32,9 +28,9 @@ pub struct Run {
 impl Run {
     /// Reads on to the next line, of which at most the first 4097 bytes are kept.
     pub fn next<R: Source>(&mut self, script: &mut R, line: &mut LineBytes) -> Result<(), Stop>
-        ensures brought { (s : List ℕ) → R.left script.old ≡ Some s → IsBrought result self.old.lines.room (self.old.lines.rest ++ s) line.new.items self.new.lines (R.left script.new) }
+        ensures brought { BringsLine R.left result line.new.items self.old script.old self.new script.new }
         ensures fewer { OnOk result (self.new.lines.room < self.old.lines.room) }
-        ensures given { R.given script.new + to_take self.new.lines ≤ R.given script.old + to_take self.old.lines }
+        ensures given { TakesLines R.given self.old script.old self.new script.new }
         ensures noted { self.new.refused ≡ self.old.refused }
         ensures faults { IsCountedOnce result (R.faults script.old) (R.faults script.new) }
     {
@@ -48,7 +44,7 @@ impl Run {
 
     /// Answers a line with a refusal.
     pub fn refuse<O: Sink>(&mut self, refusal: Refusal, out: &mut O) -> Result<(), Stop>
-        ensures answered { IsAnswered result (refuses refusal) self.old.refused self.new.refused (O.told out.old) (O.told out.new) }
+        ensures answered { Answers O.told (refuses refusal) result self.old out.old self.new out.new }
         ensures lines { self.new.lines ≡ self.old.lines }
         ensures faults { IsCountedOnce result (O.faults out.old) (O.faults out.new) }
     {
@@ -66,15 +62,14 @@ impl Run {
         command: &Command<'_>,
         out: &mut O,
     ) -> Result<(), Stop>
-        requires whole { (handle_held handle.old).broken ≡ None }
-        requires step { is_step (said_of command.now) ≡ true }
-        ensures loan { handle_loan handle.new ≡ handle_loan handle.old }
-        ensures stands { (e : Editing) → HandleStands D.state handle.old e → OnOk result ((e' : Editing) × ((edit_open e (said_of command.now)).open_file ≡ Some e') × HandleStands D.state handle.new e') }
-        ensures answered { (e : Editing) → HandleStands D.state handle.old e → IsAnswered result (edit_open e (said_of command.now)).answer self.old.refused self.new.refused (O.told out.old) (O.told out.new) }
+        requires whole { (handle_known handle.old).broken ≡ None }
+        requires step { is_close (said_of command.now) ≡ false }
+        ensures stands { OnOk result (StaysOpen D.state (said_of command.now) handle.old handle.new) }
+        ensures answered { AnswersStep D.state O.told (said_of command.now) result handle.old self.old out.old self.new out.new }
         ensures lines { self.new.lines ≡ self.old.lines }
-        ensures whole { IsWhole result (handle_held handle.new).broken }
-        ensures counted { (script : ℕ) → IsCounted result (record { shelf = (D.state (handle_disk handle.old)).faults; script = script; out = O.faults out.old }) (record { shelf = (D.state (handle_disk handle.new)).faults; script = script; out = O.faults out.new }) }
-        ensures reads { OnlyReadsOn D.state D.may_leave D.left_between (handle_disk handle.old) (handle_disk handle.new) }
+        ensures whole { IsWhole result (handle_known handle.new).broken }
+        ensures counted { CountsLine D.state O.faults result handle.old out.old handle.new out.new }
+        ensures leaves { LeavesHandle D.state D.may_leave D.left_between handle.old handle.new }
     {
         match self.session.step(handle, command, out) {
             Ok(Reply::Ok) => Ok(()),

@@ -2,9 +2,8 @@
 //! of it was put.
 
 ghost use Rattle.std.specs.Prelude.{◌≡◌, ◌*◌, ◌≤◌, length};
-ghost use Rattle.snd_pcm.specs.Groups.{first_groups};
-ghost use Rattle.snd_script.specs.Replies.{described, frames_text, ok_line, refuses, says};
-ghost use Rattle.snd_script.specs.Stepped.{IsSaid};
+ghost use Rattle.snd_script.specs.Stepped.{Says};
+ghost use Rattle.snd_script.specs.Replies.{described, ok_line, refuses, says, read_text};
 ghost use Rattle.snd_script.specs.Work.{IsSent};
 
 use crate::handle::{Reply, StepFault};
@@ -16,7 +15,7 @@ use snd_layout::{Kind, Params};
 
 /// Says that a command was carried out, with a number.
 pub fn say_ok<O: Sink>(out: &mut O, number: u64) -> Result<Reply, StepFault>
-    ensures said { IsSaid result (says (ok_line number)) (O.told out.old) (O.told out.new) }
+    ensures said { Says O.told (says (ok_line number)) result out.old out.new }
     ensures sent { IsSent result (O.faults out.old) (O.faults out.new) }
 {
     match put_ok(out, number) {
@@ -32,7 +31,7 @@ pub fn say_file<O: Sink>(
     params: Params,
     kind: Kind,
 ) -> Result<Reply, StepFault>
-    ensures said { IsSaid result (says (described frames params kind)) (O.told out.old) (O.told out.new) }
+    ensures said { Says O.told (says (described frames params kind)) result out.old out.new }
     ensures sent { IsSent result (O.faults out.old) (O.faults out.new) }
 {
     match put_file_line(out, frames, params, kind) {
@@ -43,7 +42,7 @@ pub fn say_file<O: Sink>(
 
 /// Says that a command is refused.
 pub fn refuse<O: Sink>(out: &mut O, refusal: Refusal) -> Result<Reply, StepFault>
-    ensures said { IsSaid result (refuses refusal) (O.told out.old) (O.told out.new) }
+    ensures said { Says O.told (refuses refusal) result out.old out.new }
     ensures sent { IsSent result (O.faults out.old) (O.faults out.new) }
 {
     match put_refusal(out, refusal) {
@@ -62,7 +61,7 @@ pub fn say_frames<O: Sink>(
 ) -> Result<Reply, StepFault>
     requires channels { channels ≤ 256 }
     requires whole { length samples.now ≡ frames * channels }
-    ensures said { IsSaid result (says (frames_text (first_groups channels frames samples.now))) (O.told out.old) (O.told out.new) }
+    ensures said { Says O.told (says (read_text channels frames samples.now)) result out.old out.new }
     ensures sent { IsSent result (O.faults out.old) (O.faults out.new) }
 {
     match put_frames(page, out, samples, channels, frames) {

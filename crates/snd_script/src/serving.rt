@@ -1,13 +1,10 @@
 //! A whole script.
 
-ghost use Rattle.std.specs.Prelude.{◌≡◌, ◌⊎◌, ◌+◌, ◌<◌, ◌≤◌, List, ℕ, None, Some, OnOk, false};
-ghost use Rattle.snd_disk.specs.Shelves.{KeepsFileImages, TellsFiles};
-ghost use Rattle.snd_disk.specs.Shelf.{Files, KeepsFiles};
-ghost use Rattle.snd_disk.specs.State.{Rises};
-ghost use Rattle.snd_script.specs.Lines.{to_take};
-ghost use Rattle.snd_script.specs.Script.{is_too_long, most_bytes, script_answered};
-ghost use Rattle.snd_script.specs.Served.{IsServed};
-ghost use Rattle.snd_script.specs.Serving.{CountsAt, IsCounted, IsServedOn, IsStopped, answers_left, is_longer, moment};
+ghost use Rattle.std.specs.Prelude.{◌≡◌, ◌+◌, ◌<◌, ◌≤◌, List, ℕ, OnOk, false};
+ghost use Rattle.snd_script.specs.Serving.{ServesLines, ServesAll, CountsRun, CountsStop, TakesLines, LeavesShelf};
+ghost use Rattle.snd_script.specs.Served.{ServesScript, RisesAtFault};
+ghost use Rattle.snd_disk.specs.Shelves.{KeepsFileImages};
+ghost use Rattle.snd_disk.specs.Shelf.{KeepsFiles};
 
 use crate::closed::closed_line;
 use crate::reader::{LineBytes, ScriptLines};
@@ -43,15 +40,11 @@ fn serve_line<S: Shelf, R: Source, O: Sink>(
     run: &mut Run,
 ) -> Result<(), Stop>
     requires { (n : List ℕ) → (S.state shelf.old).out n ≡ false }
-    ensures served { (files : Files) (s : List ℕ) → TellsFiles S.state shelf.old files → R.left script.old ≡ Some s →
-        IsServedOn result files (is_longer (moment run.old.lines (R.left script.old) run.old.refused (O.told out.old)) s) (answers_left files None (moment run.old.lines (R.left script.old) run.old.refused (O.told out.old)) s)
-        (moment run.old.lines (R.left script.old) run.old.refused (O.told out.old)) (moment run.new.lines (R.left script.new) run.new.refused (O.told out.new)) }
+    ensures served { ServesLines S.state R.left O.told result shelf.old run.old script.old out.old run.new script.new out.new }
     ensures fewer { OnOk result (run.new.lines.room < run.old.lines.room) }
-    ensures given { R.given script.new + to_take run.new.lines ≤ R.given script.old + to_take run.old.lines }
-    ensures counted { IsCounted result (record { shelf = (S.state shelf.old).faults; script = R.faults script.old; out = O.faults out.old }) (record { shelf = (S.state shelf.new).faults; script = R.faults script.new; out = O.faults out.new }) }
-    ensures back { (n : List ℕ) → (S.state shelf.new).out n ≡ (S.state shelf.old).out n }
-    ensures files { KeepsFiles (S.state shelf.old) (S.state shelf.new) }
-    ensures images { KeepsFileImages S.state S.may_leave S.left_between shelf.old shelf.new }
+    ensures given { TakesLines R.given run.old script.old run.new script.new }
+    ensures counted { CountsRun S.state R.faults O.faults result shelf.old script.old out.old shelf.new script.new out.new }
+    ensures shelf { LeavesShelf S.state S.may_leave S.left_between shelf.old shelf.new }
 {
     match run.next(script, line) {
         Ok(()) => closed_line(alloc, line.as_slice(), shelf, script, out, run),
@@ -68,14 +61,10 @@ fn serve_lines<S: Shelf, R: Source, O: Sink>(
     run: &mut Run,
 ) -> Stop
     requires { (n : List ℕ) → (S.state shelf.old).out n ≡ false }
-    ensures served { (files : Files) (s : List ℕ) → TellsFiles S.state shelf.old files → R.left script.old ≡ Some s →
-        IsStopped result (is_longer (moment run.old.lines (R.left script.old) run.old.refused (O.told out.old)) s) (answers_left files None (moment run.old.lines (R.left script.old) run.old.refused (O.told out.old)) s)
-        (moment run.old.lines (R.left script.old) run.old.refused (O.told out.old)) (moment run.new.lines (R.left script.new) run.new.refused (O.told out.new)) }
-    ensures given { R.given script.new + to_take run.new.lines ≤ R.given script.old + to_take run.old.lines }
-    ensures counted { CountsAt result (record { shelf = (S.state shelf.old).faults; script = R.faults script.old; out = O.faults out.old }) (record { shelf = (S.state shelf.new).faults; script = R.faults script.new; out = O.faults out.new }) }
-    ensures back { (n : List ℕ) → (S.state shelf.new).out n ≡ (S.state shelf.old).out n }
-    ensures files { KeepsFiles (S.state shelf.old) (S.state shelf.new) }
-    ensures images { KeepsFileImages S.state S.may_leave S.left_between shelf.old shelf.new }
+    ensures served { ServesAll S.state R.left O.told result shelf.old run.old script.old out.old run.new script.new out.new }
+    ensures given { TakesLines R.given run.old script.old run.new script.new }
+    ensures counted { CountsStop S.state R.faults O.faults result shelf.old script.old out.old shelf.new script.new out.new }
+    ensures shelf { LeavesShelf S.state S.may_leave S.left_between shelf.old shelf.new }
 {
     let mut line = LineBytes::new();
     loop {
@@ -95,11 +84,8 @@ pub fn serve<S: Shelf, R: Source, O: Sink>(
     out: &mut O,
 ) -> ScriptEnd
     requires { (n : List ℕ) → (S.state shelf.old).out n ≡ false }
-    ensures served { (files : Files) (s : List ℕ) → TellsFiles S.state shelf.old files → R.left script.old ≡ Some s →
-        IsServed result (is_too_long most_bytes s) (script_answered files s)
-        (record { shelf = (S.state shelf.old).faults; script = R.faults script.old; out = O.faults out.old }) (record { shelf = (S.state shelf.new).faults; script = R.faults script.new; out = O.faults out.new })
-        (O.told out.old) (O.told out.new) }
-    ensures fault { result ≡ ScriptEnd.Fault → Rises (S.state shelf.old).faults (S.state shelf.new).faults ⊎ (Rises (R.faults script.old) (R.faults script.new) ⊎ Rises (O.faults out.old) (O.faults out.new)) }
+    ensures served { ServesScript S.state R.left R.faults O.told O.faults result shelf.old script.old out.old shelf.new script.new out.new }
+    ensures fault { RisesAtFault S.state R.faults O.faults result shelf.old script.old out.old shelf.new script.new out.new }
     ensures taken { R.given script.new ≤ R.given script.old + 16777217 }
     ensures back { (n : List ℕ) → (S.state shelf.new).out n ≡ false }
     ensures files { KeepsFiles (S.state shelf.old) (S.state shelf.new) }

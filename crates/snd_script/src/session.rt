@@ -1,15 +1,13 @@
 //! Commands on an open file.
 
-ghost use Rattle.std.specs.Prelude.{◌≡◌, true, length, None, Some, MatchResult, IfOk, IfErr, IsErrOf};
-ghost use Rattle.snd_disk.specs.Device.{AsksAtMost, OnlyReadsOn};
+ghost use Rattle.std.specs.Prelude.{◌≡◌, true, false, None, Some, IfOk, IfErr, IsErrOf, IsOk, OnOk};
 ghost use Rattle.snd_command.specs.Said.{said_of};
-ghost use Rattle.snd_modes.specs.Editing.{Editing};
-ghost use Rattle.snd_script.specs.Edit.{edit_open};
-ghost use Rattle.snd_script.specs.Handled.{HandleStands, handle_disk, handle_held, handle_loan};
-ghost use Rattle.snd_script.specs.Stepped.{IsHeld, IsSaid, IsSilent, IsStepCause, file_after, is_step, most_asked, takes_memory};
+ghost use Rattle.snd_script.specs.Handled.{CountsFrames, CountsStep, HandleAsks, KnowsAfter, LeavesHandle, LeavesOpen, SaysReply, handle_disk, handle_known, handle_loan};
+ghost use Rattle.snd_script.specs.Stepped.{IsSilent, is_close, most_asked, takes_memory};
 
 use crate::carry::{read, seek, tell};
 use crate::handle::{Handle, Reply, StepFault};
+use crate::refusal::Refusal;
 use crate::say::refuse;
 use crate::text::PAGE_BYTES;
 use crate::work::{Work, work_of};
@@ -27,7 +25,9 @@ pub struct Session {
 
 impl Session {
     /// A session for any number of files, one after the other.
-    pub fn new(alloc: Global) -> Result<Session, AllocError> {
+    pub fn new(alloc: Global) -> Result<Session, AllocError>
+        ensures { IsOk result }
+    {
         Ok(Session {
             samples: Vec::new(alloc),
             page: ArrayVec::new(),
@@ -35,8 +35,8 @@ impl Session {
     }
 
     /// Carries out one command on an open file, and appends its reply to the sink: `ok` lines, or the
-    /// line of a refusal, whose number is the answer. The handle may not be broken, and the command is
-    /// none that opens, makes or closes a file.
+    /// line of a refusal, whose number is the answer. The handle may not be broken, and the command may
+    /// not close the file. A refused command leaves what the handle knows.
     ///
     /// `Disk` where a call of the disk failed: then nothing was appended, and the handle is broken.
     /// `Out` where the sink failed: then the command was carried out or refused, and a front of its reply
@@ -51,24 +51,25 @@ impl Session {
         command: &Command<'_>,
         out: &mut O,
     ) -> Result<Reply, StepFault>
-        requires whole { (handle_held handle.old).broken ≡ None }
-        requires step { is_step (said_of command.now) ≡ true }
-        ensures loan { handle_loan handle.new ≡ handle_loan handle.old }
-        ensures stands { (e : Editing) → HandleStands D.state handle.old e → (e' : Editing) × (file_after result e (said_of command.now) ≡ Some e') × HandleStands D.state handle.new e' }
-        ensures said { (e : Editing) → HandleStands D.state handle.old e → IsSaid result (edit_open e (said_of command.now)).answer (O.told out.old) (O.told out.new) }
+        requires whole { (handle_known handle.old).broken ≡ None }
+        requires step { is_close (said_of command.now) ≡ false }
+        ensures stands { LeavesOpen D.state result (said_of command.now) handle.old handle.new }
+        ensures said { SaysReply D.state O.told result (said_of command.now) handle.old out.old out.new }
         ensures silent { IfErr result (λ fault. IsSilent fault (O.told out.old) (O.told out.new)) }
-        ensures cause { IsStepCause result (D.state (handle_disk handle.old)).faults (D.state (handle_disk handle.new)).faults (O.faults out.old) (O.faults out.new) }
+        ensures cause { CountsStep D.state O.faults result handle.old out.old handle.new out.new }
         ensures memory { IsErrOf result StepFault.Memory → takes_memory (said_of command.now) ≡ true }
-        ensures held { IsHeld result (handle_held handle.old) (handle_held handle.new) }
-        ensures reads { OnlyReadsOn D.state D.may_leave D.left_between (handle_disk handle.old) (handle_disk handle.new) }
-        ensures asked { AsksAtMost D.state (most_asked (said_of command.now)) (handle_disk handle.old) (handle_disk handle.new) }
+        ensures knows { KnowsAfter result (said_of command.now) handle.old handle.new }
+        ensures leaves { LeavesHandle D.state D.may_leave D.left_between handle.old handle.new }
+        ensures asked { HandleAsks D.state (most_asked (said_of command.now)) handle.old handle.new }
     {
         match handle {
             Handle::R(file) => match work_of(command) {
+                Work::Open(_) => refuse(out, Refusal::AlreadyOpen),
+                Work::Close => unreachable!(),
                 Work::Tell => tell(file, out),
                 Work::Seek(to) => seek(file, to, out),
                 Work::Read(count) => read(file, &mut self.samples, &mut self.page, count, out),
-                Work::Refuse(refusal) => refuse(out, refusal),
+                Work::NotBuilt => refuse(out, Refusal::NotBuilt),
             },
         }
     }
@@ -79,11 +80,14 @@ impl Session {
         &mut self,
         handle: Handle<'d, D>,
     ) -> Result<(u64, &'d mut D), (Step, &'d mut D)>
-        ensures lends { MatchResult result (λ r. r.1.ghost_name ≡ handle_loan handle.entry) (λ e. e.1.ghost_name ≡ handle_loan handle.entry) }
-        ensures back { MatchResult result (λ r. r.1.now ≡ handle_disk handle.entry) (λ e. e.1.now ≡ handle_disk handle.entry) }
-        ensures cause { MatchResult result (λ r. (handle_held handle.entry).broken ≡ None) (λ e. (handle_held handle.entry).broken ≡ Some e.0) }
-        ensures count { IfOk result (λ r. r.0 ≡ (handle_held handle.entry).shape.frames) }
-        ensures frames { IfOk result (λ r. (e : Editing) → HandleStands D.state handle.entry e → r.0 ≡ length e.frames) }
+        ensures lends { IfOk result (λ r. r.1.ghost_name ≡ handle_loan handle.entry) }
+        ensures back { IfOk result (λ r. r.1.now ≡ handle_disk handle.entry) }
+        ensures whole { OnOk result ((handle_known handle.entry).broken ≡ None) }
+        ensures count { IfOk result (λ r. r.0 ≡ (handle_known handle.entry).shape.frames) }
+        ensures frames { IfOk result (λ r. CountsFrames D.state handle.entry r.0) }
+        ensures lends_broken { IfErr result (λ e. e.1.ghost_name ≡ handle_loan handle.entry) }
+        ensures back_broken { IfErr result (λ e. e.1.now ≡ handle_disk handle.entry) }
+        ensures cause { IfErr result (λ e. (handle_known handle.entry).broken ≡ Some e.0) }
     {
         match handle {
             Handle::R(file) => {

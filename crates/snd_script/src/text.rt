@@ -1,10 +1,8 @@
 //! Replies that are put.
 
-ghost use Rattle.std.specs.Prelude.{◌≡◌, ◌⊎◌, ◌+◌, ◌*◌, ◌≤◌, [], ◌++◌, length, option_map, OnOk, OnErr};
+ghost use Rattle.std.specs.Prelude.{◌≡◌, ◌+◌, ◌*◌, ◌≤◌, length, OnOk, OnErr};
 ghost use Rattle.snd_disk.specs.State.{Counts};
-ghost use Rattle.snd_disk.specs.Streams.{AppendsFront};
-ghost use Rattle.snd_pcm.specs.Groups.{first_groups};
-ghost use Rattle.snd_script.specs.Replies.{described, error_line, frames_text, ok_line};
+ghost use Rattle.snd_script.specs.Replies.{MakesRoom, PutsAll, PutsFront, described, error_line, ok_line, read_text};
 
 use crate::page::{push_error, push_file, push_frame, push_ok};
 use crate::refusal::Refusal;
@@ -18,19 +16,10 @@ pub(crate) const PAGE_BYTES: usize = 16384;
 /// No line of a frame, of at most 256 channels, has more bytes.
 const MOST_LINE: usize = 3073;
 
-/// Puts a text.
-pub fn put_text<O: Sink>(out: &mut O, text: &[u8]) -> Result<(), Failed>
-    ensures put { OnOk result (O.told out.new ≡ option_map (λ t. t ++ text.now) (O.told out.old)) }
-    ensures part { OnErr result (AppendsFront (O.told out.old) (O.told out.new) text.now) }
-    ensures faults { Counts (O.faults out.old) (O.faults out.new) result }
-{
-    out.put(text)
-}
-
 /// Puts the line of a command that was carried out, with a number.
 pub fn put_ok<O: Sink>(out: &mut O, number: u64) -> Result<(), Failed>
-    ensures put { OnOk result (O.told out.new ≡ option_map (λ t. t ++ ok_line number) (O.told out.old)) }
-    ensures part { OnErr result (AppendsFront (O.told out.old) (O.told out.new) (ok_line number)) }
+    ensures put { OnOk result (PutsAll O.told (ok_line number) out.old out.new) }
+    ensures part { OnErr result (PutsFront O.told (ok_line number) out.old out.new) }
     ensures faults { Counts (O.faults out.old) (O.faults out.new) result }
 {
     let mut line = ArrayVec::<u8, 32>::new();
@@ -40,8 +29,8 @@ pub fn put_ok<O: Sink>(out: &mut O, number: u64) -> Result<(), Failed>
 
 /// Puts the line of a refusal.
 pub fn put_refusal<O: Sink>(out: &mut O, refusal: Refusal) -> Result<(), Failed>
-    ensures put { OnOk result (O.told out.new ≡ option_map (λ t. t ++ error_line refusal) (O.told out.old)) }
-    ensures part { OnErr result (AppendsFront (O.told out.old) (O.told out.new) (error_line refusal)) }
+    ensures put { OnOk result (PutsAll O.told (error_line refusal) out.old out.new) }
+    ensures part { OnErr result (PutsFront O.told (error_line refusal) out.old out.new) }
     ensures faults { Counts (O.faults out.old) (O.faults out.new) result }
 {
     let mut line = ArrayVec::<u8, 64>::new();
@@ -56,8 +45,8 @@ pub fn put_file_line<O: Sink>(
     params: Params,
     kind: Kind,
 ) -> Result<(), Failed>
-    ensures put { OnOk result (O.told out.new ≡ option_map (λ t. t ++ described frames params kind) (O.told out.old)) }
-    ensures part { OnErr result (AppendsFront (O.told out.old) (O.told out.new) (described frames params kind)) }
+    ensures put { OnOk result (PutsAll O.told (described frames params kind) out.old out.new) }
+    ensures part { OnErr result (PutsFront O.told (described frames params kind) out.old out.new) }
     ensures faults { Counts (O.faults out.old) (O.faults out.new) result }
 {
     let mut line = ArrayVec::<u8, 128>::new();
@@ -68,8 +57,8 @@ pub fn put_file_line<O: Sink>(
 /// Puts what was gathered, where the line of a frame might not fit behind it.
 fn make_room<O: Sink>(page: &mut ArrayVec<u8, PAGE_BYTES>, out: &mut O) -> Result<(), Failed>
     ensures room { OnOk result (length page.new.items + 3073 ≤ 16384) }
-    ensures put { OnOk result (((page.new.items ≡ page.old.items) × (O.told out.new ≡ O.told out.old)) ⊎ ((page.new.items ≡ []) × (O.told out.new ≡ option_map (λ t. t ++ page.old.items) (O.told out.old)))) }
-    ensures part { OnErr result (AppendsFront (O.told out.old) (O.told out.new) page.old.items) }
+    ensures put { OnOk result (MakesRoom O.told page.old.items page.new.items out.old out.new) }
+    ensures part { OnErr result (PutsFront O.told page.old.items out.old out.new) }
     ensures faults { Counts (O.faults out.old) (O.faults out.new) result }
 {
     if page.remaining_capacity() < MOST_LINE {
@@ -90,8 +79,8 @@ pub fn put_frames<O: Sink>(
 ) -> Result<(), Failed>
     requires channels { channels ≤ 256 }
     requires whole { length samples.now ≡ frames * channels }
-    ensures put { OnOk result (O.told out.new ≡ option_map (λ t. t ++ frames_text (first_groups channels frames samples.now)) (O.told out.old)) }
-    ensures part { OnErr result (AppendsFront (O.told out.old) (O.told out.new) (frames_text (first_groups channels frames samples.now))) }
+    ensures put { OnOk result (PutsAll O.told (read_text channels frames samples.now) out.old out.new) }
+    ensures part { OnErr result (PutsFront O.told (read_text channels frames samples.now) out.old out.new) }
     ensures faults { Counts (O.faults out.old) (O.faults out.new) result }
 {
     page.clear();

@@ -1,10 +1,10 @@
 use Rattle.std.proofs.Common.{Some, ◌∙◌, ap, refl, rules, arith}
 use Rattle.std.proofs.lemmas.Result.{err_from_is_err_and}
-use Rattle.snd_disk.proofs.Chains.{only_reads_then}
 use Rattle.snd_command.specs.Said.{Said}
 use Rattle.snd_script.specs.Edit.{edit_line, edit_open}
 use Rattle.snd_script.specs.Lines.{Reading, to_take}
 use Rattle.snd_script.specs.Serving.{Moment, moment}
+use Rattle.snd_script.proofs.Left.{leaves_handle_then}
 use Rattle.snd_script.proofs.Chains.{at_close, at_open, at_stops, comes_at, none_left, stopped_as, stopped_then}
 use Rattle.snd_script.proofs.opened.serve_open.Goals as goal
 
@@ -38,7 +38,6 @@ loop-line-preserved g c = record {
       let said = rw c.in-Open.is at answered in
       let next = at_open files _ _ _ _ c.next.new.self.lines c.open_line.new.run.lines _ _ _ _ comes.0 c.in_ok-open_line.ensures.lines (edit_line files (Some so_far.0) c.next.new.line.items) (Some said.0) at said.1 said.3 said.4 in
       (said.0, comes.0, comes.1, said.2, next.0, next.1);
-  loan = search rules;
   whole = search rules;
   fewer = omega (arith, ap (λ (x : Reading). x.room) c.in_ok-open_line.ensures.lines, c.in_ok-next.ensures.fewer, c.loop-line.invariant.fewer);
   given = omega (arith, ap (λ (x : Reading). to_take x) c.in_ok-open_line.ensures.lines, c.next.ensures.given, c.loop-line.invariant.given);
@@ -47,7 +46,7 @@ loop-line-preserved g c = record {
     script = c.in_ok-next.ensures.faults ∙ c.loop-line.invariant.counted.script;
     out = (c.in_ok-open_line.ensures.counted 0).out ∙ c.loop-line.invariant.counted.out;
   };
-  reads = only_reads_then _ _ _ _ _ _ _ _ _ c.loop-line.invariant.reads c.in_ok-open_line.ensures.reads;
+  leaves = leaves_handle_then _ _ _ _ _ _ c.loop-line.invariant.leaves c.in_ok-open_line.ensures.leaves;
 }
 
 pub returns-in-Close-clause-served : goal.returns-in-Close-clause-served

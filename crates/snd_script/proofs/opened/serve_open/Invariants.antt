@@ -1,29 +1,27 @@
 use Rattle.std.proofs.Common.{◌≡◌, ◌+◌, ◌≤◌, List, ℕ, None, Some}
 use Rattle.snd_disk.specs.Shelf.{Files}
-use Rattle.snd_disk.specs.State.{OnlyReads}
 use Rattle.snd_modes.specs.Editing.{Editing}
-use Rattle.snd_script.specs.Handled.{HandleStands, handle_disk, handle_held, handle_loan}
+use Rattle.snd_script.specs.Handled.{HandleStands, LeavesHandle, handle_disk, handle_known}
 use Rattle.snd_script.specs.Lines.{to_take}
 use Rattle.snd_script.specs.Served.{SameCounts}
-use Rattle.snd_script.specs.Serving.{Serves, answers_left, is_longer, moment}
+use Rattle.snd_script.specs.Serving.{Serves, answers_left, disk_faults_of, is_longer, moment_of}
 use Rattle.snd_script.proofs.opened.serve_open.Given as goal
 
 abbrev pub invariant-loop-line : goal.invariant-loop-line
 invariant-loop-line g l = record {
   told : (files : Files) (e : Editing) (s : List ℕ) → HandleStands g.D.Disk.state l.fn.handle e → g.R.Source.left l.fn.script ≡ Some s →
       (e' : Editing) × (s' : List ℕ) × (g.R.Source.left l.script ≡ Some s') × HandleStands g.D.Disk.state l.handle e'
-      × Serves (answers_left files (Some e) (moment l.fn.run.lines (g.R.Source.left l.fn.script) l.fn.run.refused (g.O.Sink.told l.fn.out)) s)
-      (answers_left files (Some e') (moment l.run.lines (g.R.Source.left l.script) l.run.refused (g.O.Sink.told l.out)) s')
-      (moment l.fn.run.lines (g.R.Source.left l.fn.script) l.fn.run.refused (g.O.Sink.told l.fn.out))
-      (moment l.run.lines (g.R.Source.left l.script) l.run.refused (g.O.Sink.told l.out))
-      × (is_longer (moment l.run.lines (g.R.Source.left l.script) l.run.refused (g.O.Sink.told l.out)) s'
-      ≡ is_longer (moment l.fn.run.lines (g.R.Source.left l.fn.script) l.fn.run.refused (g.O.Sink.told l.fn.out)) s);
-  loan : handle_loan l.handle ≡ handle_loan l.fn.handle;
-  whole : (handle_held l.handle).broken ≡ None;
+      × Serves (answers_left files (Some e) (moment_of g.R.Source.left g.O.Sink.told l.fn.run l.fn.script l.fn.out) s)
+      (answers_left files (Some e') (moment_of g.R.Source.left g.O.Sink.told l.run l.script l.out) s')
+      (moment_of g.R.Source.left g.O.Sink.told l.fn.run l.fn.script l.fn.out)
+      (moment_of g.R.Source.left g.O.Sink.told l.run l.script l.out)
+      × (is_longer (moment_of g.R.Source.left g.O.Sink.told l.run l.script l.out) s'
+      ≡ is_longer (moment_of g.R.Source.left g.O.Sink.told l.fn.run l.fn.script l.fn.out) s);
+  whole : (handle_known l.handle).broken ≡ None;
   fewer : l.run.lines.room ≤ l.fn.run.lines.room;
   given : g.R.Source.given l.script + to_take l.run.lines ≤ g.R.Source.given l.fn.script + to_take l.fn.run.lines;
-  counted : SameCounts (record { shelf = (g.D.Disk.state (handle_disk l.fn.handle)).faults; script = g.R.Source.faults l.fn.script; out = g.O.Sink.faults l.fn.out }) (record { shelf = (g.D.Disk.state (handle_disk l.handle)).faults; script = g.R.Source.faults l.script; out = g.O.Sink.faults l.out });
-  reads : OnlyReads (g.D.Disk.state (handle_disk l.fn.handle)) (g.D.Disk.state (handle_disk l.handle)) (g.D.Disk.may_leave (handle_disk l.fn.handle)) (g.D.Disk.may_leave (handle_disk l.handle)) (g.D.Disk.left_between (handle_disk l.fn.handle)) (g.D.Disk.left_between (handle_disk l.handle));
+  counted : SameCounts (disk_faults_of g.D.Disk.state g.R.Source.faults g.O.Sink.faults (handle_disk l.fn.handle) l.fn.script l.fn.out) (disk_faults_of g.D.Disk.state g.R.Source.faults g.O.Sink.faults (handle_disk l.handle) l.script l.out);
+  leaves : LeavesHandle g.D.Disk.state g.D.Disk.may_leave g.D.Disk.left_between l.fn.handle l.handle;
 }
 
 abbrev pub decreases-loop-line : goal.decreases-loop-line

@@ -1,5 +1,6 @@
 use Rattle.std.proofs.Common.{arith, rules}
-use Rattle.snd_script.proofs.Asked.{asked_for_frames, linear_frame, no_part}
+use Rattle.snd_modes.specs.Handle.{known_of}
+use Rattle.snd_script.proofs.Asked.{asked_for_frames, count_left, linear_frame, no_part, read_on}
 use Rattle.snd_script.proofs.reading.read_some.Goals as goal
 
 pub returns-in-Ok-read_frames-clause-asked : goal.returns-in-Ok-read_frames-clause-asked
@@ -14,5 +15,13 @@ returns-in-Err-DiskFault-clause-asked g c =
 
 pub unreachable-requires-in-Err-PartFrame : goal.unreachable-requires-in-Err-PartFrame
 unreachable-requires-in-Err-PartFrame g c =
-    let cause = rw c.in-Err-PartFrame.field-0-is at c.in-Err-PartFrame.ensures.cause in
+    let cause = rw c.in-Err-PartFrame.field-0-is at c.in-Err-PartFrame.ensures.left in
     cause.1 (no_part _ c.min-count.result c.args.file.now.layout.params.channels (search rules))
+
+pub returns-in-Ok-read_frames-clause-held : goal.returns-in-Ok-read_frames-clause-held
+returns-in-Ok-read_frames-clause-held g c =
+    read_on _ _ c.args.wanted c.in-Ok-read_frames.frames _ c.min-count.result _ c.in-Ok-read_frames.ensures.left.2 c.in-Ok-read_frames.ensures.left.1 (search rules) (search rules) (search rules)
+
+pub returns-in-Ok-read_frames-clause-count : goal.returns-in-Ok-read_frames-clause-count
+returns-in-Ok-read_frames-clause-count g c = λ e stands.
+    count_left (known_of c.args.file.now) e c.args.wanted c.in-Ok-read_frames.frames _ c.min-count.result _ c.in-Ok-read_frames.ensures.left.1 (search rules) (search rules) (search rules) stands.shape stands.place stands.count
