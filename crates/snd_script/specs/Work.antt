@@ -9,6 +9,7 @@ use Rattle.snd_disk.specs.declared.disk.Step.{Step}
 use Rattle.snd_modes.specs.Editing.{Editing, frames_left, frames_read, moved_by}
 use Rattle.snd_modes.specs.Handle.{Known, Stands, channels_of, disk_of, known_of}
 use Rattle.snd_modes.specs.declared.handle.File.{File}
+use Rattle.snd_modes.specs.declared.mode.Mode.{Ghosts as ModeGhosts}
 use Rattle.snd_pcm.specs.Groups.{first_groups}
 use Rattle.snd_script.specs.Edit.{Edited, open_edit, refused, said_by, seek_edit}
 use Rattle.snd_script.specs.Replies.{file_line, frames_text, ok_line, refusal_number, says}
@@ -95,40 +96,40 @@ IsReadFault old new faults faults' Out = ⊥
 
 -- WHOLE FILES. The first arguments are the meanings of the disk.
 
-abbrev pub FileReads : {D M : Type 0} {ghosts : Ghosts D} → (D → State) → (D → List ℕ → Type 0) → (D → ℕ → ℕ → List ℕ → Type 0) → File D M ghosts → File D M ghosts → Type 0
+abbrev pub FileReads : {D M : Type 0} {ghosts : Ghosts D} {mode : ModeGhosts M} → (D → State) → (D → List ℕ → Type 0) → (D → ℕ → ℕ → List ℕ → Type 0) → File D M ghosts mode → File D M ghosts mode → Type 0
 FileReads state may_leave left_between old new = OnlyReadsOn state may_leave left_between (disk_of old) (disk_of new)
 
-abbrev pub FileAsks : {D M : Type 0} {ghosts : Ghosts D} → (D → State) → ℕ → File D M ghosts → File D M ghosts → Type 0
+abbrev pub FileAsks : {D M : Type 0} {ghosts : Ghosts D} {mode : ModeGhosts M} → (D → State) → ℕ → File D M ghosts mode → File D M ghosts mode → Type 0
 FileAsks state n old new = AsksAtMost state n (disk_of old) (disk_of new)
 
-abbrev pub FileCounts : {D M O : Type 0} {ghosts : Ghosts D} → (D → State) → (O → ℕ) → Result Reply StepFault → File D M ghosts → O → File D M ghosts → O → Type 0
+abbrev pub FileCounts : {D M O : Type 0} {ghosts : Ghosts D} {mode : ModeGhosts M} → (D → State) → (O → ℕ) → Result Reply StepFault → File D M ghosts mode → O → File D M ghosts mode → O → Type 0
 FileCounts state faults result old out new out' =
     IsStepCause result (state (disk_of old)).faults (state (disk_of new)).faults (faults out) (faults out')
 
-abbrev pub FileFault : {D M : Type 0} {ghosts : Ghosts D} → (D → State) → File D M ghosts → File D M ghosts → StepFault → Type 0
+abbrev pub FileFault : {D M : Type 0} {ghosts : Ghosts D} {mode : ModeGhosts M} → (D → State) → File D M ghosts mode → File D M ghosts mode → StepFault → Type 0
 FileFault state old new fault = IsReadFault (known_of old) (known_of new) (state (disk_of old)).faults (state (disk_of new)).faults fault
 
 -- the reply and what the file knows afterwards, by what it knew
-abbrev pub FileKnows : {D M : Type 0} {ghosts : Ghosts D} → (Known → Reply) → (Known → Known) → Result Reply StepFault → File D M ghosts → File D M ghosts → Type 0
+abbrev pub FileKnows : {D M : Type 0} {ghosts : Ghosts D} {mode : ModeGhosts M} → (Known → Reply) → (Known → Known) → Result Reply StepFault → File D M ghosts mode → File D M ghosts mode → Type 0
 FileKnows due after result old new = Knows result (due (known_of old)) (after (known_of old)) (known_of old) (known_of new)
 
 -- the file that it stands for afterwards, and what is appended, by an edit
-abbrev pub FileLeaves : {D M : Type 0} {ghosts : Ghosts D} → (D → State) → (Editing → Edited) → Result Reply StepFault → File D M ghosts → File D M ghosts → Type 0
+abbrev pub FileLeaves : {D M : Type 0} {ghosts : Ghosts D} {mode : ModeGhosts M} → (D → State) → (Editing → Edited) → Result Reply StepFault → File D M ghosts mode → File D M ghosts mode → Type 0
 FileLeaves state edit result old new = (e : Editing) → Stands state old e → Leaves result e (edit e) (Stands state new)
 
-abbrev pub FileSays : {D M O : Type 0} {ghosts : Ghosts D} → (D → State) → (O → Option (List ℕ)) → (Editing → Edited) → Result Reply StepFault → File D M ghosts → O → O → Type 0
+abbrev pub FileSays : {D M O : Type 0} {ghosts : Ghosts D} {mode : ModeGhosts M} → (D → State) → (O → Option (List ℕ)) → (Editing → Edited) → Result Reply StepFault → File D M ghosts mode → O → O → Type 0
 FileSays state told edit result file out out' = (e : Editing) → Stands state file e → IsSaid result (edit e).answer (told out) (told out')
 
 -- so many of the wanted frames were left, and these are they, where the disk tells the file
-abbrev pub CountsLeft : {D M : Type 0} {ghosts : Ghosts D} → (D → State) → ℕ → File D M ghosts → ℕ → Type 0
+abbrev pub CountsLeft : {D M : Type 0} {ghosts : Ghosts D} {mode : ModeGhosts M} → (D → State) → ℕ → File D M ghosts mode → ℕ → Type 0
 CountsLeft state wanted file k = (e : Editing) → Stands state file e → k ≡ frames_left e wanted
 
-abbrev pub ReadsFrames : {D M : Type 0} {ghosts : Ghosts D} → (D → State) → ℕ → File D M ghosts → List ℤ → Type 0
+abbrev pub ReadsFrames : {D M : Type 0} {ghosts : Ghosts D} {mode : ModeGhosts M} → (D → State) → ℕ → File D M ghosts mode → List ℤ → Type 0
 ReadsFrames state k file samples = (e : Editing) → Stands state file e → first_groups (channels_of file) k samples ≡ frames_read e k
 
-abbrev pub MovesOn : {D M : Type 0} {ghosts : Ghosts D} → (D → State) → Result ℕ StepFault → File D M ghosts → File D M ghosts → Type 0
+abbrev pub MovesOn : {D M : Type 0} {ghosts : Ghosts D} {mode : ModeGhosts M} → (D → State) → Result ℕ StepFault → File D M ghosts mode → File D M ghosts mode → Type 0
 MovesOn state result old new =
     (e : Editing) → Stands state old e → MatchResult result (λ k. Stands state new (moved_by k e)) (λ fault. Stands state new e)
 
-abbrev pub FileCalm : {D M : Type 0} {ghosts : Ghosts D} → (D → State) → File D M ghosts → File D M ghosts → Type 0
+abbrev pub FileCalm : {D M : Type 0} {ghosts : Ghosts D} {mode : ModeGhosts M} → (D → State) → File D M ghosts mode → File D M ghosts mode → Type 0
 FileCalm state old new = (state (disk_of new)).faults ≡ (state (disk_of old)).faults
