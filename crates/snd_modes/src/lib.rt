@@ -13,6 +13,8 @@ mod making;
 mod mode;
 mod open;
 mod reads;
+#[cfg(test)]
+mod tests;
 mod updates;
 mod updating;
 mod writes;
@@ -21,7 +23,7 @@ mod writing;
 pub use codec::linear_form;
 pub use error::{AutoError, DiskFault, ReadError, SeekError, ShrinkError, UpdateError, WriteError};
 pub use handle::File;
-pub use mode::{CanRead, CanShrink, CanWrite, Mode, Read, Update, Write};
 pub use making::create;
+pub use mode::{CanRead, CanShrink, CanWrite, Mode, Read, Update, Write};
 pub use open::open_read;
 pub use updating::open_update;

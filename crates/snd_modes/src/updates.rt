@@ -17,6 +17,7 @@ ghost use Rattle.snd_modes.specs.Writing.{IsKeptUp, PutsAt, closed_size, most_fi
 use crate::codec::form_of;
 use crate::frames::place_of;
 use crate::writes::write_run;
+use snd_container::closing_bytes;
 use snd_disk::{Disk, Step};
 use snd_layout::Layout;
 use snd_patch::{cut_behind, grow, put_closing};
@@ -46,9 +47,13 @@ fn close_behind<D: Disk>(disk: &mut D, layout: &Layout, to: u64) -> Result<(), S
     ensures updates { Updates D.state D.left_between layout.now to 8 disk.old disk.new }
     ensures faults { CountsOn D.state disk.old disk.new result }
 {
-    if layout.frames < to {
-        put_closing(disk, layout, to)?;
+    if to <= layout.frames {
+        return Ok(());
     }
+    if closing_bytes(layout, to).is_empty() {
+        return Ok(());
+    }
+    put_closing(disk, layout, to)?;
     Ok(())
 }
 

@@ -1,0 +1,182 @@
+//! Calls of open files, against whole files written out by hand.
+use super::*;
+use snd_disk::{Call, Made, SteadyDisk};
+use snd_fields::Order;
+use snd_layout::{Codec, Kind, Params};
+use std::alloc::Global;
+use std::test::Fail;
+
+/// A call, and how many frames there are then; none where it is refused.
+#[derive(Clone, Copy)]
+enum Act {
+    Seek(u64),
+    Write(&'static [i32]),
+    Auto(bool),
+    Update,
+    Truncate(u64),
+}
+
+type Calls = &'static [(Act, Option<u64>)];
+
+/// A file that is there, the calls, and the file then: 16 bits in one channel at 8000 Hz.
+static UPDATES: [(&'static [u8], Calls, &'static [u8]); 2] = [
+    // the head says one frame, and nothing behind it
+    (
+        b"RIFF\0\0\0\0WAVEfmt \x10\0\0\0\x01\0\x01\0\x40\x1f\0\0\x80\x3e\0\0\x02\0\x10\0data\x02\0\0\0\x01\0\xff\xff",
+        &[(Act::Seek(1), Some(1)), (Act::Write(&[9]), Some(2))],
+        b"RIFF\x28\0\0\0WAVEfmt \x10\0\0\0\x01\0\x01\0\x40\x1f\0\0\x80\x3e\0\0\x02\0\x10\0data\x04\0\0\0\x01\0\x09\0",
+    ),
+    // a chunk stands behind the data
+    (
+        b"RIFF\x3e\0\0\0WAVEfmt \x10\0\0\0\x01\0\x01\0\x40\x1f\0\0\x80\x3e\0\0\x02\0\x10\0data\x04\0\0\0\x01\0\xff\xffLIST\x0e\0\0\0INFOINAM\x02\0\0\0A\0",
+        &[
+            (Act::Seek(2), Some(2)),
+            (Act::Write(&[5]), None),
+            (Act::Seek(0), Some(2)),
+            (Act::Write(&[7]), Some(2)),
+        ],
+        b"RIFF\x3e\0\0\0WAVEfmt \x10\0\0\0\x01\0\x01\0\x40\x1f\0\0\x80\x3e\0\0\x02\0\x10\0data\x04\0\0\0\x07\0\xff\xffLIST\x0e\0\0\0INFOINAM\x02\0\0\0A\0",
+    ),
+];
+
+/// The codec of a file that is made, the calls, and the file then.
+static MADE: [(Codec, Calls, &'static [u8]); 2] = [
+    (
+        Codec::S16(Order::Little),
+        &[
+            (Act::Write(&[32768]), None),
+            (Act::Write(&[32767]), Some(1)),
+        ],
+        b"RIFF\x26\0\0\0WAVEfmt \x10\0\0\0\x01\0\x01\0\x40\x1f\0\0\x80\x3e\0\0\x02\0\x10\0data\x02\0\0\0\xff\x7f",
+    ),
+    (
+        Codec::U8,
+        &[
+            (Act::Write(&[0]), Some(1)),
+            (Act::Auto(true), Some(1)),
+            (Act::Write(&[1, 2]), Some(3)),
+            (Act::Truncate(1), Some(1)),
+            (Act::Update, Some(1)),
+        ],
+        b"RIFF\x26\0\0\0WAVEfmt \x10\0\0\0\x01\0\x01\0\x40\x1f\0\0\x40\x1f\0\0\x01\0\x08\0data\x01\0\0\0\x80\0",
+    ),
+];
+
+static STRADDLING: [(Act, Option<u64>); 2] = [(Act::Auto(true), None), (Act::Update, Some(2))];
+
+static APPENDING: [(Act, Option<u64>); 3] = [
+    (Act::Auto(true), Some(2)),
+    (Act::Seek(2), Some(2)),
+    (Act::Write(&[5]), Some(3)),
+];
+
+fn answer_to<M: CanShrink>(file: &mut File<'_, SteadyDisk, M>, call: Act) -> Option<u64> {
+    let done = match call {
+        Act::Seek(to) => file.seek_write(to).is_ok(),
+        Act::Write(from) => file.write_frames(from).is_ok(),
+        Act::Auto(on) => file.set_auto(on).is_ok(),
+        Act::Update => file.update_now().is_ok(),
+        Act::Truncate(to) => file.truncate(to).is_ok(),
+    };
+    done.then_some(file.frames())
+}
+
+fn act_all<M: CanShrink>(mut file: File<'_, SteadyDisk, M>, calls: Calls) -> bool {
+    let mut right = true;
+    for (call, answer) in calls {
+        right &= answer_to(&mut file, *call) == *answer;
+    }
+    let closed = file.close().is_ok();
+    right && closed
+}
+
+fn update(alloc: Global, disk: &mut SteadyDisk, calls: Calls) -> bool {
+    match open_update(alloc, disk) {
+        Ok(file) => act_all(file, calls),
+        Err(_) => false,
+    }
+}
+
+fn make(alloc: Global, disk: &mut SteadyDisk, codec: Codec, calls: Calls) -> bool {
+    let Ok(params) = Params::new(1, 8000, codec) else {
+        return false;
+    };
+    match create(alloc, disk, Kind::Wave, params) {
+        Ok(file) => act_all(file, calls),
+        Err(_) => false,
+    }
+}
+
+#[test]
+fn files_are_updated(rt: HostRuntime) -> Result<(), Fail> {
+    let alloc = rt.alloc();
+    for (before, calls, after) in &UPDATES {
+        let mut disk = SteadyDisk::new(alloc, before.to_vec(alloc)?)?;
+        assert!(rt; update(alloc, &mut disk, calls));
+        assert_eq!(rt; disk.bytes(), *after);
+    }
+    Ok(())
+}
+
+#[test]
+fn files_are_made(rt: HostRuntime) -> Result<(), Fail> {
+    let alloc = rt.alloc();
+    for (codec, calls, after) in &MADE {
+        let mut disk = SteadyDisk::new(alloc, Vec::new(alloc))?;
+        assert!(rt; make(alloc, &mut disk, *codec, calls));
+        assert_eq!(rt; disk.bytes(), *after);
+    }
+    Ok(())
+}
+
+/// The field that decides the count lies in two sectors.
+#[test]
+fn straddling_count_is_not_automatic(rt: HostRuntime) -> Result<(), Fail> {
+    let alloc = rt.alloc();
+    let head =
+        b"RIFF\xfe\x01\0\0WAVEfmt \x10\0\0\0\x01\0\x01\0\x40\x1f\0\0\x80\x3e\0\0\x02\0\x10\0abcd\xce\x01\0\0";
+    let mut bytes = head.to_vec(alloc)?;
+    bytes.extend_from_slice(&[0; 462])?;
+    bytes.extend_from_slice(b"data\x04\0\0\0\x01\0\xff\xff")?;
+    let mut disk = SteadyDisk::new(alloc, bytes)?;
+    assert!(rt; update(alloc, &mut disk, &STRADDLING));
+    Ok(())
+}
+
+/// A write at a place, or a sync where there is none.
+fn is_call(made: &Made, wanted: Option<(u64, &[u8])>) -> bool {
+    match (&made.call, wanted) {
+        (Call::Write { at, from }, Some((place, bytes))) => *at == place
+            && from.as_slice() == bytes,
+        (Call::Sync, None) => true,
+        _ => false,
+    }
+}
+
+/// An automatic write puts the data, and then the count before the size of the whole. Five calls come
+/// before it, for the seal that begins automatic updates, and five after it, for the one that ends them.
+#[test]
+fn automatic_write_makes_six_calls(rt: HostRuntime) -> Result<(), Fail> {
+    let alloc = rt.alloc();
+    let before =
+        b"RIFF\x28\0\0\0WAVEfmt \x10\0\0\0\x01\0\x01\0\x40\x1f\0\0\x80\x3e\0\0\x02\0\x10\0data\x04\0\0\0\x01\0\xff\xff";
+    let mut disk = SteadyDisk::new(alloc, before.to_vec(alloc)?)?;
+    assert!(rt; update(alloc, &mut disk, &APPENDING));
+    let wanted: [Option<(u64, &[u8])>; 6] = [
+        Some((48, b"\x05\0")),
+        None,
+        Some((40, b"\x06\0\0\0")),
+        None,
+        Some((4, b"\x2a\0\0\0")),
+        None,
+    ];
+    let past = disk.past();
+    assert_eq!(rt; past.len(), 16);
+    assert!(rt;
+        past[5..11]
+            .iter()
+            .zip(&wanted)
+            .all(|(made, call)| is_call(made, *call))
+    );
+    Ok(())
+}
