@@ -3,10 +3,10 @@
 ghost use Rattle.std.specs.Prelude.{◌≡◌, ◌↔◌, ◌<◌, None, Some, false, true, IsTrue, MatchResult, OnOk};
 ghost use Rattle.snd_disk.specs.Device.{CountsOn, GoesOnFrom, IsStable, WritesAtMost};
 ghost use Rattle.snd_layout.specs.declared.kind.Kind.TheVariants.{Voc};
-ghost use Rattle.snd_patch.specs.Steps.{KeepsBeside, StillTells, Updates};
+ghost use Rattle.snd_patch.specs.Steps.{Updates};
 ghost use Rattle.snd_modes.specs.Edits.{cut_to, trimmed_to, truncated_to, without_tail};
 ghost use Rattle.snd_modes.specs.Handle.{StandsAfter, disk_of, known_of, loan_of};
-ghost use Rattle.snd_modes.specs.Outcomes.{CountsOutcome, StandsOn, shrink_outcome};
+ghost use Rattle.snd_modes.specs.Outcomes.{AsksNothing, CountsCall, KeepsFrames, KeepsFront, StandsOn, TellsOn, shrink_outcome};
 ghost use Rattle.snd_modes.specs.WriteCalls.{TrimLeaves, TruncateLeaves, known_cut, known_without_tail};
 
 use crate::error::ShrinkError;
@@ -33,12 +33,12 @@ impl<'d, D: Disk, M: CanShrink> File<'d, D, M> {
         ensures stands { StandsOn (shrink_outcome result) D.state self.old self.new (truncated_to to) }
         ensures stable { OnOk result (IsStable D.state D.may_leave (disk_of self.new)) }
 
-        ensures beside { KeepsBeside D.state (known_of self.old).shape to (disk_of self.old) (disk_of self.new) }
-        ensures tells { StillTells (D.state (disk_of self.old)) (D.state (disk_of self.new)) }
+        ensures beside { KeepsFront D.state to self.old self.new }
+        ensures tells { TellsOn D.state self.old self.new }
         ensures time { GoesOnFrom D.state D.left_between (disk_of self.old) (disk_of self.new) }
-        ensures faults { CountsOutcome (shrink_outcome result) (D.state (disk_of self.old)).faults (D.state (disk_of self.new)).faults }
+        ensures faults { CountsCall (shrink_outcome result) D.state self.old self.new }
         ensures written { WritesAtMost D.state 72 (disk_of self.old) (disk_of self.new) }
-        ensures asked { (D.state (disk_of self.new)).asked ≡ (D.state (disk_of self.old)).asked }
+        ensures asked { AsksNothing D.state self.old self.new }
     {
         if let Some(step) = self.broken {
             return Err(ShrinkError::Broken(step));
@@ -69,12 +69,12 @@ impl<'d, D: Disk, M: CanShrink> File<'d, D, M> {
         ensures stands { OnOk result (StandsAfter D.state self.old self.new (cut_to to)) }
         ensures stable { OnOk result (IsStable D.state D.may_leave (disk_of self.new)) }
 
-        ensures beside { KeepsBeside D.state (known_of self.old).shape to (disk_of self.old) (disk_of self.new) }
-        ensures tells { StillTells (D.state (disk_of self.old)) (D.state (disk_of self.new)) }
+        ensures beside { KeepsFront D.state to self.old self.new }
+        ensures tells { TellsOn D.state self.old self.new }
         ensures time { GoesOnFrom D.state D.left_between (disk_of self.old) (disk_of self.new) }
         ensures faults { CountsOn D.state (disk_of self.old) (disk_of self.new) result }
         ensures written { WritesAtMost D.state 72 (disk_of self.old) (disk_of self.new) }
-        ensures asked { (D.state (disk_of self.new)).asked ≡ (D.state (disk_of self.old)).asked }
+        ensures asked { AsksNothing D.state self.old self.new }
     {
         keeps_rules(&self.layout);
         match shrink(self.disk, &mut self.layout, to) {
@@ -104,12 +104,12 @@ impl<'d, D: Disk, M: CanShrink> File<'d, D, M> {
         ensures stands { StandsOn (shrink_outcome result) D.state self.old self.new trimmed_to }
         ensures stable { OnOk result (IsStable D.state D.may_leave (disk_of self.new)) }
 
-        ensures beside { KeepsBeside D.state (known_of self.old).shape (known_of self.old).shape.frames (disk_of self.old) (disk_of self.new) }
-        ensures tells { StillTells (D.state (disk_of self.old)) (D.state (disk_of self.new)) }
+        ensures beside { KeepsFrames D.state self.old self.new }
+        ensures tells { TellsOn D.state self.old self.new }
         ensures time { GoesOnFrom D.state D.left_between (disk_of self.old) (disk_of self.new) }
-        ensures faults { CountsOutcome (shrink_outcome result) (D.state (disk_of self.old)).faults (D.state (disk_of self.new)).faults }
+        ensures faults { CountsCall (shrink_outcome result) D.state self.old self.new }
         ensures written { WritesAtMost D.state 80 (disk_of self.old) (disk_of self.new) }
-        ensures asked { (D.state (disk_of self.new)).asked ≡ (D.state (disk_of self.old)).asked }
+        ensures asked { AsksNothing D.state self.old self.new }
     {
         if let Some(step) = self.broken {
             return Err(ShrinkError::Broken(step));

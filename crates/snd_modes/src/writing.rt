@@ -1,15 +1,12 @@
 //! The calls of an open file that write.
 
-ghost use Rattle.std.specs.Prelude.{◌≡◌, ◌+◌, ◌/◌, ◌≤◌, None, Some, false, true, MatchResult, OnOk, length};
+ghost use Rattle.std.specs.Prelude.{◌≡◌, ◌≤◌, None, Some, false, true, MatchResult, OnOk, length};
 ghost use Rattle.snd_disk.specs.Device.{CountsOn, GoesOnFrom, IsStable, WritesAtMost};
 ghost use Rattle.snd_patch.specs.Sealed.{closed_end};
-ghost use Rattle.snd_patch.specs.Steps.{KeepsBeside, StillTells};
 ghost use Rattle.snd_modes.specs.Edits.{automatic_to, moved_write_to, sealed_to, state_after, written_to};
 ghost use Rattle.snd_modes.specs.Handle.{StandsAfter, disk_of, known_of, loan_of};
-ghost use Rattle.snd_modes.specs.Outcomes.{CountsOutcome, StandsOn, WhereDone, auto_outcome, update_outcome, write_outcome};
-ghost use Rattle.snd_modes.specs.Reading.{bytes_of_frames};
+ghost use Rattle.snd_modes.specs.Outcomes.{AsksNothing, CountsCall, KeepsBefore, KeepsFrames, StandsOn, TellsOn, WritesFrames, auto_outcome, update_outcome, write_outcome};
 ghost use Rattle.snd_modes.specs.WriteCalls.{AutoLeaves, SeekWriteLeaves, UpdateLeaves, WriteLeaves, known_sealed};
-ghost use Rattle.snd_modes.specs.Writing.{most_fields};
 
 use crate::error::{AutoError, SeekError, UpdateError, WriteError};
 use crate::growth::{end_of_write, has_whole_field};
@@ -57,12 +54,12 @@ impl<'d, D: Disk, M: CanWrite> File<'d, D, M> {
         ensures stands { StandsOn (write_outcome result) D.state self.old self.new (written_to from.now) }
         ensures stable { OnOk result ((known_of self.old).automatic ≡ true → IsStable D.state D.may_leave (disk_of self.new)) }
 
-        ensures beside { KeepsBeside D.state (known_of self.old).shape (known_of self.old).write_place (disk_of self.old) (disk_of self.new) }
-        ensures tells { StillTells (D.state (disk_of self.old)) (D.state (disk_of self.new)) }
+        ensures beside { KeepsBefore D.state self.old self.new }
+        ensures tells { TellsOn D.state self.old self.new }
         ensures time { GoesOnFrom D.state D.left_between (disk_of self.old) (disk_of self.new) }
-        ensures faults { CountsOutcome (write_outcome result) (D.state (disk_of self.old)).faults (D.state (disk_of self.new)).faults }
-        ensures written { WritesAtMost D.state (bytes_of_frames (known_of self.old).shape.params (length from.now / (known_of self.old).shape.params.channels) + 8 + most_fields (known_of self.old).automatic) (disk_of self.old) (disk_of self.new) }
-        ensures asked { (D.state (disk_of self.new)).asked ≡ (D.state (disk_of self.old)).asked }
+        ensures faults { CountsCall (write_outcome result) D.state self.old self.new }
+        ensures written { WritesFrames D.state (length from.now) self.old self.new }
+        ensures asked { AsksNothing D.state self.old self.new }
     {
         if let Some(step) = self.broken {
             return Err(WriteError::Broken(step));
@@ -103,12 +100,12 @@ impl<'d, D: Disk, M: CanWrite> File<'d, D, M> {
         ensures stands { StandsOn (update_outcome result) D.state self.old self.new sealed_to }
         ensures stable { OnOk result (IsStable D.state D.may_leave (disk_of self.new)) }
 
-        ensures beside { KeepsBeside D.state (known_of self.old).shape (known_of self.old).shape.frames (disk_of self.old) (disk_of self.new) }
-        ensures tells { StillTells (D.state (disk_of self.old)) (D.state (disk_of self.new)) }
+        ensures beside { KeepsFrames D.state self.old self.new }
+        ensures tells { TellsOn D.state self.old self.new }
         ensures time { GoesOnFrom D.state D.left_between (disk_of self.old) (disk_of self.new) }
-        ensures faults { CountsOutcome (update_outcome result) (D.state (disk_of self.old)).faults (D.state (disk_of self.new)).faults }
+        ensures faults { CountsCall (update_outcome result) D.state self.old self.new }
         ensures written { WritesAtMost D.state 72 (disk_of self.old) (disk_of self.new) }
-        ensures asked { (D.state (disk_of self.new)).asked ≡ (D.state (disk_of self.old)).asked }
+        ensures asked { AsksNothing D.state self.old self.new }
     {
         if let Some(step) = self.broken {
             return Err(UpdateError::Broken(step));
@@ -129,12 +126,12 @@ impl<'d, D: Disk, M: CanWrite> File<'d, D, M> {
         ensures stands { StandsOn (auto_outcome result) D.state self.old self.new (automatic_to on) }
         ensures stable { OnOk result (IsStable D.state D.may_leave (disk_of self.new)) }
 
-        ensures beside { KeepsBeside D.state (known_of self.old).shape (known_of self.old).shape.frames (disk_of self.old) (disk_of self.new) }
-        ensures tells { StillTells (D.state (disk_of self.old)) (D.state (disk_of self.new)) }
+        ensures beside { KeepsFrames D.state self.old self.new }
+        ensures tells { TellsOn D.state self.old self.new }
         ensures time { GoesOnFrom D.state D.left_between (disk_of self.old) (disk_of self.new) }
-        ensures faults { CountsOutcome (auto_outcome result) (D.state (disk_of self.old)).faults (D.state (disk_of self.new)).faults }
+        ensures faults { CountsCall (auto_outcome result) D.state self.old self.new }
         ensures written { WritesAtMost D.state 72 (disk_of self.old) (disk_of self.new) }
-        ensures asked { (D.state (disk_of self.new)).asked ≡ (D.state (disk_of self.old)).asked }
+        ensures asked { AsksNothing D.state self.old self.new }
     {
         if let Some(step) = self.broken {
             return Err(AutoError::Broken(step));
@@ -156,12 +153,12 @@ impl<'d, D: Disk, M: CanWrite> File<'d, D, M> {
         ensures closed { OnOk result ((known_of self.old).shape.trailing ≡ false → closed_end (known_of self.new).shape (known_of self.new).shape.frames ≤ (D.state (disk_of self.new)).size) }
         ensures stable { OnOk result (IsStable D.state D.may_leave (disk_of self.new)) }
 
-        ensures beside { KeepsBeside D.state (known_of self.old).shape (known_of self.old).shape.frames (disk_of self.old) (disk_of self.new) }
-        ensures tells { StillTells (D.state (disk_of self.old)) (D.state (disk_of self.new)) }
+        ensures beside { KeepsFrames D.state self.old self.new }
+        ensures tells { TellsOn D.state self.old self.new }
         ensures time { GoesOnFrom D.state D.left_between (disk_of self.old) (disk_of self.new) }
         ensures faults { CountsOn D.state (disk_of self.old) (disk_of self.new) result }
         ensures written { WritesAtMost D.state 72 (disk_of self.old) (disk_of self.new) }
-        ensures asked { (D.state (disk_of self.new)).asked ≡ (D.state (disk_of self.old)).asked }
+        ensures asked { AsksNothing D.state self.old self.new }
     {
         self.layout.keeps_rule();
         match seal(self.disk, &mut self.layout) {
