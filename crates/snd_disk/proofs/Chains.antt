@@ -1,5 +1,5 @@
 -- What is known after one call and then another.
-use Rattle.std.specs.Prelude.{◌≡◌, ◌⊎◌, ℕ, ◌+◌, ◌<◌, ◌≤◌, List}
+use Rattle.std.specs.Prelude.{ℕ, ◌+◌, ◌<◌, ◌≤◌, List}
 use Rattle.std.proofs.Common.{◌∙◌, inl, inr, arith}
 use Rattle.snd_disk.specs.State.{State, Rises, GoesOn, Keeps, KeepsImages, OnlyReads, AtMost, Passes}
 

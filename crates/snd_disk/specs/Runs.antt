@@ -1,5 +1,5 @@
 -- Where the bytes come from that a crash leaves while a run of calls changes a disk.
-use Rattle.std.specs.Prelude.{◌≡◌, ◌⊎◌, ◌+◌, ◌-◌, ◌<◌, ◌≤◌, ◌/◌, ℕ, List, [], ◌∷◌, length, take, get_or}
+use Rattle.std.specs.Prelude.{◌≡◌, ◌⊎◌, ◌+◌, ◌-◌, ◌<◌, ◌≤◌, ◌/◌, ℕ, List, [], ◌∷◌, length, take, get_or, Some}
 use Rattle.snd_disk.specs.State.{State}
 use Rattle.snd_disk.specs.Bytes.{HasSectorOf}
 
@@ -64,3 +64,10 @@ pub record IsPatching (b : List ℕ) (at : ℕ) (v : List ℕ) (at' : ℕ) (w x 
   pub first : IsInOneSector at (length v) → HasFieldOf x b at (length v) ⊎ HasAt x at v
   pub second : IsInOneSector at' (length w) → HasFieldOf x b at' (length w) ⊎ HasAt x at' w
   pub ordered : HasFieldOf x b at' (length w) ⊎ HasAt x at v
+
+-- At each moment since the start a crash leaves an image of the start, or the contents of the start with the two fields
+-- changed in order; where the contents are told, and the fields have no byte in common.
+abbrev pub ChangesInOrder : {D : Type 0} → (D → State) → (D → List ℕ → Type 0) → (D → ℕ → ℕ → List ℕ → Type 0) → D → D → ℕ → List ℕ → ℕ → List ℕ → Type 0
+ChangesInOrder state may_leave left_between old new at v at' w =
+    (b : List ℕ) → (state old).contents ≡ Some b → AreApart at (length v) at' (length w)
+    → (t : ℕ) (x : List ℕ) → left_between new (state old).clock t x → may_leave old x ⊎ IsPatching b at v at' w x

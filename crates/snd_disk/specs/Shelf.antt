@@ -1,5 +1,5 @@
 -- What is known of a shelf, and how a call may change it.
-use Rattle.std.specs.Prelude.{◌≡◌, ◌⊎◌, ◌<◌, ◌≤◌, ◌^◌, ℕ, List, [], Bool, true, false, Option, Some, None, unwrap_or, Result, Err, if◌then◌else◌}
+use Rattle.std.specs.Prelude.{◌≡◌, ◌⊎◌, ◌≤◌, ℕ, List, [], Bool, true, false, Option, Some, None, unwrap_or, Result, Err, if◌then◌else◌}
 use Rattle.std.specs.Str.{bytes_eq}
 use Rattle.snd_disk.specs.State.{State, Rises, Adds, KeepsImages}
 use Rattle.snd_disk.specs.declared.shelf.ShelfFault.{ShelfFault}

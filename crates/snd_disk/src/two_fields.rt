@@ -1,10 +1,10 @@
 //! Two fields changed in an order that a crash cannot hurt: how a change reads off the laws.
 
-ghost use Rattle.std.specs.Prelude.{◌≡◌, ◌⊎◌, ◌+◌, ◌≤◌, [], ◌∷◌, List, ℕ, length, Some, OnOk, option_map};
+ghost use Rattle.std.specs.Prelude.{◌≡◌, ◌+◌, ◌≤◌, [], ◌∷◌, List, ℕ, length, Some, OnOk, option_map};
 ghost use Rattle.snd_disk.specs.State.{Keeps};
 ghost use Rattle.snd_disk.specs.Device.{CountsOn, IsStable, Tells};
 ghost use Rattle.snd_disk.specs.Bytes.{over};
-ghost use Rattle.snd_disk.specs.Runs.{Since, AreApart, IsPatching};
+ghost use Rattle.snd_disk.specs.Runs.{Since, ChangesInOrder};
 
 use crate::{Disk, Failed, Step};
 
@@ -50,8 +50,7 @@ pub fn patch_two<D: Disk>(
     requires second { second_at + length second.now ≤ (D.state disk.old).size }
     ensures contents { OnOk result ((D.state disk.new).contents ≡ option_map (λ b. over (over b first_at first.now) second_at second.now) (D.state disk.old).contents) }
     ensures durable { OnOk result (IsStable D.state D.may_leave disk.new) }
-    ensures any_moment { (b : List ℕ) → (D.state disk.old).contents ≡ Some b → AreApart first_at (length first.now) second_at (length second.now)
-        → (t : ℕ) (x : List ℕ) → D.left_between disk.new (D.state disk.old).clock t x → D.may_leave disk.old x ⊎ IsPatching b first_at first.now second_at second.now x }
+    ensures any_moment { ChangesInOrder D.state D.may_leave D.left_between disk.old disk.new first_at first.now second_at second.now }
     ensures faults { CountsOn D.state disk.old disk.new result }
 {
     settle(disk)?;

@@ -1,7 +1,6 @@
 use Rattle.std.proofs.Common.{subst, ⊎_elim, inl, inr}
 use Rattle.snd_disk.specs.Memory.{Notes, MayNote}
 use Rattle.snd_disk.specs.declared.call.Call.TheVariants.{Write}
-use Rattle.snd_disk.specs.declared.call.End.{End}
 use Rattle.snd_disk.specs.declared.call.End.TheVariants.{Done, Broken}
 use Rattle.snd_disk.specs.declared.call.Made.{Made}
 use Rattle.snd_disk.specs.declared.memory.MemoryDisk.{MemoryDisk}
