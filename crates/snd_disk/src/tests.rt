@@ -384,6 +384,25 @@ fn folder_shelf_hands_out_regular_files_once(rt: HostRuntime) -> Result<(), Fail
     Ok(())
 }
 
+#[test]
+fn only_the_file_that_was_opened_is_written(rt: HostRuntime) -> Result<(), Fail> {
+    let folder = folder(rt, "replaced")?;
+    let name = format!(in rt.alloc(); "{folder}/x")?;
+    let other = format!(in rt.alloc(); "{folder}/y")?;
+    fs::write(&rt, name.as_str(), b"first".as_slice())?;
+    fs::write(&rt, other.as_str(), b"other".as_slice())?;
+    let mut shelf = FolderShelf::new(rt);
+    let mut disk = shelf.take(name.as_str(), false)?;
+    fs::rename(&rt, other.as_str(), name.as_str())?;
+    assert!(rt; disk.write_at(0, b"new").is_err());
+    assert!(rt; disk.cut(0).is_err());
+    let left = fs::read(&rt, name.as_str())?;
+    assert_eq!(rt; left.as_slice(), b"other".as_slice());
+    shelf.give(name.as_str(), disk);
+    fs::remove_dir_all(&rt, folder.as_str())?;
+    Ok(())
+}
+
 /// Gives or takes one byte a call, after one call that is interrupted; from a number of bytes on
 /// every call fails.
 #[derive(Drop)]
