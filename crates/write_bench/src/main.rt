@@ -1,15 +1,17 @@
 //! Writes frames through the library, for measuring. `write_bench create NAME BITS CHANNELS FRAMES` makes
-//! a WAVE file. `write_bench update NAME FROM FRAMES` writes so many frames over those of a file that is
-//! there, from a frame on, and past its end, and brings its head up to them by itself. With no words it
-//! makes a small file, and updates it. A line says how many frames there are behind each step.
+//! a WAVE file. `write_bench update NAME on|off FROM FRAMES` writes so many frames over those of a file
+//! that is there, from a frame on, and past its end, with automatic updates or without. With no words it
+//! makes a small file, and updates it. A line tells after each step how many frames there are.
 #![tactic(auto)]
 
-ghost use Rattle.std.specs.Prelude.{◌≡◌, ◌<◌, ◌≤◌, false};
+mod job;
+
+ghost use Rattle.std.specs.Prelude.{◌≡◌, ◌<◌, ◌≤◌, false, List, ℕ};
 ghost use Rattle.snd_modes.specs.Handle.{disk_of, loan_of};
 
+use job::{Change, Job, job_of, params_of};
 use snd_disk::{Disk, FolderShelf, Shelf};
-use snd_fields::Order;
-use snd_layout::{Codec, Kind, Params};
+use snd_layout::{Kind, Params};
 use snd_modes::{CanWrite, File, Update, create, linear_form, open_update};
 use snd_pcm::Linear;
 use std::alloc::Global;
@@ -20,15 +22,6 @@ use std::process::ExitCode;
 /// How many bytes are written at a time, at most.
 const BLOCK_BYTES: usize = 16384;
 
-const RATE: u64 = 44100;
-
-/// What is done with a file.
-#[derive(Clone, Copy)]
-enum Job {
-    Create { params: Params, frames: u64 },
-    Update { from: u64, frames: u64 },
-}
-
 /// By how many bits a number of 32 bits is shortened to one of a form.
 fn shift_of(form: Linear) -> u32
     ensures { result < 32 }
@@ -36,7 +29,7 @@ fn shift_of(form: Linear) -> u32
     32 - u32::from(form.width())
 }
 
-/// Fills a slice with numbers of a linear congruential generator, shortened.
+/// Fills a slice with the numbers of a linear congruential generator, shortened.
 fn fill(block: &mut [i32], shift: u32)
     requires { shift < 32 }
 {
@@ -47,7 +40,7 @@ fn fill(block: &mut [i32], shift: u32)
     }
 }
 
-/// How many numbers of frames have a place in a block: all that a form gives room for, or a few less.
+/// How many numbers a block has: those of as many frames as there is room for.
 fn numbers_of_block(form: Linear, channels: u16) -> usize
     ensures some { 1 ≤ result }
     ensures most { result ≤ 16384 }
@@ -56,7 +49,7 @@ fn numbers_of_block(form: Linear, channels: u16) -> usize
     (BLOCK_BYTES / form.bytes() / channels * channels).max(1)
 }
 
-/// Writes so many frames, block by block. A block is numbers that are made once, but for the first one.
+/// Writes so many frames, block by block. The numbers of a block are made once, but for the first one.
 fn write_blocks<D: Disk, M: CanWrite>(file: &mut File<'_, D, M>, frames: u64) -> Option<()>
     ensures loan { loan_of file.new ≡ loan_of file.old }
     ensures name { (D.state (disk_of file.new)).name ≡ (D.state (disk_of file.old)).name }
@@ -75,7 +68,7 @@ fn write_blocks<D: Disk, M: CanWrite>(file: &mut File<'_, D, M>, frames: u64) ->
     file.write_frames(&block[..rest]).ok()
 }
 
-/// Makes a disk a WAVE file of so many frames, and answers their number.
+/// Makes a disk a WAVE file of so many frames, and answers how many it has.
 fn create_file<D: Disk>(alloc: Global, disk: &mut D, params: Params, frames: u64) -> Option<u64>
     ensures { (D.state disk.new).name ≡ (D.state disk.old).name }
 {
@@ -87,11 +80,11 @@ fn create_file<D: Disk>(alloc: Global, disk: &mut D, params: Params, frames: u64
         }
     };
     let written = write_blocks(&mut file, frames);
-    let frames = file.frames();
+    let count = file.frames();
     match file.close() {
         Ok(back) => {
             let _ = back;
-            written.map(|()| frames)
+            written.map(|()| count)
         }
         Err((_, back)) => {
             let _ = back;
@@ -100,29 +93,27 @@ fn create_file<D: Disk>(alloc: Global, disk: &mut D, params: Params, frames: u64
     }
 }
 
-/// Writes so many frames of an open file from a frame on. The head is brought up to them at each write.
-fn update_frames<D: Disk, W: Write>(
+/// Changes an open file.
+fn change_frames<D: Disk, W: Write>(
     file: &mut File<'_, D, Update>,
-    from: u64,
-    frames: u64,
+    change: Change,
     out: &mut W,
 ) -> Option<()>
     ensures loan { loan_of file.new ≡ loan_of file.old }
     ensures name { (D.state (disk_of file.new)).name ≡ (D.state (disk_of file.old)).name }
 {
-    let there = file.set_auto(true).ok()?;
-    say(out, "automatic", there).ok()?;
-    file.seek_write(from).ok()?;
-    write_blocks(file, frames)?;
-    say(out, "updated", file.frames()).ok()
+    let count = file.set_auto(change.automatic).ok()?;
+    say(out, "sealed", count).ok()?;
+    file.seek_write(change.from).ok()?;
+    write_blocks(file, change.frames)?;
+    say(out, "written", file.frames()).ok()
 }
 
-/// Writes so many frames of the file that a disk holds, and answers how many it has then.
-fn update_file<D: Disk, W: Write>(
+/// Changes the file that a disk holds, and answers how many frames it has.
+fn change_file<D: Disk, W: Write>(
     alloc: Global,
     disk: &mut D,
-    from: u64,
-    frames: u64,
+    change: Change,
     out: &mut W,
 ) -> Option<u64>
     ensures { (D.state disk.new).name ≡ (D.state disk.old).name }
@@ -134,12 +125,12 @@ fn update_file<D: Disk, W: Write>(
             return None;
         }
     };
-    let updated = update_frames(&mut file, from, frames, out);
-    let frames = file.frames();
+    let changed = change_frames(&mut file, change, out);
+    let count = file.frames();
     match file.close() {
         Ok(back) => {
             let _ = back;
-            updated.map(|()| frames)
+            changed.map(|()| count)
         }
         Err((_, back)) => {
             let _ = back;
@@ -165,85 +156,41 @@ fn carry_out<S: Shelf, W: Write>(
     };
     let done = match job {
         Job::Create { params, frames } => create_file(alloc, &mut disk, params, frames),
-        Job::Update { from, frames } => update_file(alloc, &mut disk, from, frames, out),
+        Job::Update(change) => change_file(alloc, &mut disk, change, out),
     };
     shelf.give(name, disk);
-    let Some(frames) = done else {
+    let Some(count) = done else {
         return 1;
     };
-    match say(out, "closed", frames) {
+    match say(out, "closed", count) {
         Ok(()) => 0,
         Err(_) => 3,
     }
 }
 
-fn params_of(bits: &str, channels: u64) -> Option<Params> {
-    let codec = match bits {
-        "8" => Codec::U8,
-        "16" => Codec::S16(Order::Little),
-        "24" => Codec::S24(Order::Little),
-        "32" => Codec::S32(Order::Little),
-        _ => return None,
-    };
-    Params::new(channels, RATE, codec).ok()
-}
-
-fn number_of(word: Option<String>) -> Option<u64> {
-    word?.parse::<u64>().ok()
-}
-
-/// The job that the words ask for, with the file's name.
-fn job_of(mut words: env::Args) -> Option<(String, Job)> {
-    let verb = words.next()?;
-    let name = words.next()?;
-    let job = match verb.as_str() {
-        "create" => {
-            let bits = words.next()?;
-            let params = params_of(bits.as_str(), number_of(words.next())?)?;
-            let frames = number_of(words.next())?;
-            Job::Create { params, frames }
-        }
-        "update" => {
-            let from = number_of(words.next())?;
-            let frames = number_of(words.next())?;
-            Job::Update { from, frames }
-        }
-        _ => return None,
-    };
-    Some((name, job))
-}
-
-/// Makes a small file and updates it: the last frame is written over, and one follows it.
+/// Makes a small file, writes over its last frame and appends one.
 fn carry_out_both<S: Shelf, W: Write>(alloc: Global, shelf: &mut S, out: &mut W) -> u8
     requires { (n : List ℕ) → (S.state shelf.old).out n ≡ false }
 {
-    let Some(params) = params_of("16", 2) else {
+    let Some(params) = params_of(16, 2) else {
         return 2;
     };
-    let name = "made.wav";
-    let made = carry_out(
+    let frames = 5000;
+    let change = Change {
+        automatic: true,
+        from: 4999,
+        frames: 2,
+    };
+    match carry_out(
         alloc,
         shelf,
-        name,
-        Job::Create {
-            params,
-            frames: 5000,
-        },
+        "made.wav",
+        Job::Create { params, frames },
         out,
-    );
-    if made != 0 {
-        return made;
+    ) {
+        0 => carry_out(alloc, shelf, "made.wav", Job::Update(change), out),
+        status => status,
     }
-    carry_out(
-        alloc,
-        shelf,
-        name,
-        Job::Update {
-            from: 4999,
-            frames: 2,
-        },
-        out,
-    )
 }
 
 fn main(rt: HostRuntime) -> ExitCode {
@@ -253,18 +200,16 @@ fn main(rt: HostRuntime) -> ExitCode {
     let _ = words.next();
     let alloc = rt.alloc();
     let mut out = rt.stdout();
+    let mut shelf = FolderShelf::new(rt);
     if words.len() == 0 {
-        let mut shelf = FolderShelf::new(rt);
         return ExitCode::from(carry_out_both(alloc, &mut shelf, &mut out));
     }
     let Some((name, job)) = job_of(words) else {
         return ExitCode::from(2);
     };
-    let mut shelf = FolderShelf::new(rt);
     ExitCode::from(carry_out(alloc, &mut shelf, name.as_str(), job, &mut out))
 }
 
-fn say<W: Write>(out: &mut W, step: &str, frames: u64) -> io::Result<()> {
-    writeln!(out, "{step} {frames}")?;
-    out.flush()
+fn say<W: Write>(out: &mut W, step: &str, count: u64) -> io::Result<()> {
+    writeln!(out, "{step} {count}")
 }
