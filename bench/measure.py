@@ -1,7 +1,7 @@
 """What the benches share: commands measured side by side, and one table of what was found.
 
-A command is a list of words, with the file that it reads, the file that it writes, and one that it makes. Each runs once to warm up; then all of a
-group run in turn, as many times each, and the least and the middle of the times are taken."""
+A command is a list of words, with the file that it reads, the file that it writes to, and one that it makes. Each runs once to
+warm up; then all of a group run in turn, as many times each, and the least and the middle of the times are taken."""
 import os
 import statistics
 import subprocess
