@@ -4,6 +4,13 @@ use std::env;
 
 const RATE: u64 = 44100;
 
+/// A file that is made, with so many frames.
+#[derive(Clone, Copy)]
+pub struct Creation {
+    pub params: Params,
+    pub frames: u64,
+}
+
 /// Frames that are written, from one on, with automatic updates or without.
 #[derive(Clone, Copy)]
 pub struct Change {
@@ -14,14 +21,13 @@ pub struct Change {
 
 /// What is done with a file.
 #[derive(Clone, Copy)]
-pub enum Job {
-    /// It is made, with so many frames.
-    Create { params: Params, frames: u64 },
-    Update(Change),
+pub struct Job {
+    pub creation: Option<Creation>,
+    pub change: Option<Change>,
 }
 
-/// The parameters of linear samples of so many bits.
-pub fn params_of(bits: u64, channels: u64) -> Option<Params> {
+/// A file of so many frames of linear samples of so many bits.
+fn linear_file(bits: u64, channels: u64, frames: u64) -> Option<Creation> {
     let codec = match bits {
         8 => Codec::U8,
         16 => Codec::S16(Order::Little),
@@ -29,7 +35,8 @@ pub fn params_of(bits: u64, channels: u64) -> Option<Params> {
         32 => Codec::S32(Order::Little),
         _ => return None,
     };
-    Params::new(channels, RATE, codec).ok()
+    let params = Params::new(channels, RATE, codec).ok()?;
+    Some(Creation { params, frames })
 }
 
 fn number_of(word: Option<String>) -> Option<u64> {
@@ -39,9 +46,11 @@ fn number_of(word: Option<String>) -> Option<u64> {
 fn creation_of(words: &mut env::Args) -> Option<Job> {
     let bits = number_of(words.next())?;
     let channels = number_of(words.next())?;
-    let params = params_of(bits, channels)?;
     let frames = number_of(words.next())?;
-    Some(Job::Create { params, frames })
+    Some(Job {
+        creation: Some(linear_file(bits, channels, frames)?),
+        change: None,
+    })
 }
 
 fn change_of(words: &mut env::Args) -> Option<Job> {
@@ -52,20 +61,40 @@ fn change_of(words: &mut env::Args) -> Option<Job> {
     };
     let from = number_of(words.next())?;
     let frames = number_of(words.next())?;
-    Some(Job::Update(Change {
+    let change = Change {
         automatic,
         from,
         frames,
-    }))
+    };
+    Some(Job {
+        creation: None,
+        change: Some(change),
+    })
+}
+
+/// A small file, whose last frame is written over, and that gets one more.
+fn both() -> Option<Job> {
+    let change = Change {
+        automatic: true,
+        from: 4999,
+        frames: 2,
+    };
+    Some(Job {
+        creation: Some(linear_file(16, 2, 5000)?),
+        change: Some(change),
+    })
 }
 
 /// The file's name and the job that the words ask for.
-pub fn job_of(mut words: env::Args) -> Option<(String, Job)> {
+pub fn job_of(rt: &HostRuntime) -> Option<(String, Job)> {
+    let mut words = env::args(rt).ok()?;
+    let _ = words.next();
     let verb = words.next()?;
     let name = words.next()?;
     let job = match verb.as_str() {
         "create" => creation_of(&mut words)?,
         "update" => change_of(&mut words)?,
+        "both" => both()?,
         _ => return None,
     };
     Some((name, job))

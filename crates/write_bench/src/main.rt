@@ -1,26 +1,32 @@
 //! Writes frames through the library, for measuring. `write_bench create NAME BITS CHANNELS FRAMES` makes
 //! a WAVE file. `write_bench update NAME on|off FROM FRAMES` writes so many frames over those of a file
-//! that is there, from a frame on, and past its end, with automatic updates or without. With no words it
-//! makes a small file, and updates it. A line tells after each step how many frames there are.
+//! that is there, from a frame on, and past its end, with automatic updates or without. `write_bench both
+//! NAME` makes a small file and updates it. A line tells after each step how many frames there are.
 #![tactic(auto)]
 
 mod job;
 
-ghost use Rattle.std.specs.Prelude.{◌≡◌, ◌<◌, ◌≤◌, false, List, ℕ};
+ghost use Rattle.std.specs.Prelude.{◌≡◌, ◌<◌, ◌≤◌, false};
 ghost use Rattle.snd_modes.specs.Handle.{disk_of, loan_of};
 
-use job::{Change, Job, job_of, params_of};
+use job::{Change, Creation, Job, job_of};
 use snd_disk::{Disk, FolderShelf, Shelf};
-use snd_layout::{Kind, Params};
+use snd_layout::Kind;
 use snd_modes::{CanWrite, File, Update, create, linear_form, open_update};
 use snd_pcm::Linear;
 use std::alloc::Global;
-use std::env;
-use std::io::{self, Write};
+use std::io::Write;
 use std::process::ExitCode;
 
 /// How many bytes are written at a time, at most.
 const BLOCK_BYTES: usize = 16384;
+
+/// Why a job is not done.
+#[derive(Clone, Copy)]
+enum Stop {
+    Refused,
+    Fault,
+}
 
 /// By how many bits a number of 32 bits is shortened to one of a form.
 fn shift_of(form: Linear) -> u32
@@ -69,17 +75,17 @@ fn write_blocks<D: Disk, M: CanWrite>(file: &mut File<'_, D, M>, frames: u64) ->
 }
 
 /// Makes a disk a WAVE file of so many frames, and answers how many it has.
-fn create_file<D: Disk>(alloc: Global, disk: &mut D, params: Params, frames: u64) -> Option<u64>
+fn create_file<D: Disk>(alloc: Global, disk: &mut D, creation: Creation) -> Option<u64>
     ensures { (D.state disk.new).name ≡ (D.state disk.old).name }
 {
-    let mut file = match create(alloc, disk, Kind::Wave, params) {
+    let mut file = match create(alloc, disk, Kind::Wave, creation.params) {
         Ok(file) => file,
         Err((_, back)) => {
             let _ = back;
             return None;
         }
     };
-    let written = write_blocks(&mut file, frames);
+    let written = write_blocks(&mut file, creation.frames);
     let count = file.frames();
     match file.close() {
         Ok(back) => {
@@ -98,15 +104,15 @@ fn change_frames<D: Disk, W: Write>(
     file: &mut File<'_, D, Update>,
     change: Change,
     out: &mut W,
-) -> Option<()>
+) -> Result<(), Stop>
     ensures loan { loan_of file.new ≡ loan_of file.old }
     ensures name { (D.state (disk_of file.new)).name ≡ (D.state (disk_of file.old)).name }
 {
-    let count = file.set_auto(change.automatic).ok()?;
-    say(out, "sealed", count).ok()?;
-    file.seek_write(change.from).ok()?;
-    write_blocks(file, change.frames)?;
-    say(out, "written", file.frames()).ok()
+    let count = file.set_auto(change.automatic).map_err(|_| Stop::Refused)?;
+    say(out, "sealed", count)?;
+    file.seek_write(change.from).map_err(|_| Stop::Refused)?;
+    write_blocks(file, change.frames).ok_or(Stop::Refused)?;
+    say(out, "written", file.frames())
 }
 
 /// Changes the file that a disk holds, and answers how many frames it has.
@@ -115,14 +121,14 @@ fn change_file<D: Disk, W: Write>(
     disk: &mut D,
     change: Change,
     out: &mut W,
-) -> Option<u64>
+) -> Result<u64, Stop>
     ensures { (D.state disk.new).name ≡ (D.state disk.old).name }
 {
     let mut file = match open_update(alloc, disk) {
         Ok(file) => file,
         Err((_, back)) => {
             let _ = back;
-            return None;
+            return Err(Stop::Refused);
         }
     };
     let changed = change_frames(&mut file, change, out);
@@ -134,82 +140,88 @@ fn change_file<D: Disk, W: Write>(
         }
         Err((_, back)) => {
             let _ = back;
-            None
+            Err(Stop::Refused)
         }
     }
 }
 
-/// Does a job with the file of this name, and gives the status.
-fn carry_out<S: Shelf, W: Write>(
+/// Makes a file, where that is asked.
+fn make_if_asked<D: Disk, W: Write>(
+    alloc: Global,
+    disk: &mut D,
+    asked: Option<Creation>,
+    out: &mut W,
+) -> Result<(), Stop>
+    ensures { (D.state disk.new).name ≡ (D.state disk.old).name }
+{
+    let Some(creation) = asked else {
+        return Ok(());
+    };
+    let count = create_file(alloc, disk, creation).ok_or(Stop::Refused)?;
+    say(out, "closed", count)
+}
+
+/// Changes a file, where that is asked.
+fn change_if_asked<D: Disk, W: Write>(
+    alloc: Global,
+    disk: &mut D,
+    asked: Option<Change>,
+    out: &mut W,
+) -> Result<(), Stop>
+    ensures { (D.state disk.new).name ≡ (D.state disk.old).name }
+{
+    let Some(change) = asked else {
+        return Ok(());
+    };
+    let count = change_file(alloc, disk, change, out)?;
+    say(out, "closed", count)
+}
+
+/// Does a job with the file that a disk holds.
+fn carry_out<D: Disk, W: Write>(
+    alloc: Global,
+    disk: &mut D,
+    job: Job,
+    out: &mut W,
+) -> Result<(), Stop>
+    ensures { (D.state disk.new).name ≡ (D.state disk.old).name }
+{
+    make_if_asked(alloc, disk, job.creation, out)?;
+    change_if_asked(alloc, disk, job.change, out)
+}
+
+fn run<S: Shelf, W: Write>(
     alloc: Global,
     shelf: &mut S,
     name: &str,
     job: Job,
     out: &mut W,
-) -> u8
+) -> Result<(), Stop>
     requires { (S.state shelf.old).out name.now ≡ false }
-    ensures { (S.state shelf.new).out name.now ≡ false }
 {
-    let make = matches!(job, Job::Create { .. });
+    let make = job.creation.is_some();
     let Ok(mut disk) = shelf.take(name, make) else {
-        return 3;
+        return Err(Stop::Fault);
     };
-    let done = match job {
-        Job::Create { params, frames } => create_file(alloc, &mut disk, params, frames),
-        Job::Update(change) => change_file(alloc, &mut disk, change, out),
-    };
+    let done = carry_out(alloc, &mut disk, job, out);
     shelf.give(name, disk);
-    let Some(count) = done else {
-        return 1;
-    };
-    match say(out, "closed", count) {
-        Ok(()) => 0,
-        Err(_) => 3,
-    }
-}
-
-/// Makes a small file, writes over its last frame and appends one.
-fn carry_out_both<S: Shelf, W: Write>(alloc: Global, shelf: &mut S, out: &mut W) -> u8
-    requires { (n : List ℕ) → (S.state shelf.old).out n ≡ false }
-{
-    let Some(params) = params_of(16, 2) else {
-        return 2;
-    };
-    let frames = 5000;
-    let change = Change {
-        automatic: true,
-        from: 4999,
-        frames: 2,
-    };
-    match carry_out(
-        alloc,
-        shelf,
-        "made.wav",
-        Job::Create { params, frames },
-        out,
-    ) {
-        0 => carry_out(alloc, shelf, "made.wav", Job::Update(change), out),
-        status => status,
-    }
+    done
 }
 
 fn main(rt: HostRuntime) -> ExitCode {
-    let Ok(mut words) = env::args(&rt) else {
+    let Some((name, job)) = job_of(&rt) else {
         return ExitCode::from(2);
     };
-    let _ = words.next();
     let alloc = rt.alloc();
     let mut out = rt.stdout();
     let mut shelf = FolderShelf::new(rt);
-    if words.len() == 0 {
-        return ExitCode::from(carry_out_both(alloc, &mut shelf, &mut out));
+    match run(alloc, &mut shelf, name.as_str(), job, &mut out) {
+        Ok(()) => ExitCode::from(0),
+        Err(Stop::Refused) => ExitCode::from(1),
+        Err(Stop::Fault) => ExitCode::from(3),
     }
-    let Some((name, job)) = job_of(words) else {
-        return ExitCode::from(2);
-    };
-    ExitCode::from(carry_out(alloc, &mut shelf, name.as_str(), job, &mut out))
 }
 
-fn say<W: Write>(out: &mut W, step: &str, count: u64) -> io::Result<()> {
-    writeln!(out, "{step} {count}")
+fn say<W: Write>(out: &mut W, step: &str, count: u64) -> Result<(), Stop> {
+    writeln!(out, "{step} {count}").map_err(|_| Stop::Fault)
 }
