@@ -1,7 +1,7 @@
 """What the benches share: commands measured side by side, and one table of what was found.
 
-A command is a list of words, with the file that it reads and the file that it writes. Each runs once to warm up; then all of a
-group run in turn, as many times each, and the least and the middle of the times are taken."""
+A command is a list of words, with the file that it reads, the file that it writes to, and one that it makes. Each runs once to
+warm up; then all of a group run in turn, as many times each, and the least and the middle of the times are taken."""
 import os
 import statistics
 import subprocess
@@ -11,8 +11,10 @@ import time
 TRIES = int(os.environ.get("BENCH_TRIES", "9"))
 
 
-def run(words, given="/dev/null", to="/dev/null"):
-    """Runs a command and gives its seconds. A status that is not 0 ends all."""
+def run(words, given="/dev/null", to="/dev/null", made=None):
+    """Runs a command and gives its seconds. The file that it makes is removed before. A status that is not 0 ends all."""
+    if made and os.path.exists(made):
+        os.remove(made)
     with open(given, "rb") as source, open(to, "wb") as sink:
         start = time.perf_counter()
         ended = subprocess.run(words, stdin=source, stdout=sink, stderr=subprocess.DEVNULL)
@@ -22,15 +24,15 @@ def run(words, given="/dev/null", to="/dev/null"):
     return wall
 
 
-def peak(words, given="/dev/null", to="/dev/null"):
+def peak(words, given="/dev/null", to="/dev/null", made=None):
     """The peak memory of a command in KB, as a small program counts it: a child of this one would begin with this one's."""
-    run(["/usr/bin/time", "-o", "peak.txt", "-f", "%M", *words], given, to)
+    run(["/usr/bin/time", "-o", "peak.txt", "-f", "%M", *words], given, to, made)
     with open("peak.txt") as file:
         return int(file.read().split()[-1])
 
 
 def side_by_side(commands):
-    """Measures commands by name, each (words, given, to): the least and the middle of the milliseconds, and the peak memory."""
+    """Measures commands by name, each (words, given, to, made): the least and the middle of the milliseconds, and the peak memory."""
     found = {name: [] for name in commands}
     peaks = {name: peak(*command) for name, command in commands.items()}
     for _ in range(TRIES):

@@ -1,7 +1,7 @@
 #!/usr/bin/env bash
-# The documents and examples against the repository: what README.md says that the first command prints, the lines of code that
-# it quotes, the files that the documents name, the numbers and names of refusals that the crates have, and the files that
-# examples/make.py makes. Needs Python 3.
+# The documents and examples against the repository: what README.md says that the first command prints, the code that it quotes,
+# each block of which is one piece of its file, the files that the documents name, the numbers and names of refusals that the
+# crates have, and the files that examples/make.py makes. Needs Python 3.
 set -u
 source "$(dirname "$(readlink -f "${BASH_SOURCE[0]}")")/built_program.bash"
 PYTHONDONTWRITEBYTECODE=1 PYTHONPATH=$top/checks python3 - "$program" "$top" <<'PY'
@@ -9,6 +9,7 @@ import os
 import re
 import subprocess
 import sys
+import textwrap
 
 from common import Cases
 
@@ -26,15 +27,22 @@ def blocks(part):
     return [re.sub(r"(?m)^    ", "", it) for it in re.findall(r"(?m)(?:^    .*\n(?:\n(?=    ))*)+", part)]
 
 
+def stands_in(source, block):
+    """Whether a block is lines of the source one after the other, but for how far all of them are indented."""
+    lines, wanted = source.split("\n"), block.rstrip("\n")
+    count = wanted.count("\n") + 1
+    return any(textwrap.dedent("\n".join(lines[at:at + count])) == wanted for at in range(len(lines)))
+
+
 readme = text("README.md")
 command, printed = blocks(readme)[:2]
 words = command.split()
 done = subprocess.run([program, *words[1:]], cwd=top, capture_output=True, text=True)
 cases.case("README.md: the first command", [] if words[0] == "./snd" and done.stdout == printed else [f"it prints {done.stdout!r}"])
 part = re.search(r"(?s)^## The library in use\n(.*?)^## ", readme, re.M)[1]
-source = [it.strip() for it in text(re.search(r"`(crates/\S+\.rt)`", part)[1]).split("\n")]
-quoted = [it.strip() for block in blocks(part) for it in block.split("\n")]
-cases.case("README.md: the code that it quotes", [f"not in the file: {it}" for it in quoted if it not in source])
+quoted = [(name, block) for name, told in re.findall(r"(?s)^From `(crates/\S+?\.rt)`(.*?)(?=^From `|\Z)", part, re.M) for block in blocks(told)]
+apart = [f"no piece of {name}: {block}" for name, block in quoted if not stands_in(text(name), block)]
+cases.case("README.md: the code that it quotes", apart + ["it quotes nothing"] * (not quoted) + ["a block with no file"] * (len(quoted) != len(blocks(part))))
 for name in ["README.md", *(f"docs/{it}" for it in sorted(os.listdir(f"{top}/docs")))]:
     named = re.findall(r"`((?:crates|checks|bench|docs|examples|misuse|\.ci)/[\w./-]*)`", text(name))
     named = [it for it in named if "NAME" not in it and not it.endswith("/out")]

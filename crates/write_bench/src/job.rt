@@ -1,0 +1,101 @@
+use snd_fields::Order;
+use snd_layout::{Codec, Params};
+use std::env;
+
+const RATE: u64 = 44100;
+
+/// A file that is made, with so many frames.
+#[derive(Clone, Copy)]
+pub struct Creation {
+    pub params: Params,
+    pub frames: u64,
+}
+
+/// Frames that are written, from one on, with automatic updates or without.
+#[derive(Clone, Copy)]
+pub struct Change {
+    pub automatic: bool,
+    pub from: u64,
+    pub frames: u64,
+}
+
+/// What is done with a file.
+#[derive(Clone, Copy)]
+pub struct Job {
+    pub creation: Option<Creation>,
+    pub change: Option<Change>,
+}
+
+/// A file of so many frames of linear samples of so many bits.
+fn linear_file(bits: u64, channels: u64, frames: u64) -> Option<Creation> {
+    let codec = match bits {
+        8 => Codec::U8,
+        16 => Codec::S16(Order::Little),
+        24 => Codec::S24(Order::Little),
+        32 => Codec::S32(Order::Little),
+        _ => return None,
+    };
+    let params = Params::new(channels, RATE, codec).ok()?;
+    Some(Creation { params, frames })
+}
+
+fn number_of(word: Option<String>) -> Option<u64> {
+    word?.parse::<u64>().ok()
+}
+
+fn creation_of(words: &mut env::Args) -> Option<Job> {
+    let bits = number_of(words.next())?;
+    let channels = number_of(words.next())?;
+    let frames = number_of(words.next())?;
+    Some(Job {
+        creation: Some(linear_file(bits, channels, frames)?),
+        change: None,
+    })
+}
+
+fn change_of(words: &mut env::Args) -> Option<Job> {
+    let automatic = match words.next()?.as_str() {
+        "on" => true,
+        "off" => false,
+        _ => return None,
+    };
+    let from = number_of(words.next())?;
+    let frames = number_of(words.next())?;
+    let change = Change {
+        automatic,
+        from,
+        frames,
+    };
+    Some(Job {
+        creation: None,
+        change: Some(change),
+    })
+}
+
+/// A small file, whose last frame is written over, and that gets one more.
+fn both() -> Option<Job> {
+    let change = Change {
+        automatic: true,
+        from: 4999,
+        frames: 2,
+    };
+    Some(Job {
+        creation: Some(linear_file(16, 2, 5000)?),
+        change: Some(change),
+    })
+}
+
+/// The file's name and the job that the words ask for.
+pub fn job_of(rt: &HostRuntime) -> Option<(String, Job)> {
+    let mut words = env::args(rt).ok()?;
+    let _ = words.next();
+    let verb = words.next()?;
+    let name = words.next()?;
+    let job = match verb.as_str() {
+        "create" => creation_of(&mut words)?,
+        "update" => change_of(&mut words)?,
+        "both" => both()?,
+        _ => return None,
+    };
+    Some((name, job))
+}
