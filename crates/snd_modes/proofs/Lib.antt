@@ -1,5 +1,6 @@
 pub mod CutFrames
 pub mod EditedFrames
+pub mod FileRules
 pub mod NewFiles
 pub mod Opened
 pub mod Opening
@@ -7,6 +8,8 @@ pub mod Overwritten
 pub mod PutBlocks
 pub mod Rooms
 pub mod Runs
+pub mod SameLayouts
 pub mod SealedFrames
+pub mod SealedHeads
 pub mod Sealing
 pub mod SoundFrames
