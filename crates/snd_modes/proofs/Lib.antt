@@ -1,5 +1,6 @@
 pub mod CutFrames
 pub mod EditedFrames
+pub mod EditedFiles
 pub mod FileRules
 pub mod NewFiles
 pub mod Opened

@@ -4,7 +4,7 @@
 ghost use Rattle.snd_modes.specs.Laws.{OpenedHoldsFrames, UpdatedIsEdited};
 
 /// A file that is opened holds its frames.
-#[tactic(auto, using(crate::proofs::SealedHeads::lie_apart))]
+#[tactic(auto, using(crate::proofs::EditedFiles::opened_holds_frames, crate::proofs::EditedFiles::updated_is_edited))]
 pub fn opened_files_are_edited()
     ensures read { OpenedHoldsFrames }
     ensures updated { UpdatedIsEdited }
