@@ -2,6 +2,7 @@ pub mod CutFrames
 pub mod EditedFrames
 pub mod EditedFiles
 pub mod FileRules
+pub mod MadeFiles
 pub mod NewFiles
 pub mod Opened
 pub mod Opening

@@ -203,7 +203,7 @@ form_of_wave head is = elim (cases_Bool (is_form head (codes "RIFF") (codes "WAV
       absurd (never_wave _ _ _ _ _ _ _ _ rest)
 ]
 
-wave_of_form : (head : List ℕ) → is_form head (codes "RIFF") (codes "WAVE") ≡ true → recognised head ≡ Ok Wave
+pub wave_of_form : (head : List ℕ) → is_form head (codes "RIFF") (codes "WAVE") ≡ true → recognised head ≡ Ok Wave
 unfolding recognised
 wave_of_form head form = rw form refl
 
