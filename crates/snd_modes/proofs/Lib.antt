@@ -1,5 +1,6 @@
 pub mod CutFrames
 pub mod EditedFrames
+pub mod EditedSteps
 pub mod EditedFiles
 pub mod FileRules
 pub mod MadeFiles

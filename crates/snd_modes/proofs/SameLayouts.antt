@@ -1,5 +1,5 @@
 -- Files that differ in their data alone have one layout.
-use Rattle.std.proofs.Common.{◌≡◌, ◌∙◌, ap, sym, refl, inl, inr, ℕ, zero, suc, ◌+◌, ◌-◌, ◌<◌, ◌≤◌, Bool, true, false, List, [], ◌∷◌, ◌++◌, All, Option, None, Some, Ok, length, take, drop, get_or, min, arith}
+use Rattle.std.proofs.Common.{◌≡◌, ◌∙◌, ap, sym, subst, refl, inl, inr, ℕ, zero, suc, ◌+◌, ◌-◌, ◌<◌, ◌≤◌, Bool, true, false, List, [], ◌∷◌, ◌++◌, All, Option, None, Some, Ok, length, take, drop, get_or, min, arith}
 use Rattle.std.proofs.lemmas.Bool.{and_parts, cases_Bool, cases_lt, leb-true, lt-leb}
 use Rattle.std.specs.Prelude.{codes, nat_le, nat_lt, option_map}
 use Rattle.snd_chunks.proofs.Chains.{IsBetween, IsHead, Reaches, find_has, in_order, is_head, same_chain, same_chunk, same_number_at, same_part}
@@ -13,11 +13,14 @@ use Rattle.snd_chunks.proofs.Chains.{walks}
 use Rattle.snd_fields.specs.Field.{number}
 use Rattle.snd_fields.specs.declared.field.Order.TheVariants.{Little}
 use Rattle.snd_layout.specs.Format.{format_of}
-use Rattle.snd_layout.specs.Params.{Parameters}
-use Rattle.snd_layout.specs.Shape.{Shape}
+use Rattle.snd_layout.specs.Fit.{fit_refusal}
+use Rattle.snd_layout.specs.Params.{AreParams, Parameters}
+use Rattle.snd_layout.specs.Shape.{Shape, end}
+use Rattle.snd_layout.specs.declared.kind.Kind.TheVariants.{Wave}
 use Rattle.snd_layout.specs.declared.piece.Piece.{Piece}
 use Rattle.snd_wave.proofs.Counts.{reached}
 use Rattle.snd_wave.proofs.Opens.{Opens, opened, opens}
+use Rattle.snd_wave.proofs.Shapes.{counted_bytes}
 use Rattle.snd_wave.specs.Layout.{body_of, data_end, fact_chunk, fact_count, format_chunk, frame_count, has_id, held, is_fact, outer_end, pieces_of, wave_front, wave_layout, wave_shape, wave_tail}
 
 -- where two files have one length, and the same bytes from a place on, they have there the same chunks
@@ -118,13 +121,19 @@ module _ (x y : List ℕ) (p : Parameters) (sound format : Chunk) (long : length
       ∙ ap (λ (l : List Chunk). record s { frames = frame_count p (held (length x) sound) (option_map (fact_count x) fact); trailing = nat_lt (data_end x sound) (outer_end x); pieces = pieces_of false (wave_front y).chunks ++ pieces_of true l }) tail_same
       ∙ sym (ap (λ (f : Front). wave_shape x f p sound) front_same)
 
--- the same bytes before the data and behind them
-pub data_are_free : (x y : List ℕ) (h : Shape) → wave_layout y ≡ Ok h → length x ≡ length y → ((i : ℕ) → i < h.start → get_or x i 0 ≡ get_or y i 0)
-    → (last : ℕ) → ((sound : Chunk) (p : Parameters) → h ≡ wave_shape y (wave_front y) p sound → last ≤ data_end y sound) → ((i : ℕ) → last ≤ i → get_or x i 0 ≡ get_or y i 0) → wave_layout x ≡ Ok h
-data_are_free x y h is long before last ends behind =
+-- the data of the frames end with the data that the file holds
+frames_end : (b : List ℕ) (p : Parameters) (sound : Chunk) → AreParams p → fit_refusal Wave p ≡ None → end (wave_shape b (wave_front b) p sound) (wave_shape b (wave_front b) p sound).frames ≤ data_end b sound
+frames_end b p sound good fits = omega (arith, counted_bytes p (held (length b) sound) (option_map (fact_count b) (fact_chunk (wave_front b).chunks)) good fits)
+
+-- the same bytes before the data and behind those of the frames
+pub data_are_free : (x y : List ℕ) (h : Shape) → wave_layout y ≡ Ok h → AreParams h.params → fit_refusal Wave h.params ≡ None → length x ≡ length y → ((i : ℕ) → i < h.start → get_or x i 0 ≡ get_or y i 0)
+    → ((i : ℕ) → end h h.frames ≤ i → get_or x i 0 ≡ get_or y i 0) → wave_layout x ≡ Ok h
+data_are_free x y h is good fits long before behind =
     let from : Opens y (wave_front y) h = opens y h is in
+    let params : h.params ≡ from.params = ap (λ (s : Shape). s.params) from.shape in
     let start : h.start ≡ from.sound.at = ap (λ (s : Shape). s.start) from.shape in
-    let reaches : last ≤ data_end y from.sound = ends from.sound from.params from.shape in
+    let within = frames_end y from.params from.sound (subst AreParams params good) (subst (λ (p : Parameters). fit_refusal Wave p ≡ None) params fits) in
+    let reaches : end h h.frames ≤ data_end y from.sound = subst (λ (s : Shape). end s s.frames ≤ data_end y from.sound) (sym from.shape) within in
     let before_too : (i : ℕ) → i < from.sound.at → get_or x i 0 ≡ get_or y i 0 = λ i lt. before i (omega (arith, start, lt)) in
     let behind_too : (i : ℕ) → data_end y from.sound ≤ i → get_or x i 0 ≡ get_or y i 0 = λ i le. behind i (omega (arith, reaches, le)) in
     let front : wave_front x ≡ wave_front y = front_same x y from.params from.sound from.format long before_too behind_too from.sound_is from.format_is in

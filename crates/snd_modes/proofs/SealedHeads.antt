@@ -208,7 +208,7 @@ unfolding recognised
 wave_of_form head form = rw form refl
 
 -- the first 12 bytes tell a WAVE file, but for the size of the whole
-recognised_too : (x y : List ℕ) → 12 ≤ length x → 12 ≤ length y → ((i : ℕ) → (i < 4) ⊎ (8 ≤ i) → i < 12 → get_or x i 0 ≡ get_or y i 0) → recognised (take 40 y) ≡ Ok Wave → recognised (take 40 x) ≡ Ok Wave
+pub recognised_too : (x y : List ℕ) → 12 ≤ length x → 12 ≤ length y → ((i : ℕ) → (i < 4) ⊎ (8 ≤ i) → i < 12 → get_or x i 0 ≡ get_or y i 0) → recognised (take 40 y) ≡ Ok Wave → recognised (take 40 x) ≡ Ok Wave
 recognised_too x y in_x in_y same is =
     let first : has_mark (take 40 x) 0 (codes "RIFF") ≡ has_mark (take 40 y) 0 (codes "RIFF") = mark_same (take 40 x) (take 40 y) 0 (codes "RIFF") (four_same x y 0 (omega arith) (omega (arith, in_x)) (omega (arith, in_y)) (λ i from to. same i (inl to) (omega (arith, to)))) in
     let second : has_mark (take 40 x) 8 (codes "WAVE") ≡ has_mark (take 40 y) 8 (codes "WAVE") = mark_same (take 40 x) (take 40 y) 8 (codes "WAVE") (four_same x y 8 (omega arith) (omega (arith, in_x)) (omega (arith, in_y)) (λ i from to. same i (inr from) to)) in
