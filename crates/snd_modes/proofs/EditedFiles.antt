@@ -1,24 +1,21 @@
 -- The editing states of a file: where they begin, and what the file says once it is sealed.
-use Rattle.std.proofs.Common.{◌≡◌, ◌∙◌, ap, sym, subst, refl, inl, inr, ℕ, ◌+◌, ◌*◌, ◌^◌, ◌<◌, ◌≤◌, ℤ, Bool, true, false, cond, List, All, Option, None, Some, Ok, Err, length, take, get_or, map, max, arith}
-use Rattle.std.specs.Prelude.{◌⊎◌, Result, is_none, nat_le, nat_lt}
+use Rattle.std.proofs.Common.{◌≡◌, ◌∙◌, ap, sym, subst, refl, inl, inr, ℕ, ◌+◌, ◌^◌, ◌<◌, ◌≤◌, ℤ, Bool, true, false, cond, List, All, Ok, Err, length, get_or, map, max, arith}
+use Rattle.std.specs.Prelude.{Result, is_none, nat_le, nat_lt}
 use Rattle.std.proofs.lemmas.Bool.{cases_Bool, cond_both}
 use Rattle.std.proofs.lemmas.List.{length-take}
-use Rattle.snd_container.specs.Sound.{Kept, Sound, decoded, kept_of, layout_of, linear_of, sound_bytes, sound_in, sound_of}
+use Rattle.snd_container.specs.Sound.{Sound, decoded, kept_of, layout_of, linear_of, sound_bytes, sound_in}
 use Rattle.snd_container.specs.Values.{closing}
 use Rattle.snd_disk.proofs.Lists.{length-over}
-use Rattle.snd_disk.specs.Bytes.{over}
 use Rattle.snd_fields.specs.Laws.{IsByte}
 use Rattle.snd_layout.specs.Blocks.{is_adpcm}
-use Rattle.snd_layout.specs.Params.{Parameters, data_bytes}
+use Rattle.snd_layout.specs.Params.{data_bytes}
 use Rattle.snd_layout.specs.Shape.{KeepsRule, Shape, end, room}
 use Rattle.snd_layout.specs.declared.error.OpenError.{OpenError}
-use Rattle.snd_layout.specs.declared.error.OpenError.TheVariants.{Refused, AdpcmUpdate, UnknownLength}
-use Rattle.snd_layout.specs.declared.piece.Piece.{Piece}
 use Rattle.snd_layout.specs.declared.refusal.OpenRefusal.{OpenRefusal}
 use Rattle.snd_layout.specs.declared.refusal.OpenRefusal.TheVariants.{NotBuilt}
 use Rattle.snd_patch.proofs.Bytes.{over_beside, take_before}
 use Rattle.snd_patch.proofs.Lists.{closed_same, order_is_free, sealed_keeps, sealed_length, shrunk_keeps, shrunk_length}
-use Rattle.snd_patch.specs.Sealed.{FieldsLieApart, closed, closed_end, counted, is_in_fields, over_closing, patched, sealed, sealed_size, shrunk, with_fewer, with_fields}
+use Rattle.snd_patch.specs.Sealed.{FieldsLieApart, closed, closed_end, counted, over_closing, patched, sealed, sealed_size, shrunk, with_fewer, with_fields}
 use Rattle.snd_wave.proofs.Standing.{fields_are_apart}
 use Rattle.snd_modes.specs.Editing.{Editing, first_editing, opening_as, opening_of}
 use Rattle.snd_modes.specs.Edits.{automatic_to, cut_off, sealed_to}
@@ -27,7 +24,7 @@ use Rattle.snd_modes.specs.Updating.{updating_as, updating_of}
 use Rattle.snd_modes.proofs.FileRules.{LiesIn, lies_in, wave_only}
 use Rattle.snd_modes.proofs.Opened.{update_ok}
 use Rattle.snd_modes.proofs.Opening.{count_opened, opening_ok}
-use Rattle.snd_modes.proofs.Rooms.{may_count, not_adpcm}
+use Rattle.snd_modes.proofs.Rooms.{not_adpcm}
 use Rattle.snd_modes.proofs.SealedFrames.{sealed_decoded, sealed_no_less}
 use Rattle.snd_modes.proofs.SealedHeads.{apart_too, fields_read_back, lie_apart, recounted}
 
@@ -168,9 +165,8 @@ module _ (b : List ℕ) (s : Shape) (bytes : All IsByte b) (opened : layout_of b
   first_holds : HoldsFrames (first_editing b s)
   first_holds = record { sound = refl; count = count_opened b s linear lies.params.some_channel lies.held; held = lies.held; placed = omega arith; write_placed = omega arith }
 
-  pub first_is_edited : s.unknown_length ≡ false → IsEdited (first_editing b s)
+  pub first_is_edited : s.unknown_length ≡ false → IsEdited b (first_editing b s)
   first_is_edited known = record {
-    file = b;
     head = s;
     bytes = bytes;
     opened = opened;
@@ -179,6 +175,7 @@ module _ (b : List ℕ) (s : Shape) (bytes : All IsByte b) (opened : layout_of b
     shape = refl;
     rule = lies.rule;
     kept = λ i lt out. refl;
+    stays = λ trailing. record { shape = refl; size = refl; behind = λ i behind. refl };
     holds = first_holds;
     in_room = lies.rule.in_room known;
     told = λ either. opened;
@@ -192,16 +189,16 @@ opened_holds_frames b e bytes is =
 pub updated_is_edited : UpdatedIsEdited
 updated_is_edited b e bytes is =
     let from = updating_begins b e is in
-    subst IsEdited from.0.is (first_is_edited b from.0.layout bytes from.0.opened from.0.linear from.1)
+    subst (IsEdited b) from.0.is (first_is_edited b from.0.layout bytes from.0.opened from.0.linear from.1)
 
 -- ---- the file sealed
 
-module _ (e : Editing) (ed : IsEdited e) where
+module _ (file : List ℕ) (e : Editing) (ed : IsEdited file e) where
   abbrev h : Shape
   h = e.shape
 
-  pub lies_under : LiesIn ed.file ed.head
-  lies_under = lies_in ed.file ed.head ed.bytes ed.opened ed.linear
+  pub lies_under : LiesIn file ed.head
+  lies_under = lies_in file ed.head ed.bytes ed.opened ed.linear
 
   pub is_linear : is_none (linear_of h.params.codec) ≡ false
   is_linear = ap (λ (s : Shape). is_none (linear_of s.params.codec)) ed.shape ∙ ed.linear
@@ -218,7 +215,7 @@ module _ (e : Editing) (ed : IsEdited e) where
   pub sealed_told : layout_of (sealed e.bytes h h.frames) ≡ Ok (counted h h.frames)
   sealed_told = elim (cases_Bool h.trailing) [
     | inl is ↦ ap layout_of (sealed_same e.bytes h h.frames is) ∙ ed.told (inr is) ∙ ap (λ (s : Shape). Ok s) (sym (counted_stays h is))
-    | inr free ↦ sealed_says ed.file ed.head ed.bytes ed.opened ed.linear h ed.shape ed.rule free h.frames ed.in_room e.bytes ed.kept ed.holds.held
+    | inr free ↦ sealed_says file ed.head ed.bytes ed.opened ed.linear h ed.shape ed.rule free h.frames ed.in_room e.bytes ed.kept ed.holds.held
   ]
 
   sealed_holds : HoldsFrames (sealed_to e)
@@ -232,11 +229,10 @@ module _ (e : Editing) (ed : IsEdited e) where
         write_placed = ed.holds.write_placed;
       }
 
-  pub automatic_edited : (on : Bool) → IsEdited (automatic_to on e)
+  pub automatic_edited : (on : Bool) → IsEdited file (automatic_to on e)
   automatic_edited on =
       let holds = sealed_holds in
       record {
-        file = ed.file;
         head = ed.head;
         bytes = ed.bytes;
         opened = ed.opened;
@@ -244,46 +240,37 @@ module _ (e : Editing) (ed : IsEdited e) where
         known = ed.known;
         shape = ap (λ (s : Shape). record s { declared = (counted h h.frames).declared }) ed.shape;
         rule = counted_rule h h.frames ed.rule is_known ed.rule.data_end (λ trailing. refl);
-        kept = sealed_kept ed.file e.bytes h h.frames ed.rule ed.kept;
+        kept = sealed_kept file e.bytes h h.frames ed.rule ed.kept;
+        stays = λ trailing.
+            let tail = ed.stays trailing in
+            let same : sealed e.bytes h h.frames ≡ e.bytes = sealed_same e.bytes h h.frames trailing in
+            record { shape = counted_stays h trailing ∙ tail.shape; size = ap length same ∙ tail.size; behind = λ i behind. ap (λ (l : List ℕ). get_or l i 0) same ∙ tail.behind i behind };
         holds = record { sound = holds.sound; count = holds.count; held = holds.held; placed = holds.placed; write_placed = holds.write_placed };
         in_room = ed.in_room;
         told = λ either. sealed_told;
       }
 
 pub automatic_is_edited : AutomaticIsEdited
-automatic_is_edited e on ed = automatic_edited e ed on
+automatic_is_edited file e on ed = automatic_edited file e ed on
 
 pub sealed_is_edited : SealedIsEdited
-sealed_is_edited e ed = automatic_edited e ed e.automatic
+sealed_is_edited file e ed = automatic_edited file e ed e.automatic
 
-read_first : (e : Editing) (ed : IsEdited e) → first_editing (sealed_to e).bytes (sealed_to e).shape ≡ read_again e
-read_first e ed = ap (λ l. record (read_again e) { frames = l }) (sym (sealed_holds e ed).sound)
+read_first : (file : List ℕ) (e : Editing) (ed : IsEdited file e) → first_editing (sealed_to e).bytes (sealed_to e).shape ≡ read_again e
+read_first file e ed = ap (λ l. record (read_again e) { frames = l }) (sym (sealed_holds file e ed).sound)
 
 pub sealed_reads_back : SealedReadsBack
-sealed_reads_back e ed =
-    let is = sealed_told e ed in
-    let first = read_first e ed in (
+sealed_reads_back file e ed =
+    let is = sealed_told file e ed in
+    let first = read_first file e ed in (
       is,
-      opening_ok (sealed_to e).bytes (sealed_to e).shape is (is_linear e ed) ∙ ap (λ (s : Editing). Ok s) first,
-      update_ok (sealed_to e).bytes (sealed_to e).shape is (not_adpcm e.shape.params.codec (is_linear e ed)) (is_known e ed) (is_linear e ed) ∙ ap (λ (s : Editing). Ok s) first,
+      opening_ok (sealed_to e).bytes (sealed_to e).shape is (is_linear file e ed) ∙ ap (λ (s : Editing). Ok s) first,
+      update_ok (sealed_to e).bytes (sealed_to e).shape is (not_adpcm e.shape.params.codec (is_linear file e ed)) (is_known file e ed) (is_linear file e ed) ∙ ap (λ (s : Editing). Ok s) first,
     )
 
-abbrev sound_with : List ℕ → Shape → List (List ℤ) → Result Sound OpenRefusal
-sound_with x s frames = Ok (record { kind = s.kind; params = s.params; frames = frames; pieces = map (kept_of x) s.pieces })
-
-pub sealed_sound : SealedSound
-sealed_sound e ed =
-    let x = (sealed_to e).bytes in
-    let s = (sealed_to e).shape in
-    ap (sound_in x) (sealed_told e ed)
-    ∙ ap (λ (t : Bool). cond t (Err NotBuilt) (sound_with x s (decoded s.params (sound_bytes x s)))) (is_linear e ed)
-    ∙ ap (sound_with x s) (sym (sealed_holds e ed).sound)
-    ∙ ap (λ (h : Shape). sound_with x h e.frames) ed.shape
-
 pub moved_is_edited : MovedIsEdited
-moved_is_edited e to ed within = (
+moved_is_edited file e to ed within = (
   record {
-    file = ed.file;
     head = ed.head;
     bytes = ed.bytes;
     opened = ed.opened;
@@ -292,12 +279,12 @@ moved_is_edited e to ed within = (
     shape = ed.shape;
     rule = ed.rule;
     kept = ed.kept;
+    stays = λ trailing. let tail = ed.stays trailing in record { shape = tail.shape; size = tail.size; behind = tail.behind };
     holds = record { sound = ed.holds.sound; count = ed.holds.count; held = ed.holds.held; placed = within; write_placed = ed.holds.write_placed };
     in_room = ed.in_room;
     told = ed.told;
   },
   record {
-    file = ed.file;
     head = ed.head;
     bytes = ed.bytes;
     opened = ed.opened;
@@ -306,6 +293,7 @@ moved_is_edited e to ed within = (
     shape = ed.shape;
     rule = ed.rule;
     kept = ed.kept;
+    stays = λ trailing. let tail = ed.stays trailing in record { shape = tail.shape; size = tail.size; behind = tail.behind };
     holds = record { sound = ed.holds.sound; count = ed.holds.count; held = ed.holds.held; placed = ed.holds.placed; write_placed = within };
     in_room = ed.in_room;
     told = ed.told;
@@ -313,4 +301,4 @@ moved_is_edited e to ed within = (
 )
 
 pub read_is_edited : ReadIsEdited
-read_is_edited e n ed within = (moved_is_edited e (e.place + n) ed within).0
+read_is_edited file e n ed within = (moved_is_edited file e (e.place + n) ed within).0

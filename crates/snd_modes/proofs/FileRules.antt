@@ -1,5 +1,5 @@
 -- What holds of the layout that a list of bytes gives.
-use Rattle.std.proofs.Common.{◌≡◌, ◌∙◌, ap, sym, refl, inl, inr, ℕ, zero, suc, ◌+◌, ◌*◌, ◌-◌, ◌^◌, ◌<◌, ◌≤◌, Bool, true, false, not, List, [], ◌∷◌, ◌++◌, All, Option, None, Some, Ok, Err, length, take, drop, arith}
+use Rattle.std.proofs.Common.{◌≡◌, ◌∙◌, ap, sym, refl, inl, inr, ℕ, zero, suc, ◌+◌, ◌*◌, ◌-◌, ◌^◌, ◌<◌, ◌≤◌, false, not, List, [], ◌∷◌, All, Option, None, Some, Ok, Err, length, take, drop, arith}
 use Rattle.std.proofs.lemmas.Bool.{and_parts, cases_Bool, cases_lt, eqb-false, leb-true}
 use Rattle.std.proofs.lemmas.List.Elements.{All-cons, All-drop, All-nil, All-take, All-weaker}
 use Rattle.std.specs.Prelude.{◌==◌, IfSome, Result, codes, is_none, nat_le, option_map}
@@ -24,7 +24,6 @@ use Rattle.snd_layout.specs.declared.codec.Codec.{Codec}
 use Rattle.snd_layout.specs.declared.codec.Codec.TheVariants.{Ima, Ms}
 use Rattle.snd_layout.specs.declared.kind.Kind.{Kind}
 use Rattle.snd_layout.specs.declared.kind.Kind.TheVariants.{Wave}
-use Rattle.snd_layout.specs.declared.piece.Piece.{Piece}
 use Rattle.snd_layout.specs.declared.refusal.OpenRefusal.{OpenRefusal}
 use Rattle.snd_layout.specs.declared.refusal.OpenRefusal.TheVariants.{BadChannels, BadRate}
 use Rattle.snd_wave.proofs.Counts.{reached}
@@ -107,7 +106,7 @@ chain_end b id limit p q (chunk ∷ chunks) bytes chain =
     omega (arith, head.at, head.len, head.next, few, rest)
 
 -- the chunks behind them end by the end of the whole
-tail_ends : (chunk_of : ℕ → Option Chunk) (limit n p : ℕ) → All (EndsBy limit) (tail chunk_of limit n p)
+pub tail_ends : (chunk_of : ℕ → Option Chunk) (limit n p : ℕ) → All (EndsBy limit) (tail chunk_of limit n p)
 unfolding tail
 tail_ends chunk_of limit zero p = All-nil (EndsBy limit)
 tail_ends chunk_of limit (suc n) p = one (chunk_of p) (λ q. tail_ends chunk_of limit n q)

@@ -1,8 +1,10 @@
 pub mod CutFrames
 pub mod EditedFrames
+pub mod EditedSounds
 pub mod EditedSteps
 pub mod EditedFiles
 pub mod FileRules
+pub mod KeptPieces
 pub mod MadeFiles
 pub mod NewFiles
 pub mod Opened

@@ -27,10 +27,13 @@ use Rattle.snd_wave.proofs.Made.{head_reads_back, no_bytes_yet}
 use Rattle.snd_wave.specs.Values.{riff_size}
 use Rattle.snd_wave.specs.Written.{MayBeMade, MayBePiece, chunks_before, filler, has_fact, head_for, head_size, junk, made_shape, new_fact, new_format, riff_head, wave_head}
 use Rattle.snd_modes.specs.Editing.{Editing, first_editing}
-use Rattle.snd_modes.specs.Laws.{IsEdited, MadeIsEdited}
+use Rattle.snd_modes.specs.Laws.{MadeIsEdited, MadeIsUpdated}
 use Rattle.snd_modes.specs.Making.{made_as, making_as, making_of}
-use Rattle.snd_modes.proofs.EditedFiles.{first_is_edited}
+use Rattle.snd_modes.specs.Updating.{updating_of}
+use Rattle.snd_modes.proofs.EditedFiles.{updated_is_edited}
 use Rattle.snd_modes.proofs.FileRules.{of_wave}
+use Rattle.snd_modes.proofs.Opened.{update_ok}
+use Rattle.snd_modes.proofs.Rooms.{not_adpcm}
 use Rattle.snd_modes.proofs.SealedHeads.{wave_of_form}
 
 -- ---- its bytes
@@ -142,26 +145,32 @@ shape_known p = (refl, refl)
 
 -- ---- where editing begins
 
-made_wave : (p : Parameters) → AreParams p → fit_refusal Wave p ≡ None → is_none (linear_of p.codec) ≡ false → IsEdited (first_editing (wave_head p []) (made_shape p [] 0))
-made_wave p good fits linear =
+first_updated : (p : Parameters) → AreParams p → fit_refusal Wave p ≡ None → is_none (linear_of p.codec) ≡ false → updating_of (wave_head p []) ≡ Ok (first_editing (wave_head p []) (made_shape p [] 0))
+first_updated p good fits linear =
     let known = shape_known p in
-    first_is_edited (wave_head p []) (made_shape p [] 0) (head_bytes_are p linear) (head_layout p good fits)
-    (ap (λ (q : Parameters). is_none (linear_of q.codec)) known.1 ∙ linear) known.0
+    let linear_too : is_none (linear_of (made_shape p [] 0).params.codec) ≡ false = ap (λ (q : Parameters). is_none (linear_of q.codec)) known.1 ∙ linear in
+    update_ok (wave_head p []) (made_shape p [] 0) (head_layout p good fits) (not_adpcm (made_shape p [] 0).params.codec linear_too) known.0 linear_too
 
-by_kind : (kind : Kind) (p : Parameters) (e : Editing) → AreParams p → fit_refusal kind p ≡ None → is_none (linear_of p.codec) ≡ false → made_as (new_file kind p) (new_layout kind p) ≡ Ok e → IsEdited e
+by_kind : (kind : Kind) (p : Parameters) (e : Editing) → AreParams p → fit_refusal kind p ≡ None → is_none (linear_of p.codec) ≡ false → made_as (new_file kind p) (new_layout kind p) ≡ Ok e
+    → All IsByte (new_file kind p) × (updating_of (new_file kind p) ≡ Ok e)
 by_kind Wave p e good fits linear is =
     let same : ◌≡◌ {A = Result Editing OpenRefusal} (Ok (first_editing (wave_head p []) (made_shape p [] 0))) (Ok e) = is in
     let first : first_editing (wave_head p []) (made_shape p [] 0) ≡ e = cc in
-    subst IsEdited first (made_wave p good fits linear)
+    (head_bytes_are p linear, first_updated p good fits linear ∙ ap (λ (s : Editing). Ok s) first)
 by_kind _ p e good fits linear is = absurd (cc)
 
-pub made_is_edited : MadeIsEdited
+pub made_is_updated : MadeIsUpdated
 unfolding making_of
-made_is_edited kind p e good is = by_fit (fit_refusal kind p) refl is
+made_is_updated kind p e good is = by_fit (fit_refusal kind p) refl is
   where
-    by_fit : (r : Option OpenRefusal) → fit_refusal kind p ≡ r → making_as kind p r ≡ Ok e → IsEdited e
+    by_fit : (r : Option OpenRefusal) → fit_refusal kind p ≡ r → making_as kind p r ≡ Ok e → All IsByte (new_file kind p) × (updating_of (new_file kind p) ≡ Ok e)
     by_fit (Some refusal) fits given = absurd (cc)
     by_fit None fits given = elim (cases_Bool (is_none (linear_of p.codec))) [
       | inl law ↦ absurd (let h = rw law at given in cc)
       | inr linear ↦ by_kind kind p e good fits linear (sym (ap (λ (t : Bool). cond t (Err NotBuilt) (made_as (new_file kind p) (new_layout kind p))) linear) ∙ given)
     ]
+
+pub made_is_edited : MadeIsEdited
+made_is_edited kind p e good is =
+    let begun = made_is_updated kind p e good is in
+    updated_is_edited (new_file kind p) e begun.0 begun.1

@@ -1,5 +1,5 @@
 -- Files that differ in their data alone have one layout.
-use Rattle.std.proofs.Common.{◌≡◌, ◌∙◌, ap, sym, subst, refl, inl, inr, ℕ, zero, suc, ◌+◌, ◌-◌, ◌<◌, ◌≤◌, Bool, true, false, List, [], ◌∷◌, ◌++◌, All, Option, None, Some, Ok, length, take, drop, get_or, min, arith}
+use Rattle.std.proofs.Common.{◌≡◌, ◌∙◌, ap, sym, subst, refl, inl, inr, ℕ, zero, suc, ◌+◌, ◌-◌, ◌<◌, ◌≤◌, Bool, true, false, List, ◌∷◌, ◌++◌, All, Option, None, Some, Ok, length, take, drop, get_or, arith}
 use Rattle.std.proofs.lemmas.Bool.{and_parts, cases_Bool, cases_lt, leb-true, lt-leb}
 use Rattle.std.specs.Prelude.{codes, nat_le, nat_lt, option_map}
 use Rattle.snd_chunks.proofs.Chains.{IsBetween, IsHead, Reaches, find_has, in_order, is_head, same_chain, same_chunk, same_number_at, same_part}
@@ -17,7 +17,6 @@ use Rattle.snd_layout.specs.Fit.{fit_refusal}
 use Rattle.snd_layout.specs.Params.{AreParams, Parameters}
 use Rattle.snd_layout.specs.Shape.{Shape, end}
 use Rattle.snd_layout.specs.declared.kind.Kind.TheVariants.{Wave}
-use Rattle.snd_layout.specs.declared.piece.Piece.{Piece}
 use Rattle.snd_wave.proofs.Counts.{reached}
 use Rattle.snd_wave.proofs.Opens.{Opens, opened, opens}
 use Rattle.snd_wave.proofs.Shapes.{counted_bytes}
@@ -122,7 +121,7 @@ module _ (x y : List ℕ) (p : Parameters) (sound format : Chunk) (long : length
       ∙ sym (ap (λ (f : Front). wave_shape x f p sound) front_same)
 
 -- the data of the frames end with the data that the file holds
-frames_end : (b : List ℕ) (p : Parameters) (sound : Chunk) → AreParams p → fit_refusal Wave p ≡ None → end (wave_shape b (wave_front b) p sound) (wave_shape b (wave_front b) p sound).frames ≤ data_end b sound
+pub frames_end : (b : List ℕ) (p : Parameters) (sound : Chunk) → AreParams p → fit_refusal Wave p ≡ None → end (wave_shape b (wave_front b) p sound) (wave_shape b (wave_front b) p sound).frames ≤ data_end b sound
 frames_end b p sound good fits = omega (arith, counted_bytes p (held (length b) sound) (option_map (fact_count b) (fact_chunk (wave_front b).chunks)) good fits)
 
 -- the same bytes before the data and behind those of the frames

@@ -1,5 +1,5 @@
 -- What a file says whose fields were brought up to a number of frames.
-use Rattle.std.proofs.Common.{◌≡◌, ◌⊎◌, ◌∙◌, ap, sym, subst, refl, inl, inr, ℕ, ◌+◌, ◌-◌, ◌*◌, ◌%◌, ◌^◌, ◌<◌, ◌≤◌, Bool, true, false, not, ◌&&◌, ◌||◌, cond, List, [], ◌∷◌, ◌++◌, All, Option, None, Some, Ok, Err, length, take, drop, get_or, max, min, replicate, arith}
+use Rattle.std.proofs.Common.{◌≡◌, ◌⊎◌, ◌∙◌, ap, sym, subst, refl, inl, inr, ℕ, ◌+◌, ◌-◌, ◌%◌, ◌^◌, ◌<◌, ◌≤◌, Bool, true, false, not, ◌&&◌, ◌||◌, cond, List, [], ◌∷◌, ◌++◌, All, Option, None, Some, Ok, Err, length, take, drop, get_or, max, arith}
 use Rattle.std.proofs.lemmas.Bool.{and_left, and_right, cases_Bool, cases_lt, le-ltb, lt-leb, ltb-false, or_from}
 use Rattle.std.proofs.lemmas.List.{length-replicate, places, same_lists}
 use Rattle.std.proofs.lemmas.List.Elements.{All-head, All-tail}
@@ -46,7 +46,7 @@ recounted head n d = record head { frames = n; declared = d }
 
 -- ---- bytes put into a field of two files that have the same bytes beside it
 
-not_in : (f : Field) (i : ℕ) → (i < f.at) ⊎ (f.at + f.size ≤ i) → is_in f i ≡ false
+pub not_in : (f : Field) (i : ℕ) → (i < f.at) ⊎ (f.at + f.size ≤ i) → is_in f i ≡ false
 not_in f i (inl before) = and_left (nat_le f.at i) (nat_lt i (f.at + f.size)) (lt-leb f.at i before)
 not_in f i (inr behind) = and_right (nat_le f.at i) (nat_lt i (f.at + f.size)) (le-ltb i (f.at + f.size) behind)
 
@@ -113,7 +113,7 @@ side_out : (inner : Field) (side : Option Field) (i : ℕ) → IfSome side (λ f
 side_out inner None i stands early = refl
 side_out inner (Some f) i stands early = not_in f i (inl (omega (arith, stands.1, early)))
 
-out_of_fields : (h : Shape) (i : ℕ) → is_in h.inner i ≡ false → is_in_some h.outer i ≡ false → is_in_some h.side i ≡ false → is_in_fields h i ≡ false
+pub out_of_fields : (h : Shape) (i : ℕ) → is_in h.inner i ≡ false → is_in_some h.outer i ≡ false → is_in_some h.side i ≡ false → is_in_fields h i ≡ false
 out_of_fields h i inner outer side = or_from (is_in h.inner i || is_in_some h.outer i) (is_in_some h.side i) (or_from (is_in h.inner i) (is_in_some h.outer i) inner outer) side
 
 -- the marks of a WAVE file are no part of a field

@@ -1,7 +1,7 @@
--- What an editing state owes the file that was opened or made, and what this file says once it is sealed. Nothing is claimed of
--- the bytes of the further chunks, but that they stand where they stood.
-use Rattle.std.specs.Prelude.{◌≡◌, ◌⊎◌, ℕ, ℤ, ◌+◌, ◌<◌, ◌≤◌, Bool, true, false, List, All, Ok, get_or, is_none, length, map, max}
-use Rattle.snd_container.specs.Sound.{decoded, kept_of, layout_of, linear_of, sound_bytes, sound_of}
+-- What an editing state owes the file that was opened or made, and what this file says once it is sealed.
+use Rattle.std.specs.Prelude.{◌≡◌, ◌⊎◌, ℕ, ℤ, ◌+◌, ◌<◌, ◌≤◌, Bool, true, false, List, All, Ok, get_or, is_none, length, max}
+use Rattle.snd_container.specs.Made.{new_file}
+use Rattle.snd_container.specs.Sound.{Sound, decoded, layout_of, linear_of, sound_bytes, sound_of}
 use Rattle.snd_fields.specs.Laws.{IsByte}
 use Rattle.snd_layout.specs.Params.{AreParams, Parameters, data_bytes}
 use Rattle.snd_layout.specs.Shape.{KeepsRule, Shape, end, room}
@@ -14,7 +14,7 @@ use Rattle.snd_modes.specs.Making.{making_of}
 use Rattle.snd_modes.specs.Updating.{updating_of}
 use Rattle.snd_modes.specs.WriteCalls.{MayWrite}
 
--- the frames are those that the bytes give; these are all there, and as many as the layout says; the places are among them
+-- The frames are those that the bytes give; these are all there, and as many as the layout says; the places are among them.
 pub record HoldsFrames (e : Editing) : Type 0 where
   pub sound : e.frames ≡ decoded e.shape.params (sound_bytes e.bytes e.shape)
   pub count : e.shape.frames ≡ length e.frames
@@ -26,11 +26,17 @@ pub record HoldsFrames (e : Editing) : Type 0 where
 abbrev pub KeepsHead : Shape → List ℕ → List ℕ → Type 0
 KeepsHead h file x = (i : ℕ) → i < h.start → is_in_fields h i ≡ false → get_or x i 0 ≡ get_or file i 0
 
--- An editing state that a file came to, which was opened or made with a layout: the state's layout is that, but for the frames
--- and the declared length; so are its bytes before the data, but for the fields; and the head has room for the frames. Where
--- updates are automatic, or the file goes on behind its data, the bytes say already what the state does.
-pub record IsEdited (e : Editing) : Type 0 where
-  pub file : List ℕ
+-- the layout is that of a file, and so are the length and every byte behind the data
+pub record KeepsTail (file : List ℕ) (head : Shape) (e : Editing) : Type 0 where
+  pub shape : e.shape ≡ head
+  pub size : length e.bytes ≡ length file
+  pub behind : (i : ℕ) → end head head.frames ≤ i → get_or e.bytes i 0 ≡ get_or file i 0
+
+-- An editing state to which a file came that was opened, or made, with a layout. The state's layout is that, but for the frames
+-- and the declared length, and its bytes before the data are the file's, but for the fields. The fields have room for the
+-- frames. Where the file goes on behind its data, all but these is as it was. Where updates are automatic, and there, the bytes
+-- say already what the state does.
+pub record IsEdited (file : List ℕ) (e : Editing) : Type 0 where
   pub head : Shape
   pub bytes : All IsByte file
   pub opened : layout_of file ≡ Ok head
@@ -39,6 +45,7 @@ pub record IsEdited (e : Editing) : Type 0 where
   pub shape : e.shape ≡ record head { frames = e.shape.frames; declared = e.shape.declared }
   pub rule : KeepsRule e.shape
   pub kept : KeepsHead e.shape file e.bytes
+  pub stays : e.shape.trailing ≡ true → KeepsTail file head e
   pub holds : HoldsFrames e
   pub in_room : data_bytes head.params e.shape.frames ≤ max (room head) head.declared
   pub told : (e.automatic ≡ true) ⊎ (e.shape.trailing ≡ true) → layout_of e.bytes ≡ Ok e.shape
@@ -49,33 +56,40 @@ abbrev pub OpenedHoldsFrames : Type 0
 OpenedHoldsFrames = (b : List ℕ) (e : Editing) → All IsByte b → opening_of b ≡ Ok e → HoldsFrames e
 
 abbrev pub UpdatedIsEdited : Type 0
-UpdatedIsEdited = (b : List ℕ) (e : Editing) → All IsByte b → updating_of b ≡ Ok e → IsEdited e
+UpdatedIsEdited = (b : List ℕ) (e : Editing) → All IsByte b → updating_of b ≡ Ok e → IsEdited b e
+
+-- a file that is made is one that is opened to be updated
+abbrev pub MadeIsUpdated : Type 0
+MadeIsUpdated = (kind : Kind) (p : Parameters) (e : Editing) → AreParams p → making_of kind p ≡ Ok e → All IsByte (new_file kind p) × (updating_of (new_file kind p) ≡ Ok e)
 
 abbrev pub MadeIsEdited : Type 0
-MadeIsEdited = (kind : Kind) (p : Parameters) (e : Editing) → AreParams p → making_of kind p ≡ Ok e → IsEdited e
+MadeIsEdited = (kind : Kind) (p : Parameters) (e : Editing) → AreParams p → making_of kind p ≡ Ok e → IsEdited (new_file kind p) e
 
 -- ---- each step, where its call carries it out
 
 abbrev pub WrittenIsEdited : Type 0
-WrittenIsEdited = (e : Editing) (xs : List ℤ) → IsEdited e → MayWrite xs e.shape e.write_place → IsEdited (written_to xs e)
+WrittenIsEdited = (file : List ℕ) (e : Editing) (xs : List ℤ) → IsEdited file e → MayWrite xs e.shape e.write_place → IsEdited file (written_to xs e)
 
 abbrev pub SealedIsEdited : Type 0
-SealedIsEdited = (e : Editing) → IsEdited e → IsEdited (sealed_to e)
+SealedIsEdited = (file : List ℕ) (e : Editing) → IsEdited file e → IsEdited file (sealed_to e)
 
 abbrev pub AutomaticIsEdited : Type 0
-AutomaticIsEdited = (e : Editing) (on : Bool) → IsEdited e → IsEdited (automatic_to on e)
+AutomaticIsEdited = (file : List ℕ) (e : Editing) (on : Bool) → IsEdited file e → IsEdited file (automatic_to on e)
+
+abbrev pub MayTruncate : ℕ → Shape → Type 0
+MayTruncate to h = (to ≤ h.frames) × (to < h.frames → h.trailing ≡ false)
 
 abbrev pub TruncatedIsEdited : Type 0
-TruncatedIsEdited = (e : Editing) (to : ℕ) → IsEdited e → to ≤ e.shape.frames → (to < e.shape.frames → e.shape.trailing ≡ false) → IsEdited (truncated_to to e)
+TruncatedIsEdited = (file : List ℕ) (e : Editing) (to : ℕ) → IsEdited file e → MayTruncate to e.shape → IsEdited file (truncated_to to e)
 
 abbrev pub TrimmedIsEdited : Type 0
-TrimmedIsEdited = (e : Editing) → IsEdited e → (e.shape.trailing ≡ true → e.shape.kind ≡ Voc) → IsEdited (trimmed_to e)
+TrimmedIsEdited = (file : List ℕ) (e : Editing) → IsEdited file e → (e.shape.trailing ≡ true → e.shape.kind ≡ Voc) → IsEdited file (trimmed_to e)
 
 abbrev pub MovedIsEdited : Type 0
-MovedIsEdited = (e : Editing) (to : ℕ) → IsEdited e → to ≤ e.shape.frames → IsEdited (moved_to to e) × IsEdited (moved_write_to to e)
+MovedIsEdited = (file : List ℕ) (e : Editing) (to : ℕ) → IsEdited file e → to ≤ e.shape.frames → IsEdited file (moved_to to e) × IsEdited file (moved_write_to to e)
 
 abbrev pub ReadIsEdited : Type 0
-ReadIsEdited = (e : Editing) (n : ℕ) → IsEdited e → e.place + n ≤ e.shape.frames → IsEdited (moved_by n e)
+ReadIsEdited = (file : List ℕ) (e : Editing) (n : ℕ) → IsEdited file e → e.place + n ≤ e.shape.frames → IsEdited file (moved_by n e)
 
 -- ---- the file sealed
 
@@ -83,12 +97,12 @@ ReadIsEdited = (e : Editing) (n : ℕ) → IsEdited e → e.place + n ≤ e.shap
 abbrev pub read_again : Editing → Editing
 read_again e = record (sealed_to e) { place = 0; write_place = 0; automatic = false; written = false }
 
--- Opened again, the sealed file gives the state's layout and exactly its frames.
+-- Opened again, to be read or updated, the sealed file gives the state's layout and exactly its frames.
 abbrev pub SealedReadsBack : Type 0
-SealedReadsBack = (e : Editing) → IsEdited e →
+SealedReadsBack = (file : List ℕ) (e : Editing) → IsEdited file e →
     (layout_of (sealed_to e).bytes ≡ Ok (sealed_to e).shape) × (opening_of (sealed_to e).bytes ≡ Ok (read_again e)) × (updating_of (sealed_to e).bytes ≡ Ok (read_again e))
 
--- So its sound has the kind, the parameters and the further chunks of the file that was opened or made, and these frames.
+-- Its sound is that of the file that was opened or made, further chunks and all, but that its frames are the state's.
 abbrev pub SealedSound : Type 0
-SealedSound = (e : Editing) (edited : IsEdited e) →
-    sound_of (sealed_to e).bytes ≡ Ok (record { kind = edited.head.kind; params = edited.head.params; frames = e.frames; pieces = map (kept_of (sealed_to e).bytes) edited.head.pieces })
+SealedSound = (file : List ℕ) (e : Editing) → IsEdited file e →
+    (sound : Sound) × (sound_of file ≡ Ok sound) × (sound_of (sealed_to e).bytes ≡ Ok (record sound { frames = e.frames }))
