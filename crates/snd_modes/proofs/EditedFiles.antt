@@ -1,9 +1,9 @@
 -- The editing states of a file: where they begin, and what the file says once it is sealed.
-use Rattle.std.proofs.Common.{◌≡◌, ◌∙◌, ap, sym, subst, refl, inl, inr, ℕ, ◌+◌, ◌^◌, ◌<◌, ◌≤◌, ℤ, Bool, true, false, cond, List, All, Ok, Err, length, get_or, map, max, arith}
+use Rattle.std.proofs.Common.{◌≡◌, ◌∙◌, ap, sym, subst, refl, inl, inr, ℕ, ◌+◌, ◌^◌, ◌<◌, ◌≤◌, Bool, true, false, cond, List, All, Ok, Err, length, get_or, max, arith}
 use Rattle.std.specs.Prelude.{Result, is_none, nat_le, nat_lt}
 use Rattle.std.proofs.lemmas.Bool.{cases_Bool, cond_both}
 use Rattle.std.proofs.lemmas.List.{length-take}
-use Rattle.snd_container.specs.Sound.{Sound, decoded, kept_of, layout_of, linear_of, sound_bytes, sound_in}
+use Rattle.snd_container.specs.Sound.{layout_of, linear_of}
 use Rattle.snd_container.specs.Values.{closing}
 use Rattle.snd_disk.proofs.Lists.{length-over}
 use Rattle.snd_fields.specs.Laws.{IsByte}
@@ -12,14 +12,13 @@ use Rattle.snd_layout.specs.Params.{data_bytes}
 use Rattle.snd_layout.specs.Shape.{KeepsRule, Shape, end, room}
 use Rattle.snd_layout.specs.declared.error.OpenError.{OpenError}
 use Rattle.snd_layout.specs.declared.refusal.OpenRefusal.{OpenRefusal}
-use Rattle.snd_layout.specs.declared.refusal.OpenRefusal.TheVariants.{NotBuilt}
 use Rattle.snd_patch.proofs.Bytes.{over_beside, take_before}
 use Rattle.snd_patch.proofs.Lists.{closed_same, order_is_free, sealed_keeps, sealed_length, shrunk_keeps, shrunk_length}
 use Rattle.snd_patch.specs.Sealed.{FieldsLieApart, closed, closed_end, counted, over_closing, patched, sealed, sealed_size, shrunk, with_fewer, with_fields}
 use Rattle.snd_wave.proofs.Standing.{fields_are_apart}
-use Rattle.snd_modes.specs.Editing.{Editing, first_editing, opening_as, opening_of}
-use Rattle.snd_modes.specs.Edits.{automatic_to, cut_off, sealed_to}
-use Rattle.snd_modes.specs.Laws.{AutomaticIsEdited, HoldsFrames, IsEdited, KeepsHead, MovedIsEdited, OpenedHoldsFrames, ReadIsEdited, SealedIsEdited, SealedReadsBack, SealedSound, UpdatedIsEdited, read_again}
+use Rattle.snd_modes.specs.Editing.{Editing, first_editing, moved_to, opening_as, opening_of}
+use Rattle.snd_modes.specs.Edits.{automatic_to, cut_off, moved_write_to, sealed_to}
+use Rattle.snd_modes.specs.Laws.{AutomaticReadsBack, HoldsFrames, IsEdited, KeepsHead, OpenedHoldsFrames, SealedReadsBack, UpdatedIsEdited, as_opened}
 use Rattle.snd_modes.specs.Updating.{updating_as, updating_of}
 use Rattle.snd_modes.proofs.FileRules.{LiesIn, lies_in, wave_only}
 use Rattle.snd_modes.proofs.Opened.{update_ok}
@@ -250,27 +249,27 @@ module _ (file : List ℕ) (e : Editing) (ed : IsEdited file e) where
         told = λ either. sealed_told;
       }
 
-pub automatic_is_edited : AutomaticIsEdited
-automatic_is_edited file e on ed = automatic_edited file e ed on
-
-pub sealed_is_edited : SealedIsEdited
+pub sealed_is_edited : (file : List ℕ) (e : Editing) → IsEdited file e → IsEdited file (sealed_to e)
 sealed_is_edited file e ed = automatic_edited file e ed e.automatic
 
-read_first : (file : List ℕ) (e : Editing) (ed : IsEdited file e) → first_editing (sealed_to e).bytes (sealed_to e).shape ≡ read_again e
-read_first file e ed = ap (λ l. record (read_again e) { frames = l }) (sym (sealed_holds file e ed).sound)
-
-pub sealed_reads_back : SealedReadsBack
-sealed_reads_back file e ed =
-    let is = sealed_told file e ed in
-    let first = read_first file e ed in (
-      is,
-      opening_ok (sealed_to e).bytes (sealed_to e).shape is (is_linear file e ed) ∙ ap (λ (s : Editing). Ok s) first,
-      update_ok (sealed_to e).bytes (sealed_to e).shape is (not_adpcm e.shape.params.codec (is_linear file e ed)) (is_known file e ed) (is_linear file e ed) ∙ ap (λ (s : Editing). Ok s) first,
+-- what the bytes say that say what the state does
+pub opens_again : (file : List ℕ) (e : Editing) (ed : IsEdited file e) → layout_of e.bytes ≡ Ok e.shape → (opening_of e.bytes ≡ Ok (as_opened e)) × (updating_of e.bytes ≡ Ok (as_opened e))
+opens_again file e ed is =
+    let linear = is_linear file e ed in
+    let first : first_editing e.bytes e.shape ≡ as_opened e = ap (λ l. record (as_opened e) { frames = l }) (sym ed.holds.sound) in (
+      opening_ok e.bytes e.shape is linear ∙ ap (λ (s : Editing). Ok s) first,
+      update_ok e.bytes e.shape is (not_adpcm e.shape.params.codec linear) (is_known file e ed) linear ∙ ap (λ (s : Editing). Ok s) first,
     )
 
-pub moved_is_edited : MovedIsEdited
-moved_is_edited file e to ed within = (
-  record {
+pub sealed_reads_back : SealedReadsBack
+sealed_reads_back file e ed = opens_again file (sealed_to e) (sealed_is_edited file e ed) (sealed_told file e ed)
+
+pub automatic_reads_back : AutomaticReadsBack
+automatic_reads_back file e ed on = (opens_again file e ed (ed.told (inl on))).0
+
+module _ (file : List ℕ) (e : Editing) (ed : IsEdited file e) (to : ℕ) (within : to ≤ e.shape.frames) where
+  pub moved_edited : IsEdited file (moved_to to e)
+  moved_edited = record {
     head = ed.head;
     bytes = ed.bytes;
     opened = ed.opened;
@@ -283,8 +282,10 @@ moved_is_edited file e to ed within = (
     holds = record { sound = ed.holds.sound; count = ed.holds.count; held = ed.holds.held; placed = within; write_placed = ed.holds.write_placed };
     in_room = ed.in_room;
     told = ed.told;
-  },
-  record {
+  }
+
+  pub moved_write_edited : IsEdited file (moved_write_to to e)
+  moved_write_edited = record {
     head = ed.head;
     bytes = ed.bytes;
     opened = ed.opened;
@@ -297,8 +298,4 @@ moved_is_edited file e to ed within = (
     holds = record { sound = ed.holds.sound; count = ed.holds.count; held = ed.holds.held; placed = ed.holds.placed; write_placed = within };
     in_room = ed.in_room;
     told = ed.told;
-  },
-)
-
-pub read_is_edited : ReadIsEdited
-read_is_edited file e n ed within = (moved_is_edited file e (e.place + n) ed within).0
+  }

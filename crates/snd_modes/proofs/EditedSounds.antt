@@ -1,14 +1,13 @@
 -- The sound of an edited file that is sealed.
-use Rattle.std.proofs.Common.{◌≡◌, ◌∙◌, ap, sym, subst, ℕ, ◌<◌, ◌≤◌, ℤ, Bool, true, false, cond, List, None, Ok, Err, length, get_or, map, arith}
+use Rattle.std.proofs.Common.{◌≡◌, ◌∙◌, ap, sym, subst, ℕ, ◌≤◌, ℤ, Bool, false, cond, List, None, Ok, Err, length, map, arith}
 use Rattle.std.specs.Prelude.{Result, is_none}
 use Rattle.snd_container.specs.Sound.{Kept, Sound, decoded, kept_of, layout_of, linear_of, sound_bytes, sound_in, sound_of}
 use Rattle.snd_layout.specs.Fit.{fit_refusal}
-use Rattle.snd_layout.specs.Shape.{Shape, end}
+use Rattle.snd_layout.specs.Shape.{Shape}
 use Rattle.snd_layout.specs.declared.kind.Kind.{Kind}
 use Rattle.snd_layout.specs.declared.kind.Kind.TheVariants.{Wave}
 use Rattle.snd_layout.specs.declared.refusal.OpenRefusal.{OpenRefusal}
 use Rattle.snd_layout.specs.declared.refusal.OpenRefusal.TheVariants.{NotBuilt}
-use Rattle.snd_patch.specs.Sealed.{is_in_fields}
 use Rattle.snd_modes.specs.Editing.{Editing}
 use Rattle.snd_modes.specs.Edits.{sealed_to}
 use Rattle.snd_modes.specs.Laws.{IsEdited, KeepsHead, SealedSound}
@@ -44,7 +43,7 @@ sealed_sound file e ed =
       record { kind = head.kind; params = head.params; frames = decoded head.params (sound_bytes file head); pieces = map (kept_of file) head.pieces },
       sound_by file head then.opened then.linear,
       sound_by x s (sealed_told file e ed) linear
-      ∙ ap (sound_with x s) (sym then.holds.sound)
-      ∙ ap (λ (h : Shape). sound_with x h e.frames) then.shape
-      ∙ ap (λ (l : List Kept). Ok (record { kind = head.kind; params = head.params; frames = e.frames; pieces = l })) (edited_pieces file (sealed_to e) then),
+          ∙ ap (sound_with x s) (sym then.holds.sound)
+          ∙ ap (λ (h : Shape). sound_with x h e.frames) then.shape
+          ∙ ap (λ (l : List Kept). Ok (record { kind = head.kind; params = head.params; frames = e.frames; pieces = l })) (edited_pieces file (sealed_to e) then),
     )

@@ -17,11 +17,11 @@ use Rattle.snd_patch.specs.Sealed.{closed_end, counted, over_closing, sealed, sh
 use Rattle.snd_pcm.specs.Groups.{groups}
 use Rattle.snd_wave.proofs.Standing.{fields_are_apart}
 use Rattle.snd_modes.specs.Editing.{Editing}
-use Rattle.snd_modes.specs.Edits.{closed_behind, coded, count_written, cut_to, over_data, put_frames, sealed_to, trimmed, written_bytes, written_shape}
-use Rattle.snd_modes.specs.Laws.{HoldsFrames, IsEdited, KeepsHead, TrimmedIsEdited, TruncatedIsEdited, WrittenIsEdited}
+use Rattle.snd_modes.specs.Edits.{closed_behind, coded, count_written, cut_to, over_data, put_frames, sealed_to, trimmed, trimmed_to, truncated_to, written_bytes, written_shape}
+use Rattle.snd_modes.specs.Laws.{HoldsFrames, IsEdited, KeepsHead, LeadsToEdited, MayTruncate, ReachedIsEdited, begins, goes_on, reads, seals, seeks, seeks_to_write, sets_automatic, trims, truncates, writes}
 use Rattle.snd_modes.specs.WriteCalls.{MayWrite}
 use Rattle.snd_modes.proofs.CutFrames.{cut_decoded, may_count_fewer, off_decoded}
-use Rattle.snd_modes.proofs.EditedFiles.{begins_early, counted_rule, counted_stays, is_known, is_linear, lies_under, off_kept, off_length, sealed_is_edited, sealed_kept, sealed_long, sealed_same, sealed_says, shrunk_kept, shrunk_says, some_channel, trimmed_says}
+use Rattle.snd_modes.proofs.EditedFiles.{automatic_edited, begins_early, counted_rule, counted_stays, is_known, is_linear, lies_under, moved_edited, moved_write_edited, off_kept, off_length, sealed_is_edited, sealed_kept, sealed_long, sealed_same, sealed_says, shrunk_kept, shrunk_says, some_channel, trimmed_says, updated_is_edited}
 use Rattle.snd_modes.proofs.EditedFrames.{CanPut, end_max, whole_frames, written_count, written_end, written_sound}
 use Rattle.snd_modes.proofs.FileRules.{of_wave, wave_only}
 use Rattle.snd_modes.proofs.Rooms.{may_count}
@@ -65,12 +65,12 @@ module _ (file : List ℕ) (e : Editing) (ed : IsEdited file e) where
         kept = shrunk_kept file e.bytes h to ed.rule ed.kept;
         stays = λ trailing. absurd (cc);
         holds = record {
-            sound = ap (take to) ed.holds.sound ∙ cut_decoded e.bytes h to linear ed.rule (some_channel file e ed) within ed.holds.held (omega (arith, size));
-            count = let all : to ≡ length (take to e.frames) = omega (arith, length-take to e.frames, ed.holds.count, within) in all;
-            held = omega (arith, size);
-            placed = omega arith;
-            write_placed = omega arith;
-          };
+          sound = ap (take to) ed.holds.sound ∙ cut_decoded e.bytes h to linear ed.rule (some_channel file e ed) within ed.holds.held (omega (arith, size));
+          count = let all : to ≡ length (take to e.frames) = omega (arith, length-take to e.frames, ed.holds.count, within) in all;
+          held = omega (arith, size);
+          placed = omega arith;
+          write_placed = omega arith;
+        };
         in_room = few;
         told = λ either. shrunk_says file ed.head ed.bytes ed.opened ed.linear h ed.shape ed.rule free to few e.bytes ed.kept there;
       }
@@ -93,12 +93,12 @@ module _ (file : List ℕ) (e : Editing) (ed : IsEdited file e) where
         kept = off_kept file (sealed e.bytes h h.frames) h h.frames (sealed_kept file e.bytes h h.frames ed.rule ed.kept);
         stays = λ trailing. absurd (cc);
         holds = record {
-            sound = ed.holds.sound ∙ sealed_decoded e.bytes h ed.rule ed.holds.held there ∙ off_decoded (sealed e.bytes h h.frames) h ed.rule there (omega (arith, size));
-            count = ed.holds.count;
-            held = omega (arith, size);
-            placed = ed.holds.placed;
-            write_placed = ed.holds.write_placed;
-          };
+          sound = ed.holds.sound ∙ sealed_decoded e.bytes h ed.rule ed.holds.held there ∙ off_decoded (sealed e.bytes h h.frames) h ed.rule there (omega (arith, size));
+          count = ed.holds.count;
+          held = omega (arith, size);
+          placed = ed.holds.placed;
+          write_placed = ed.holds.write_placed;
+        };
         in_room = ed.in_room;
         told = λ either. trimmed_says file ed.head ed.bytes ed.opened ed.linear h ed.shape ed.rule free h.frames ed.in_room e.bytes ed.kept ed.holds.held;
       }
@@ -110,13 +110,13 @@ module _ (file : List ℕ) (e : Editing) (ed : IsEdited file e) where
     | inr free ↦ free
   ]
 
-pub truncated_is_edited : TruncatedIsEdited
+truncated_is_edited : (file : List ℕ) (e : Editing) (to : ℕ) → IsEdited file e → MayTruncate to e.shape → IsEdited file (truncated_to to e)
 truncated_is_edited file e to ed may =
     cond_both (nat_lt to e.shape.frames) (cut_to to e) (sealed_to e) (IsEdited file)
-    (λ is. let fewer = ltb-true to e.shape.frames is in cut_edited file e ed to fewer (may.1 fewer))
+    (λ is. let fewer = ltb-true to e.shape.frames is in cut_edited file e ed to fewer (may.free fewer))
     (λ other. sealed_is_edited file e ed)
 
-pub trimmed_is_edited : TrimmedIsEdited
+trimmed_is_edited : (file : List ℕ) (e : Editing) → IsEdited file e → (e.shape.trailing ≡ true → e.shape.kind ≡ Voc) → IsEdited file (trimmed_to e)
 trimmed_is_edited file e ed may =
     let free = is_free file e ed may in
     subst (λ (s : Shape). IsEdited file (record e { bytes = trimmed e.bytes e.shape e.shape.frames; shape = s }))
@@ -314,5 +314,18 @@ module _ (file : List ℕ) (e : Editing) (ed : IsEdited file e) (xs : List ℤ) 
     told = ⊎_elim (λ never. absurd (cc)) (λ trailing. shut_says trailing ∙ ap (λ (m : ℕ). Ok (record s { frames = m })) (sym (stays trailing)));
   }
 
-pub written_is_edited : WrittenIsEdited
-written_is_edited file e xs ed may = then_edited file e ed xs may e.automatic
+-- ---- each step, and all of them
+
+pub leads_to_edited : LeadsToEdited
+leads_to_edited file e _ ed (writes xs may) = then_edited file e ed xs may e.automatic
+leads_to_edited file e _ ed seals = sealed_is_edited file e ed
+leads_to_edited file e _ ed (sets_automatic on) = automatic_edited file e ed on
+leads_to_edited file e _ ed (truncates to may) = truncated_is_edited file e to ed may
+leads_to_edited file e _ ed (trims may) = trimmed_is_edited file e ed may
+leads_to_edited file e _ ed (reads n within) = moved_edited file e ed (e.place + n) within
+leads_to_edited file e _ ed (seeks to within) = moved_edited file e ed to within
+leads_to_edited file e _ ed (seeks_to_write to within) = moved_write_edited file e ed to within
+
+pub reached_is_edited : ReachedIsEdited
+reached_is_edited file _ bytes (begins e is) = updated_is_edited file e bytes is
+reached_is_edited file _ bytes (goes_on e e' so_far leads) = leads_to_edited file e e' (reached_is_edited file e bytes so_far) leads

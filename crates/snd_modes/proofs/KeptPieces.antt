@@ -1,34 +1,27 @@
 -- The further chunks of an edited file are those of the file that was opened or made.
-use Rattle.std.proofs.Common.{◌≡◌, ◌⊎◌, ◌∙◌, ap, sym, subst, refl, inl, inr, ℕ, zero, suc, ◌+◌, ◌-◌, ◌<◌, ◌≤◌, Bool, true, false, not, ◌&&◌, ◌||◌, cond, List, [], ◌∷◌, ◌++◌, All, ℤ, Option, None, Some, Ok, Err, length, take, drop, get_or, map, arith}
+use Rattle.std.proofs.Common.{◌≡◌, ◌⊎◌, ◌∙◌, ap, sym, subst, refl, inl, inr, ℕ, zero, suc, ◌+◌, ◌-◌, ◌<◌, ◌≤◌, Bool, true, false, not, List, [], ◌∷◌, ◌++◌, All, Option, None, Some, Ok, length, take, drop, get_or, map, arith}
 use Rattle.std.proofs.lemmas.Bool.{and_parts, cases_Bool, leb-true, ltb-false}
-use Rattle.std.proofs.lemmas.List.{append-nil, map-append}
 use Rattle.std.proofs.lemmas.List.Elements.{All-append, All-cons, All-filter, All-head, All-map, All-nil, All-tail, All-weaker, filter_passes}
 use Rattle.std.proofs.lemmas.Slice.Eq.{bytes_eq-Decides}
 use Rattle.std.specs.List.{filter}
-use Rattle.std.specs.Prelude.{Result, codes, is_none, nat_le, nat_lt}
+use Rattle.std.specs.Prelude.{codes, nat_le, nat_lt}
 use Rattle.snd_chunks.proofs.Chains.{IsApart, IsBetween, IsHead, Reaches, apart, find_has, in_order, is_head, no_tail, same_part}
 use Rattle.snd_chunks.specs.declared.chunk.Chunk.{Chunk}
 use Rattle.snd_chunks.specs.Chunks.{chunk_at, tail, tail_from}
 use Rattle.snd_chunks.specs.Walks.{EndsBy}
-use Rattle.snd_container.specs.Sound.{Kept, Sound, decoded, kept_of, layout_of, linear_of, sound_bytes, sound_in, sound_of}
-use Rattle.snd_fields.specs.Laws.{IsByte}
+use Rattle.snd_container.specs.Sound.{Kept, kept_of}
 use Rattle.snd_fields.specs.declared.field.Order.TheVariants.{Little}
 use Rattle.snd_layout.specs.Blocks.{is_adpcm}
 use Rattle.snd_layout.specs.Fit.{fit_refusal}
 use Rattle.snd_layout.specs.Params.{AreParams, Parameters}
 use Rattle.snd_layout.specs.Shape.{Shape, end}
-use Rattle.snd_layout.specs.declared.field.Field.{Field}
-use Rattle.snd_layout.specs.declared.kind.Kind.{Kind}
 use Rattle.snd_layout.specs.declared.kind.Kind.TheVariants.{Wave}
 use Rattle.snd_layout.specs.declared.piece.Piece.{Piece}
-use Rattle.snd_layout.specs.declared.refusal.OpenRefusal.{OpenRefusal}
-use Rattle.snd_layout.specs.declared.refusal.OpenRefusal.TheVariants.{NotBuilt}
 use Rattle.snd_patch.specs.Sealed.{is_in, is_in_fields, is_in_some}
 use Rattle.snd_wave.proofs.Counts.{reached}
 use Rattle.snd_wave.proofs.Opens.{Opens, opens}
-use Rattle.snd_wave.specs.Layout.{data_end, fact_chunk, has_id, inner_field, is_fact, is_joined, is_own, outer_end, piece_of, pieces_of, side_field, wave_front, wave_layout, wave_shape, wave_tail}
+use Rattle.snd_wave.specs.Layout.{data_end, fact_chunk, has_id, inner_field, is_fact, is_own, outer_end, piece_of, pieces_of, side_field, wave_front, wave_layout, wave_shape, wave_tail}
 use Rattle.snd_modes.proofs.FileRules.{tail_ends}
-use Rattle.snd_modes.proofs.Rooms.{not_adpcm}
 use Rattle.snd_modes.proofs.SameLayouts.{frames_end}
 use Rattle.snd_modes.proofs.SealedHeads.{not_in, out_of_fields}
 

@@ -1,12 +1,12 @@
 -- A file that is made is one that may be opened to be updated.
-use Rattle.std.proofs.Common.{◌≡◌, ◌∙◌, ap, sym, subst, refl, inl, inr, ℕ, ◌+◌, ◌-◌, ◌%◌, ◌^◌, ◌<◌, ◌≤◌, Bool, true, false, ◌&&◌, cond, List, [], ◌∷◌, ◌++◌, All, Option, None, Some, Ok, Err, length, replicate, take, arith}
+use Rattle.std.proofs.Common.{◌≡◌, ◌∙◌, ap, sym, subst, refl, inl, inr, ℕ, ◌%◌, Bool, true, false, ◌&&◌, cond, List, [], ◌∷◌, ◌++◌, All, Option, None, Some, Ok, Err, length, take, arith}
 use Rattle.std.proofs.lemmas.Bool.{and_parts, cases_Bool, ltb-true}
 use Rattle.std.proofs.lemmas.List.{append-nil}
 use Rattle.std.proofs.lemmas.List.Elements.{All-append, All-cons, All-nil, All-replicate}
 use Rattle.std.specs.Prelude.{Result, codes, is_none, nat_lt}
 use Rattle.snd_chunks.specs.Written.{NewChunk, chunk_bytes, chunks_bytes, head_bytes, pad}
 use Rattle.snd_container.specs.Made.{new_file, new_layout}
-use Rattle.snd_container.specs.Recognised.{is_form, recognised}
+use Rattle.snd_container.specs.Recognised.{is_form}
 use Rattle.snd_container.specs.Sound.{layout_of, linear_of}
 use Rattle.snd_fields.proofs.Numbers.{bytes_are_bytes}
 use Rattle.snd_fields.specs.Field.{bytes_of}
@@ -15,7 +15,6 @@ use Rattle.snd_fields.specs.declared.field.Order.TheVariants.{Little}
 use Rattle.snd_layout.specs.Blocks.{block_align}
 use Rattle.snd_layout.specs.Fit.{fit_refusal}
 use Rattle.snd_layout.specs.Params.{AreParams, Parameters, data_bytes}
-use Rattle.snd_layout.specs.Shape.{Shape}
 use Rattle.snd_layout.specs.Written.{bits_per_sample, bytes_per_second, extension, tag_of, written_format}
 use Rattle.snd_layout.specs.declared.codec.Codec.{Codec}
 use Rattle.snd_layout.specs.declared.codec.Codec.TheVariants.{MuLaw, ALaw, Ima, Ms}

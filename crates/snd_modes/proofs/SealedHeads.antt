@@ -199,7 +199,7 @@ form_of_wave head is = elim (cases_Bool (is_form head (codes "RIFF") (codes "WAV
   | inl form ↦ form
   | inr other ↦
       let rest : other_kind (is_form head (codes "RF64") (codes "WAVE")) (has_mark head 0 riff_guid && has_mark head 24 wave_guid) (has_mark head 0 (codes ".snd")) (has_mark head 0 (codes "dns."))
-          (has_mark head 0 (codes "Creative Voice File" ++ 0x1a ∷ [])) (is_form head (codes "FORM") (codes "8SVX")) (has_mark head 0 (codes "NIST_1A\n")) (holds_float_rate head) ≡ Ok Wave = rw other at is in
+      (has_mark head 0 (codes "Creative Voice File" ++ 0x1a ∷ [])) (is_form head (codes "FORM") (codes "8SVX")) (has_mark head 0 (codes "NIST_1A\n")) (holds_float_rate head) ≡ Ok Wave = rw other at is in
       absurd (never_wave _ _ _ _ _ _ _ _ rest)
 ]
 

@@ -65,42 +65,49 @@ MadeIsUpdated = (kind : Kind) (p : Parameters) (e : Editing) → AreParams p →
 abbrev pub MadeIsEdited : Type 0
 MadeIsEdited = (kind : Kind) (p : Parameters) (e : Editing) → AreParams p → making_of kind p ≡ Ok e → IsEdited (new_file kind p) e
 
--- ---- each step, where its call carries it out
+-- ---- the steps of calls that are carried out
 
-abbrev pub WrittenIsEdited : Type 0
-WrittenIsEdited = (file : List ℕ) (e : Editing) (xs : List ℤ) → IsEdited file e → MayWrite xs e.shape e.write_place → IsEdited file (written_to xs e)
+-- where a file may be cut to so many frames
+pub record MayTruncate (to : ℕ) (h : Shape) : Type 0 where
+  pub within : to ≤ h.frames
+  pub free : to < h.frames → h.trailing ≡ false
 
-abbrev pub SealedIsEdited : Type 0
-SealedIsEdited = (file : List ℕ) (e : Editing) → IsEdited file e → IsEdited file (sealed_to e)
+-- a call leads from one editing state to another
+pub data Leads (e : Editing) : Editing → Type 0 where
+  writes : (xs : List ℤ) → MayWrite xs e.shape e.write_place → Leads e (written_to xs e)
+  seals : Leads e (sealed_to e)
+  sets_automatic : (on : Bool) → Leads e (automatic_to on e)
+  truncates : (to : ℕ) → MayTruncate to e.shape → Leads e (truncated_to to e)
+  trims : (e.shape.trailing ≡ true → e.shape.kind ≡ Voc) → Leads e (trimmed_to e)
+  reads : (n : ℕ) → e.place + n ≤ e.shape.frames → Leads e (moved_by n e)
+  seeks : (to : ℕ) → to ≤ e.shape.frames → Leads e (moved_to to e)
+  seeks_to_write : (to : ℕ) → to ≤ e.shape.frames → Leads e (moved_write_to to e)
 
-abbrev pub AutomaticIsEdited : Type 0
-AutomaticIsEdited = (file : List ℕ) (e : Editing) (on : Bool) → IsEdited file e → IsEdited file (automatic_to on e)
+abbrev pub LeadsToEdited : Type 0
+LeadsToEdited = (file : List ℕ) (e e' : Editing) → IsEdited file e → Leads e e' → IsEdited file e'
 
-abbrev pub MayTruncate : ℕ → Shape → Type 0
-MayTruncate to h = (to ≤ h.frames) × (to < h.frames → h.trailing ≡ false)
+-- an editing state to which calls lead from the opening of a file to be updated
+pub data Reached (file : List ℕ) : Editing → Type 0 where
+  begins : (e : Editing) → updating_of file ≡ Ok e → Reached file e
+  goes_on : (e e' : Editing) → Reached file e → Leads e e' → Reached file e'
 
-abbrev pub TruncatedIsEdited : Type 0
-TruncatedIsEdited = (file : List ℕ) (e : Editing) (to : ℕ) → IsEdited file e → MayTruncate to e.shape → IsEdited file (truncated_to to e)
-
-abbrev pub TrimmedIsEdited : Type 0
-TrimmedIsEdited = (file : List ℕ) (e : Editing) → IsEdited file e → (e.shape.trailing ≡ true → e.shape.kind ≡ Voc) → IsEdited file (trimmed_to e)
-
-abbrev pub MovedIsEdited : Type 0
-MovedIsEdited = (file : List ℕ) (e : Editing) (to : ℕ) → IsEdited file e → to ≤ e.shape.frames → IsEdited file (moved_to to e) × IsEdited file (moved_write_to to e)
-
-abbrev pub ReadIsEdited : Type 0
-ReadIsEdited = (file : List ℕ) (e : Editing) (n : ℕ) → IsEdited file e → e.place + n ≤ e.shape.frames → IsEdited file (moved_by n e)
+abbrev pub ReachedIsEdited : Type 0
+ReachedIsEdited = (file : List ℕ) (e : Editing) → All IsByte file → Reached file e → IsEdited file e
 
 -- ---- the file sealed
 
--- the editing state sealed, at its first frame, as a file that is opened
-abbrev pub read_again : Editing → Editing
-read_again e = record (sealed_to e) { place = 0; write_place = 0; automatic = false; written = false }
+-- an editing state at its first frame, as a file that is opened
+abbrev pub as_opened : Editing → Editing
+as_opened e = record e { place = 0; write_place = 0; automatic = false; written = false }
 
 -- Opened again, to be read or updated, the sealed file gives the state's layout and exactly its frames.
 abbrev pub SealedReadsBack : Type 0
 SealedReadsBack = (file : List ℕ) (e : Editing) → IsEdited file e →
-    (layout_of (sealed_to e).bytes ≡ Ok (sealed_to e).shape) × (opening_of (sealed_to e).bytes ≡ Ok (read_again e)) × (updating_of (sealed_to e).bytes ≡ Ok (read_again e))
+    (opening_of (sealed_to e).bytes ≡ Ok (as_opened (sealed_to e))) × (updating_of (sealed_to e).bytes ≡ Ok (as_opened (sealed_to e)))
+
+-- Where updates are automatic, the file does so as it is.
+abbrev pub AutomaticReadsBack : Type 0
+AutomaticReadsBack = (file : List ℕ) (e : Editing) → IsEdited file e → e.automatic ≡ true → opening_of e.bytes ≡ Ok (as_opened e)
 
 -- Its sound is that of the file that was opened or made, further chunks and all, but that its frames are the state's.
 abbrev pub SealedSound : Type 0
