@@ -1,3 +1,4 @@
+pub mod CarriedOut
 pub mod CutFrames
 pub mod EditedFrames
 pub mod EditedSounds

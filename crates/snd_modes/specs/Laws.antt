@@ -1,4 +1,5 @@
--- What an editing state owes the file that was opened or made, and what this file says once it is sealed.
+-- What an editing state owes the file that was opened or made, and what this file says once it is sealed. Nothing is claimed of
+-- a file in the midst of a call or after one that failed, nor of what stands in it behind all that its head says it has.
 use Rattle.std.specs.Prelude.{◌≡◌, ◌⊎◌, ℕ, ℤ, ◌+◌, ◌<◌, ◌≤◌, Bool, true, false, List, All, Ok, get_or, is_none, length, max}
 use Rattle.snd_container.specs.Made.{new_file}
 use Rattle.snd_container.specs.Sound.{Sound, decoded, layout_of, linear_of, sound_bytes, sound_of}
@@ -8,11 +9,13 @@ use Rattle.snd_layout.specs.Shape.{KeepsRule, Shape, end, room}
 use Rattle.snd_layout.specs.declared.kind.Kind.{Kind}
 use Rattle.snd_layout.specs.declared.kind.Kind.TheVariants.{Voc}
 use Rattle.snd_patch.specs.Sealed.{is_in_fields}
+use Rattle.snd_modes.specs.Calls.{ReadLeaves, SeekLeaves}
 use Rattle.snd_modes.specs.Editing.{Editing, moved_by, moved_to, opening_of}
 use Rattle.snd_modes.specs.Edits.{automatic_to, moved_write_to, sealed_to, trimmed_to, truncated_to, written_to}
+use Rattle.snd_modes.specs.Handle.{Known}
 use Rattle.snd_modes.specs.Making.{making_of}
 use Rattle.snd_modes.specs.Updating.{updating_of}
-use Rattle.snd_modes.specs.WriteCalls.{MayWrite}
+use Rattle.snd_modes.specs.WriteCalls.{MayWrite, SeekWriteLeaves, TrimLeaves, TruncateLeaves, WriteLeaves}
 
 -- The frames are those that the bytes give; these are all there, and as many as the layout says; the places are among them.
 pub record HoldsFrames (e : Editing) : Type 0 where
@@ -83,6 +86,32 @@ pub data Leads (e : Editing) : Editing → Type 0 where
   seeks : (to : ℕ) → to ≤ e.shape.frames → Leads e (moved_to to e)
   seeks_to_write : (to : ℕ) → to ≤ e.shape.frames → Leads e (moved_write_to to e)
 
+-- what a handle knows is so in an editing state
+pub record Knows (k : Known) (e : Editing) : Type 0 where
+  pub shape : k.shape ≡ e.shape
+  pub place : k.place ≡ e.place
+  pub write_place : k.write_place ≡ e.write_place
+
+-- Each call leads on where it is carried out. To seal, or to say how updates are made, has no condition.
+abbrev pub WriteLeads : Type 0
+WriteLeads = (k k' : Known) (e : Editing) (xs : List ℤ) (done : Unit) → Knows k e → WriteLeaves xs k k' (Ok done) → Leads e (written_to xs e)
+
+abbrev pub CutLeads : Type 0
+CutLeads = (k k' : Known) (e : Editing) (to : ℕ) (done : Unit) → Knows k e → TruncateLeaves to k k' (Ok done) → Leads e (truncated_to to e)
+
+abbrev pub TrimLeads : Type 0
+TrimLeads = (k k' : Known) (e : Editing) (done : Unit) → Knows k e → TrimLeaves k k' (Ok done) → Leads e (trimmed_to e)
+
+abbrev pub ReadLeads : Type 0
+ReadLeads = (k k' : Known) (e : Editing) (places count : ℕ) → Knows k e → HoldsFrames e → ReadLeaves places k k' (Ok count) → Leads e (moved_by count e)
+
+abbrev pub SeekLeads : Type 0
+SeekLeads = (k k' : Known) (e : Editing) (to : ℕ) (done : Unit) → Knows k e → SeekLeaves to k k' (Ok done) → Leads e (moved_to to e)
+
+abbrev pub SeekWriteLeads : Type 0
+SeekWriteLeads = (k k' : Known) (e : Editing) (to : ℕ) (done : Unit) → Knows k e → SeekWriteLeaves to k k' (Ok done) → Leads e (moved_write_to to e)
+
+-- and an edited file stays one
 abbrev pub LeadsToEdited : Type 0
 LeadsToEdited = (file : List ℕ) (e e' : Editing) → IsEdited file e → Leads e e' → IsEdited file e'
 
@@ -109,7 +138,13 @@ SealedReadsBack = (file : List ℕ) (e : Editing) → IsEdited file e →
 abbrev pub AutomaticReadsBack : Type 0
 AutomaticReadsBack = (file : List ℕ) (e : Editing) → IsEdited file e → e.automatic ≡ true → opening_of e.bytes ≡ Ok (as_opened e)
 
--- Its sound is that of the file that was opened or made, further chunks and all, but that its frames are the state's.
+-- The sealed file has the sound of the file that was opened or made, further chunks and all, but that its frames are the state's.
+abbrev pub KeepsSound : List ℕ → Editing → Type 0
+KeepsSound file e = (sound : Sound) × (sound_of file ≡ Ok sound) × (sound_of (sealed_to e).bytes ≡ Ok (record sound { frames = e.frames }))
+
 abbrev pub SealedSound : Type 0
-SealedSound = (file : List ℕ) (e : Editing) → IsEdited file e →
-    (sound : Sound) × (sound_of file ≡ Ok sound) × (sound_of (sealed_to e).bytes ≡ Ok (record sound { frames = e.frames }))
+SealedSound = (file : List ℕ) (e : Editing) → IsEdited file e → KeepsSound file e
+
+-- So it is wherever calls lead.
+abbrev pub ReachedSound : Type 0
+ReachedSound = (file : List ℕ) (e : Editing) → All IsByte file → Reached file e → KeepsSound file e
