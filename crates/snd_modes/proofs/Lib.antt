@@ -1,5 +1,12 @@
+pub mod CarriedOut
 pub mod CutFrames
 pub mod EditedFrames
+pub mod EditedSounds
+pub mod EditedSteps
+pub mod EditedFiles
+pub mod FileRules
+pub mod KeptPieces
+pub mod MadeFiles
 pub mod NewFiles
 pub mod Opened
 pub mod Opening
@@ -7,6 +14,8 @@ pub mod Overwritten
 pub mod PutBlocks
 pub mod Rooms
 pub mod Runs
+pub mod SameLayouts
 pub mod SealedFrames
+pub mod SealedHeads
 pub mod Sealing
 pub mod SoundFrames

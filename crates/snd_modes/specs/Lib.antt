@@ -3,6 +3,7 @@ pub mod Closing
 pub mod Editing
 pub mod Edits
 pub mod Handle
+pub mod Laws
 pub mod Loans
 pub mod Making
 pub mod Outcomes

@@ -9,6 +9,7 @@ mod file;
 mod frames;
 mod growth;
 mod handle;
+pub mod laws;
 mod making;
 mod mode;
 mod open;

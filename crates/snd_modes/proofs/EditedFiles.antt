@@ -1,0 +1,301 @@
+-- The editing states of a file: where they begin, and what the file says once it is sealed.
+use Rattle.std.proofs.Common.{◌≡◌, ◌∙◌, ap, sym, subst, refl, inl, inr, ℕ, ◌+◌, ◌^◌, ◌<◌, ◌≤◌, Bool, true, false, cond, List, All, Ok, Err, length, get_or, max, arith}
+use Rattle.std.specs.Prelude.{Result, is_none, nat_le, nat_lt}
+use Rattle.std.proofs.lemmas.Bool.{cases_Bool, cond_both}
+use Rattle.std.proofs.lemmas.List.{length-take}
+use Rattle.snd_container.specs.Sound.{layout_of, linear_of}
+use Rattle.snd_container.specs.Values.{closing}
+use Rattle.snd_disk.proofs.Lists.{length-over}
+use Rattle.snd_fields.specs.Laws.{IsByte}
+use Rattle.snd_layout.specs.Blocks.{is_adpcm}
+use Rattle.snd_layout.specs.Params.{data_bytes}
+use Rattle.snd_layout.specs.Shape.{KeepsRule, Shape, end, room}
+use Rattle.snd_layout.specs.declared.error.OpenError.{OpenError}
+use Rattle.snd_layout.specs.declared.refusal.OpenRefusal.{OpenRefusal}
+use Rattle.snd_patch.proofs.Bytes.{over_beside, take_before}
+use Rattle.snd_patch.proofs.Lists.{closed_same, order_is_free, sealed_keeps, sealed_length, shrunk_keeps, shrunk_length}
+use Rattle.snd_patch.specs.Sealed.{FieldsLieApart, closed, closed_end, counted, over_closing, patched, sealed, sealed_size, shrunk, with_fewer, with_fields}
+use Rattle.snd_wave.proofs.Standing.{fields_are_apart}
+use Rattle.snd_modes.specs.Editing.{Editing, first_editing, moved_to, opening_as, opening_of}
+use Rattle.snd_modes.specs.Edits.{automatic_to, cut_off, moved_write_to, sealed_to}
+use Rattle.snd_modes.specs.Laws.{AutomaticReadsBack, HoldsFrames, IsEdited, KeepsHead, OpenedHoldsFrames, SealedReadsBack, UpdatedIsEdited, as_opened}
+use Rattle.snd_modes.specs.Updating.{updating_as, updating_of}
+use Rattle.snd_modes.proofs.FileRules.{LiesIn, lies_in, wave_only}
+use Rattle.snd_modes.proofs.Opened.{update_ok}
+use Rattle.snd_modes.proofs.Opening.{count_opened, opening_ok}
+use Rattle.snd_modes.proofs.Rooms.{not_adpcm}
+use Rattle.snd_modes.proofs.SealedFrames.{sealed_decoded, sealed_no_less}
+use Rattle.snd_modes.proofs.SealedHeads.{apart_too, fields_read_back, lie_apart, recounted}
+
+-- ---- a layout with another number of frames
+
+pub counted_rule : (h : Shape) (n : ℕ) → KeepsRule h → h.unknown_length ≡ false → end h n + 8 ≤ 2 ^ 63 → (h.trailing ≡ true → n ≡ h.frames) → KeepsRule (counted h n)
+counted_rule h n rule known ends stays =
+    let size = data_bytes h.params n in
+    let fits : (t : Bool) → h.trailing ≡ t → (size ≤ max (room h) (cond t h.declared size)) × (cond t h.declared size < 2 ^ 63) = λ t is. by_end t is in
+    record {
+      fits = rule.fits;
+      inner_size = rule.inner_size;
+      outer_size = rule.outer_size;
+      side_size = rule.side_size;
+      inner_end = rule.inner_end;
+      outer_end = rule.outer_end;
+      side_end = rule.side_end;
+      sound_start = rule.sound_start;
+      pieces_placed = rule.pieces_placed;
+      data_end = ends;
+      in_room = λ open_end. (fits h.trailing refl).0;
+      declared_fits = (fits h.trailing refl).1;
+    }
+  where
+    by_end : (t : Bool) → h.trailing ≡ t → (data_bytes h.params n ≤ max (room h) (cond t h.declared (data_bytes h.params n))) × (cond t h.declared (data_bytes h.params n) < 2 ^ 63)
+    by_end true is = (subst (λ (m : ℕ). data_bytes h.params m ≤ max (room h) h.declared) (sym (stays is)) (rule.in_room known), rule.declared_fits)
+    by_end false is = (omega arith, omega (arith, ends))
+
+pub counted_stays : (h : Shape) → h.trailing ≡ true → counted h h.frames ≡ h
+counted_stays h is = ap (λ (t : Bool). record h { declared = cond t h.declared (data_bytes h.params h.frames) }) is
+
+-- ---- the bytes of a file that is sealed or cut
+
+pub sealed_same : (b : List ℕ) (h : Shape) (n : ℕ) → h.trailing ≡ true → sealed b h n ≡ b
+sealed_same b h n is = ap (λ (t : Bool). cond t b (patched (closed b h n) h n)) is
+
+longer_closed : (b : List ℕ) (h : Shape) (n : ℕ) → length b ≤ length (closed b h n)
+longer_closed b h n = cond_both (nat_lt (length b) (closed_end h n)) (over_closing b h n) b (λ x. length b ≤ length x) (λ is. omega (arith, length-over b (end h n) (closing h n))) (λ other. omega arith)
+
+sealed_is : (b : List ℕ) (h : Shape) (n : ℕ) → KeepsRule h → FieldsLieApart h → h.trailing ≡ false → h.start ≤ length (closed b h n) → sealed b h n ≡ with_fields (closed b h n) h n
+sealed_is b h n rule apart free long =
+    let y = closed b h n in
+    ap (λ (t : Bool). cond t b (patched y h n)) free
+    ∙ cond_both (nat_le h.declared (data_bytes h.params n)) (with_fields y h n) (with_fewer y h n) (λ x. x ≡ with_fields y h n) (λ is. refl) (λ other. order_is_free y h n rule apart long)
+
+pub sealed_long : (b : List ℕ) (h : Shape) (n : ℕ) → KeepsRule h → end h n ≤ length b → length b ≤ length (sealed b h n)
+sealed_long b h n rule there = omega (arith, sealed_length b h n rule there, sealed_no_less (length b) h n)
+
+pub sealed_kept : (file b : List ℕ) (h : Shape) (n : ℕ) → KeepsRule h → KeepsHead h file b → KeepsHead h file (sealed b h n)
+sealed_kept file b h n rule kept = λ i lt out. sealed_keeps b h n rule i (omega (arith, lt)) out ∙ kept i lt out
+
+pub shrunk_kept : (file b : List ℕ) (h : Shape) (n : ℕ) → KeepsRule h → KeepsHead h file b → KeepsHead h file (shrunk b h n)
+shrunk_kept file b h n rule kept = λ i lt out. shrunk_keeps b h n rule i (omega (arith, lt)) out ∙ kept i lt out
+
+-- what stands before the data where all behind what closes these is cut off
+off_before : (b : List ℕ) (h : Shape) (n i : ℕ) → i < h.start → get_or (cut_off b h n) i 0 ≡ get_or b i 0
+off_before b h n i lt = take_before (over_closing b h n) (closed_end h n) i (omega (arith, lt)) ∙ over_beside b (end h n) (closing h n) i (inl (omega (arith, lt)))
+
+pub off_kept : (file b : List ℕ) (h : Shape) (n : ℕ) → KeepsHead h file b → KeepsHead h file (cut_off b h n)
+off_kept file b h n kept = λ i lt out. off_before b h n i lt ∙ kept i lt out
+
+pub off_length : (b : List ℕ) (h : Shape) (n : ℕ) → length (cut_off b h n) ≡ closed_end h n
+off_length b h n = length-take (closed_end h n) (over_closing b h n) ∙ omega (arith, length-over b (end h n) (closing h n))
+
+module _ (file : List ℕ) (head : Shape) (bytes : All IsByte file) (opened : layout_of file ≡ Ok head) (linear : is_none (linear_of head.params.codec) ≡ false)
+    (h : Shape) (shape : h ≡ recounted head h.frames h.declared) (rule : KeepsRule h) (free : h.trailing ≡ false) (n : ℕ) (fits : data_bytes head.params n ≤ max (room head) head.declared) where
+  apart : FieldsLieApart h
+  apart = subst FieldsLieApart (sym shape) (lie_apart (recounted head h.frames h.declared) (apart_too head h.frames h.declared (fields_are_apart file head (wave_only file head opened).1)))
+
+  closed_kept : (b : List ℕ) → KeepsHead h file b → KeepsHead h file (closed b h n)
+  closed_kept b kept = λ i lt out. closed_same b h n i (omega (arith, lt)) out ∙ kept i lt out
+
+  sealed_before : (b : List ℕ) → end h n ≤ length b → (i : ℕ) → get_or (sealed b h n) i 0 ≡ get_or (with_fields (closed b h n) h n) i 0
+  sealed_before b there i = ap (λ (l : List ℕ). get_or l i 0) (sealed_is b h n rule apart free (omega (arith, there, longer_closed b h n)))
+
+  pub sealed_says : (b : List ℕ) → KeepsHead h file b → end h n ≤ length b → layout_of (sealed b h n) ≡ Ok (counted h n)
+  sealed_says b kept there =
+      let size : sealed_size (length b) h n ≡ max (length b) (closed_end h n) = ap (λ (t : Bool). cond t (length b) (max (length b) (closed_end h n))) free in
+      fields_read_back file head bytes opened linear (sealed b h n) (closed b h n) h n shape rule free fits (closed_kept b kept) (omega (arith, there, longer_closed b h n))
+      (λ i lt. sealed_before b there i) (omega (arith, sealed_length b h n rule there, size))
+
+  pub trimmed_says : (b : List ℕ) → KeepsHead h file b → end h n ≤ length b → layout_of (cut_off (sealed b h n) h n) ≡ Ok (counted h n)
+  trimmed_says b kept there =
+      fields_read_back file head bytes opened linear (cut_off (sealed b h n) h n) (closed b h n) h n shape rule free fits (closed_kept b kept) (omega (arith, there, longer_closed b h n))
+      (λ i lt. off_before (sealed b h n) h n i lt ∙ sealed_before b there i) (omega (arith, off_length (sealed b h n) h n))
+
+  pub shrunk_says : (b : List ℕ) → KeepsHead h file b → end h n ≤ length b → layout_of (shrunk b h n) ≡ Ok (counted h n)
+  shrunk_says b kept there =
+      fields_read_back file head bytes opened linear (shrunk b h n) b h n shape rule free fits kept (omega (arith, there))
+      (λ i lt. take_before (over_closing (with_fewer b h n) h n) (closed_end h n) i (omega (arith, lt)) ∙ over_beside (with_fewer b h n) (end h n) (closing h n) i (inl (omega (arith, lt)))
+      ∙ ap (λ (l : List ℕ). get_or l i 0) (order_is_free b h n rule apart (omega (arith, there))))
+      (omega (arith, shrunk_length b h n rule there))
+
+-- ---- where editing begins
+
+-- a state in which editing begins, and the layout of its file
+record Begins (b : List ℕ) (e : Editing) : Type 0 where
+  layout : Shape
+  opened : layout_of b ≡ Ok layout
+  linear : is_none (linear_of layout.params.codec) ≡ false
+  is : first_editing b layout ≡ e
+
+module _ (b : List ℕ) (e : Editing) where
+  opening_begins : opening_of b ≡ Ok e → Begins b e
+  unfolding opening_of
+  opening_begins is = by_layout (layout_of b) refl is
+    where
+      by_layout : (r : Result Shape OpenRefusal) → layout_of b ≡ r → opening_as b r ≡ Ok e → Begins b e
+      by_layout (Err refusal) found given = absurd (cc)
+      by_layout (Ok s) found given = elim (cases_Bool (is_none (linear_of s.params.codec))) [
+        | inl law ↦ absurd (let h = rw law at given in cc)
+        | inr other ↦ let same : ◌≡◌ {A = Result Editing OpenRefusal} (Ok (first_editing b s)) (Ok e) = rw other at given in record { layout = s; opened = found; linear = other; is = cc }
+      ]
+
+  updating_begins : updating_of b ≡ Ok e → (from : Begins b e) × (from.layout.unknown_length ≡ false)
+  unfolding updating_of
+  updating_begins is = by_layout (layout_of b) refl is
+    where
+      by_layout : (r : Result Shape OpenRefusal) → layout_of b ≡ r → updating_as b r ≡ Ok e → (from : Begins b e) × (from.layout.unknown_length ≡ false)
+      by_layout (Err refusal) found given = absurd (cc)
+      by_layout (Ok s) found given = elim (cases_Bool (is_adpcm s.params.codec)) [
+        | inl blocks ↦ absurd (let h = rw blocks at given in cc)
+        | inr whole ↦ elim (cases_Bool s.unknown_length) [
+          | inl open_end ↦ absurd (let h = rw (whole, open_end) at given in cc)
+          | inr known ↦ elim (cases_Bool (is_none (linear_of s.params.codec))) [
+            | inl law ↦ absurd (let h = rw (whole, known, law) at given in cc)
+            | inr other ↦
+                let same : ◌≡◌ {A = Result Editing OpenError} (Ok (first_editing b s)) (Ok e) = sym (update_ok b s found whole known other) ∙ is in
+                (record { layout = s; opened = found; linear = other; is = cc }, known)
+          ]
+        ]
+      ]
+
+module _ (b : List ℕ) (s : Shape) (bytes : All IsByte b) (opened : layout_of b ≡ Ok s) (linear : is_none (linear_of s.params.codec) ≡ false) where
+  lies : LiesIn b s
+  lies = lies_in b s bytes opened linear
+
+  first_holds : HoldsFrames (first_editing b s)
+  first_holds = record { sound = refl; count = count_opened b s linear lies.params.some_channel lies.held; held = lies.held; placed = omega arith; write_placed = omega arith }
+
+  pub first_is_edited : s.unknown_length ≡ false → IsEdited b (first_editing b s)
+  first_is_edited known = record {
+    head = s;
+    bytes = bytes;
+    opened = opened;
+    linear = linear;
+    known = known;
+    shape = refl;
+    rule = lies.rule;
+    kept = λ i lt out. refl;
+    stays = λ trailing. record { shape = refl; size = refl; behind = λ i behind. refl };
+    holds = first_holds;
+    in_room = lies.rule.in_room known;
+    told = λ either. opened;
+  }
+
+pub opened_holds_frames : OpenedHoldsFrames
+opened_holds_frames b e bytes is =
+    let from = opening_begins b e is in
+    subst HoldsFrames from.is (first_holds b from.layout bytes from.opened from.linear)
+
+pub updated_is_edited : UpdatedIsEdited
+updated_is_edited b e bytes is =
+    let from = updating_begins b e is in
+    subst (IsEdited b) from.0.is (first_is_edited b from.0.layout bytes from.0.opened from.0.linear from.1)
+
+-- ---- the file sealed
+
+module _ (file : List ℕ) (e : Editing) (ed : IsEdited file e) where
+  abbrev h : Shape
+  h = e.shape
+
+  pub lies_under : LiesIn file ed.head
+  lies_under = lies_in file ed.head ed.bytes ed.opened ed.linear
+
+  pub is_linear : is_none (linear_of h.params.codec) ≡ false
+  is_linear = ap (λ (s : Shape). is_none (linear_of s.params.codec)) ed.shape ∙ ed.linear
+
+  pub is_known : h.unknown_length ≡ false
+  is_known = ap (λ (s : Shape). s.unknown_length) ed.shape ∙ ed.known
+
+  pub some_channel : 1 ≤ h.params.channels
+  some_channel = subst (λ (s : Shape). 1 ≤ s.params.channels) (sym ed.shape) lies_under.params.some_channel
+
+  pub begins_early : h.start < 2 ^ 62
+  begins_early = subst (λ (s : Shape). s.start < 2 ^ 62) (sym ed.shape) (let early : ed.head.start < 2 ^ 62 = omega (arith, lies_under.early) in early)
+
+  pub sealed_told : layout_of (sealed e.bytes h h.frames) ≡ Ok (counted h h.frames)
+  sealed_told = elim (cases_Bool h.trailing) [
+    | inl is ↦ ap layout_of (sealed_same e.bytes h h.frames is) ∙ ed.told (inr is) ∙ ap (λ (s : Shape). Ok s) (sym (counted_stays h is))
+    | inr free ↦ sealed_says file ed.head ed.bytes ed.opened ed.linear h ed.shape ed.rule free h.frames ed.in_room e.bytes ed.kept ed.holds.held
+  ]
+
+  sealed_holds : HoldsFrames (sealed_to e)
+  sealed_holds =
+      let long : end h h.frames ≤ length (sealed e.bytes h h.frames) = omega (arith, ed.holds.held, sealed_long e.bytes h h.frames ed.rule ed.holds.held) in
+      record {
+        sound = ed.holds.sound ∙ sealed_decoded e.bytes h ed.rule ed.holds.held long;
+        count = ed.holds.count;
+        held = long;
+        placed = ed.holds.placed;
+        write_placed = ed.holds.write_placed;
+      }
+
+  pub automatic_edited : (on : Bool) → IsEdited file (automatic_to on e)
+  automatic_edited on =
+      let holds = sealed_holds in
+      record {
+        head = ed.head;
+        bytes = ed.bytes;
+        opened = ed.opened;
+        linear = ed.linear;
+        known = ed.known;
+        shape = ap (λ (s : Shape). record s { declared = (counted h h.frames).declared }) ed.shape;
+        rule = counted_rule h h.frames ed.rule is_known ed.rule.data_end (λ trailing. refl);
+        kept = sealed_kept file e.bytes h h.frames ed.rule ed.kept;
+        stays = λ trailing.
+            let tail = ed.stays trailing in
+            let same : sealed e.bytes h h.frames ≡ e.bytes = sealed_same e.bytes h h.frames trailing in
+            record { shape = counted_stays h trailing ∙ tail.shape; size = ap length same ∙ tail.size; behind = λ i behind. ap (λ (l : List ℕ). get_or l i 0) same ∙ tail.behind i behind };
+        holds = record { sound = holds.sound; count = holds.count; held = holds.held; placed = holds.placed; write_placed = holds.write_placed };
+        in_room = ed.in_room;
+        told = λ either. sealed_told;
+      }
+
+pub sealed_is_edited : (file : List ℕ) (e : Editing) → IsEdited file e → IsEdited file (sealed_to e)
+sealed_is_edited file e ed = automatic_edited file e ed e.automatic
+
+-- what the bytes say that say what the state does
+pub opens_again : (file : List ℕ) (e : Editing) (ed : IsEdited file e) → layout_of e.bytes ≡ Ok e.shape → (opening_of e.bytes ≡ Ok (as_opened e)) × (updating_of e.bytes ≡ Ok (as_opened e))
+opens_again file e ed is =
+    let linear = is_linear file e ed in
+    let first : first_editing e.bytes e.shape ≡ as_opened e = ap (λ l. record (as_opened e) { frames = l }) (sym ed.holds.sound) in (
+      opening_ok e.bytes e.shape is linear ∙ ap (λ (s : Editing). Ok s) first,
+      update_ok e.bytes e.shape is (not_adpcm e.shape.params.codec linear) (is_known file e ed) linear ∙ ap (λ (s : Editing). Ok s) first,
+    )
+
+pub sealed_reads_back : SealedReadsBack
+sealed_reads_back file e ed = opens_again file (sealed_to e) (sealed_is_edited file e ed) (sealed_told file e ed)
+
+pub automatic_reads_back : AutomaticReadsBack
+automatic_reads_back file e ed on = (opens_again file e ed (ed.told (inl on))).0
+
+module _ (file : List ℕ) (e : Editing) (ed : IsEdited file e) (to : ℕ) (within : to ≤ e.shape.frames) where
+  pub moved_edited : IsEdited file (moved_to to e)
+  moved_edited = record {
+    head = ed.head;
+    bytes = ed.bytes;
+    opened = ed.opened;
+    linear = ed.linear;
+    known = ed.known;
+    shape = ed.shape;
+    rule = ed.rule;
+    kept = ed.kept;
+    stays = λ trailing. let tail = ed.stays trailing in record { shape = tail.shape; size = tail.size; behind = tail.behind };
+    holds = record { sound = ed.holds.sound; count = ed.holds.count; held = ed.holds.held; placed = within; write_placed = ed.holds.write_placed };
+    in_room = ed.in_room;
+    told = ed.told;
+  }
+
+  pub moved_write_edited : IsEdited file (moved_write_to to e)
+  moved_write_edited = record {
+    head = ed.head;
+    bytes = ed.bytes;
+    opened = ed.opened;
+    linear = ed.linear;
+    known = ed.known;
+    shape = ed.shape;
+    rule = ed.rule;
+    kept = ed.kept;
+    stays = λ trailing. let tail = ed.stays trailing in record { shape = tail.shape; size = tail.size; behind = tail.behind };
+    holds = record { sound = ed.holds.sound; count = ed.holds.count; held = ed.holds.held; placed = ed.holds.placed; write_placed = within };
+    in_room = ed.in_room;
+    told = ed.told;
+  }

@@ -1,0 +1,331 @@
+-- The steps of editing keep what an edited file owes the file that was opened or made.
+use Rattle.std.proofs.Common.{◌≡◌, ◌⊎◌, ◌∙◌, ap, sym, subst, refl, inl, inr, ⊎_elim, ℕ, ◌+◌, ◌*◌, ◌/◌, ◌^◌, ◌<◌, ◌≤◌, ℤ, Bool, true, false, ◌||◌, cond, List, None, Ok, length, take, get_or, max, arith}
+use Rattle.std.specs.Prelude.{nat_lt}
+use Rattle.std.proofs.lemmas.Bool.{cases_Bool, cases_lt, cond_both, le-ltb, ltb-true}
+use Rattle.std.proofs.lemmas.List.{length-take}
+use Rattle.snd_container.specs.Sound.{layout_of}
+use Rattle.snd_container.specs.Values.{closing}
+use Rattle.snd_disk.proofs.Lists.{length-over}
+use Rattle.snd_layout.specs.Fit.{fit_refusal}
+use Rattle.snd_layout.specs.Params.{AreParams, data_bytes}
+use Rattle.snd_layout.specs.Shape.{KeepsRule, Shape, end, room}
+use Rattle.snd_layout.specs.declared.kind.Kind.{Kind}
+use Rattle.snd_layout.specs.declared.kind.Kind.TheVariants.{Voc, Wave}
+use Rattle.snd_patch.proofs.Bytes.{over_beside}
+use Rattle.snd_patch.proofs.Lists.{closing_same, shrunk_length}
+use Rattle.snd_patch.specs.Sealed.{closed_end, counted, over_closing, sealed, shrunk}
+use Rattle.snd_pcm.specs.Groups.{groups}
+use Rattle.snd_wave.proofs.Standing.{fields_are_apart}
+use Rattle.snd_modes.specs.Editing.{Editing}
+use Rattle.snd_modes.specs.Edits.{closed_behind, coded, count_written, cut_to, over_data, put_frames, sealed_to, trimmed, trimmed_to, truncated_to, written_bytes, written_shape}
+use Rattle.snd_modes.specs.Laws.{HoldsFrames, IsEdited, KeepsHead, LeadsToEdited, MayTruncate, ReachedIsEdited, begins, goes_on, reads, seals, seeks, seeks_to_write, sets_automatic, trims, truncates, writes}
+use Rattle.snd_modes.specs.WriteCalls.{MayWrite}
+use Rattle.snd_modes.proofs.CutFrames.{cut_decoded, may_count_fewer, off_decoded}
+use Rattle.snd_modes.proofs.EditedFiles.{automatic_edited, begins_early, counted_rule, counted_stays, is_known, is_linear, lies_under, moved_edited, moved_write_edited, off_kept, off_length, sealed_is_edited, sealed_kept, sealed_long, sealed_same, sealed_says, shrunk_kept, shrunk_says, some_channel, trimmed_says, updated_is_edited}
+use Rattle.snd_modes.proofs.EditedFrames.{CanPut, end_max, whole_frames, written_count, written_end, written_sound}
+use Rattle.snd_modes.proofs.FileRules.{of_wave, wave_only}
+use Rattle.snd_modes.proofs.Rooms.{may_count}
+use Rattle.snd_modes.proofs.SameLayouts.{data_are_free}
+use Rattle.snd_modes.proofs.SealedFrames.{sealed_decoded}
+use Rattle.snd_modes.proofs.SealedHeads.{recognised_too}
+use Rattle.snd_modes.proofs.Sealing.{ends_before}
+
+module _ (file : List ℕ) (e : Editing) (ed : IsEdited file e) where
+  abbrev h : Shape
+  h = e.shape
+
+  data_is : (n : ℕ) → data_bytes h.params n ≡ data_bytes ed.head.params n
+  data_is n = ap (λ (s : Shape). data_bytes s.params n) ed.shape
+
+  room_is : room h ≡ room ed.head
+  room_is = ap room ed.shape
+
+  kind_is : h.kind ≡ Wave
+  kind_is = ap (λ (s : Shape). s.kind) ed.shape ∙ (lies_under file e ed).kind
+
+  -- ---- frames cut off
+
+  cut_edited : (to : ℕ) → to < h.frames → h.trailing ≡ false → IsEdited file (cut_to to e)
+  cut_edited to fewer free =
+      let linear = is_linear file e ed in
+      let known = is_known file e ed in
+      let within : to ≤ h.frames = omega (arith, fewer) in
+      let before : end h to ≤ end h h.frames = ends_before h to h.frames linear within in
+      let there : end h to ≤ length e.bytes = omega (arith, before, ed.holds.held) in
+      let size : length (shrunk e.bytes h to) ≡ closed_end h to = shrunk_length e.bytes h to ed.rule there in
+      let few : data_bytes ed.head.params to ≤ max (room ed.head) ed.head.declared = omega (arith, before, data_is to, data_is h.frames, ed.in_room) in
+      record {
+        head = ed.head;
+        bytes = ed.bytes;
+        opened = ed.opened;
+        linear = ed.linear;
+        known = ed.known;
+        shape = ap (λ (s : Shape). record s { frames = to; declared = (counted h to).declared }) ed.shape;
+        rule = counted_rule h to ed.rule known (may_count_fewer h to ed.rule linear known (begins_early file e ed) within).1 (λ trailing. absurd (cc));
+        kept = shrunk_kept file e.bytes h to ed.rule ed.kept;
+        stays = λ trailing. absurd (cc);
+        holds = record {
+          sound = ap (take to) ed.holds.sound ∙ cut_decoded e.bytes h to linear ed.rule (some_channel file e ed) within ed.holds.held (omega (arith, size));
+          count = let all : to ≡ length (take to e.frames) = omega (arith, length-take to e.frames, ed.holds.count, within) in all;
+          held = omega (arith, size);
+          placed = omega arith;
+          write_placed = omega arith;
+        };
+        in_room = few;
+        told = λ either. shrunk_says file ed.head ed.bytes ed.opened ed.linear h ed.shape ed.rule free to few e.bytes ed.kept there;
+      }
+
+  -- ---- all behind the data cut off
+
+  trimmed_free : h.trailing ≡ false → IsEdited file (record e { bytes = trimmed e.bytes h h.frames; shape = counted h h.frames })
+  trimmed_free free =
+      let long = sealed_long e.bytes h h.frames ed.rule ed.holds.held in
+      let there : end h h.frames ≤ length (sealed e.bytes h h.frames) = omega (arith, long, ed.holds.held) in
+      let size : length (trimmed e.bytes h h.frames) ≡ closed_end h h.frames = off_length (sealed e.bytes h h.frames) h h.frames in
+      record {
+        head = ed.head;
+        bytes = ed.bytes;
+        opened = ed.opened;
+        linear = ed.linear;
+        known = ed.known;
+        shape = ap (λ (s : Shape). record s { declared = (counted h h.frames).declared }) ed.shape;
+        rule = counted_rule h h.frames ed.rule (is_known file e ed) ed.rule.data_end (λ trailing. refl);
+        kept = off_kept file (sealed e.bytes h h.frames) h h.frames (sealed_kept file e.bytes h h.frames ed.rule ed.kept);
+        stays = λ trailing. absurd (cc);
+        holds = record {
+          sound = ed.holds.sound ∙ sealed_decoded e.bytes h ed.rule ed.holds.held there ∙ off_decoded (sealed e.bytes h h.frames) h ed.rule there (omega (arith, size));
+          count = ed.holds.count;
+          held = omega (arith, size);
+          placed = ed.holds.placed;
+          write_placed = ed.holds.write_placed;
+        };
+        in_room = ed.in_room;
+        told = λ either. trimmed_says file ed.head ed.bytes ed.opened ed.linear h ed.shape ed.rule free h.frames ed.in_room e.bytes ed.kept ed.holds.held;
+      }
+
+  -- a WAVE file is trimmed where it does not go on behind its data
+  is_free : (h.trailing ≡ true → h.kind ≡ Voc) → h.trailing ≡ false
+  is_free may = elim (cases_Bool h.trailing) [
+    | inl trailing ↦ absurd (let voc : h.kind ≡ Voc = may trailing in let both : Wave ≡ Voc = sym kind_is ∙ voc in cc)
+    | inr free ↦ free
+  ]
+
+truncated_is_edited : (file : List ℕ) (e : Editing) (to : ℕ) → IsEdited file e → MayTruncate to e.shape → IsEdited file (truncated_to to e)
+truncated_is_edited file e to ed may =
+    cond_both (nat_lt to e.shape.frames) (cut_to to e) (sealed_to e) (IsEdited file)
+    (λ is. let fewer = ltb-true to e.shape.frames is in cut_edited file e ed to fewer (may.free fewer))
+    (λ other. sealed_is_edited file e ed)
+
+trimmed_is_edited : (file : List ℕ) (e : Editing) → IsEdited file e → (e.shape.trailing ≡ true → e.shape.kind ≡ Voc) → IsEdited file (trimmed_to e)
+trimmed_is_edited file e ed may =
+    let free = is_free file e ed may in
+    subst (λ (s : Shape). IsEdited file (record e { bytes = trimmed e.bytes e.shape e.shape.frames; shape = s }))
+    (ap (λ (t : Bool). record (counted e.shape e.shape.frames) { trailing = t }) free) (trimmed_free file e ed free)
+
+-- ---- frames written
+
+-- a layout with more frames, of which the head does not say
+more_frames : (h : Shape) (n : ℕ) → KeepsRule h → h.unknown_length ≡ false → end h n + 8 ≤ 2 ^ 63 → (n ≡ h.frames) ⊎ (data_bytes h.params n ≤ room h) → KeepsRule (record h { frames = n })
+more_frames h n rule known ends grows = record {
+  fits = rule.fits;
+  inner_size = rule.inner_size;
+  outer_size = rule.outer_size;
+  side_size = rule.side_size;
+  inner_end = rule.inner_end;
+  outer_end = rule.outer_end;
+  side_end = rule.side_end;
+  sound_start = rule.sound_start;
+  pieces_placed = rule.pieces_placed;
+  data_end = ends;
+  in_room = λ open_end. ⊎_elim (λ same. subst (λ (m : ℕ). data_bytes h.params m ≤ max (room h) h.declared) (sym same) (rule.in_room known)) (λ few. omega (arith, few)) grows;
+  declared_fits = rule.declared_fits;
+}
+
+module _ (file : List ℕ) (e : Editing) (ed : IsEdited file e) (xs : List ℤ) (may : MayWrite xs e.shape e.write_place) where
+  abbrev s : Shape
+  s = e.shape
+
+  abbrev w : ℕ
+  w = e.write_place
+
+  abbrev k : ℕ
+  k = length xs / s.params.channels
+
+  abbrev n : ℕ
+  n = count_written s w k
+
+  -- the bytes with the frames over the data, and then with what closes these
+  abbrev put : List ℕ
+  put = over_data e.bytes s w xs
+
+  abbrev shut : List ℕ
+  shut = closed_behind put s n
+
+  whole : length xs ≡ s.params.channels * k
+  whole = whole_frames (length xs) s.params.channels k (some_channel file e ed) may.frames.whole refl
+
+  grows : (n ≡ s.frames) ⊎ (data_bytes s.params n ≤ room s)
+  grows = elim (cases_lt s.frames (w + k)) [
+    | inl lt ↦ let last : w + k ≡ n = omega (arith, lt) in inr (subst (λ (m : ℕ). data_bytes s.params m ≤ room s) last (may.in_room lt))
+    | inr le ↦ inl (omega (arith, le))
+  ]
+
+  stays : s.trailing ≡ true → n ≡ s.frames
+  stays trailing = elim (cases_lt s.frames (w + k)) [
+    | inl lt ↦ absurd (let free : s.trailing ≡ false = may.free lt in cc)
+    | inr le ↦ omega (arith, le)
+  ]
+
+  ends : end s n + 8 ≤ 2 ^ 63
+  ends = (may_count s n ed.rule (is_linear file e ed) (is_known file e ed) (begins_early file e ed) grows).1
+
+  last_end : end s w + length (coded s.params xs) ≡ end s (w + k)
+  last_end = written_end s xs w k (is_linear file e ed) whole
+
+  put_length : length put ≡ max (length e.bytes) (end s (w + k))
+  put_length = length-over e.bytes (end s w) (coded s.params xs) ∙ omega (arith, last_end)
+
+  put_there : end s n ≤ length put
+  put_there = omega (arith, put_length, end_max s s.frames (w + k), ed.holds.held)
+
+  shut_longer : length put ≤ length shut
+  shut_longer = cond_both (nat_lt s.frames n) (over_closing put s n) put (λ x. length put ≤ length x) (λ is. omega (arith, length-over put (end s n) (closing s n))) (λ other. omega arith)
+
+  shut_there : end s n ≤ length shut
+  shut_there = omega (arith, put_there, shut_longer)
+
+  -- what stands before the data stays
+  put_before : (i : ℕ) → i < s.start → get_or put i 0 ≡ get_or e.bytes i 0
+  put_before i lt = over_beside e.bytes (end s w) (coded s.params xs) i (inl (omega (arith, lt)))
+
+  shut_kept : KeepsHead s file shut
+  shut_kept = λ i lt out.
+      cond_both (nat_lt s.frames n) (over_closing put s n) put (λ x. get_or x i 0 ≡ get_or put i 0) (λ is. closing_same put s n i (omega (arith, lt)) out) (λ other. refl)
+      ∙ put_before i lt ∙ ed.kept i lt out
+
+  few : data_bytes ed.head.params n ≤ max (room ed.head) ed.head.declared
+  few = ⊎_elim (λ same. subst (λ (m : ℕ). data_bytes ed.head.params m ≤ max (room ed.head) ed.head.declared) (sym same) ed.in_room)
+      (λ fits. omega (arith, fits, data_is file e ed n, room_is file e ed)) grows
+
+  -- where the file goes on behind its data only these change
+  put_size : s.trailing ≡ true → length put ≡ length e.bytes
+  put_size trailing =
+      let before : end s (w + k) ≤ end s s.frames = ends_before s (w + k) s.frames (is_linear file e ed) (omega (arith, stays trailing)) in
+      omega (arith, put_length, before, ed.holds.held)
+
+  put_behind : s.trailing ≡ true → (i : ℕ) → end s s.frames ≤ i → get_or put i 0 ≡ get_or e.bytes i 0
+  put_behind trailing i behind =
+      let before : end s (w + k) ≤ end s s.frames = ends_before s (w + k) s.frames (is_linear file e ed) (omega (arith, stays trailing)) in
+      over_beside e.bytes (end s w) (coded s.params xs) i (inr (omega (arith, last_end, before, behind)))
+
+  put_says : s.trailing ≡ true → layout_of put ≡ Ok s
+  put_says trailing =
+      let wave = wave_only e.bytes s (ed.told (inr trailing)) in
+      let fits : fit_refusal Wave s.params ≡ None = subst (λ (kind : Kind). fit_refusal kind s.params ≡ None) (kind_is file e ed) ed.rule.fits in
+      let good : AreParams s.params = subst (λ (h : Shape). AreParams h.params) (sym ed.shape) (lies_under file e ed).params in
+      let long : length put ≡ length e.bytes = put_size trailing in
+      let apart = fields_are_apart e.bytes s wave.1 in
+      let begins : 16 ≤ s.start = omega (arith, apart.inner, apart.start) in
+      of_wave put s
+      (recognised_too put e.bytes (omega (arith, long, begins, ed.holds.held)) (omega (arith, begins, ed.holds.held)) (λ i place early. put_before i (omega (arith, early, begins))) wave.0)
+      (data_are_free put e.bytes s wave.1 good fits long put_before (put_behind trailing))
+
+  shut_same : s.trailing ≡ true → shut ≡ put
+  shut_same trailing = ap (λ (t : Bool). cond t (over_closing put s n) put) (le-ltb s.frames n (omega (arith, stays trailing)))
+
+  shut_says : s.trailing ≡ true → layout_of shut ≡ Ok s
+  shut_says trailing = ap layout_of (shut_same trailing) ∙ put_says trailing
+
+  shut_stays : s.trailing ≡ true → (length shut ≡ length file) × ((i : ℕ) → end ed.head ed.head.frames ≤ i → get_or shut i 0 ≡ get_or file i 0)
+  shut_stays trailing =
+      let tail = ed.stays trailing in
+      let same : end s s.frames ≡ end ed.head ed.head.frames = ap (λ (h : Shape). end h h.frames) tail.shape in (
+        ap length (shut_same trailing) ∙ put_size trailing ∙ tail.size,
+        λ i behind. ap (λ (l : List ℕ). get_or l i 0) (shut_same trailing) ∙ put_behind trailing i (omega (arith, same, behind)) ∙ tail.behind i behind,
+      )
+
+  sealed_said : layout_of (sealed shut s n) ≡ Ok (counted s n)
+  sealed_said = elim (cases_Bool s.trailing) [
+    | inl trailing ↦
+        ap layout_of (sealed_same shut s n trailing) ∙ shut_says trailing ∙ ap (λ (h : Shape). Ok h) (sym (ap (counted s) (stays trailing) ∙ counted_stays s trailing))
+    | inr free ↦ sealed_says file ed.head ed.bytes ed.opened ed.linear s ed.shape ed.rule free n few shut shut_kept shut_there
+  ]
+
+  -- the state then, where each write seals the file or none does
+  abbrev then : Bool → Editing
+  then t = record {
+    bytes = written_bytes t e.bytes s w n xs;
+    shape = written_shape t s n;
+    frames = put_frames e.frames w (groups s.params.channels xs);
+    place = e.place;
+    write_place = w + k;
+    automatic = t;
+    written = e.written || nat_lt 0 k;
+  }
+
+  can : CanPut s e.bytes w k xs
+  can = record { rule = ed.rule; linear = is_linear file e ed; some = some_channel file e ed; fits = ed.holds.held; within = ed.holds.write_placed; whole = whole; fit = may.frames.in_range }
+
+  then_holds : (t : Bool) → end s n ≤ length (written_bytes t e.bytes s w n xs) → (written_shape t s n).frames ≡ n → end (written_shape t s n) n ≡ end s n → HoldsFrames (then t)
+  then_holds t long frames same = record {
+    sound = written_sound (record e { automatic = t }) k xs can ed.holds.sound long;
+    count = written_count (record e { automatic = t }) k xs can ed.holds.count;
+    held = subst (λ (m : ℕ). end (written_shape t s n) m ≤ length (written_bytes t e.bytes s w n xs)) (sym frames) (omega (arith, same, long));
+    placed = omega (arith, frames, ed.holds.placed);
+    write_placed = omega (arith, frames);
+  }
+
+  then_edited : (t : Bool) → IsEdited file (then t)
+  then_edited true = record {
+    head = ed.head;
+    bytes = ed.bytes;
+    opened = ed.opened;
+    linear = ed.linear;
+    known = ed.known;
+    shape = ap (λ (h : Shape). record h { frames = n; declared = (counted s n).declared }) ed.shape;
+    rule = counted_rule s n ed.rule (is_known file e ed) ends stays;
+    kept = sealed_kept file shut s n ed.rule shut_kept;
+    stays = λ trailing.
+        let tail = shut_stays trailing in
+        let same : sealed shut s n ≡ shut = sealed_same shut s n trailing in
+        record {
+          shape = ap (counted s) (stays trailing) ∙ counted_stays s trailing ∙ (ed.stays trailing).shape;
+          size = ap length same ∙ tail.0;
+          behind = λ i behind. ap (λ (l : List ℕ). get_or l i 0) same ∙ tail.1 i behind;
+        };
+    holds = then_holds true (omega (arith, shut_there, sealed_long shut s n ed.rule shut_there)) refl refl;
+    in_room = few;
+    told = λ either. sealed_said;
+  }
+  then_edited false = record {
+    head = ed.head;
+    bytes = ed.bytes;
+    opened = ed.opened;
+    linear = ed.linear;
+    known = ed.known;
+    shape = ap (λ (h : Shape). record h { frames = n }) ed.shape;
+    rule = more_frames s n ed.rule (is_known file e ed) ends grows;
+    kept = shut_kept;
+    stays = λ trailing.
+        let tail = shut_stays trailing in
+        record { shape = ap (λ (m : ℕ). record s { frames = m }) (stays trailing) ∙ (ed.stays trailing).shape; size = tail.0; behind = tail.1 };
+    holds = then_holds false shut_there refl refl;
+    in_room = few;
+    told = ⊎_elim (λ never. absurd (cc)) (λ trailing. shut_says trailing ∙ ap (λ (m : ℕ). Ok (record s { frames = m })) (sym (stays trailing)));
+  }
+
+-- ---- each step, and all of them
+
+pub leads_to_edited : LeadsToEdited
+leads_to_edited file e _ ed (writes xs may) = then_edited file e ed xs may e.automatic
+leads_to_edited file e _ ed seals = sealed_is_edited file e ed
+leads_to_edited file e _ ed (sets_automatic on) = automatic_edited file e ed on
+leads_to_edited file e _ ed (truncates to may) = truncated_is_edited file e to ed may
+leads_to_edited file e _ ed (trims may) = trimmed_is_edited file e ed may
+leads_to_edited file e _ ed (reads n within) = moved_edited file e ed (e.place + n) within
+leads_to_edited file e _ ed (seeks to within) = moved_edited file e ed to within
+leads_to_edited file e _ ed (seeks_to_write to within) = moved_write_edited file e ed to within
+
+pub reached_is_edited : ReachedIsEdited
+reached_is_edited file _ bytes (begins e is) = updated_is_edited file e bytes is
+reached_is_edited file _ bytes (goes_on e e' so_far leads) = leads_to_edited file e e' (reached_is_edited file e bytes so_far) leads

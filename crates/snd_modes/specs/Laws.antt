@@ -1,0 +1,150 @@
+-- What an editing state owes the file that was opened or made, and what this file says once it is sealed. Nothing is claimed of
+-- a file in the midst of a call or after one that failed, nor of what stands in it behind all that its head says it has.
+use Rattle.std.specs.Prelude.{◌≡◌, ◌⊎◌, ℕ, ℤ, ◌+◌, ◌<◌, ◌≤◌, Bool, true, false, List, All, Ok, get_or, is_none, length, max}
+use Rattle.snd_container.specs.Made.{new_file}
+use Rattle.snd_container.specs.Sound.{Sound, decoded, layout_of, linear_of, sound_bytes, sound_of}
+use Rattle.snd_fields.specs.Laws.{IsByte}
+use Rattle.snd_layout.specs.Params.{AreParams, Parameters, data_bytes}
+use Rattle.snd_layout.specs.Shape.{KeepsRule, Shape, end, room}
+use Rattle.snd_layout.specs.declared.kind.Kind.{Kind}
+use Rattle.snd_layout.specs.declared.kind.Kind.TheVariants.{Voc}
+use Rattle.snd_patch.specs.Sealed.{is_in_fields}
+use Rattle.snd_modes.specs.Calls.{ReadLeaves, SeekLeaves}
+use Rattle.snd_modes.specs.Editing.{Editing, moved_by, moved_to, opening_of}
+use Rattle.snd_modes.specs.Edits.{automatic_to, moved_write_to, sealed_to, trimmed_to, truncated_to, written_to}
+use Rattle.snd_modes.specs.Handle.{Known}
+use Rattle.snd_modes.specs.Making.{making_of}
+use Rattle.snd_modes.specs.Updating.{updating_of}
+use Rattle.snd_modes.specs.WriteCalls.{MayWrite, SeekWriteLeaves, TrimLeaves, TruncateLeaves, WriteLeaves}
+
+-- The frames are those that the bytes give; these are all there, and as many as the layout says; the places are among them.
+pub record HoldsFrames (e : Editing) : Type 0 where
+  pub sound : e.frames ≡ decoded e.shape.params (sound_bytes e.bytes e.shape)
+  pub count : e.shape.frames ≡ length e.frames
+  pub held : end e.shape e.shape.frames ≤ length e.bytes
+  pub placed : e.place ≤ e.shape.frames
+  pub write_placed : e.write_place ≤ e.shape.frames
+
+-- before the data, every byte beside the fields of a layout is that of a file
+abbrev pub KeepsHead : Shape → List ℕ → List ℕ → Type 0
+KeepsHead h file x = (i : ℕ) → i < h.start → is_in_fields h i ≡ false → get_or x i 0 ≡ get_or file i 0
+
+-- the layout is that of a file, and so are the length and every byte behind the data
+pub record KeepsTail (file : List ℕ) (head : Shape) (e : Editing) : Type 0 where
+  pub shape : e.shape ≡ head
+  pub size : length e.bytes ≡ length file
+  pub behind : (i : ℕ) → end head head.frames ≤ i → get_or e.bytes i 0 ≡ get_or file i 0
+
+-- An editing state to which a file came that was opened, or made, with a layout. The state's layout is that, but for the frames
+-- and the declared length, and its bytes before the data are the file's, but for the fields. The fields have room for the
+-- frames. Where the file goes on behind its data, all but these is as it was. Where updates are automatic, and there, the bytes
+-- say already what the state does.
+pub record IsEdited (file : List ℕ) (e : Editing) : Type 0 where
+  pub head : Shape
+  pub bytes : All IsByte file
+  pub opened : layout_of file ≡ Ok head
+  pub linear : is_none (linear_of head.params.codec) ≡ false
+  pub known : head.unknown_length ≡ false
+  pub shape : e.shape ≡ record head { frames = e.shape.frames; declared = e.shape.declared }
+  pub rule : KeepsRule e.shape
+  pub kept : KeepsHead e.shape file e.bytes
+  pub stays : e.shape.trailing ≡ true → KeepsTail file head e
+  pub holds : HoldsFrames e
+  pub in_room : data_bytes head.params e.shape.frames ≤ max (room head) head.declared
+  pub told : (e.automatic ≡ true) ⊎ (e.shape.trailing ≡ true) → layout_of e.bytes ≡ Ok e.shape
+
+-- ---- where editing begins
+
+abbrev pub OpenedHoldsFrames : Type 0
+OpenedHoldsFrames = (b : List ℕ) (e : Editing) → All IsByte b → opening_of b ≡ Ok e → HoldsFrames e
+
+abbrev pub UpdatedIsEdited : Type 0
+UpdatedIsEdited = (b : List ℕ) (e : Editing) → All IsByte b → updating_of b ≡ Ok e → IsEdited b e
+
+-- a file that is made is one that is opened to be updated
+abbrev pub MadeIsUpdated : Type 0
+MadeIsUpdated = (kind : Kind) (p : Parameters) (e : Editing) → AreParams p → making_of kind p ≡ Ok e → All IsByte (new_file kind p) × (updating_of (new_file kind p) ≡ Ok e)
+
+abbrev pub MadeIsEdited : Type 0
+MadeIsEdited = (kind : Kind) (p : Parameters) (e : Editing) → AreParams p → making_of kind p ≡ Ok e → IsEdited (new_file kind p) e
+
+-- ---- the steps of calls that are carried out
+
+-- where a file may be cut to so many frames
+pub record MayTruncate (to : ℕ) (h : Shape) : Type 0 where
+  pub within : to ≤ h.frames
+  pub free : to < h.frames → h.trailing ≡ false
+
+-- a call leads from one editing state to another
+pub data Leads (e : Editing) : Editing → Type 0 where
+  writes : (xs : List ℤ) → MayWrite xs e.shape e.write_place → Leads e (written_to xs e)
+  seals : Leads e (sealed_to e)
+  sets_automatic : (on : Bool) → Leads e (automatic_to on e)
+  truncates : (to : ℕ) → MayTruncate to e.shape → Leads e (truncated_to to e)
+  trims : (e.shape.trailing ≡ true → e.shape.kind ≡ Voc) → Leads e (trimmed_to e)
+  reads : (n : ℕ) → e.place + n ≤ e.shape.frames → Leads e (moved_by n e)
+  seeks : (to : ℕ) → to ≤ e.shape.frames → Leads e (moved_to to e)
+  seeks_to_write : (to : ℕ) → to ≤ e.shape.frames → Leads e (moved_write_to to e)
+
+-- what a handle knows is so in an editing state
+pub record Knows (k : Known) (e : Editing) : Type 0 where
+  pub shape : k.shape ≡ e.shape
+  pub place : k.place ≡ e.place
+  pub write_place : k.write_place ≡ e.write_place
+
+-- Each call leads on where it is carried out. To seal, or to say how updates are made, has no condition.
+abbrev pub WriteLeads : Type 0
+WriteLeads = (k k' : Known) (e : Editing) (xs : List ℤ) (done : Unit) → Knows k e → WriteLeaves xs k k' (Ok done) → Leads e (written_to xs e)
+
+abbrev pub CutLeads : Type 0
+CutLeads = (k k' : Known) (e : Editing) (to : ℕ) (done : Unit) → Knows k e → TruncateLeaves to k k' (Ok done) → Leads e (truncated_to to e)
+
+abbrev pub TrimLeads : Type 0
+TrimLeads = (k k' : Known) (e : Editing) (done : Unit) → Knows k e → TrimLeaves k k' (Ok done) → Leads e (trimmed_to e)
+
+abbrev pub ReadLeads : Type 0
+ReadLeads = (k k' : Known) (e : Editing) (places count : ℕ) → Knows k e → HoldsFrames e → ReadLeaves places k k' (Ok count) → Leads e (moved_by count e)
+
+abbrev pub SeekLeads : Type 0
+SeekLeads = (k k' : Known) (e : Editing) (to : ℕ) (done : Unit) → Knows k e → SeekLeaves to k k' (Ok done) → Leads e (moved_to to e)
+
+abbrev pub SeekWriteLeads : Type 0
+SeekWriteLeads = (k k' : Known) (e : Editing) (to : ℕ) (done : Unit) → Knows k e → SeekWriteLeaves to k k' (Ok done) → Leads e (moved_write_to to e)
+
+-- and an edited file stays one
+abbrev pub LeadsToEdited : Type 0
+LeadsToEdited = (file : List ℕ) (e e' : Editing) → IsEdited file e → Leads e e' → IsEdited file e'
+
+-- an editing state to which calls lead from the opening of a file to be updated
+pub data Reached (file : List ℕ) : Editing → Type 0 where
+  begins : (e : Editing) → updating_of file ≡ Ok e → Reached file e
+  goes_on : (e e' : Editing) → Reached file e → Leads e e' → Reached file e'
+
+abbrev pub ReachedIsEdited : Type 0
+ReachedIsEdited = (file : List ℕ) (e : Editing) → All IsByte file → Reached file e → IsEdited file e
+
+-- ---- the file sealed
+
+-- an editing state at its first frame, as a file that is opened
+abbrev pub as_opened : Editing → Editing
+as_opened e = record e { place = 0; write_place = 0; automatic = false; written = false }
+
+-- Opened again, to be read or updated, the sealed file gives the state's layout and exactly its frames.
+abbrev pub SealedReadsBack : Type 0
+SealedReadsBack = (file : List ℕ) (e : Editing) → IsEdited file e →
+    (opening_of (sealed_to e).bytes ≡ Ok (as_opened (sealed_to e))) × (updating_of (sealed_to e).bytes ≡ Ok (as_opened (sealed_to e)))
+
+-- Where updates are automatic, the file does so as it is.
+abbrev pub AutomaticReadsBack : Type 0
+AutomaticReadsBack = (file : List ℕ) (e : Editing) → IsEdited file e → e.automatic ≡ true → opening_of e.bytes ≡ Ok (as_opened e)
+
+-- The sealed file has the sound of the file that was opened or made, further chunks and all, but that its frames are the state's.
+abbrev pub KeepsSound : List ℕ → Editing → Type 0
+KeepsSound file e = (sound : Sound) × (sound_of file ≡ Ok sound) × (sound_of (sealed_to e).bytes ≡ Ok (record sound { frames = e.frames }))
+
+abbrev pub SealedSound : Type 0
+SealedSound = (file : List ℕ) (e : Editing) → IsEdited file e → KeepsSound file e
+
+-- So it is wherever calls lead.
+abbrev pub ReachedSound : Type 0
+ReachedSound = (file : List ℕ) (e : Editing) → All IsByte file → Reached file e → KeepsSound file e
