@@ -1,7 +1,7 @@
 //! Files of every kind that are made.
 
-ghost use Rattle.std.specs.Prelude.{◌≡◌, Err, IfErr, IfOk, None, OnOk, Ok, Some, length};
-ghost use Rattle.snd_disk.specs.Device.{WritesAtMost};
+ghost use Rattle.std.specs.Prelude.{◌≡◌, Err, IfErr, IfOk, None, OnOk, Ok, Some, is_some, length};
+ghost use Rattle.snd_disk.specs.Device.{GoesOnFrom, WritesAtMost};
 ghost use Rattle.snd_disk.specs.State.{IsMeant};
 ghost use Rattle.snd_layout.specs.Fit.{fit_refusal};
 ghost use Rattle.snd_layout.specs.Opened.{CountsOpening};
@@ -42,6 +42,8 @@ pub fn lay_head<D: Disk>(
     ensures untouched { (refusal : OpenRefusal) → new_layout kind params ≡ Err refusal → disk.new ≡ disk.old }
     ensures faults { CountsOpening D.state disk.old disk.new result }
     ensures name { (D.state disk.new).name ≡ (D.state disk.old).name }
+    ensures told { is_some (D.state disk.new).contents ≡ is_some (D.state disk.old).contents }
+    ensures time { GoesOnFrom D.state D.left_between disk.old disk.new }
     ensures written { WritesAtMost D.state 2048 disk.old disk.new }
     ensures asked { (D.state disk.new).asked ≡ (D.state disk.old).asked }
 {
