@@ -16,8 +16,8 @@ use snd_layout::{Kind, Layout, PieceError};
 /// piece's, the body has at most 65536 bytes, and at most 240 pieces stand afterwards.
 ///
 /// It writes at most 16777216 bytes. It reads none where it adds a piece, and at most 16777216 where it
-/// replaces one. The answer is `DiskFault` where a call of the disk failed; what the disk holds then is
-/// no head. It is `Memory` where there is none: then nothing was changed.
+/// replaces one. The answer is `DiskFault` where a call of the disk failed: what the disk holds then is
+/// not said. It is `Memory` where there is none: then nothing was changed.
 pub fn put_piece<D: Disk>(
     disk: &mut D,
     layout: &mut Layout,
