@@ -1,4 +1,5 @@
 pub mod Made
+pub mod Put
 pub mod Recognised
 pub mod Sound
 pub mod Values

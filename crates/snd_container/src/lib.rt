@@ -5,9 +5,11 @@
 mod fields;
 mod made;
 mod open;
+mod pieces;
 mod recognition;
 
 pub use fields::{closing_bytes, data_bytes, inner_bytes, outer_bytes, room, side_bytes};
 pub use made::{fit, lay_head};
 pub use open::open_layout;
+pub use pieces::{add_piece, put_piece};
 pub use recognition::recognise;

@@ -1,13 +1,14 @@
 //! Files of every kind that are made.
 
-ghost use Rattle.std.specs.Prelude.{◌≡◌, Err, IfErr, IfOk, None, OnOk, Ok, Some, length};
-ghost use Rattle.snd_disk.specs.Device.{WritesAtMost};
+ghost use Rattle.std.specs.Prelude.{◌≡◌, Err, IfErr, IfOk, None, OnOk, Ok, Some, [], is_some, length};
+ghost use Rattle.snd_disk.specs.Device.{GoesOnFrom, WritesAtMost};
 ghost use Rattle.snd_disk.specs.State.{IsMeant};
 ghost use Rattle.snd_layout.specs.Fit.{fit_refusal};
 ghost use Rattle.snd_layout.specs.Opened.{CountsOpening};
 ghost use Rattle.snd_layout.specs.declared.error.OpenError.TheVariants.{Refused};
 ghost use Rattle.snd_layout.specs.declared.refusal.OpenRefusal.{OpenRefusal};
 ghost use Rattle.snd_container.specs.Made.{IsMakeCause, new_file, new_layout};
+ghost use Rattle.snd_container.specs.Put.{IsHeadOf};
 
 use snd_disk::Disk;
 use snd_layout::{Kind, Layout, OpenError, OpenRefusal, Params};
@@ -38,10 +39,13 @@ pub fn lay_head<D: Disk>(
     requires { fit_refusal kind params ≡ None }
     ensures laid { OnOk result (IsMeant (length (new_file kind params)) (λ b. new_file kind params) (D.state disk.old) (D.state disk.new)) }
     ensures layout { IfOk result (λ l. new_layout kind params ≡ Ok l) }
+    ensures head { IfOk result (λ l. IsHeadOf (D.state disk.new) l params []) }
     ensures cause { IfErr result (IsMakeCause (new_layout kind params) (D.state disk.old).faults (D.state disk.new).faults) }
     ensures untouched { (refusal : OpenRefusal) → new_layout kind params ≡ Err refusal → disk.new ≡ disk.old }
     ensures faults { CountsOpening D.state disk.old disk.new result }
     ensures name { (D.state disk.new).name ≡ (D.state disk.old).name }
+    ensures told { is_some (D.state disk.new).contents ≡ is_some (D.state disk.old).contents }
+    ensures time { GoesOnFrom D.state D.left_between disk.old disk.new }
     ensures written { WritesAtMost D.state 2048 disk.old disk.new }
     ensures asked { (D.state disk.new).asked ≡ (D.state disk.old).asked }
 {

@@ -43,6 +43,11 @@ impl PieceList {
         }
     }
 
+    /// What the list takes its memory from.
+    pub fn allocator(&self) -> Global {
+        *self.list.allocator()
+    }
+
     /// How many pieces there are.
     pub fn len(&self) -> usize
         ensures { result ≡ length self.now }

@@ -1,12 +1,13 @@
 //! Files that are made.
 
 ghost use Rattle.std.specs.Prelude.{◌≡◌, Err, IfOk};
-ghost use Rattle.snd_disk.specs.Device.{WritesAtMost};
+ghost use Rattle.snd_disk.specs.Device.{GoesOnFrom, WritesAtMost};
 ghost use Rattle.snd_layout.specs.Opened.{CountsOpening};
 ghost use Rattle.snd_layout.specs.declared.refusal.OpenRefusal.{OpenRefusal};
 ghost use Rattle.snd_modes.specs.Handle.{IsFresh, known_of};
 ghost use Rattle.snd_modes.specs.Loans.{answer_of, disk_after, loan_after};
 ghost use Rattle.snd_modes.specs.Making.{MakesFile, making_of};
+ghost use Rattle.snd_patch.specs.Steps.{StillTells};
 
 use crate::codec::linear_form;
 use crate::handle::File;
@@ -34,7 +35,8 @@ pub fn create<'d, D: Disk>(
     ensures untouched { (refusal : OpenRefusal) → making_of kind params ≡ Err refusal → disk_after result ≡ disk.old }
     ensures fresh { IfOk result (λ f. IsFresh (known_of f)) }
     ensures faults { CountsOpening D.state disk.old (disk_after result) (answer_of result) }
-    ensures name { (D.state (disk_after result)).name ≡ (D.state disk.old).name }
+    ensures tells { StillTells (D.state disk.old) (D.state (disk_after result)) }
+    ensures time { GoesOnFrom D.state D.left_between disk.old (disk_after result) }
     ensures written { WritesAtMost D.state 2048 disk.old (disk_after result) }
     ensures asked { (D.state (disk_after result)).asked ≡ (D.state disk.old).asked }
 {

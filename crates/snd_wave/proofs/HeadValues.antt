@@ -21,7 +21,7 @@ put_mid : (a v0 c v : List ℕ) (at : ℕ) → at ≡ length a → length v ≡ 
 put_mid a v0 c v at is same = same_lists _ _ (grind (arith, places)) (λ i d lt. grind (arith, places))
 
 -- the bytes of joined chunks are joined
-chunks-append : (xs ys : List NewChunk) → chunks_bytes Little (xs ++ ys) ≡ chunks_bytes Little xs ++ chunks_bytes Little ys
+pub chunks-append : (xs ys : List NewChunk) → chunks_bytes Little (xs ++ ys) ≡ chunks_bytes Little xs ++ chunks_bytes Little ys
 unfolding chunks_bytes
 chunks-append [] ys = refl
 chunks-append (x ∷ xs) ys = ap (λ (l : List ℕ). chunk_bytes Little x ++ l) (chunks-append xs ys) ∙ sym (append_assoc (chunk_bytes Little x) (chunks_bytes Little xs) (chunks_bytes Little ys))

@@ -1,6 +1,7 @@
 mod Bodies
 pub mod Agreements
 pub mod Answered
+pub mod Changed
 pub mod Counted
 pub mod Counts
 pub mod Standing
@@ -11,5 +12,8 @@ pub mod MadeParts
 pub mod NewHeads
 pub mod Opens
 pub mod PlainHeads
+pub mod Planning
+pub mod Putting
+pub mod Relaying
 pub mod Shapes
 pub mod Sizes

@@ -38,7 +38,7 @@ use Rattle.snd_wave.proofs.NewHeads.{all_precede, bytes-append, chunks_few, fact
 use Rattle.snd_wave.proofs.Opens.{Opens, opened, refused}
 use Rattle.snd_wave.proofs.Shapes.{blocks_have_bytes}
 
-length-riff_head : (size : ℕ) → length (riff_head size) ≡ 12
+pub length-riff_head : (size : ℕ) → length (riff_head size) ≡ 12
 unfolding riff_head
 length-riff_head size = refl
 

@@ -115,7 +115,7 @@ unfolding head_size chunks_before
 size_is p pieces frames =
     omega (arith, bytes-append (new_format p ∷ pieces) (filler p pieces ++ new_fact p.codec 0), bytes-append (filler p pieces) (new_fact p.codec 0), bytes-append (new_format p ∷ pieces) (filler p pieces ++ new_fact p.codec frames), bytes-append (filler p pieces) (new_fact p.codec frames), fact_bytes p.codec 0, fact_bytes p.codec frames)
 
-size_with : (p : Parameters) (pieces : List NewChunk) → head_size p pieces ≡ start_without_filler p pieces + length (chunks_bytes Little (filler p pieces))
+pub size_with : (p : Parameters) (pieces : List NewChunk) → head_size p pieces ≡ start_without_filler p pieces + length (chunks_bytes Little (filler p pieces))
 unfolding head_size chunks_before start_without_filler
 size_with p pieces =
     omega (arith, bytes-append (new_format p ∷ pieces) (filler p pieces ++ new_fact p.codec 0), bytes-append (filler p pieces) (new_fact p.codec 0))

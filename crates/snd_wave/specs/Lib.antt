@@ -4,3 +4,6 @@ pub mod Laws
 pub mod Values
 pub mod Written
 pub mod Sealed
+pub mod Put
+pub mod Relaid
+pub mod Changes

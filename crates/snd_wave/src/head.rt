@@ -1,13 +1,14 @@
 //! The head of a file that is made.
 
-ghost use Rattle.std.specs.Prelude.{◌≡◌, ◌+◌, ◌≤◌, ◌++◌, [], None, length, OnOk, IfErr, IfOk};
-ghost use Rattle.snd_disk.specs.Device.{CountsOn, WritesAtMost};
+ghost use Rattle.std.specs.Prelude.{◌≡◌, ◌+◌, ◌≤◌, ◌++◌, [], None, is_some, length, OnOk, IfErr, IfOk};
+ghost use Rattle.snd_disk.specs.Device.{CountsOn, GoesOnFrom, WritesAtMost};
 ghost use Rattle.arrayvec.specs.ArrayVec.{array_vec_len};
 ghost use Rattle.snd_chunks.specs.Written.{chunks_bytes};
 ghost use Rattle.snd_fields.specs.declared.field.Order.TheVariants.{Little};
 ghost use Rattle.snd_layout.specs.Fit.{fit_refusal};
 ghost use Rattle.snd_layout.specs.Opened.{CountsOpening};
 ghost use Rattle.snd_layout.specs.declared.kind.Kind.TheVariants.{Wave};
+ghost use Rattle.snd_wave.specs.Put.{IsHeadOf};
 ghost use Rattle.snd_wave.specs.Written.{Becomes, IsLayCause, has_fact, inner_at, made_shape, new_fact, plain_start, side_at, wave_head};
 
 use crate::put::{put_all, put_chunk, put_number};
@@ -16,7 +17,7 @@ use snd_disk::{Disk, Step};
 use snd_layout::{Codec, Field, Kind, Layout, OpenError, Params, PieceList, put_fmt};
 use std::alloc::Global;
 
-fn has_fact(params: &Params) -> bool
+pub(crate) fn has_fact(params: &Params) -> bool
     ensures { result ≡ has_fact params.now.codec }
 {
     matches!(
@@ -26,7 +27,7 @@ fn has_fact(params: &Params) -> bool
 }
 
 // Where the data begin.
-fn plain_start(params: &Params) -> u64
+pub(crate) fn plain_start(params: &Params) -> u64
     ensures value { result ≡ plain_start params.now.codec }
     ensures least { 44 ≤ result }
     ensures most { result ≤ 90 }
@@ -40,7 +41,7 @@ fn plain_start(params: &Params) -> u64
 }
 
 // The field that decides the count.
-fn inner_of(params: &Params, start: u64) -> Field
+pub(crate) fn inner_of(params: &Params, start: u64) -> Field
     requires { 12 ≤ start }
     ensures { result ≡ inner_at params.now.codec start }
 {
@@ -58,7 +59,7 @@ fn inner_of(params: &Params, start: u64) -> Field
 }
 
 // The count that is not read.
-fn side_of(params: &Params, start: u64) -> Option<Field>
+pub(crate) fn side_of(params: &Params, start: u64) -> Option<Field>
     requires { 12 ≤ start }
     ensures { result ≡ side_at params.now.codec start }
 {
@@ -73,7 +74,7 @@ fn side_of(params: &Params, start: u64) -> Option<Field>
 }
 
 // Puts the count of no frames behind the others, where there is one.
-fn put_fact(into: &mut ArrayVec<u8, 128>, params: &Params)
+pub(crate) fn put_fact(into: &mut ArrayVec<u8, 128>, params: &Params)
     requires { array_vec_len into.old + 13 ≤ 128 }
     ensures items { into.new.items ≡ into.old.items ++ chunks_bytes Little (new_fact params.now.codec 0) }
     ensures few { array_vec_len into.new ≤ array_vec_len into.old + 13 }
@@ -130,6 +131,8 @@ fn cut_whole<D: Disk>(disk: &mut D) -> Result<(), Step>
     ensures done { OnOk result (Becomes [] (D.state disk.old) (D.state disk.new)) }
     ensures faults { CountsOn D.state disk.old disk.new result }
     ensures name { (D.state disk.new).name ≡ (D.state disk.old).name }
+    ensures told { is_some (D.state disk.new).contents ≡ is_some (D.state disk.old).contents }
+    ensures time { GoesOnFrom D.state D.left_between disk.old disk.new }
     ensures written { (D.state disk.new).written ≡ (D.state disk.old).written }
     ensures asked { (D.state disk.new).asked ≡ (D.state disk.old).asked }
 {
@@ -146,6 +149,8 @@ fn fill<D: Disk>(disk: &mut D, bytes: &[u8]) -> Result<(), Step>
     ensures done { OnOk result (Becomes bytes.now (D.state disk.old) (D.state disk.new)) }
     ensures faults { CountsOn D.state disk.old disk.new result }
     ensures name { (D.state disk.new).name ≡ (D.state disk.old).name }
+    ensures told { is_some (D.state disk.new).contents ≡ is_some (D.state disk.old).contents }
+    ensures time { GoesOnFrom D.state D.left_between disk.old disk.new }
     ensures written { WritesAtMost D.state 2048 disk.old disk.new }
     ensures asked { (D.state disk.new).asked ≡ (D.state disk.old).asked }
 {
@@ -161,6 +166,8 @@ fn write_whole<D: Disk>(disk: &mut D, bytes: &[u8]) -> Result<(), Step>
     ensures done { OnOk result (Becomes bytes.now (D.state disk.old) (D.state disk.new)) }
     ensures faults { CountsOn D.state disk.old disk.new result }
     ensures name { (D.state disk.new).name ≡ (D.state disk.old).name }
+    ensures told { is_some (D.state disk.new).contents ≡ is_some (D.state disk.old).contents }
+    ensures time { GoesOnFrom D.state D.left_between disk.old disk.new }
     ensures written { WritesAtMost D.state 2048 disk.old disk.new }
     ensures asked { (D.state disk.new).asked ≡ (D.state disk.old).asked }
 {
@@ -176,12 +183,16 @@ pub fn lay_head<D: Disk>(alloc: Global, disk: &mut D, params: Params) -> Result<
     requires { fit_refusal Wave params ≡ None }
     ensures laid { OnOk result (Becomes (wave_head params []) (D.state disk.old) (D.state disk.new)) }
     ensures layout { IfOk result (λ l. l ≡ made_shape params [] 0) }
+    ensures head { IfOk result (λ l. IsHeadOf (D.state disk.new) l params []) }
     ensures cause { IfErr result (IsLayCause (D.state disk.old).faults (D.state disk.new).faults) }
     ensures faults { CountsOpening D.state disk.old disk.new result }
     ensures name { (D.state disk.new).name ≡ (D.state disk.old).name }
+    ensures told { is_some (D.state disk.new).contents ≡ is_some (D.state disk.old).contents }
+    ensures time { GoesOnFrom D.state D.left_between disk.old disk.new }
     ensures written { WritesAtMost D.state 2048 disk.old disk.new }
     ensures asked { (D.state disk.new).asked ≡ (D.state disk.old).asked }
 {
+    params.are_good();
     let head = plain_head(&params);
     match write_whole(disk, head.as_slice()) {
         Ok(()) => Ok(plain_layout(alloc, params)),

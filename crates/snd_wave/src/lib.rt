@@ -1,19 +1,26 @@
 //! WAVE files.
 #![tactic(auto)]
 
+mod changing;
+mod closing;
 mod ends;
 mod fields;
 mod head;
 mod laws;
+mod laying;
 mod layout;
 mod parts;
 mod pieces;
+mod plan;
 mod put;
 mod reads;
+mod rest;
+mod steps;
 #[cfg(test)]
 mod tests;
 mod values;
 
+pub use changing::put_piece;
 pub use head::lay_head;
 pub use laws::{
     count_is_stated, counted_files_read_back, fields_are_apart, layouts_agree,

@@ -248,3 +248,45 @@ fn lays_heads(rt: HostRuntime) -> Result<(), Fail> {
     }
     Ok(())
 }
+
+/// Pieces, and where they leave the data and the field that decides their count.
+mod added {
+    use super::*;
+    use snd_fields::Id4;
+    use snd_layout::Field;
+    use std::ops::Range;
+
+    fn part(bytes: &[u8], places: Range<usize>) -> &[u8] {
+        bytes.get(places).unwrap_or(&[])
+    }
+
+    #[test]
+    fn pieces_move_the_filler(rt: HostRuntime) -> Result<(), Fail> {
+        let alloc = rt.alloc();
+        let params = Params::new(1, 8000, Codec::S16(Order::Little))?;
+        assert!(rt; Kind::Wave.refusal_of(&params).is_none());
+        let mut disk = MemoryDisk::new(alloc, Vec::new(alloc), Vec::new(alloc))?;
+        let mut layout = lay_head(alloc, &mut disk, params)?;
+        // the size of the data would stand at 510 to 513, so that a filler stands at 506
+        put_piece(&mut disk, &mut layout, 0, Id4(*b"abcd"), &[0; 462])?;
+        assert_eq!(rt; layout.start, 530);
+        assert_eq!(rt; layout.inner, Field { at: 526, size: 4 });
+        assert_eq!(rt; disk.bytes().len(), 530);
+        assert_eq!(rt;
+            part(disk.bytes(), 506..522),
+            b"JUNK\x08\0\0\0\0\0\0\0\0\0\0\0".as_slice()
+        );
+        assert_eq!(rt; part(disk.bytes(), 4..8), b"\x0a\x02\0\0".as_slice());
+        // behind another piece the size stands in one sector
+        put_piece(&mut disk, &mut layout, 1, Id4(*b"efgh"), b"\x09\x08")?;
+        assert_eq!(rt; layout.start, 524);
+        // so it does behind a shorter one
+        put_piece(&mut disk, &mut layout, 0, Id4(*b"abcd"), b"\x01\x02\x03")?;
+        assert_eq!(rt; layout.inner, Field { at: 62, size: 4 });
+        assert_eq!(rt;
+            disk.bytes(),
+            b"RIFF\x3a\0\0\0WAVEfmt \x10\0\0\0\x01\0\x01\0\x40\x1f\0\0\x80\x3e\0\0\x02\0\x10\0abcd\x03\0\0\0\x01\x02\x03\0efgh\x02\0\0\0\x09\x08data\0\0\0\0".as_slice()
+        );
+        Ok(())
+    }
+}
