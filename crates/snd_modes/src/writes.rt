@@ -10,8 +10,14 @@ use snd_pcm::{Linear, put_samples};
 
 const BLOCK_BYTES: usize = 16384;
 
-// Writes samples at a place, at most one block.
-fn write_block<D: Disk>(disk: &mut D, form: Linear, at: u64, from: &[i32]) -> Result<(), Step>
+// Writes samples at a place, at most one block, in which their bytes are made.
+fn write_block<D: Disk>(
+    disk: &mut D,
+    form: Linear,
+    at: u64,
+    from: &[i32],
+    block: &mut [u8; BLOCK_BYTES],
+) -> Result<(), Step>
     requires fits { at + byte_count form * length from.now < 2 ^ 63 }
     requires small { byte_count form * length from.now ≤ 16384 }
     requires in_range { All (InRange form) from.now }
@@ -19,7 +25,6 @@ fn write_block<D: Disk>(disk: &mut D, form: Linear, at: u64, from: &[i32]) -> Re
     ensures puts { PutsSamples D.state D.left_between form at (length from.now) disk.old disk.new }
     ensures faults { CountsOn D.state disk.old disk.new result }
 {
-    let mut block = [0u8; BLOCK_BYTES];
     let bytes = &mut block[..form.bytes() * from.len()];
     put_samples(form, from, bytes);
     match disk.write_at(at, bytes) {
@@ -36,6 +41,7 @@ fn write_next<D: Disk>(
     at: u64,
     from: &[i32],
     done: usize,
+    block: &mut [u8; BLOCK_BYTES],
 ) -> Result<usize, Step>
     requires some { done < length from.now }
     requires fits { at + byte_count form * length from.now < 2 ^ 63 }
@@ -49,7 +55,13 @@ fn write_next<D: Disk>(
     let width = form.bytes();
     let count = (from.len() - done).min(BLOCK_BYTES / width);
     let next = done + count;
-    write_block(disk, form, at + (width * done) as u64, &from[done..next])?;
+    write_block(
+        disk,
+        form,
+        at + (width * done) as u64,
+        &from[done..next],
+        block,
+    )?;
     Ok(next)
 }
 
@@ -68,9 +80,11 @@ pub(crate) fn write_run<D: Disk>(
     ensures puts { PutsSamples D.state D.left_between form at (length from.now) disk.old disk.new }
     ensures faults { CountsOn D.state disk.old disk.new result }
 {
+    // once for all, since it is cleared where it is made
+    let mut block = [0u8; BLOCK_BYTES];
     let mut done = 0;
     while done < from.len() {
-        done = write_next(disk, form, at, from, done)?;
+        done = write_next(disk, form, at, from, done, &mut block)?;
     }
     Ok(())
 }

@@ -1,6 +1,6 @@
 //! Blocks of linear samples. The choice of codec stands here, outside the loops over samples.
 
-ghost use Rattle.std.specs.Prelude.{◌≡◌, ◌*◌, ◌↔◌, ◌≤ℤ◌, All, IsTrue, length};
+ghost use Rattle.std.specs.Prelude.{◌≡◌, ◌*◌, ◌↔◌, ◌≤ℤ◌, All, IsTrue, length, pos};
 ghost use Rattle.snd_pcm.specs.Pcm.{InRange, byte_count, samples, samples_bytes};
 
 use crate::linear::Linear;
@@ -63,19 +63,26 @@ pub fn put_samples(form: Linear, from: &[i32], bytes: &mut [u8])
 pub fn in_range(form: Linear, from: &[i32]) -> bool
     ensures { IsTrue result ↔ All (InRange form) from.now }
 {
-    let low = form.low();
-    let high = form.high();
-    // no early end, so that the loop becomes vector code
-    let mut all = true;
-    for x in from {
-        all &= is_between(low, *x, high);
+    match form {
+        // no number is outside, and of two constants the compiler knows that without the loop
+        Linear::S32(_) => are_between(i32::MIN, from, i32::MAX),
+        _ => are_between(form.low(), from, form.high()),
     }
-    all
 }
 
+// Whether each number lies between two bounds, which have 0 between them.
 #[inline(always)]
-fn is_between(low: i32, x: i32, high: i32) -> bool
-    ensures { IsTrue result ↔ ((low ≤ℤ x) × (x ≤ℤ high)) }
+fn are_between(low: i32, from: &[i32], high: i32) -> bool
+    requires below { low ≤ℤ pos 0 }
+    requires above { pos 0 ≤ℤ high }
+    ensures { IsTrue result ↔ All (λ x. (low ≤ℤ x) × (x ≤ℤ high)) from.now }
 {
-    low <= x && x <= high
+    // the ends alone, and no test, so that the loop becomes short vector code
+    let mut least = 0i32;
+    let mut greatest = 0i32;
+    for x in from {
+        least = least.min(*x);
+        greatest = greatest.max(*x);
+    }
+    low <= least && greatest <= high
 }
