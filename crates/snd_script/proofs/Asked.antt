@@ -10,7 +10,7 @@ use Rattle.snd_container.specs.Sound.{linear_of}
 use Rattle.snd_layout.specs.Shape.{Shape}
 use Rattle.snd_modes.specs.Editing.{Editing, frames_left}
 use Rattle.snd_modes.specs.Handle.{Known}
-use Rattle.snd_script.specs.Stepped.{read_known}
+use Rattle.snd_script.specs.Rules.{read_known}
 
 -- a frame of a linear codec has at most 1024 bytes
 pub linear_frame : (channels : ℕ) (codec : Codec) → is_none (linear_of codec) ≡ false → channels ≤ 256 → block_align channels codec ≤ 1024

@@ -1,35 +1,91 @@
 -- How a run that stops has served its script.
-use Rattle.std.proofs.Common.{◌≡◌, inl, inr, ℕ, List, [], Bool, false, Option, None, refl, sym, ◌∙◌, ap, subst, cond}
-use Rattle.snd_disk.specs.Shelf.{Files}
+use Rattle.std.proofs.Common.{◌≡◌, ◌⊎◌, inl, inr, ⊎_elim, ℕ, List, [], ◌∷◌, ◌++◌, Bool, false, ◌||◌, Option, None, Some, refl, sym, ◌∙◌, ap, subst}
+use Rattle.std.proofs.lemmas.List.{append-nil}
+use Rattle.snd_disk.specs.Shelf.{Files, ShelfState}
+use Rattle.snd_script.specs.Desk.{Desk, OpenFile, closed_desk, files_closed, files_with}
+use Rattle.snd_script.specs.Edit.{Edited}
 use Rattle.snd_script.specs.Lines.{Reading}
-use Rattle.snd_script.specs.Script.{answered, is_too_long, lines_within, most_bytes, script_answered}
-use Rattle.snd_script.specs.Served.{Counts, IsServed}
-use Rattle.snd_script.specs.Serving.{Moment, IsStopped, CountsAt, answers_left, is_longer, moment}
+use Rattle.snd_script.specs.Replies.{text_of}
+use Rattle.snd_script.specs.Script.{any_refused, ending, ending_of, is_too_long, last_desk, lines_within, most_bytes, script_steps, steps, texts}
+use Rattle.snd_script.specs.Served.{Appends, AppendsPart, FaultCounts, HasFiles, IsDone, IsServed, Takes, TakesPart, first_text, none_lost}
+use Rattle.snd_script.specs.Serving.{CountsAt, IsStopped, Moment, Serves, ServesPart, ShelfStands, is_longer, moment, steps_left}
 use Rattle.snd_script.specs.declared.serving.ScriptEnd.{ScriptEnd}
 use Rattle.snd_script.specs.declared.serving.ScriptEnd.TheVariants as ends
 use Rattle.snd_script.specs.declared.stop.Stop.{Stop}
-use Rattle.snd_script.specs.declared.stop.Stop.TheVariants.{Ended, TooLong, Fault, Memory}
+use Rattle.snd_script.specs.declared.stop.Stop.TheVariants.{Ended, TooLong, Script, Sink, File, Memory}
+use Rattle.snd_script.proofs.Chains.{all_of_part, last_append, or_none, refused_append, texts_append}
 
 abbrev pub end_at : Bool → Stop → ScriptEnd
 end_at refused Ended = ends.Done refused
 end_at refused TooLong = ends.TooLong
-end_at refused Fault = ends.Fault
+end_at refused Script = ends.Fault
+end_at refused Sink = ends.Fault
+end_at refused File = ends.Fault
 end_at refused Memory = ends.Memory
 
-served_fresh : (stop : Stop) (files : Files) (s : List ℕ) (left t : Option (List ℕ)) (m' : Moment) (old new : Counts)
-    → IsStopped stop (is_too_long most_bytes s) (answered files None (lines_within most_bytes s)) (moment (record { rest = []; room = most_bytes }) left false t) m' → CountsAt stop old new
-    → IsServed (end_at m'.refused stop) (is_too_long most_bytes s) (answered files None (lines_within most_bytes s)) old new t m'.told
-served_fresh Ended files s left t m' old new stopped counts =
-    inl (ap ends.Done (sym stopped.1) ∙ sym (ap (λ b. cond b ends.TooLong (ends.Done (answered files None (lines_within most_bytes s)).refused)) stopped.0), counts, stopped.2)
-served_fresh TooLong files s left t m' old new stopped counts =
-    inl (sym (ap (λ b. cond b ends.TooLong (ends.Done (answered files None (lines_within most_bytes s)).refused)) stopped.0), counts, stopped.1)
-served_fresh Fault files s left t m' old new stopped counts = inr (inl (refl, counts, stopped))
-served_fresh Memory files s left t m' old new stopped counts = inr (inr (refl, stopped))
+-- the ending says nothing, refuses nothing, and closes what is open
+ending_says : (files : Files) (file : Option OpenFile) → texts (ending_of files file) ≡ []
+ending_says files None = refl
+ending_says files (Some file) = refl
 
-pub served_script : (stop : Stop) (files : Files) (s : List ℕ) (reading : Reading) (left t : Option (List ℕ)) (m' : Moment) (old new : Counts) → reading ≡ record { rest = []; room = most_bytes }
-    → IsStopped stop (is_longer (moment reading left false t) s) (answers_left files None (moment reading left false t) s) (moment reading left false t) m' → CountsAt stop old new
-    → IsServed (end_at m'.refused stop) (is_too_long most_bytes s) (script_answered files s) old new t m'.told
-unfolding script_answered
-served_script stop files s reading left t m' old new is stopped counts =
-    served_fresh stop files s left t m' old new
-    (subst (λ (x : Reading). IsStopped stop (is_longer (moment x left false t) s) (answers_left files None (moment x left false t) s) (moment x left false t) m') is stopped) counts
+ending_refuses : (files : Files) (file : Option OpenFile) → any_refused (ending_of files file) ≡ false
+ending_refuses files None = refl
+ending_refuses files (Some file) = refl
+
+ending_closes : (files : Files) (file : Option OpenFile) → (last_desk (record { files = files; open_file = file }) (ending_of files file)).files ≡ files_with files file
+ending_closes files None = refl
+ending_closes files (Some file) = refl
+
+-- all steps are taken once the ending is
+module _ (all : List Edited) (start at : Desk) (m m' : Moment) (serves : Serves all (ending at) start at m m') where
+  all_said : Appends m.told m'.told (texts all)
+  all_said = subst (λ (l : List ℕ). Appends m.told m'.told l) (sym (ap texts serves.whole ∙ texts_append serves.done (ending at) ∙ ap (λ l. texts serves.done ++ l) (ending_says at.files at.open_file) ∙ append-nil (texts serves.done))) serves.appended
+
+  all_noted : m.refused ≡ false → m'.refused ≡ any_refused all
+  all_noted fresh = serves.noted ∙ ap (λ b. b || any_refused serves.done) fresh
+      ∙ sym (ap any_refused serves.whole ∙ refused_append serves.done (ending at) ∙ ap (λ b. any_refused serves.done || b) (ending_refuses at.files at.open_file) ∙ or_none (any_refused serves.done))
+
+  all_closed : (last_desk start all).files ≡ files_closed at
+  all_closed = ap (λ l. (last_desk start l).files) serves.whole ∙ ap (λ (d : Desk). d.files) (last_append start serves.done (ending at)) ∙ ap (λ (d : Desk). (last_desk d (ending at)).files) serves.last ∙ ending_closes at.files at.open_file
+
+  pub is_done : {S : Type 0} (state : S → ShelfState) (shelf : S) (files : Files) → start ≡ closed_desk files → ShelfStands state shelf none_lost at → IsDone state files all m.told m'.told shelf
+  is_done state shelf files begins (f, told, same) = record {
+    appended = all_said;
+    files = (f, told, λ n. same n refl ∙ sym (ap (λ (h : Files). h n) (ap (λ (d : Desk). (last_desk d all).files) (sym begins) ∙ all_closed)));
+  }
+
+module _ {S : Type 0} (state : S → ShelfState) (shelf : S) (files : Files) (longer : Bool) (all : List Edited) (m m' : Moment) (old new : FaultCounts) where
+  -- .. of a step that is not taken
+  taken_part : (left : List Edited) (at : Desk) (front : List ℕ) → front ≡ first_text left → ServesPart all left front (closed_desk files) at m m' → TakesPart all left (closed_desk files) at m.told m'.told
+  taken_part left at front is part = record { done = part.done; whole = part.whole; last = part.last; appended = subst (λ (l : List ℕ). AppendsPart m.told m'.told (texts part.done) l) is part.appended }
+
+  taken : (left : List Edited) (at : Desk) → ServesPart all left [] (closed_desk files) at m m' → Takes all left (closed_desk files) at m.told m'.told
+  taken left at part = record { done = part.done; whole = part.whole; last = part.last; appended = all_of_part m.told m'.told (texts part.done) part.appended }
+
+  stands_all : (at : Desk) → ShelfStands state shelf none_lost at → HasFiles state shelf (files_closed at)
+  stands_all at (f, told, same) = (f, told, λ n. same n refl)
+
+  served_until : (stop : Stop) → m.refused ≡ false → IsStopped stop longer all (closed_desk files) m m' (ShelfStands state shelf) → CountsAt stop old new
+      → IsServed state files longer all (end_at m'.refused stop) old new m.told m'.told m'.left shelf
+  served_until Ended fresh (is, (at, serves, here)) counts = (is, all_noted all (closed_desk files) at m m' serves fresh, counts, is_done all (closed_desk files) at m m' serves state shelf files refl here)
+  served_until TooLong fresh (is, (at, serves, here)) counts = (is, counts, is_done all (closed_desk files) at m m' serves state shelf files refl here)
+  served_until Script fresh (left, at, part, cut, here) counts = inl (counts.0, counts.1, counts.2, (left, at, taken left at part, cut, stands_all at here))
+  served_until Sink fresh (step, left, at, part, here) counts =
+      inr (inl (counts.0, counts.1, counts.2, (step, left, at, taken_part (step ∷ left) at (text_of step.answer) refl part, stands_all step.desk here)))
+  served_until File fresh (inl (left, at, part, here)) counts = inr (inr (counts, inl (left, at, taken_part left at (first_text left) refl part, here)))
+  served_until File fresh (inr (step, left, at, part, here)) counts = inr (inr (counts, inr (step, left, at, taken_part (step ∷ left) at (text_of step.answer) refl part, here)))
+  served_until Memory fresh (left, at, part, here) counts = (counts, (left, at, taken left at part, here))
+
+pub script_served : {S : Type 0} (state : S → ShelfState) (shelf : S) (files : Files) (stop : Stop) (s : List ℕ) (reading : Reading) (left t : Option (List ℕ)) (m' : Moment) (old new : FaultCounts)
+    → reading ≡ record { rest = []; room = most_bytes }
+    → IsStopped stop (is_longer (moment reading left false t) s) (steps_left (closed_desk files) (moment reading left false t) s) (closed_desk files) (moment reading left false t) m' (ShelfStands state shelf) → CountsAt stop old new
+    → IsServed state files (is_too_long most_bytes s) (script_steps files s) (end_at m'.refused stop) old new t m'.told m'.left shelf
+unfolding script_steps
+script_served state shelf files stop s reading left t m' old new is stopped counts =
+    served_until state shelf files (is_too_long most_bytes s) (steps (closed_desk files) (lines_within most_bytes s)) (moment (record { rest = []; room = most_bytes }) left false t) m' old new stop refl
+    (subst (λ (x : Reading). IsStopped stop (is_longer (moment x left false t) s) (steps_left (closed_desk files) (moment x left false t) s) (closed_desk files) (moment x left false t) m' (ShelfStands state shelf)) is stopped) counts
+
+pub script_faults : {S : Type 0} (state : S → ShelfState) (shelf : S) (files : Files) (stop : Stop) (s : List ℕ) (old new : FaultCounts) (refused : Bool) (t t' left : Option (List ℕ)) → (stop ≡ Script) ⊎ ((stop ≡ Sink) ⊎ (stop ≡ File))
+    → IsServed state files (is_too_long most_bytes s) (script_steps files s) (end_at refused stop) old new t t' left shelf → IsServed state files (is_too_long most_bytes s) (script_steps files s) ends.Fault old new t t' left shelf
+script_faults state shelf files stop s old new refused t t' left is served =
+    subst (λ (e : ScriptEnd). IsServed state files (is_too_long most_bytes s) (script_steps files s) e old new t t' left shelf) (⊎_elim (ap (end_at refused)) (⊎_elim (ap (end_at refused)) (ap (end_at refused))) is) served

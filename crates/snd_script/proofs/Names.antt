@@ -9,7 +9,7 @@ use Rattle.snd_layout.specs.declared.refusal.OpenRefusal.{OpenRefusal}
 use Rattle.snd_layout.specs.declared.refusal.OpenRefusal.TheVariants as chunk
 use Rattle.snd_layout.specs.Names.{codec_name, kind_name, refusal_name as open_name}
 use Rattle.snd_script.specs.declared.refusal.Refusal.{Refusal}
-use Rattle.snd_script.specs.declared.refusal.Refusal.TheVariants.{Open, SeekRange, BadCommand, LineTooLong, NotOpen, AlreadyOpen, MissingFile, NotBuilt}
+use Rattle.snd_script.specs.declared.refusal.Refusal.TheVariants.{Open, AdpcmUpdate, UnknownLength, PartFrame, SampleRange, SeekRange, TrailingData, ContainerFull, Straddle, BadCommand, LineTooLong, NotOpen, AlreadyOpen, WrongMode, MissingFile, NotBuilt}
 use Rattle.snd_script.specs.Replies.{refusal_name}
 
 pub short_kind : (kind : Kind) → length (kind_name kind) ≤ 16
@@ -59,7 +59,15 @@ short_open chunk.NotBuilt = lit≤ tt
 
 pub short_refusal : (refusal : Refusal) → length (refusal_name refusal) ≤ 16
 short_refusal (Open refusal) = short_open refusal
+short_refusal AdpcmUpdate = lit≤ tt
+short_refusal UnknownLength = lit≤ tt
+short_refusal PartFrame = lit≤ tt
+short_refusal SampleRange = lit≤ tt
 short_refusal SeekRange = lit≤ tt
+short_refusal TrailingData = lit≤ tt
+short_refusal ContainerFull = lit≤ tt
+short_refusal Straddle = lit≤ tt
+short_refusal WrongMode = lit≤ tt
 short_refusal BadCommand = lit≤ tt
 short_refusal LineTooLong = lit≤ tt
 short_refusal NotOpen = lit≤ tt

@@ -1,4 +1,4 @@
--- The name that a line opens is a good one.
+-- The name that a line opens or makes is a good one.
 use Rattle.std.proofs.Common.{◌≡◌, inl, inr, ℕ, List, [], ◌∷◌, Bool, true, false, ◌&&◌, Option, None, Some, option_map, Result, Ok, Err, length, get_or, nat_le, nat_lt, codes, refl, subst, cond, arith}
 use Rattle.std.specs.Option.{option_and_then}
 use Rattle.std.specs.List.{list_all}
@@ -19,12 +19,17 @@ use Rattle.snd_command.specs.Line.{command_of, command_or_bad, line_of_words, sa
 use Rattle.snd_command.specs.Numbers.{set_cue_said, write_said}
 use Rattle.snd_command.specs.Open.{bare_said, create_said, created, get_said, open_said}
 use Rattle.snd_command.specs.Said.{Said}
+use Rattle.snd_script.specs.Work.{name_of}
 use Rattle.snd_command.specs.Tables.{bext_of, info_of}
 use Rattle.snd_command.specs.Set.{is_bext_text, set_said, set_chunk_said, set_string_said, set_bext_said, text_behind}
 
+abbrev IsGoodName : Option (List ℕ) → Type 0
+IsGoodName None = Unit {0}
+IsGoodName (Some name) = is_name name ≡ true
+
 abbrev IsFine : Option Said → Type 0
-IsFine (Some (Said.open_read name)) = is_name name ≡ true
-IsFine said = Unit {0}
+IsFine None = Unit {0}
+IsFine (Some said) = IsGoodName (name_of said)
 
 pub record Fine (said : Option Said) : Type 0 where
   pub fine : IsFine said
@@ -45,11 +50,11 @@ fine_then f each None = record { fine = tt }
 fine_then f each (Some x) = each x
 
 fine_open : (args : List (List ℕ)) → Fine (open_said args)
-fine_open (mode ∷ name ∷ []) = fine_where (is_name name) _ None (λ is. fine_if _ (Some (Said.open_read name)) _ (record { fine = is }) (fine_if _ (Some (Said.open_update name)) None (record { fine = tt }) (record { fine = tt }))) (record { fine = tt })
+fine_open (mode ∷ name ∷ []) = fine_where (is_name name) _ None (λ is. fine_if _ (Some (Said.open_read name)) _ (record { fine = is }) (fine_if _ (Some (Said.open_update name)) None (record { fine = is }) (record { fine = tt }))) (record { fine = tt })
 fine_open args = record { fine = tt }
 
 fine_created : (kind : Option Kind) (codec : Option CodecWord) (channels rate : Option ℕ) (name : List ℕ) → Fine (created kind codec channels rate name)
-fine_created (Some kind) (Some codec) (Some channels) (Some rate) name = fine_if (is_name name) (Some (Said.create kind codec channels rate name)) None (record { fine = tt }) (record { fine = tt })
+fine_created (Some kind) (Some codec) (Some channels) (Some rate) name = fine_where (is_name name) (Some (Said.create kind codec channels rate name)) None (λ is. record { fine = is }) (record { fine = tt })
 fine_created kind codec channels rate name = record { fine = tt }
 
 fine_create : (args : List (List ℕ)) → Fine (create_said args)
@@ -139,8 +144,11 @@ fine_words (verb ∷ args) text = fine_either _ (Ok None) _ (record { fine = tt 
 fine_line : (line : List ℕ) → FineAnswer (command_of line)
 fine_line line = fine_either (nat_lt 4096 (length line)) (Err LineTooLong) _ (record { fine = tt }) (fine_words (words (trimmed line)) (text_behind (behind_word (trimmed line))))
 
-pub name_is_good : (line name : List ℕ) → command_of line ≡ Ok (Some (Said.open_read name)) → is_name name ≡ true
-name_is_good line name is = subst (λ (r : Result (Option Said) ScriptRefusal). IsFineAnswer r) is (fine_line line).fine
+good_name : (o : Option (List ℕ)) (name : List ℕ) → IsGoodName o → o ≡ Some name → is_name name ≡ true
+good_name o name good is = subst (λ (x : Option (List ℕ)). IsGoodName x) is good
+
+pub name_is_good : (line name : List ℕ) (said : Said) → command_of line ≡ Ok (Some said) → name_of said ≡ Some name → is_name name ≡ true
+name_is_good line name said is named = good_name (name_of said) name (subst (λ (r : Result (Option Said) ScriptRefusal). IsFineAnswer r) is (fine_line line).fine) named
 
 -- a name is text
 and_right : (a b : Bool) → (a && b) ≡ true → b ≡ true

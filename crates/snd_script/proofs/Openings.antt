@@ -1,143 +1,213 @@
 -- What is known of a run once a file was opened, or was not, and once it was closed.
-use Rattle.std.proofs.Common.{◌≡◌, inl, inr, ⊎_elim, ℕ, List, Bool, true, false, ◌||◌, Option, None, Some, Result, Ok, Err, length, refl, sym, ◌∙◌, subst, arith}
-use Rattle.snd_command.specs.Said.{Said}
+use Rattle.std.proofs.Common.{◌≡◌, ◌⊎◌, inl, inr, ℕ, List, [], ◌++◌, Bool, true, false, Option, None, Some, Result, Ok, Err, refl, sym, ◌∙◌, ap, subst, cond}
+use Rattle.std.specs.Prelude.{is_none, unwrap_or}
+use Rattle.std.specs.Str.{bytes_eq}
+use Rattle.std.specs.Borrow.{MutBor}
+use Rattle.snd_disk.proofs.Chains.{goes_on_then, only_reads_then}
+use Rattle.snd_disk.proofs.Names.{same_bytes}
+use Rattle.snd_disk.specs.Device.{Tells}
 use Rattle.snd_disk.specs.Shelf.{Files}
-use Rattle.snd_disk.specs.State.{Adds, Rises}
-use Rattle.snd_layout.specs.Opened.{IsCause}
-use Rattle.snd_layout.specs.declared.error.OpenError.{OpenError}
-use Rattle.snd_layout.specs.declared.error.OpenError.TheVariants as cause
-use Rattle.snd_layout.specs.declared.refusal.OpenRefusal.{OpenRefusal}
-use Rattle.snd_modes.specs.Editing.{Editing, opening_of}
-use Rattle.snd_script.specs.Edit.{Edited, edit_open, open_edit_of}
+use Rattle.snd_disk.specs.State.{Rises, State}
+use Rattle.snd_disk.specs.declared.disk.Disk.{Ghosts}
+use Rattle.snd_disk.specs.declared.disk.Step.{Step}
+use Rattle.snd_layout.specs.Shape.{Shape}
+use Rattle.snd_modes.specs.Editing.{Editing}
+use Rattle.snd_script.specs.Desk.{Desk, OpenFile, closed_as, closed_bytes, closed_desk, files_closed, open_desk, writes}
+use Rattle.snd_script.specs.Edit.{Edited, close_edit, opened_edit}
+use Rattle.snd_script.specs.Handled.{FinishesAs, HandleStands, LeavesDisk, LeavesHandle, handle_disk, handle_known, mode_of}
 use Rattle.snd_script.specs.Lines.{Reading}
-use Rattle.snd_script.specs.Replies.{ok_line, says}
-use Rattle.snd_script.specs.Script.{Answered}
-use Rattle.snd_script.specs.Served.{Counts, SameCounts, AnyCountRises}
-use Rattle.snd_script.specs.Serving.{Moment, Serves, IsServedOn, IsServedOpen, IsCounted, CountsAt, IsAnswered, IsNotOpened, IsReadError, answers_from, answers_left, is_longer, moment}
+use Rattle.snd_script.specs.Replies.{Answer, file_line, ok_line, says}
+use Rattle.snd_script.specs.Script.{ending}
+use Rattle.snd_script.specs.Served.{FaultCounts, SameCounts, lost_at, none_lost}
+use Rattle.snd_script.specs.Serving.{CountsAt, DiskStands, IsAnswered, IsCounted, IsServedOn, IsServedOpen, IsStopped, Moment, OpenStands, Serves, ServesPart, StopsLine, WholeAt, is_longer, moment, steps_from, steps_left}
+use Rattle.snd_script.specs.Stepped.{Rose}
+use Rattle.snd_script.specs.declared.handle.Handle.{Handle}
+use Rattle.snd_script.specs.declared.handle.Handle.TheVariants.{R, W, U}
 use Rattle.snd_script.specs.declared.stop.Stop.{Stop}
-use Rattle.snd_script.specs.declared.stop.Stop.TheVariants.{Ended, TooLong, Fault, Memory}
-use Rattle.snd_script.proofs.Chains.{answered_open, cut_stops, longer_as, no_text, serves_then, stopped_as, stopped_then}
+use Rattle.snd_script.specs.declared.stop.Stop.TheVariants.{Ended, TooLong, Script, Sink, File, Memory}
+use Rattle.snd_script.proofs.Chains.{all_of_part, line_stops, or_none, part_of_all, serves_then, stopped_as, stopped_then}
+use Rattle.snd_script.proofs.OpenChains.{answered_one}
+use Rattle.snd_script.proofs.Stepping.{held_desk, lost_not}
 
--- counts
-pub same_counts_then : (a b c : Counts) → SameCounts a b → SameCounts b c → SameCounts a c
+-- an answer that does not get out
+pub answer_stops : (stop : Stop) (edited : Edited) (answer : Answer) (d : Desk) (r r' : Bool) (before after : Option (List ℕ)) (stands : (List ℕ → Bool) → Desk → Type 0) → answer ≡ edited.answer
+    → IsAnswered {T = Unit {0}} (Err stop) answer r r' before after → stands none_lost edited.desk → StopsLine stop edited d before after stands
+answer_stops Sink edited answer d r r' before after stands is said here = (subst (λ (a : Answer). IsAnswered {T = Unit {0}} (Err Sink) a r r' before after) is said, here)
+answer_stops Ended edited answer d r r' before after stands is said here = absurd said
+answer_stops TooLong edited answer d r r' before after stands is said here = absurd said
+answer_stops Script edited answer d r r' before after stands is said here = absurd said
+answer_stops File edited answer d r r' before after stands is said here = absurd said
+answer_stops Memory edited answer d r r' before after stands is said here = absurd said
+
+-- ---- a file was opened
+
+pub served_open_then : {T : Type 0} (r : Result T Stop) (longer longer' : Bool) (all mid : List Edited) (files : Files) (d d' : Desk) (m m' m'' : Moment) (stands : (List ℕ → Bool) → Desk → Type 0)
+    → longer ≡ longer' → Serves all mid d d' m m' → IsServedOpen r longer mid files d' m' m'' stands → IsServedOpen r longer' all files d m m'' stands
+served_open_then (Ok x) longer longer' all mid files d d' m m' m'' stands is first (file, s, left, serves, here, long) =
+    (file, s, left, serves_then all mid _ d d' _ m m' m'' first serves, here, long ∙ is)
+served_open_then (Err stop) longer longer' all mid files d d' m m' m'' stands is first stops =
+    stopped_as stop longer longer' all d m m'' stands is (stopped_then stop longer all mid d d' m m' m'' stands first stops)
+
+pub shape_stands : {D : Type 0} {ghosts : Ghosts D} (state : D → State) (handle : Handle D ghosts) (e : Editing) → HandleStands state handle e → (handle_known handle).shape ≡ e.shape
+shape_stands state (R file) e stands = stands.shape
+shape_stands state (W file) e stands = stands.shape
+shape_stands state (U file) e stands = stands.shape
+
+pub frames_stand : {D : Type 0} {ghosts : Ghosts D} (state : D → State) (handle : Handle D ghosts) (e : Editing) → HandleStands state handle e → (handle_known handle).shape.frames ≡ e.shape.frames
+frames_stand state handle e stands = ap (λ (h : Shape). h.frames) (shape_stands state handle e stands)
+
+bytes_stand : {D : Type 0} {ghosts : Ghosts D} (state : D → State) (handle : Handle D ghosts) (e : Editing) → HandleStands state handle e → Tells state (handle_disk handle) e.bytes
+bytes_stand state (R file) e stands = stands.bytes
+bytes_stand state (W file) e stands = stands.bytes
+bytes_stand state (U file) e stands = stands.bytes
+
+pub said_of_shape : (h h' : Shape) → h ≡ h' → says (file_line h) ≡ says (file_line h')
+said_of_shape h h' is = ap (λ (x : Shape). says (file_line x)) is
+
+-- its line was said
+pub file_said : (left : Option (List ℕ)) (reading : Reading) (r : Bool) (t t' : Option (List ℕ)) (s : List ℕ) (files : Files) (file : OpenFile) (shape : Shape) → shape ≡ file.editing.shape
+    → IsAnswered {T = Unit {0}} (Ok tt) (says (file_line shape)) false false t t'
+    → Serves (steps_from (opened_edit files file) (moment reading left r t) s) (steps_left (open_desk files file) (moment reading left r t') s) (closed_desk files) (open_desk files file) (moment reading left r t) (moment reading left r t')
+file_said left reading r t t' s files file shape is said =
+    answered_one left reading reading r r t t' s refl (opened_edit files file) (closed_desk files) (sym (or_none r)) (subst (λ (h : Shape). (x : List ℕ) → t ≡ Some x → t' ≡ Some (x ++ file_line h)) is said.1)
+
+-- ---- it is closed
+
+module _ {D : Type 0} {ghosts : Ghosts D} (state : D → State) (files : Files) (name : List ℕ) (handle : Handle D ghosts) (disk : D) where
+  others : (editing : Editing) (desk : Desk) → desk ≡ held_desk files name handle editing → (n : List ℕ) → bytes_eq n name ≡ false → files_closed desk n ≡ files n
+  others editing desk is n other = ap (λ d. files_closed d n) is ∙ ap (λ b. cond b (Some (closed_bytes (record { name = name; mode = mode_of handle; editing = editing }))) (files n)) other
+
+  own : (editing : Editing) (desk : Desk) → desk ≡ held_desk files name handle editing → files_closed desk name ≡ Some (closed_as (writes (mode_of handle)) editing).bytes
+  own editing desk is = ap (λ d. files_closed d name) is ∙ ap (λ b. cond b (Some (closed_as (writes (mode_of handle)) editing).bytes) (files name)) (same_bytes name)
+
+  -- the disk that came back holds the file
+  pub disk_stands : (lost : List ℕ → Bool) (desk : Desk) → ((e : Editing) → HandleStands state handle e → Tells state disk (closed_as (writes (mode_of handle)) e).bytes)
+      → OpenStands state files name handle lost desk → DiskStands state files name disk lost desk
+  disk_stands lost desk closes here = record {
+    others = others here.editing desk here.is;
+    holds = λ kept. ((closed_as (writes (mode_of handle)) here.editing).bytes, closes here.editing (here.stands kept), own here.editing desk here.is);
+  }
+
+  -- .. or it failed
+  pub disk_lost : (lost : List ℕ → Bool) (left : List Edited) (desk : Desk) → OpenStands state files name handle lost desk → DiskStands state files name disk (lost_at desk left) desk
+  disk_lost lost left desk here = record {
+    others = others here.editing desk here.is;
+    holds = λ kept. absurd (lost_not name _ (sym (ap (λ d. lost_at d left name) here.is) ∙ kept));
+  }
+
+  -- once the file is closed
+  pub desk_closed : (lost : List ℕ → Bool) (desk : Desk) → DiskStands state files name disk lost desk → DiskStands state files name disk lost (closed_desk (files_closed desk))
+  desk_closed lost desk here = record { others = here.others; holds = here.holds }
+
+  pub finished_tells : (writing : Bool) (may_leave : D → List ℕ → Type 0) (r : ℕ × MutBor D) → FinishesAs writing state may_leave handle (Ok r) → r.1.now ≡ disk
+      → (e : Editing) → HandleStands state handle e → Tells state disk (closed_as writing e).bytes
+  finished_tells true may_leave r back is e stands = subst (λ (d : D). Tells state d (closed_as true e).bytes) is (back.0 e stands)
+  finished_tells false may_leave r back is e stands = subst (λ (d : D). Tells state d e.bytes) (sym back ∙ is) (bytes_stand state handle e stands)
+
+-- its frames are those that the handle counts
+pub frames_open : {D : Type 0} {ghosts : Ghosts D} (state : D → State) (files : Files) (name : List ℕ) (handle : Handle D ghosts) (file : OpenFile) → OpenStands state files name handle none_lost (open_desk files file)
+    → (handle_known handle).shape.frames ≡ file.editing.shape.frames
+frames_open state files name handle file here =
+    frames_stand state handle here.editing (here.stands refl) ∙ sym (ap (λ (d : Desk). (unwrap_or d.open_file file).editing.shape.frames) here.is)
+
+-- what stands at a desk, as another predicate says it
+pub stopped_stands : (stop : Stop) (longer : Bool) (all : List Edited) (d : Desk) (m m' : Moment) (stands stands' : (List ℕ → Bool) → Desk → Type 0)
+    → ((lost : List ℕ → Bool) (desk : Desk) → stands lost desk → stands' lost desk) → IsStopped stop longer all d m m' stands → IsStopped stop longer all d m m' stands'
+stopped_stands Ended longer all d m m' stands stands' to stops = (stops.0, (stops.1.0, stops.1.1, to none_lost stops.1.0 stops.1.2))
+stopped_stands TooLong longer all d m m' stands stands' to stops = (stops.0, (stops.1.0, stops.1.1, to none_lost stops.1.0 stops.1.2))
+stopped_stands Script longer all d m m' stands stands' to stops = (stops.0, stops.1, stops.2, stops.3, to none_lost stops.1 stops.4)
+stopped_stands Sink longer all d m m' stands stands' to stops = (stops.0, stops.1, stops.2, stops.3, to none_lost stops.0.desk stops.4)
+stopped_stands File longer all d m m' stands stands' to (inl stops) = inl (stops.0, stops.1, stops.2, to (lost_at stops.1 stops.0) stops.1 stops.3)
+stopped_stands File longer all d m m' stands stands' to (inr stops) = inr (stops.0, stops.1, stops.2, stops.3, to (lost_at stops.0.desk stops.1) stops.0.desk stops.4)
+stopped_stands Memory longer all d m m' stands stands' to stops = (stops.0, stops.1, stops.2, to _ stops.1 stops.3)
+
+-- the run had stopped, and then the file could not be closed
+part_of_serves : (all left : List Edited) (front : List ℕ) (d d' : Desk) (m m' : Moment) → Serves all left d d' m m' → ServesPart all left front d d' m m'
+part_of_serves all left front d d' m m' serves = record { done = serves.done; whole = serves.whole; last = serves.last; appended = part_of_all m.told m'.told _ front serves.appended }
+
+part_of_part : (all left : List Edited) (front : List ℕ) (d d' : Desk) (m m' : Moment) → ServesPart all left [] d d' m m' → ServesPart all left front d d' m m'
+part_of_part all left front d d' m m' serves = record { done = serves.done; whole = serves.whole; last = serves.last; appended = part_of_all m.told m'.told _ front (all_of_part m.told m'.told _ serves.appended) }
+
+module _ (longer : Bool) (all : List Edited) (d : Desk) (m m' : Moment) (stands stands' : (List ℕ → Bool) → Desk → Type 0) (to : (lost : List ℕ → Bool) (left : List Edited) (desk : Desk) → stands lost desk → stands' (lost_at desk left) desk) where
+  pub stopped_failed : (stop : Stop) → IsStopped stop longer all d m m' stands → IsStopped File longer all d m m' stands'
+  stopped_failed Ended stops = inl (ending stops.1.0, stops.1.0, part_of_serves all _ _ d _ m m' stops.1.1, to none_lost _ stops.1.0 stops.1.2)
+  stopped_failed TooLong stops = inl (ending stops.1.0, stops.1.0, part_of_serves all _ _ d _ m m' stops.1.1, to none_lost _ stops.1.0 stops.1.2)
+  stopped_failed Script stops = inl (stops.0, stops.1, part_of_part all _ _ d _ m m' stops.2, to none_lost _ stops.1 stops.4)
+  stopped_failed Sink stops = inr (stops.0, stops.1, stops.2, stops.3, to none_lost stops.1 stops.0.desk stops.4)
+  stopped_failed File (inl stops) = inl (stops.0, stops.1, stops.2, to (lost_at stops.1 stops.0) stops.0 stops.1 stops.3)
+  stopped_failed File (inr stops) = inr (stops.0, stops.1, stops.2, stops.3, to (lost_at stops.0.desk stops.1) stops.1 stops.0.desk stops.4)
+  stopped_failed Memory stops = inl (stops.0, stops.1, part_of_part all _ _ d _ m m' stops.2, to _ stops.0 stops.1 stops.3)
+
+  pub open_failed : {T : Type 0} (x : T) (files : Files) → IsServedOpen (Ok x) longer all files d m m' stands → IsStopped File longer all d m m' stands'
+  open_failed x files (file, s, left, serves, here, long) = inl (steps_from (close_edit files file) m' s, open_desk files file, part_of_serves all _ _ d _ m m' serves, to none_lost (steps_from (close_edit files file) m' s) (open_desk files file) here)
+
+-- the reply to closing
+pub closed_then : (r : Result (Unit {0}) Stop) (files : Files) (longer : Bool) (all : List Edited) (d : Desk) (m : Moment) (reading : Reading) (left : Option (List ℕ)) (refused : Bool) (t t' : Option (List ℕ)) (s : List ℕ) (file : OpenFile) (n : ℕ) (stands : (List ℕ → Bool) → Desk → Type 0)
+    → n ≡ file.editing.shape.frames → IsAnswered r (says (ok_line n)) false false t t' → left ≡ Some s
+    → Serves all (steps_from (close_edit files file) (moment reading left refused t) s) d (open_desk files file) m (moment reading left refused t) → is_longer (moment reading left refused t) s ≡ longer
+    → stands none_lost (closed_desk (files_closed (open_desk files file))) → IsServedOn r longer all d m (moment reading left refused t') stands
+closed_then (Ok x) files longer all d m reading left refused t t' s file n stands count said here serves long stand = (
+  files_closed (open_desk files file),
+  s,
+  here,
+  serves_then all (steps_from (close_edit files file) (moment reading left refused t) s) _ d (open_desk files file) _ m (moment reading left refused t) (moment reading left refused t') serves
+      (answered_one left reading reading refused refused t t' s refl (close_edit files file) (open_desk files file) (sym (or_none refused)) (subst (λ (k : ℕ). (x : List ℕ) → t ≡ Some x → t' ≡ Some (x ++ ok_line k)) count said.1)),
+  stand,
+  long,
+)
+closed_then (Err stop) files longer all d m reading left refused t t' s file n stands count said here serves long stand =
+    stopped_then stop longer all (steps_from (close_edit files file) (moment reading left refused t) s) d (open_desk files file) m (moment reading left refused t) (moment reading left refused t') stands serves
+    (line_stops stop longer (close_edit files file) (steps_left (close_edit files file).desk (moment reading left refused t) s) (open_desk files file) (moment reading left refused t) (moment reading left refused t') stands
+    (answer_stops stop (close_edit files file) (says (ok_line n)) (open_desk files file) false false t t' stands (ap (λ k. says (ok_line k)) count) said stand))
+
+-- ---- how the disk was left
+
+pub leaves_disk_then : {D : Type 0} {ghosts : Ghosts D} (state : D → State) (may_leave : D → List ℕ → Type 0) (left_between : D → ℕ → ℕ → List ℕ → Type 0) (a b : Handle D ghosts) (disk : D)
+    → LeavesHandle state may_leave left_between a b → LeavesDisk state may_leave left_between b disk → LeavesDisk state may_leave left_between a disk
+leaves_disk_then state may_leave left_between a b disk first second = record {
+  tells = record { told = second.tells.told ∙ first.tells.told; name = second.tells.name ∙ first.tells.name };
+  time = goes_on_then _ _ _ (left_between (handle_disk a)) (left_between (handle_disk b)) (left_between disk) first.time second.time;
+  reads = λ plain. only_reads_then (state (handle_disk a)) (state (handle_disk b)) (state disk) (may_leave (handle_disk a)) (may_leave (handle_disk b)) (may_leave disk) (left_between (handle_disk a)) (left_between (handle_disk b)) (left_between disk) (first.reads plain) (second.reads (ap writes first.mode ∙ plain));
+}
+
+-- ---- counts
+
+pub same_counts_then : (a b c : FaultCounts) → SameCounts a b → SameCounts b c → SameCounts a c
 same_counts_then a b c first second = record { shelf = second.shelf ∙ first.shelf; script = second.script ∙ first.script; out = second.out ∙ first.out }
 
-pub rises_after_same : (a b c : Counts) → SameCounts a b → AnyCountRises b c → AnyCountRises a c
-rises_after_same a b c same (inl rose) = inl (subst (λ (n : ℕ). Rises n c.shelf) same.shelf rose)
-rises_after_same a b c same (inr (inl rose)) = inr (inl (subst (λ (n : ℕ). Rises n c.script) same.script rose))
-rises_after_same a b c same (inr (inr rose)) = inr (inr (subst (λ (n : ℕ). Rises n c.out) same.out rose))
-
-pub counts_at_then : (stop : Stop) (a b c : Counts) → SameCounts a b → CountsAt stop b c → CountsAt stop a c
+pub counts_at_then : (stop : Stop) (a b c : FaultCounts) → SameCounts a b → CountsAt stop b c → CountsAt stop a c
 counts_at_then Ended a b c same counts = same_counts_then a b c same counts
 counts_at_then TooLong a b c same counts = same_counts_then a b c same counts
-counts_at_then Fault a b c same counts = rises_after_same a b c same counts
-counts_at_then Memory a b c same counts = counts
+counts_at_then Script a b c same counts = (counts.0 ∙ same.shelf, subst (λ (n : ℕ). Rises n c.script) same.script counts.1, counts.2 ∙ same.out)
+counts_at_then Sink a b c same counts = (counts.0 ∙ same.shelf, counts.1 ∙ same.script, subst (λ (n : ℕ). Rises n c.out) same.out counts.2)
+counts_at_then File a b c same counts = subst (λ (n : ℕ). Rises n c.shelf) same.shelf counts
+counts_at_then Memory a b c same counts = same_counts_then a b c same counts
 
-pub counted_then : {T : Type 0} (r : Result T Stop) (a b c : Counts) → SameCounts a b → IsCounted r b c → IsCounted r a c
+pub counted_then : {T : Type 0} (r : Result T Stop) (a b c : FaultCounts) → SameCounts a b → IsCounted r b c → IsCounted r a c
 counted_then (Ok x) a b c same counts = same_counts_then a b c same counts
 counted_then (Err stop) a b c same counts = counts_at_then stop a b c same counts
 
--- a run goes on with an open file
-pub served_open_then : {T : Type 0} (r : Result T Stop) (files : Files) (longer longer' : Bool) (a a' : Answered) (m m' m'' : Moment) (stands : Editing → Type 0) → Serves a a' m m' → longer' ≡ longer
-    → IsServedOpen r files longer' a' m' m'' stands → IsServedOpen r files longer a m m'' stands
-served_open_then (Ok x) files longer longer' a a' m m' m'' stands first is (e, s, left, here, serves, long) = (e, s, left, here, serves_then a a' _ m m' m'' first serves, long ∙ is)
-served_open_then (Err stop) files longer longer' a a' m m' m'' stands first is stops = stopped_then stop longer a a' m m' m'' first (stopped_as stop longer' longer a' m' m'' is stops)
+-- .. of a disk that came back
+pub counted_back : (stop : Stop) (a : FaultCounts) (n n' script out : ℕ) → n' ≡ n → CountsAt stop a (record { shelf = n; script = script; out = out }) → CountsAt stop a (record { shelf = n'; script = script; out = out })
+counted_back stop a n n' script out is counts = subst (λ (k : ℕ). CountsAt stop a (record { shelf = k; script = script; out = out })) (sym is) counts
 
--- .. or with none
-pub served_on_then : {T : Type 0} (r : Result T Stop) (files : Files) (longer longer' : Bool) (a a' : Answered) (m m' m'' : Moment) → Serves a a' m m' → longer' ≡ longer
-    → IsServedOn r files longer' a' m' m'' → IsServedOn r files longer a m m''
-served_on_then (Ok x) files longer longer' a a' m m' m'' first is (s, left, serves, long) = (s, left, serves_then a a' _ m m' m'' first serves, long ∙ is)
-served_on_then (Err stop) files longer longer' a a' m m' m'' first is stops = stopped_then stop longer a a' m m' m'' first (stopped_as stop longer' longer a' m' m'' is stops)
+not_whole : (broken : Option Step) (step : Step) → broken ≡ None → broken ≡ Some step → ⊥
+not_whole broken step whole is = cc
 
-or_false : (b : Bool) → b ≡ (b || false)
-or_false true = refl
-or_false false = refl
+not_broken : (broken : Option Step) → broken ≡ None → is_none broken ≡ false → ⊥
+not_broken broken whole is = let no : true ≡ false = sym (ap is_none whole) ∙ is in cc
 
--- the reply to closing
-closed_as : {T : Type 0} (r : Result T Stop) (files : Files) (longer : Bool) (a : Answered) (m : Moment) (reading : Reading) (left : Option (List ℕ)) (refused : Bool) (t t' : Option (List ℕ)) (s : List ℕ) (e : Editing)
-    → IsAnswered r (says (ok_line (length e.frames))) false false t t' → left ≡ Some s
-    → Serves a (answers_from files (edit_open e Said.close) (moment reading left refused t) s) m (moment reading left refused t) → is_longer (moment reading left refused t) s ≡ longer
-    → IsServedOn r files longer a m (moment reading left refused t')
-closed_as (Ok x) files longer a m reading left refused t t' s e said here serves long = (
-  s,
-  here,
-  serves_then a (answers_from files (edit_open e Said.close) (moment reading left refused t) s) (answers_left files None (moment reading left refused t') s) m (moment reading left refused t) (moment reading left refused t') serves
-      (answered_open files left reading reading refused refused t t' s refl (edit_open e Said.close) None refl (or_false refused) said.1),
-  long,
-)
-closed_as (Err stop) files longer a m reading left refused t t' s e said here serves long =
-    stopped_then stop longer a (answers_from files (edit_open e Said.close) (moment reading left refused t) s) m (moment reading left refused t) (moment reading left refused t') serves
-    (cut_stops stop longer (edit_open e Said.close) (answers_left files None (moment reading left refused t) s) (moment reading left refused t) (moment reading left refused t') said)
+pub failed_count : (broken : Option Step) (step : Step) (a n n' : ℕ) {same wrote : Type 0} → a ≡ n → broken ≡ None → ((broken ≡ Some step) × same) ⊎ ((broken ≡ None) × wrote × Rose n n') → Rises a n'
+failed_count broken step a n n' is whole (inl was) = absurd (not_whole broken step whole was.0)
+failed_count broken step a n n' is whole (inr now) = subst (λ (k : ℕ). Rises k n') (sym is) now.2.rises
 
-pub closed_then : {T : Type 0} (r : Result T Stop) (files : Files) (longer : Bool) (a : Answered) (m : Moment) (reading : Reading) (left : Option (List ℕ)) (refused : Bool) (t t' : Option (List ℕ)) (s : List ℕ) (e : Editing) (n : ℕ)
-    → n ≡ length e.frames → IsAnswered r (says (ok_line n)) false false t t' → left ≡ Some s
-    → Serves a (answers_from files (edit_open e Said.close) (moment reading left refused t) s) m (moment reading left refused t) → is_longer (moment reading left refused t) s ≡ longer
-    → IsServedOn r files longer a m (moment reading left refused t')
-closed_then r files longer a m reading left refused t t' s e n count said = closed_as r files longer a m reading left refused t t' s e (subst (λ (k : ℕ). IsAnswered r (says (ok_line k)) false false t t') count said)
-
--- a line was answered, which leaves no file open
-pub answered_on : {T : Type 0} (r : Result T Stop) (files : Files) (left : Option (List ℕ)) (reading reading' : Reading) (refused refused' : Bool) (t t' : Option (List ℕ)) (s : List ℕ) (edited : Edited)
-    → reading' ≡ reading → left ≡ Some s → edited.open_file ≡ None → IsAnswered r edited.answer refused refused' t t'
-    → IsServedOn r files (is_longer (moment reading left refused t) s) (answers_from files edited (moment reading left refused t) s) (moment reading left refused t) (moment reading' left refused' t')
-answered_on (Ok x) files left reading reading' refused refused' t t' s edited same here none said = (
-  s,
-  here,
-  answered_open files left reading reading' refused refused' t t' s same edited None none said.0 said.1,
-  longer_as files left reading reading' refused refused' t t' s same,
-)
-answered_on (Err stop) files left reading reading' refused refused' t t' s edited same here none said =
-    cut_stops stop (is_longer (moment reading left refused t) s) edited (answers_left files edited.open_file (moment reading left refused t) s) (moment reading left refused t) (moment reading' left refused' t') said
-
--- a file was not opened
-pub not_opened_on : {T : Type 0} (error : OpenError) (r : Result T Stop) (files : Files) (b : List ℕ) (left : Option (List ℕ)) (reading reading' : Reading) (refused refused' : Bool) (t t' : Option (List ℕ)) (faults faults' : ℕ) (s : List ℕ)
-    → IsReadError error → IsNotOpened error r refused refused' t t' faults faults' → ((x : OpenRefusal) → error ≡ cause.Refused x → opening_of b ≡ Err x) → reading' ≡ reading → left ≡ Some s
-    → IsServedOn r files (is_longer (moment reading left refused t) s) (answers_from files (open_edit_of (opening_of b)) (moment reading left refused t) s) (moment reading left refused t) (moment reading' left refused' t')
-not_opened_on (cause.Refused x) r files b left reading reading' refused refused' t t' faults faults' s able said why same here =
-    subst (λ (o : Result Editing OpenRefusal). IsServedOn r files (is_longer (moment reading left refused t) s) (answers_from files (open_edit_of o) (moment reading left refused t) s) (moment reading left refused t) (moment reading' left refused' t')) (sym (why x refl))
-    (answered_on r files left reading reading' refused refused' t t' s (open_edit_of (Err x)) same here refl said.0)
-not_opened_on (cause.DiskFault step) r files b left reading reading' refused refused' t t' faults faults' s able said why same here =
-    subst (λ (r : Result _ Stop). IsServedOn r files (is_longer (moment reading left refused t) s) (answers_from files (open_edit_of (opening_of b)) (moment reading left refused t) s) (moment reading left refused t) (moment reading' left refused' t')) (sym said.0)
-    (no_text t t' _ said.1)
-not_opened_on cause.Memory r files b left reading reading' refused refused' t t' faults faults' s able said why same here =
-    subst (λ (r : Result _ Stop). IsServedOn r files (is_longer (moment reading left refused t) s) (answers_from files (open_edit_of (opening_of b)) (moment reading left refused t) s) (moment reading left refused t) (moment reading' left refused' t')) (sym said.0)
-    (no_text t t' _ said.1)
-not_opened_on cause.AdpcmUpdate r files b left reading reading' refused refused' t t' faults faults' s able said why same here = absurd able
-not_opened_on cause.UnknownLength r files b left reading reading' refused refused' t t' faults faults' s able said why same here = absurd able
-
-pub read_error : (error : OpenError) (old new : ℕ) → IsCause old new error → IsReadError error
-read_error (cause.Refused x) old new is = tt
-read_error (cause.DiskFault step) old new is = tt
-read_error cause.Memory old new is = tt
-read_error cause.AdpcmUpdate old new is = is
-read_error cause.UnknownLength old new is = is
-
--- .. as another definition says it
-pub answered_as : {T : Type 0} (r : Result T Stop) (files : Files) (left : Option (List ℕ)) (reading reading' : Reading) (refused refused' : Bool) (t t' : Option (List ℕ)) (s : List ℕ) (edited edited' : Edited)
-    → edited ≡ edited' → edited'.open_file ≡ None → reading' ≡ reading → left ≡ Some s → IsAnswered r edited'.answer refused refused' t t'
-    → IsServedOn r files (is_longer (moment reading left refused t) s) (answers_from files edited (moment reading left refused t) s) (moment reading left refused t) (moment reading' left refused' t')
-answered_as r files left reading reading' refused refused' t t' s edited edited' is none same here said =
-    subst (λ (d : Edited). IsServedOn r files (is_longer (moment reading left refused t) s) (answers_from files d (moment reading left refused t) s) (moment reading left refused t) (moment reading' left refused' t')) (sym is)
-    (answered_on r files left reading reading' refused refused' t t' s edited' same here none said)
-
-pub served_as : {T : Type 0} (r : Result T Stop) (files : Files) (longer : Bool) (m m' : Moment) (s : List ℕ) (edited edited' : Edited) → edited ≡ edited'
-    → IsServedOn r files longer (answers_from files edited m s) m m' → IsServedOn r files longer (answers_from files edited' m s) m m'
-served_as r files longer m m' s edited edited' is served = subst (λ (d : Edited). IsServedOn r files longer (answers_from files d m s) m m') is served
-
--- the faults of a disk that was taken and given back are the shelf's
-pub counts_on_disk : (stop : Stop) (shelf shelf' d d' s s' o o' : ℕ) → d ≡ 0 → Adds shelf d' shelf' → CountsAt stop (record { shelf = d; script = s; out = o }) (record { shelf = d'; script = s'; out = o' })
-    → CountsAt stop (record { shelf = shelf; script = s; out = o }) (record { shelf = shelf'; script = s'; out = o' })
-counts_on_disk Ended shelf shelf' d d' s s' o o' fresh adds counts = record { shelf = omega (arith, adds.later, adds.most, counts.shelf); script = counts.script; out = counts.out }
-counts_on_disk TooLong shelf shelf' d d' s s' o o' fresh adds counts = record { shelf = omega (arith, adds.later, adds.most, counts.shelf); script = counts.script; out = counts.out }
-counts_on_disk Memory shelf shelf' d d' s s' o o' fresh adds counts = counts
-counts_on_disk Fault shelf shelf' d d' s s' o o' fresh adds (inr rose) = inr rose
-counts_on_disk Fault shelf shelf' d d' s s' o o' fresh adds (inl rose) = inl (added shelf shelf' d d' fresh adds rose)
-  where
-    added : (shelf shelf' d d' : ℕ) → d ≡ 0 → Adds shelf d' shelf' → Rises d d' → Rises shelf shelf'
-    added shelf shelf' d d' fresh adds (inl rose) = ⊎_elim (λ least. inl (omega (arith, least))) (λ last. inr last) adds.least
-    added shelf shelf' d d' fresh adds (inr top) = ⊎_elim (λ least. inl (omega (arith, least))) (λ last. inr last) adds.least
-
-pub counted_on_disk : {T : Type 0} (r : Result T Stop) (old shelf shelf' d d' s s' o o' : ℕ) → shelf ≡ old → d ≡ 0 → Adds shelf d' shelf' → IsCounted r (record { shelf = d; script = s; out = o }) (record { shelf = d'; script = s'; out = o' })
-    → IsCounted r (record { shelf = old; script = s; out = o }) (record { shelf = shelf'; script = s'; out = o' })
-counted_on_disk (Ok x) old shelf shelf' d d' s s' o o' same fresh adds counts = record { shelf = omega (arith, adds.later, adds.most, counts.shelf); script = counts.script; out = counts.out }
-counted_on_disk (Err stop) old shelf shelf' d d' s s' o o' same fresh adds counts =
-    subst (λ (n : ℕ). CountsAt stop (record { shelf = n; script = s; out = o }) (record { shelf = shelf'; script = s'; out = o' })) same (counts_on_disk stop shelf shelf' d d' s s' o o' fresh adds counts)
+pub failed_counts : (stop : Stop) (broken : Option Step) (step : Step) (a n n' script script' out out' : ℕ) (wrote : Type 0) → WholeAt stop broken
+    → ((broken ≡ Some step) × (n' ≡ n)) ⊎ ((broken ≡ None) × wrote × Rose n n')
+    → CountsAt stop (record { shelf = a; script = script; out = out }) (record { shelf = n; script = script'; out = out' }) → Rises a n'
+failed_counts File broken step a n n' script script' out out' wrote whole (inl was) counts = subst (λ (k : ℕ). Rises a k) (sym was.1) counts
+failed_counts File broken step a n n' script script' out out' wrote whole (inr now) counts = absurd (not_broken broken now.0 whole)
+failed_counts Ended broken step a n n' script script' out out' wrote whole cause counts = failed_count broken step a n n' (sym counts.shelf) whole cause
+failed_counts TooLong broken step a n n' script script' out out' wrote whole cause counts = failed_count broken step a n n' (sym counts.shelf) whole cause
+failed_counts Memory broken step a n n' script script' out out' wrote whole cause counts = failed_count broken step a n n' (sym counts.shelf) whole cause
+failed_counts Script broken step a n n' script script' out out' wrote whole cause counts = failed_count broken step a n n' (sym counts.0) whole cause
+failed_counts Sink broken step a n n' script script' out out' wrote whole cause counts = failed_count broken step a n n' (sym counts.0) whole cause

@@ -1,11 +1,11 @@
 -- A line under way.
-use Rattle.std.proofs.Common.{◌≡◌, ◌≢◌, ◌⊎◌, inl, inr, ⊎_elim, ℕ, ◌+◌, ◌<◌, ◌≤◌, List, [], ◌∷◌, ◌++◌, Bool, true, false, IsTrue, length, get_or, take, refl, sym, ◌∙◌, ap, subst, append_assoc, arith}
+use Rattle.std.proofs.Common.{◌≡◌, ◌≢◌, ◌⊎◌, inl, inr, ⊎_elim, ℕ, ◌+◌, ◌<◌, ◌≤◌, List, [], ◌∷◌, ◌++◌, Option, Some, Bool, true, false, IsTrue, length, get_or, take, refl, sym, ◌∙◌, ap, subst, append_assoc, arith}
 use Rattle.std.proofs.Math.ListN.{get_or-append}
 use Rattle.std.proofs.Math.Seq.{get_or-append_seam}
 use Rattle.std.proofs.lemmas.List.{same_lists, length-take, length-append, take_at, append-nil, nil_from_length, places}
 use Rattle.std.proofs.lemmas.List.Elements.{All-append}
 use Rattle.std.proofs.lemmas.Bool.{cases_lt}
-use Rattle.snd_script.specs.Lines.{Reading, Moves, IsUnderWay, IsLine, HasNoMore, HasNoFeed, behind_part, feeds, most_kept}
+use Rattle.snd_script.specs.Lines.{Reading, CutsOff, Moves, IsUnderWay, IsLine, HasNoMore, HasNoFeed, behind_part, feeds, most_kept}
 use Rattle.snd_script.specs.Script.{is_feed}
 use Rattle.snd_script.proofs.Parts.{most_kept-is}
 
@@ -46,6 +46,10 @@ under_way start mid new kept s b b' c has none same more = record {
   line = has.line;
   no_feed = has.no_feed;
 }
+
+-- the source failed
+pub cut_off : (start mid : Reading) (kept s b c : List ℕ) (left : Option (List ℕ)) → HasMoved start mid kept s b false c → length mid.rest ≡ 0 → left ≡ Some b → CutsOff (start.rest ++ s) left
+cut_off start mid kept s b c left has none here = (c, b, here, has.bytes ∙ ap (λ l. c ++ (l ++ b)) (nil_from_length mid.rest none), has.no_feed)
 
 -- nothing came
 pub ended_at : (start mid new : Reading) (kept s b c : List ℕ) → HasMoved start mid kept s b false c → length mid.rest ≡ 0 → b ≡ [] → start.rest ++ s ≡ c

@@ -1,73 +1,141 @@
--- One command: what is answered, and what is open afterwards. A refused command leaves all as it was.
-use Rattle.std.specs.Prelude.{◌≡◌, ℕ, ◌+◌, List, Option, None, Some, Result, Ok, Err, length, nat_le, if◌then◌else◌}
+-- One command: what is answered, and the state of the run afterwards. A refused command leaves all as it was.
+use Rattle.std.specs.Prelude.{◌≡◌, ℕ, List, Option, None, Some, Result, Ok, Err, if◌then◌else◌}
 use Rattle.snd_command.specs.Line.{command_of}
 use Rattle.snd_command.specs.Said.{Said}
 use Rattle.snd_command.specs.declared.refusal.ScriptRefusal.{ScriptRefusal}
 use Rattle.snd_command.specs.declared.refusal.ScriptRefusal.TheVariants as line
 use Rattle.snd_disk.specs.Shelf.{Files}
+use Rattle.snd_layout.specs.Params.{Parameters, params_of}
+use Rattle.snd_layout.specs.declared.codec.Codec.{Codec}
+use Rattle.snd_layout.specs.declared.error.OpenError.{OpenError}
+use Rattle.snd_layout.specs.declared.error.OpenError.TheVariants as error
+use Rattle.snd_layout.specs.declared.kind.Kind.{Kind}
 use Rattle.snd_layout.specs.declared.refusal.OpenRefusal.{OpenRefusal}
-use Rattle.snd_modes.specs.Editing.{Editing, opening_of, frames_left, frames_read, moved_by, moved_to}
-use Rattle.snd_script.specs.Replies.{Answer, nothing, says, refuses, file_line, ok_line, frames_text}
+use Rattle.snd_modes.specs.Editing.{Editing, opening_of}
+use Rattle.snd_modes.specs.Making.{making_of}
+use Rattle.snd_modes.specs.Updating.{updating_of}
+use Rattle.snd_script.specs.Desk.{Desk, Mode, OpenFile, reading, updating, writing, closed_desk, files_closed, open_desk}
+use Rattle.snd_script.specs.Rules.{FileEdited, Rule, is_built, linear_word, rule_of}
+use Rattle.snd_script.specs.Replies.{Answer, nothing, says, refuses, file_line, ok_line}
 use Rattle.snd_script.specs.declared.refusal.Refusal.{Refusal}
-use Rattle.snd_script.specs.declared.refusal.Refusal.TheVariants.{Open, SeekRange, BadCommand, LineTooLong, NotOpen, AlreadyOpen, MissingFile, NotBuilt}
+use Rattle.snd_script.specs.declared.refusal.Refusal.TheVariants.{Open, AdpcmUpdate, UnknownLength, BadCommand, LineTooLong, NotOpen, MissingFile, NotBuilt}
 
--- what is answered, and the file that is open afterwards
+-- what is answered, and the state afterwards
 pub record Edited : Type 0 where
   pub answer : Answer
-  pub open_file : Option Editing
+  pub desk : Desk
 
-abbrev pub refused : Refusal → Option Editing → Edited
-refused refusal file = record { answer = refuses refusal; open_file = file }
+abbrev pub refused : Refusal → Desk → Edited
+refused refusal desk = record { answer = refuses refusal; desk = desk }
 
-abbrev pub said_by : List ℕ → Editing → Edited
-said_by text e = record { answer = says text; open_file = Some e }
+-- ---- a file is opened
 
--- `open r`, of what stands under the name
-abbrev pub open_edit_of : Result Editing OpenRefusal → Edited
-open_edit_of (Err refusal) = refused (Open refusal) None
-open_edit_of (Ok e) = said_by (file_line e.shape) e
+-- how: to be read, to be updated, or made anew with these parameters
+pub data Opening : Type 0 where
+  for_reading : Opening
+  for_updating : Opening
+  for_making : Kind → Parameters → Opening
 
-abbrev pub open_edit : Option (List ℕ) → Edited
-open_edit None = refused MissingFile None
-open_edit (Some bytes) = open_edit_of (opening_of bytes)
+abbrev pub mode_for : Opening → Mode
+mode_for Opening.for_reading = reading
+mode_for Opening.for_updating = updating
+mode_for (Opening.for_making kind p) = writing
 
--- with no file open; the commands that are not named are not built yet
+abbrev pub as_opened : Result Editing OpenRefusal → Result Editing OpenError
+as_opened (Ok e) = Ok e
+as_opened (Err refusal) = Err (error.Refused refusal)
+
+-- the state in which it begins, by its bytes, or why it is not opened
+abbrev pub opened_as : Opening → List ℕ → Result Editing OpenError
+opened_as Opening.for_reading b = as_opened (opening_of b)
+opened_as Opening.for_updating b = updating_of b
+opened_as (Opening.for_making kind p) b = as_opened (making_of kind p)
+
+-- .. in a script's words; what is not a refusal does not come of bytes
+abbrev pub open_refusal : OpenError → Refusal
+open_refusal (error.Refused refusal) = Open refusal
+open_refusal error.AdpcmUpdate = AdpcmUpdate
+open_refusal error.UnknownLength = UnknownLength
+open_refusal other = NotBuilt
+
+abbrev pub file_opened : List ℕ → Opening → Editing → OpenFile
+file_opened name opening e = record { name = name; mode = mode_for opening; editing = e }
+
+-- it is open, and its line is said
+abbrev pub opened_edit : Files → OpenFile → Edited
+opened_edit files file = record { answer = says (file_line file.editing.shape); desk = open_desk files file }
+
+abbrev pub open_edit_of : Files → List ℕ → Opening → Result Editing OpenError → Edited
+open_edit_of files name opening (Err why) = refused (open_refusal why) (closed_desk files)
+open_edit_of files name opening (Ok e) = opened_edit files (file_opened name opening e)
+
+-- a file that is there, or that is made whatever was there
+abbrev pub open_edit : Files → List ℕ → Opening → Option (List ℕ) → Edited
+open_edit files name opening None = refused MissingFile (closed_desk files)
+open_edit files name opening (Some b) = open_edit_of files name opening (opened_as opening b)
+
+abbrev pub make_edit : Files → List ℕ → Kind → Result Parameters OpenRefusal → Edited
+make_edit files name kind (Err refusal) = refused (Open refusal) (closed_desk files)
+make_edit files name kind (Ok p) = open_edit_of files name (Opening.for_making kind p) (as_opened (making_of kind p))
+
+abbrev pub make_edit_of : Files → List ℕ → Kind → ℕ → ℕ → Option Codec → Edited
+make_edit_of files name kind channels rate None = refused NotBuilt (closed_desk files)
+make_edit_of files name kind channels rate (Some codec) = make_edit files name kind (params_of channels rate codec)
+
+-- ---- with no file open
+
+abbrev pub edit_first : Files → Said → Edited
+edit_first files (Said.open_read name) = open_edit files name Opening.for_reading (files name)
+edit_first files (Said.open_update name) = open_edit files name Opening.for_updating (files name)
+edit_first files (Said.create kind codec channels rate name) = make_edit_of files name kind channels rate (linear_word codec)
+edit_first files said = refused NotOpen (closed_desk files)
+
 abbrev pub edit_closed : Files → Said → Edited
-edit_closed files (Said.open_read name) = open_edit (files name)
-edit_closed files Said.info = refused NotOpen None
-edit_closed files (Said.seek_read n) = refused NotOpen None
-edit_closed files (Said.seek_both n) = refused NotOpen None
-edit_closed files (Said.read n) = refused NotOpen None
-edit_closed files Said.close = refused NotOpen None
-edit_closed files said = refused NotBuilt None
+edit_closed files said = if is_built said then edit_first files said else refused NotBuilt (closed_desk files)
 
-abbrev pub seek_edit : ℕ → Editing → Edited
-seek_edit n e = if nat_le n (length e.frames) then said_by (ok_line n) (moved_to n e) else refused SeekRange (Some e)
+-- ---- with a file open
 
--- with a file open
-abbrev pub edit_open : Editing → Said → Edited
-edit_open e (Said.open_read name) = refused AlreadyOpen (Some e)
-edit_open e Said.info = said_by (file_line e.shape) e
-edit_open e (Said.seek_read n) = seek_edit n e
-edit_open e (Said.seek_both n) = seek_edit n e
-edit_open e (Said.read n) = said_by (frames_text (frames_read e (frames_left e n))) (moved_by (frames_left e n) e)
-edit_open e Said.close = record { answer = says (ok_line (length e.frames)); open_file = None }
-edit_open e said = refused NotBuilt (Some e)
+abbrev pub edit_unless : Option Refusal → FileEdited → Editing → FileEdited
+edit_unless (Some refusal) done e = record { answer = refuses refusal; editing = e }
+edit_unless None done e = done
 
-abbrev pub edit : Files → Option Editing → Said → Edited
-edit files None said = edit_closed files said
-edit files (Some e) said = edit_open e said
+abbrev pub edit_by : Rule → Editing → FileEdited
+edit_by rule e = edit_unless (rule.refusal e.write_place e.shape) (rule.done e) e
+
+-- any command but one that closes it
+abbrev pub edit_file : Mode → Said → Editing → FileEdited
+edit_file mode said e = edit_by (rule_of mode said) e
+
+abbrev pub keep_open : Files → OpenFile → FileEdited → Edited
+keep_open files file edited = record { answer = edited.answer; desk = open_desk files (record file { editing = edited.editing }) }
+
+-- closing says how many frames there are
+abbrev pub close_edit : Files → OpenFile → Edited
+close_edit files file = record { answer = says (ok_line file.editing.shape.frames); desk = closed_desk (files_closed (open_desk files file)) }
+
+abbrev pub edit_open : Files → OpenFile → Said → Edited
+edit_open files file Said.close = close_edit files file
+edit_open files file said = keep_open files file (edit_file file.mode said file.editing)
+
+-- ---- any command
+
+abbrev pub edit_on : Files → Option OpenFile → Said → Edited
+edit_on files None said = edit_closed files said
+edit_on files (Some file) said = edit_open files file said
+
+abbrev pub edit : Desk → Said → Edited
+edit desk said = edit_on desk.files desk.open_file said
 
 -- a whole line, which may say nothing or no command
-abbrev pub line_edit : Files → Option Editing → Result (Option Said) ScriptRefusal → Edited
-line_edit files file (Ok None) = record { answer = nothing; open_file = file }
-line_edit files file (Ok (Some said)) = edit files file said
-line_edit files file (Err line.LineTooLong) = refused LineTooLong file
-line_edit files file (Err line.BadCommand) = refused BadCommand file
+abbrev pub line_edit : Desk → Result (Option Said) ScriptRefusal → Edited
+line_edit desk (Ok None) = record { answer = nothing; desk = desk }
+line_edit desk (Ok (Some said)) = edit desk said
+line_edit desk (Err line.LineTooLong) = refused LineTooLong desk
+line_edit desk (Err line.BadCommand) = refused BadCommand desk
 
-abbrev pub edit_line : Files → Option Editing → List ℕ → Edited
-edit_line files file line = line_edit files file (command_of line)
+abbrev pub edit_line : Desk → List ℕ → Edited
+edit_line desk line = line_edit desk (command_of line)
 
 -- the refusal of a line that is no command
 abbrev pub RefusesLine : ScriptRefusal → Refusal → Type 0
-RefusesLine no_command refusal = (files : Files) (file : Option Editing) → line_edit files file (Err no_command) ≡ refused refusal file
+RefusesLine no_command refusal = (desk : Desk) → line_edit desk (Err no_command) ≡ refused refusal desk

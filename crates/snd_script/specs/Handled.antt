@@ -1,65 +1,119 @@
 -- What is seen of an open file in whichever mode.
-use Rattle.std.specs.Prelude.{◌≡◌, ℕ, List, Option, Some, Result, length}
-use Rattle.std.specs.Borrow.{GName}
+use Rattle.std.specs.Prelude.{◌≡◌, ◌⊎◌, ℕ, List, Bool, true, false, Option, None, Some, Result, Ok, Err}
+use Rattle.std.specs.Borrow.{GName, MutBor}
 use Rattle.snd_command.specs.Said.{Said}
-use Rattle.snd_disk.specs.Device.{AsksAtMost, OnlyReadsOn}
+use Rattle.snd_disk.specs.Device.{AsksAtMost, GoesOnFrom, IsStable, OnlyReadsOn, Tells, WritesAtMost}
 use Rattle.snd_disk.specs.declared.disk.Disk.{Ghosts}
+use Rattle.snd_disk.specs.declared.disk.Step.{Step}
 use Rattle.snd_disk.specs.State.{State}
 use Rattle.snd_modes.specs.Editing.{Editing}
 use Rattle.snd_modes.specs.Handle.{Known, Stands, disk_of, known_of, loan_of}
-use Rattle.snd_script.specs.Edit.{edit_open}
-use Rattle.snd_script.specs.Stepped.{IsSaid, IsStepCause, Knows, file_after, known_after, reply_on}
+use Rattle.snd_patch.specs.Steps.{StillTells}
+use Rattle.snd_script.specs.Desk.{Mode, closed_as, reading, updating, writes, writing}
+use Rattle.snd_script.specs.Edit.{edit_file}
+use Rattle.snd_script.specs.Rules.{Rule, rule_of}
+use Rattle.snd_script.specs.Stepped.{IsSaid, IsStepCause, Knows, LeavesFile, Rose, changes_by}
 use Rattle.snd_script.specs.declared.handle.Handle.{Handle}
-use Rattle.snd_script.specs.declared.handle.Handle.TheVariants.{R}
+use Rattle.snd_script.specs.declared.handle.Handle.TheVariants.{R, W, U}
 use Rattle.snd_script.specs.declared.handle.Reply.{Reply}
 use Rattle.snd_script.specs.declared.handle.StepFault.{StepFault}
+
+abbrev pub mode_of : {D : Type 0} {ghosts : Ghosts D} → Handle D ghosts → Mode
+mode_of (R file) = reading
+mode_of (W file) = writing
+mode_of (U file) = updating
+
+-- the rule of a command on it
+abbrev pub rule_for : {D : Type 0} {ghosts : Ghosts D} → Handle D ghosts → Said → Rule
+rule_for handle said = rule_of (mode_of handle) said
 
 -- the disk that it holds, and the loan by which it holds it
 abbrev pub handle_disk : {D : Type 0} {ghosts : Ghosts D} → Handle D ghosts → D
 handle_disk (R file) = disk_of file
+handle_disk (W file) = disk_of file
+handle_disk (U file) = disk_of file
 
 abbrev pub handle_loan : {D : Type 0} {ghosts : Ghosts D} → Handle D ghosts → GName
 handle_loan (R file) = loan_of file
+handle_loan (W file) = loan_of file
+handle_loan (U file) = loan_of file
 
 -- what it knows over every disk
 abbrev pub handle_known : {D : Type 0} {ghosts : Ghosts D} → Handle D ghosts → Known
 handle_known (R file) = known_of file
+handle_known (W file) = known_of file
+handle_known (U file) = known_of file
 
 -- it stands for an editing state
 abbrev pub HandleStands : {D : Type 0} {ghosts : Ghosts D} → (D → State) → Handle D ghosts → Editing → Type 0
 HandleStands state (R file) e = Stands state file e
+HandleStands state (W file) e = Stands state file e
+HandleStands state (U file) e = Stands state file e
 
--- How a command leaves the handle: the same disk by the same loan, of which was only read. A handle that writes adds a case.
+-- Commands leave it in its mode, with the same disk by the same loan: the disk has its name, tells what it told, and time has
+-- gone on for it. In a mode that does not write it was only read.
 pub record LeavesHandle {D : Type 0} {ghosts : Ghosts D} (state : D → State) (may_leave : D → List ℕ → Type 0) (left_between : D → ℕ → ℕ → List ℕ → Type 0) (old new : Handle D ghosts) : Type 0 where
+  pub mode : mode_of new ≡ mode_of old
   pub loan : handle_loan new ≡ handle_loan old
-  pub reads : OnlyReadsOn state may_leave left_between (handle_disk old) (handle_disk new)
+  pub tells : StillTells (state (handle_disk old)) (state (handle_disk new))
+  pub time : GoesOnFrom state left_between (handle_disk old) (handle_disk new)
+  pub reads : writes (mode_of old) ≡ false → OnlyReadsOn state may_leave left_between (handle_disk old) (handle_disk new)
 
--- its disk is given back, of which was only read
-abbrev pub HandleReads : {D : Type 0} {ghosts : Ghosts D} → (D → State) → (D → List ℕ → Type 0) → (D → ℕ → ℕ → List ℕ → Type 0) → Handle D ghosts → D → Type 0
-HandleReads state may_leave left_between handle disk = OnlyReadsOn state may_leave left_between (handle_disk handle) disk
+-- a command that changes no file only reads the disk
+abbrev pub OnlyChanges : {D : Type 0} {ghosts : Ghosts D} → (D → State) → (D → List ℕ → Type 0) → (D → ℕ → ℕ → List ℕ → Type 0) → Said → Handle D ghosts → Handle D ghosts → Type 0
+OnlyChanges state may_leave left_between said old new =
+    changes_by (rule_for old said) (handle_known old) ≡ false → OnlyReadsOn state may_leave left_between (handle_disk old) (handle_disk new)
 
--- at most so many bytes are asked of its disk
+-- at most so many bytes are asked of its disk, and written
 abbrev pub HandleAsks : {D : Type 0} {ghosts : Ghosts D} → (D → State) → ℕ → Handle D ghosts → Handle D ghosts → Type 0
 HandleAsks state n old new = AsksAtMost state n (handle_disk old) (handle_disk new)
 
+abbrev pub HandleWrites : {D : Type 0} {ghosts : Ghosts D} → (D → State) → ℕ → Handle D ghosts → Handle D ghosts → Type 0
+HandleWrites state n old new = WritesAtMost state n (handle_disk old) (handle_disk new)
+
 -- One command on it: the reply and what it knows afterwards, over every disk
 abbrev pub KnowsAfter : {D : Type 0} {ghosts : Ghosts D} → Result Reply StepFault → Said → Handle D ghosts → Handle D ghosts → Type 0
-KnowsAfter result said old new = Knows result (reply_on said (handle_known old)) (known_after said (handle_known old)) (handle_known old) (handle_known new)
+KnowsAfter result said old new = Knows result (rule_for old said) (handle_known old) (handle_known new)
 
 -- .. the file that it stands for, and what is appended, where the disk tells the file
 abbrev pub LeavesOpen : {D : Type 0} {ghosts : Ghosts D} → (D → State) → Result Reply StepFault → Said → Handle D ghosts → Handle D ghosts → Type 0
 LeavesOpen state result said old new =
-    (e : Editing) → HandleStands state old e → (e' : Editing) × (file_after result e said ≡ Some e') × HandleStands state new e'
+    (e : Editing) → HandleStands state old e → LeavesFile result (edit_file (mode_of old) said e) e (HandleStands state new)
 
 abbrev pub SaysReply : {D O : Type 0} {ghosts : Ghosts D} → (D → State) → (O → Option (List ℕ)) → Result Reply StepFault → Said → Handle D ghosts → O → O → Type 0
 SaysReply state told result said handle out out' =
-    (e : Editing) → HandleStands state handle e → IsSaid result (edit_open e said).answer (told out) (told out')
+    (e : Editing) → HandleStands state handle e → IsSaid result (edit_file (mode_of handle) said e).answer (told out) (told out')
 
 -- .. and the counts of faults
 abbrev pub CountsStep : {D O : Type 0} {ghosts : Ghosts D} → (D → State) → (O → ℕ) → Result Reply StepFault → Handle D ghosts → O → Handle D ghosts → O → Type 0
 CountsStep state faults result old out new out' =
     IsStepCause result (state (handle_disk old)).faults (state (handle_disk new)).faults (faults out) (faults out')
 
--- so many frames has the file, where the disk tells it
-abbrev pub CountsFrames : {D : Type 0} {ghosts : Ghosts D} → (D → State) → Handle D ghosts → ℕ → Type 0
-CountsFrames state handle n = (e : Editing) → HandleStands state handle e → n ≡ length e.frames
+-- ---- a handle that is closed
+
+-- with how many frames and which disk, or where it failed and which disk
+abbrev pub back_of : {D : Type 0} → Result (ℕ × MutBor D) (Step × MutBor D) → MutBor D
+back_of (Ok r) = r.1
+back_of (Err e) = e.1
+
+-- the disk comes back as it was, where the mode does not write; else it holds the file sealed, where that succeeds
+abbrev pub FinishesAs : {D : Type 0} {ghosts : Ghosts D} → Bool → (D → State) → (D → List ℕ → Type 0) → Handle D ghosts → Result (ℕ × MutBor D) (Step × MutBor D) → Type 0
+FinishesAs false state may_leave handle result = (back_of result).now ≡ handle_disk handle
+FinishesAs true state may_leave handle (Ok r) =
+    ((e : Editing) → HandleStands state handle e → Tells state r.1.now (closed_as true e).bytes) × IsStable state may_leave r.1.now
+FinishesAs true state may_leave handle (Err e) = Unit {0}
+
+-- so many frames has the file; it fails where the disk failed before, and then all is as it was; or, in a mode that writes,
+-- where it fails now
+abbrev pub IsFinishCause : {D : Type 0} {ghosts : Ghosts D} → (D → State) → Handle D ghosts → Result (ℕ × MutBor D) (Step × MutBor D) → Type 0
+IsFinishCause state handle (Ok r) =
+    ((handle_known handle).broken ≡ None) × (r.0 ≡ (handle_known handle).shape.frames) × ((state r.1.now).faults ≡ (state (handle_disk handle)).faults)
+IsFinishCause state handle (Err e) =
+    (((handle_known handle).broken ≡ Some e.0) × (e.1.now ≡ handle_disk handle))
+    ⊎ (((handle_known handle).broken ≡ None) × (writes (mode_of handle) ≡ true) × Rose (state (handle_disk handle)).faults (state e.1.now).faults)
+
+-- a handle's disk, while it is held and when it has come back
+pub record LeavesDisk {D : Type 0} {ghosts : Ghosts D} (state : D → State) (may_leave : D → List ℕ → Type 0) (left_between : D → ℕ → ℕ → List ℕ → Type 0) (handle : Handle D ghosts) (disk : D) : Type 0 where
+  pub tells : StillTells (state (handle_disk handle)) (state disk)
+  pub time : GoesOnFrom state left_between (handle_disk handle) disk
+  pub reads : writes (mode_of handle) ≡ false → OnlyReadsOn state may_leave left_between (handle_disk handle) disk

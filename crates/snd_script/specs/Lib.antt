@@ -1,7 +1,10 @@
+pub mod Desk
 pub mod Edit
 pub mod Handled
 pub mod Lines
+pub mod Opened
 pub mod Replies
+pub mod Rules
 pub mod Script
 pub mod Served
 pub mod Serving

@@ -74,6 +74,10 @@ pub record IsUnderWay (start now : Reading) (kept s b c : List ℕ) : Type 0 whe
   pub line : kept ≡ take most_kept c
   pub no_feed : HasNoFeed c
 
+-- of these bytes a part without a line feed has come, and the others are left
+abbrev pub CutsOff : List ℕ → Option (List ℕ) → Type 0
+CutsOff s left = (c : List ℕ) × (b : List ℕ) × (left ≡ Some b) × (s ≡ c ++ b) × HasNoFeed c
+
 -- SOURCES. The first argument is what a source has left, or how many bytes it gave.
 
 -- a source that tells its bytes has given these
@@ -95,3 +99,7 @@ TakesUp given old script new script' = given script' + to_take new ≤ given scr
 -- where a line feed stands in what is in hand and may be served, the source is not asked
 abbrev pub IsPrompt : {R : Type 0} → Reading → R → R → Type 0
 IsPrompt r script script' = (before after : List ℕ) → r.rest ≡ before ++ 10 ∷ after → length before < r.room → script' ≡ script
+
+-- a source that failed: what was in hand, and what it gave in this call, has no line feed
+abbrev pub StopsShort : {R : Type 0} → (R → Option (List ℕ)) → Reading → R → R → Type 0
+StopsShort left old script script' = (s : List ℕ) → left script ≡ Some s → CutsOff (old.rest ++ s) (left script')

@@ -9,25 +9,41 @@ use Rattle.snd_layout.specs.Shape.{Shape}
 use Rattle.snd_pcm.specs.Groups.{first_groups}
 use Rattle.snd_layout.specs.declared.kind.Kind.{Kind}
 use Rattle.snd_script.specs.declared.refusal.Refusal.{Refusal}
-use Rattle.snd_script.specs.declared.refusal.Refusal.TheVariants.{Open, SeekRange, BadCommand, LineTooLong, NotOpen, AlreadyOpen, MissingFile, NotBuilt}
+use Rattle.snd_script.specs.declared.refusal.Refusal.TheVariants.{Open, AdpcmUpdate, UnknownLength, PartFrame, SampleRange, SeekRange, TrailingData, ContainerFull, Straddle, BadCommand, LineTooLong, NotOpen, AlreadyOpen, WrongMode, MissingFile, NotBuilt}
 
 abbrev pub refusal_number : Refusal → ℕ
 refusal_number (Open refusal) = open_number refusal
+refusal_number AdpcmUpdate = 20
+refusal_number UnknownLength = 21
+refusal_number PartFrame = 22
+refusal_number SampleRange = 23
 refusal_number SeekRange = 24
+refusal_number TrailingData = 25
+refusal_number ContainerFull = 26
+refusal_number Straddle = 27
 refusal_number BadCommand = 40
 refusal_number LineTooLong = 41
 refusal_number NotOpen = 42
 refusal_number AlreadyOpen = 43
+refusal_number WrongMode = 44
 refusal_number MissingFile = 56
 refusal_number NotBuilt = 99
 
 abbrev pub refusal_name : Refusal → List ℕ
 refusal_name (Open refusal) = open_name refusal
+refusal_name AdpcmUpdate = codes "AdpcmUpdate"
+refusal_name UnknownLength = codes "UnknownLength"
+refusal_name PartFrame = codes "PartFrame"
+refusal_name SampleRange = codes "SampleRange"
 refusal_name SeekRange = codes "SeekRange"
+refusal_name TrailingData = codes "TrailingData"
+refusal_name ContainerFull = codes "ContainerFull"
+refusal_name Straddle = codes "Straddle"
 refusal_name BadCommand = codes "BadCommand"
 refusal_name LineTooLong = codes "LineTooLong"
 refusal_name NotOpen = codes "NotOpen"
 refusal_name AlreadyOpen = codes "AlreadyOpen"
+refusal_name WrongMode = codes "WrongMode"
 refusal_name MissingFile = codes "MissingFile"
 refusal_name NotBuilt = codes "NotBuilt"
 

@@ -1,10 +1,14 @@
--- A whole script: its lines, and what they are answered.
-use Rattle.std.specs.Prelude.{ℕ, ◌-◌, ◌==◌, List, [], ◌∷◌, ◌++◌, Bool, true, false, ◌||◌, Option, None, Some, length, take, nat_le, nat_lt, if◌then◌else◌}
+-- A whole script: its lines, what each is answered, and the state that it leaves.
+use Rattle.std.specs.Prelude.{ℕ, ◌+◌, ◌-◌, ◌*◌, ◌==◌, List, [], ◌∷◌, ◌++◌, Bool, false, ◌||◌, Option, None, Some, Result, Ok, length, sum_by, take, nat_le, nat_lt, if◌then◌else◌}
 use Rattle.std.specs.List.{slice_split}
+use Rattle.std.specs.Str.{bytes_eq}
+use Rattle.snd_command.specs.Line.{command_of}
+use Rattle.snd_command.specs.Said.{Said}
+use Rattle.snd_command.specs.declared.refusal.ScriptRefusal.{ScriptRefusal}
 use Rattle.snd_disk.specs.Shelf.{Files}
-use Rattle.snd_modes.specs.Editing.{Editing}
-use Rattle.snd_script.specs.Replies.{text_of, is_refusal}
+use Rattle.snd_script.specs.Desk.{Desk, OpenFile, closed_desk, files_closed, open_desk}
 use Rattle.snd_script.specs.Edit.{Edited, edit_line}
+use Rattle.snd_script.specs.Replies.{nothing, text_of, is_refusal}
 
 -- a script has at most this many bytes
 abbrev pub most_bytes : ℕ
@@ -36,18 +40,75 @@ lines_within most script = if nat_le (length script) most then all_lines script 
 abbrev pub is_too_long : ℕ → List ℕ → Bool
 is_too_long most script = nat_lt most (length script)
 
--- what lines are answered from a file that is open, or none; and whether one of them is refused
-pub record Answered : Type 0 where
-  pub out : List ℕ
-  pub refused : Bool
+-- A file that is open behind the last line is closed, and nothing is said.
+abbrev pub ending_of : Files → Option OpenFile → List Edited
+ending_of files None = []
+ending_of files (Some file) = record { answer = nothing; desk = closed_desk (files_closed (open_desk files file)) } ∷ []
 
-abbrev pub answered_first : Edited → Answered → Answered
-answered_first edited rest = record { out = text_of edited.answer ++ rest.out; refused = is_refusal edited.answer || rest.refused }
+abbrev pub ending : Desk → List Edited
+ending desk = ending_of desk.files desk.open_file
 
-abbrev pub answered : Files → Option Editing → List (List ℕ) → Answered
-answered files file [] = record { out = []; refused = false }
-answered files file (line ∷ lines) = answered_first (edit_line files file line) (answered files (edit_line files file line).open_file lines)
+-- what each of these lines is answered, with the state that it leaves; and then the ending
+abbrev pub steps : Desk → List (List ℕ) → List Edited
+steps desk [] = ending desk
+steps desk (line ∷ lines) = edit_line desk line ∷ steps (edit_line desk line).desk lines
 
--- the whole script
-unfoldable pub script_answered : Files → List ℕ → Answered
-script_answered files script = answered files None (lines_within most_bytes script)
+-- the whole script, over these files
+unfoldable pub script_steps : Files → List ℕ → List Edited
+script_steps files script = steps (closed_desk files) (lines_within most_bytes script)
+
+-- what is said in all, whether something is refused, and the state at the end
+abbrev pub texts : List Edited → List ℕ
+texts [] = []
+texts (step ∷ left) = text_of step.answer ++ texts left
+
+abbrev pub any_refused : List Edited → Bool
+any_refused [] = false
+any_refused (step ∷ left) = is_refusal step.answer || any_refused left
+
+abbrev pub last_desk : Desk → List Edited → Desk
+last_desk desk [] = desk
+last_desk desk (step ∷ left) = last_desk step.desk left
+
+-- ---- how much of the disks the lines use at most
+
+-- bytes asked
+abbrev pub asked_by : Said → ℕ
+asked_by (Said.open_read name) = 16384
+asked_by (Said.open_update name) = 16384
+asked_by (Said.read n) = 1024 * n + 16384
+asked_by said = 0
+
+-- bytes written; a file that is made or open is closed with 72 more
+abbrev pub written_by : Said → ℕ
+written_by (Said.create kind codec channels rate name) = 2048
+written_by (Said.write xs) = 4 * length xs + 72
+written_by (Said.truncate n) = 72
+written_by Said.trim = 80
+written_by Said.update = 72
+written_by (Said.auto on) = 72
+written_by Said.close = 72
+written_by said = 0
+
+abbrev pub by_command : (Said → ℕ) → Result (Option Said) ScriptRefusal → ℕ
+by_command most (Ok (Some said)) = most said
+by_command most other = 0
+
+abbrev pub by_lines : (Said → ℕ) → List (List ℕ) → ℕ
+by_lines most lines = sum_by (λ line. by_command most (command_of line)) lines
+
+-- ---- which files they write
+
+-- a command opens the file of a name to be written
+abbrev pub writes_name : List ℕ → Said → Bool
+writes_name n (Said.open_update name) = bytes_eq n name
+writes_name n (Said.create kind codec channels rate name) = bytes_eq n name
+writes_name n said = false
+
+abbrev pub by_writing : List ℕ → Result (Option Said) ScriptRefusal → Bool
+by_writing n (Ok (Some said)) = writes_name n said
+by_writing n other = false
+
+abbrev pub any_writes : List ℕ → List (List ℕ) → Bool
+any_writes n [] = false
+any_writes n (line ∷ lines) = by_writing n (command_of line) || any_writes n lines

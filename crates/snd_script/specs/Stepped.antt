@@ -1,18 +1,19 @@
--- One command on an open file: which commands there are, and how one ends.
-use Rattle.std.specs.Prelude.{◌≡◌, ◌≤◌, ◌+◌, ◌-◌, ◌*◌, ℕ, List, ◌++◌, Bool, true, false, Option, Some, Result, Ok, Err, min, nat_le, if◌then◌else◌}
+-- One command on an open file: how it ends, and what the handle knows then, by what it knew alone.
+use Rattle.std.specs.Prelude.{◌≡◌, ◌⊎◌, ◌≤◌, ℕ, List, ◌++◌, Bool, true, false, ◌&&◌, Option, None, Some, Result, Ok, Err, is_none}
 use Rattle.snd_command.specs.Said.{Said}
 use Rattle.snd_disk.specs.State.{Rises}
 use Rattle.snd_disk.specs.Streams.{AppendsFront}
 use Rattle.snd_disk.specs.declared.disk.Step.{Step}
 use Rattle.snd_modes.specs.Editing.{Editing}
 use Rattle.snd_modes.specs.Handle.{Known}
-use Rattle.snd_script.specs.Edit.{Edited, edit_open}
+use Rattle.snd_modes.specs.WriteCalls.{known_sealed}
+use Rattle.snd_script.specs.Rules.{FileEdited, Rule}
 use Rattle.snd_script.specs.Replies.{Answer, refuses, refusal_number, text_of}
 use Rattle.snd_script.specs.declared.handle.Reply.{Reply}
 use Rattle.snd_script.specs.declared.handle.Reply.TheVariants as reply
 use Rattle.snd_script.specs.declared.handle.StepFault.{StepFault}
 use Rattle.snd_script.specs.declared.handle.StepFault.TheVariants.{Disk, Out, Memory}
-use Rattle.snd_script.specs.declared.refusal.Refusal.TheVariants.{AlreadyOpen, NotBuilt, SeekRange}
+use Rattle.snd_script.specs.declared.refusal.Refusal.{Refusal}
 
 -- the command that closes a file
 abbrev pub is_close : Said → Bool
@@ -24,16 +25,13 @@ abbrev pub reply_of : Answer → Reply
 reply_of (refuses refusal) = reply.Refused (refusal_number refusal)
 reply_of answer = reply.Ok
 
--- The file that is open afterwards: the one that the command leaves, where it was carried out or refused, also where its
--- reply did not get out; the same one after a fault of the disk and for want of memory.
-abbrev pub file_left : Result Reply StepFault → Editing → Edited → Option Editing
-file_left (Ok reply) e edited = edited.open_file
-file_left (Err Out) e edited = edited.open_file
-file_left (Err Disk) e edited = Some e
-file_left (Err Memory) e edited = Some e
-
-abbrev pub file_after : Result Reply StepFault → Editing → Said → Option Editing
-file_after result e said = file_left result e (edit_open e said)
+-- What the handle stands for afterwards: the file that the command leaves, where it was carried out or refused, also where
+-- its reply did not get out; the same one for want of memory. Nothing is said after a fault of the disk.
+abbrev pub LeavesFile : Result Reply StepFault → FileEdited → Editing → (Editing → Type 0) → Type 0
+LeavesFile (Ok reply) edited e stands = stands edited.editing
+LeavesFile (Err Out) edited e stands = stands edited.editing
+LeavesFile (Err Memory) edited e stands = stands e
+LeavesFile (Err Disk) edited e stands = Unit {0}
 
 -- What was appended: the text of the answer, which the reply is of; a front of it where the sink failed; else nothing.
 abbrev pub IsSaid : Result Reply StepFault → Answer → Option (List ℕ) → Option (List ℕ) → Type 0
@@ -63,51 +61,39 @@ IsStepCause (Err Disk) disk disk' out out' = Rose disk disk' × (out' ≡ out)
 IsStepCause (Err Out) disk disk' out out' = (disk' ≡ disk) × Rose out out'
 IsStepCause (Err Memory) disk disk' out out' = (disk' ≡ disk) × (out' ≡ out)
 
--- which reply comes to `seek`, from what the handle knows alone; and what it knows afterwards
-abbrev pub seek_reply : ℕ → Known → Reply
-seek_reply n h = if nat_le n h.shape.frames then reply.Ok else reply.Refused (refusal_number SeekRange)
+-- ---- over every disk
 
-abbrev pub done_reply : Known → Reply
-done_reply h = reply.Ok
+-- why a command is refused, and which reply comes
+abbrev pub refusal_by : Rule → Known → Option Refusal
+refusal_by rule h = rule.refusal h.write_place h.shape
 
-abbrev pub same_known : Known → Known
-same_known h = h
+abbrev pub reply_unless : Option Refusal → Reply
+reply_unless (Some refusal) = reply.Refused (refusal_number refusal)
+reply_unless None = reply.Ok
 
-abbrev pub seek_known : ℕ → Known → Known
-seek_known n h = if nat_le n h.shape.frames then record h { place = n } else h
+abbrev pub reply_by : Rule → Known → Reply
+reply_by rule h = reply_unless (refusal_by rule h)
 
-abbrev pub read_known : ℕ → Known → Known
-read_known n h = record h { place = h.place + min n (h.shape.frames - h.place) }
+-- what the handle knows once it was refused, or carried out
+abbrev pub known_unless : Option Refusal → Known → Known → Known
+known_unless (Some refusal) done h = h
+known_unless None done h = done
 
--- .. to any command that does not close the file
-abbrev pub reply_on : Said → Known → Reply
-reply_on Said.info h = reply.Ok
-reply_on (Said.read n) h = reply.Ok
-reply_on (Said.seek_read n) h = seek_reply n h
-reply_on (Said.seek_both n) h = seek_reply n h
-reply_on (Said.open_read name) h = reply.Refused (refusal_number AlreadyOpen)
-reply_on said h = reply.Refused (refusal_number NotBuilt)
+abbrev pub known_by : Rule → Known → Known
+known_by rule h = known_unless (refusal_by rule h) (rule.known h) h
 
--- What the handle knows once a command was carried out or refused: `read` and `seek` move the place, nothing else changes.
-abbrev pub known_after : Said → Known → Known
-known_after (Said.read n) h = read_known n h
-known_after (Said.seek_read n) h = seek_known n h
-known_after (Said.seek_both n) h = seek_known n h
-known_after said h = h
+-- .. or its disk failed: nothing else, but that it may have been sealed before
+abbrev pub IsBrokenAt : Bool → Step → Known → Known → Type 0
+IsBrokenAt true step old new = (new ≡ record old { broken = Some step }) ⊎ (new ≡ record (known_sealed old) { broken = Some step })
+IsBrokenAt false step old new = new ≡ record old { broken = Some step }
 
--- The reply, and what the handle knows afterwards, over every disk. A fault of the disk breaks it, and nothing else does.
-abbrev pub Knows : Result Reply StepFault → Reply → Known → Known → Known → Type 0
-Knows (Ok reply) due after old new = (reply ≡ due) × (new ≡ after)
-Knows (Err Out) due after old new = new ≡ after
-Knows (Err Disk) due after old new = (step : Step) × (new ≡ record old { broken = Some step })
-Knows (Err Memory) due after old new = new ≡ old
+-- The reply, and what the handle knows afterwards. A fault of the disk breaks it, and nothing else does.
+abbrev pub Knows : Result Reply StepFault → Rule → Known → Known → Type 0
+Knows (Ok reply) rule old new = (reply ≡ reply_by rule old) × (new ≡ known_by rule old)
+Knows (Err Out) rule old new = new ≡ known_by rule old
+Knows (Err Disk) rule old new = (step : Step) × IsBrokenAt rule.seals_first step old new
+Knows (Err Memory) rule old new = new ≡ old
 
--- at most so many bytes are asked of the disk: a frame of a linear codec has at most 1024
-abbrev pub most_asked : Said → ℕ
-most_asked (Said.read n) = 1024 * n + 16384
-most_asked said = 0
-
--- only a read takes memory: for its samples
-abbrev pub takes_memory : Said → Bool
-takes_memory (Said.read n) = true
-takes_memory said = false
+-- a command changes the file, where it is not refused
+abbrev pub changes_by : Rule → Known → Bool
+changes_by rule h = rule.changes && is_none (refusal_by rule h)

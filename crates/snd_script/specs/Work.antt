@@ -1,85 +1,111 @@
--- What is done for a command on an open file.
-use Rattle.std.specs.Prelude.{◌≡◌, ◌+◌, ◌*◌, ℕ, ℤ, List, Bool, true, false, Option, None, Some, Result, Ok, Err, MatchResult, length}
+-- What is done for a command, and how that leaves a file.
+use Rattle.std.specs.Prelude.{◌≡◌, ◌⊎◌, ℕ, ℤ, List, Bool, true, false, Option, None, Some, Result, Ok, Err, IfErr, IfOk, IsErrOf, MatchResult, is_none}
+use Rattle.std.specs.Borrow.{MutBor}
 use Rattle.snd_command.specs.Said.{Said}
+use Rattle.snd_command.specs.declared.tables.CodecWord.{CodecWord}
+use Rattle.snd_container.specs.Sound.{linear_of}
 use Rattle.snd_disk.specs.Shelf.{Files}
-use Rattle.snd_disk.specs.Device.{AsksAtMost, OnlyReadsOn}
+use Rattle.snd_disk.specs.Device.{AsksAtMost, GoesOnFrom, IsStable, OnlyReadsOn, Tells, WritesAtMost}
 use Rattle.snd_disk.specs.State.{State}
 use Rattle.snd_disk.specs.declared.disk.Disk.{Ghosts}
 use Rattle.snd_disk.specs.declared.disk.Step.{Step}
+use Rattle.snd_disk.specs.declared.streams.Sink.{Ghosts as SinkMeaning}
+use Rattle.snd_layout.specs.Params.{params_of}
+use Rattle.snd_layout.specs.declared.kind.Kind.{Kind}
+use Rattle.snd_layout.specs.declared.kind.Kind.TheVariants.{Wave}
 use Rattle.snd_modes.specs.Editing.{Editing, frames_left, frames_read, moved_by}
+use Rattle.snd_modes.specs.Edits.{sealed_to}
 use Rattle.snd_modes.specs.Handle.{Known, Stands, channels_of, disk_of, known_of}
 use Rattle.snd_modes.specs.declared.handle.File.{File}
 use Rattle.snd_modes.specs.declared.mode.Mode.{Ghosts as ModeGhosts}
+use Rattle.snd_patch.specs.Steps.{StillTells}
 use Rattle.snd_pcm.specs.Groups.{first_groups}
-use Rattle.snd_script.specs.Edit.{Edited, open_edit, refused, said_by, seek_edit}
-use Rattle.snd_script.specs.Replies.{file_line, frames_text, ok_line, refusal_number, says}
-use Rattle.snd_script.specs.Stepped.{IsSaid, IsStepCause, Knows, Rose, file_left, read_known, seek_known, seek_reply}
+use Rattle.snd_script.specs.Desk.{Mode, closed_desk, reads, writes}
+use Rattle.snd_script.specs.Edit.{Edited, Opening, edit_by, edit_closed, make_edit, open_edit, refused}
+use Rattle.snd_script.specs.Rules.{Rule, auto_rule, in_mode, read_rule, refused_rule, rule_of, seek_read_rule, seek_rule, seek_write_rule, tell_rule, trim_rule, truncate_rule, update_rule, write_rule}
+use Rattle.snd_script.specs.Handled.{back_of}
+use Rattle.snd_script.specs.Stepped.{IsSaid, IsSilent, IsStepCause, Knows, LeavesFile, Rose, changes_by}
 use Rattle.snd_script.specs.declared.handle.Reply.{Reply}
-use Rattle.snd_script.specs.declared.handle.Reply.TheVariants as reply
 use Rattle.snd_script.specs.declared.handle.StepFault.{StepFault}
 use Rattle.snd_script.specs.declared.handle.StepFault.TheVariants.{Disk, Out, Memory}
 use Rattle.snd_script.specs.declared.refusal.Refusal.TheVariants as refusal
-use Rattle.snd_script.specs.declared.refusal.Refusal.TheVariants.{AlreadyOpen, NotOpen}
 use Rattle.snd_script.specs.declared.work.Work.{Work}
-use Rattle.snd_script.specs.declared.work.Work.TheVariants.{Open, Close, Tell, Seek, Read, NotBuilt}
+use Rattle.snd_script.specs.declared.work.Work.TheVariants.{Open, Update, Make, Close, Tell, SeekRead, SeekWrite, SeekBoth, Read, Write, Truncate, Trim, BringUp, Auto, NotBuilt}
 
-abbrev pub read_edit : ℕ → Editing → Edited
-read_edit n e = said_by (frames_text (frames_read e (frames_left e n))) (moved_by (frames_left e n) e)
+-- the rule of what is done on an open file, unless it is closed
+abbrev pub work_rule : Mode → Work → Rule
+work_rule mode Tell = tell_rule
+work_rule mode (SeekRead n) = in_mode (reads mode) (seek_read_rule n)
+work_rule mode (SeekWrite n) = in_mode (writes mode) (seek_write_rule n)
+work_rule mode (SeekBoth n) = seek_rule mode n
+work_rule mode (Read n) = in_mode (reads mode) (read_rule n)
+work_rule mode (Write xs) = in_mode (writes mode) (write_rule xs.now)
+work_rule mode (Truncate n) = in_mode (writes mode) (truncate_rule n)
+work_rule mode Trim = in_mode (writes mode) trim_rule
+work_rule mode BringUp = in_mode (writes mode) update_rule
+work_rule mode (Auto on) = in_mode (writes mode) (auto_rule on)
+work_rule mode NotBuilt = refused_rule refusal.NotBuilt
+work_rule mode work = refused_rule refusal.AlreadyOpen
 
-abbrev pub close_edit : Editing → Edited
-close_edit e = record { answer = says (ok_line (length e.frames)); open_file = None }
-
-abbrev pub tell_edit : Editing → Edited
-tell_edit e = said_by (file_line e.shape) e
-
--- with a file open
-abbrev pub work_open : Work → Editing → Edited
-work_open (Open name) e = refused AlreadyOpen (Some e)
-work_open Close e = close_edit e
-work_open Tell e = tell_edit e
-work_open (Seek n) e = seek_edit n e
-work_open (Read n) e = read_edit n e
-work_open NotBuilt e = refused refusal.NotBuilt (Some e)
-
--- with none
+-- with none open
 abbrev pub work_closed : Work → Files → Edited
-work_closed (Open name) files = open_edit (files name.now)
-work_closed NotBuilt files = refused refusal.NotBuilt None
-work_closed work files = refused NotOpen None
-
--- the name is that of the command
-abbrev pub NamesFile : Work → Said → Type 0
-NamesFile (Open name) said = said ≡ Said.open_read name.now
-NamesFile work said = Unit {0}
+work_closed (Open name) files = open_edit files name.now Opening.for_reading (files name.now)
+work_closed (Update name) files = open_edit files name.now Opening.for_updating (files name.now)
+work_closed (Make kind codec channels rate name) files = make_edit files name.now kind (params_of channels rate codec)
+work_closed NotBuilt files = refused refusal.NotBuilt (closed_desk files)
+work_closed work files = refused refusal.NotOpen (closed_desk files)
 
 abbrev pub work_closes : Work → Bool
 work_closes Close = true
 work_closes work = false
 
-abbrev pub work_reply : Work → Known → Reply
-work_reply (Open name) h = reply.Refused (refusal_number AlreadyOpen)
-work_reply NotBuilt h = reply.Refused (refusal_number refusal.NotBuilt)
-work_reply (Seek n) h = seek_reply n h
-work_reply Tell h = reply.Ok
-work_reply (Read n) h = reply.Ok
-work_reply Close h = reply.Refused (refusal_number refusal.NotBuilt)
+-- the name that a command has, and the one of the file that is opened
+abbrev pub name_of : Said → Option (List ℕ)
+name_of (Said.open_read name) = Some name
+name_of (Said.open_update name) = Some name
+name_of (Said.create kind codec channels rate name) = Some name
+name_of said = None
 
-abbrev pub work_known : Work → Known → Known
-work_known (Seek n) h = seek_known n h
-work_known (Read n) h = read_known n h
-work_known work h = h
+abbrev pub work_name : Work → Option (List ℕ)
+work_name (Open name) = Some name.now
+work_name (Update name) = Some name.now
+work_name (Make kind codec channels rate name) = Some name.now
+work_name work = None
 
-abbrev pub work_asks : Work → ℕ
-work_asks (Read n) = 1024 * n + 16384
-work_asks work = 0
+-- what is made is a WAVE file of linear samples
+abbrev pub IsBuiltWork : Work → Type 0
+IsBuiltWork (Make kind codec channels rate name) = (kind ≡ Wave) × (is_none (linear_of codec) ≡ false)
+IsBuiltWork work = Unit {0}
 
-abbrev pub work_takes_memory : Work → Bool
-work_takes_memory (Read n) = true
-work_takes_memory work = false
+-- a file is made where its kind and its codec are built
+pub record MakesFor (work : Work) (kind : Kind) (word : CodecWord) (channels rate : ℕ) (name : List ℕ) : Type 0 where
+  pub closed : (files : Files) → edit_closed files (Said.create kind word channels rate name) ≡ work_closed work files
+  pub rule : (mode : Mode) → rule_of mode (Said.create kind word channels rate name) ≡ work_rule mode work
+  pub named : (n : List ℕ) → work_name work ≡ Some n → n ≡ name
+  pub stays : work_closes work ≡ false
+  pub built : IsBuiltWork work
 
--- the handle stands for the state that is left
-abbrev pub Leaves : Result Reply StepFault → Editing → Edited → (Editing → Type 0) → Type 0
-Leaves result e edited stands = (e' : Editing) × (file_left result e edited ≡ Some e') × stands e'
+-- these numbers are written
+abbrev pub WritesFor : Work → List ℤ → Type 0
+WritesFor (Write numbers) xs = numbers.now ≡ xs
+WritesFor work xs = ⊥
+
+-- ---- WHOLE FILES. The first arguments are the meanings of the disk and of the sink.
+
+-- A rule is followed on a file: what it stands for afterwards, what is said, and which counts rise; what the handle knows over
+-- every disk; and what the disk is asked for.
+pub record Follows {D M O : Type 0} {mode : ModeGhosts M} (d : Ghosts D) (o : SinkMeaning O) (rule : Rule) (result : Result Reply StepFault) (old : File D M d mode) (out : O) (new : File D M d mode) (out' : O) : Type 0 where
+  pub stands : (e : Editing) → Stands d.state old e → LeavesFile result (edit_by rule e) e (Stands d.state new)
+  pub said : (e : Editing) → Stands d.state old e → IsSaid result (edit_by rule e).answer (o.told out) (o.told out')
+  pub silent : IfErr result (λ fault. IsSilent fault (o.told out) (o.told out'))
+  pub cause : IsStepCause result (d.state (disk_of old)).faults (d.state (disk_of new)).faults (o.faults out) (o.faults out')
+  pub memory : IsErrOf result Memory → rule.takes_memory ≡ true
+  pub knows : Knows result rule (known_of old) (known_of new)
+  pub tells : StillTells (d.state (disk_of old)) (d.state (disk_of new))
+  pub time : GoesOnFrom d.state d.left_between (disk_of old) (disk_of new)
+  pub reads : changes_by rule (known_of old) ≡ false → OnlyReadsOn d.state d.may_leave d.left_between (disk_of old) (disk_of new)
+  pub asked : AsksAtMost d.state rule.asked (disk_of old) (disk_of new)
+  pub written : WritesAtMost d.state rule.written (disk_of old) (disk_of new)
 
 -- The sink's count has risen where the reply did not get out, and is as before where it did. Nothing else goes wrong.
 abbrev pub IsSent : Result Reply StepFault → ℕ → ℕ → Type 0
@@ -94,31 +120,14 @@ IsReadFault old new faults faults' Disk = ((step : Step) × (new ≡ record old 
 IsReadFault old new faults faults' Memory = (new ≡ old) × (faults' ≡ faults)
 IsReadFault old new faults faults' Out = ⊥
 
--- WHOLE FILES. The first arguments are the meanings of the disk.
-
 abbrev pub FileReads : {D M : Type 0} {ghosts : Ghosts D} {mode : ModeGhosts M} → (D → State) → (D → List ℕ → Type 0) → (D → ℕ → ℕ → List ℕ → Type 0) → File D M ghosts mode → File D M ghosts mode → Type 0
 FileReads state may_leave left_between old new = OnlyReadsOn state may_leave left_between (disk_of old) (disk_of new)
 
 abbrev pub FileAsks : {D M : Type 0} {ghosts : Ghosts D} {mode : ModeGhosts M} → (D → State) → ℕ → File D M ghosts mode → File D M ghosts mode → Type 0
 FileAsks state n old new = AsksAtMost state n (disk_of old) (disk_of new)
 
-abbrev pub FileCounts : {D M O : Type 0} {ghosts : Ghosts D} {mode : ModeGhosts M} → (D → State) → (O → ℕ) → Result Reply StepFault → File D M ghosts mode → O → File D M ghosts mode → O → Type 0
-FileCounts state faults result old out new out' =
-    IsStepCause result (state (disk_of old)).faults (state (disk_of new)).faults (faults out) (faults out')
-
 abbrev pub FileFault : {D M : Type 0} {ghosts : Ghosts D} {mode : ModeGhosts M} → (D → State) → File D M ghosts mode → File D M ghosts mode → StepFault → Type 0
 FileFault state old new fault = IsReadFault (known_of old) (known_of new) (state (disk_of old)).faults (state (disk_of new)).faults fault
-
--- the reply and what the file knows afterwards, by what it knew
-abbrev pub FileKnows : {D M : Type 0} {ghosts : Ghosts D} {mode : ModeGhosts M} → (Known → Reply) → (Known → Known) → Result Reply StepFault → File D M ghosts mode → File D M ghosts mode → Type 0
-FileKnows due after result old new = Knows result (due (known_of old)) (after (known_of old)) (known_of old) (known_of new)
-
--- the file that it stands for afterwards, and what is appended, by an edit
-abbrev pub FileLeaves : {D M : Type 0} {ghosts : Ghosts D} {mode : ModeGhosts M} → (D → State) → (Editing → Edited) → Result Reply StepFault → File D M ghosts mode → File D M ghosts mode → Type 0
-FileLeaves state edit result old new = (e : Editing) → Stands state old e → Leaves result e (edit e) (Stands state new)
-
-abbrev pub FileSays : {D M O : Type 0} {ghosts : Ghosts D} {mode : ModeGhosts M} → (D → State) → (O → Option (List ℕ)) → (Editing → Edited) → Result Reply StepFault → File D M ghosts mode → O → O → Type 0
-FileSays state told edit result file out out' = (e : Editing) → Stands state file e → IsSaid result (edit e).answer (told out) (told out')
 
 -- so many of the wanted frames were left, and these are they, where the disk tells the file
 abbrev pub CountsLeft : {D M : Type 0} {ghosts : Ghosts D} {mode : ModeGhosts M} → (D → State) → ℕ → File D M ghosts mode → ℕ → Type 0
@@ -133,3 +142,16 @@ MovesOn state result old new =
 
 abbrev pub FileCalm : {D M : Type 0} {ghosts : Ghosts D} {mode : ModeGhosts M} → (D → State) → File D M ghosts mode → File D M ghosts mode → Type 0
 FileCalm state old new = (state (disk_of new)).faults ≡ (state (disk_of old)).faults
+
+-- A file is closed: with its disk, by the number of frames or by the step that failed. The flag is whether its mode writes.
+pub record ClosesAs {D M : Type 0} {mode : ModeGhosts M} (d : Ghosts D) (writing : Bool) (file : File D M d mode) (result : Result (ℕ × MutBor D) (Step × MutBor D)) : Type 0 where
+  pub same : writing ≡ false → (back_of result).now ≡ disk_of file
+  pub sealed : writing ≡ true → IfOk result (λ r. (e : Editing) → Stands d.state file e → Tells d.state r.1.now (sealed_to e).bytes)
+  pub stable : writing ≡ true → IfOk result (λ r. IsStable d.state d.may_leave r.1.now)
+  pub frames : IfOk result (λ r. ((known_of file).broken ≡ None) × (r.0 ≡ (known_of file).shape.frames) × ((d.state r.1.now).faults ≡ (d.state (disk_of file)).faults))
+  pub cause : IfErr result (λ e. (((known_of file).broken ≡ Some e.0) × (e.1.now ≡ disk_of file))
+      ⊎ (((known_of file).broken ≡ None) × (writing ≡ true) × Rose (d.state (disk_of file)).faults (d.state e.1.now).faults))
+  pub tells : StillTells (d.state (disk_of file)) (d.state (back_of result).now)
+  pub time : GoesOnFrom d.state d.left_between (disk_of file) (back_of result).now
+  pub written : WritesAtMost d.state 72 (disk_of file) (back_of result).now
+  pub asked : (d.state (back_of result).now).asked ≡ (d.state (disk_of file)).asked

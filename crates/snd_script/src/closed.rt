@@ -1,18 +1,28 @@
 //! The lines of a script while no file is open.
 
-ghost use Rattle.std.specs.Prelude.{◌≡◌, ◌≤◌, List, ℕ, true, false, None, OnOk};
-ghost use Rattle.snd_script.specs.Serving.{ServesLine, CountsRun, TakesLines, LeavesShelf};
+ghost use Rattle.std.specs.Prelude.{◌≡◌, ◌≤◌, List, ℕ, Some, false, true, is_none, OnOk};
 ghost use Rattle.snd_command.specs.Forms.{is_name};
-ghost use Rattle.snd_command.specs.Said.{Said, said_of};
-ghost use Rattle.snd_script.specs.Edit.{edit_closed, edit_line, open_edit};
+ghost use Rattle.snd_command.specs.Said.{said_of};
+ghost use Rattle.snd_container.specs.Sound.{linear_of};
+ghost use Rattle.snd_layout.specs.Params.{params_of};
+ghost use Rattle.snd_layout.specs.declared.kind.Kind.TheVariants.{Wave};
+ghost use Rattle.snd_script.specs.Desk.{closed_desk};
+ghost use Rattle.snd_script.specs.Edit.{edit_closed, edit_line};
+ghost use Rattle.snd_script.specs.Opened.{IsMakeable, is_making, MakesOf, opens_edit};
+ghost use Rattle.snd_script.specs.Served.{LeavesShelf};
+ghost use Rattle.snd_script.specs.Serving.{CountsRun, ServesLine, TakesLines};
+ghost use Rattle.snd_script.specs.Work.{name_of};
 
+use crate::open::OpenAs;
 use crate::opening::serve_disk;
 use crate::refusal::{Refusal, line_refusal};
 use crate::run::Run;
 use crate::stop::Stop;
 use crate::work::{Work, work_of};
 use snd_command::{Command, parse_line};
+use snd_container::fit;
 use snd_disk::{Shelf, ShelfFault, Sink, Source};
+use snd_layout::{Codec, Kind, OpenRefusal, Params};
 use std::alloc::Global;
 use std::str;
 
@@ -27,31 +37,52 @@ fn name_text(name: &[u8]) -> &str
     }
 }
 
+fn is_making(how: &OpenAs) -> bool
+    ensures { result ≡ is_making how.now }
+{
+    matches!(how, OpenAs::Make(..))
+}
+
 // Opens the file of a name and serves it. The shelf has it back in every case.
 fn serve_name<S: Shelf, R: Source, O: Sink>(
     alloc: Global,
-    name: &str,
+    name: &[u8],
+    how: &OpenAs,
     shelf: &mut S,
     script: &mut R,
     out: &mut O,
     run: &mut Run,
 ) -> Result<(), Stop>
-    requires { (S.state shelf.old).out name.now ≡ false }
-    ensures served { ServesLine S.state R.left O.told (λ f. open_edit (f name.now)) result shelf.old run.old script.old out.old run.new script.new out.new }
+    requires back { (S.state shelf.old).out name.now ≡ false }
+    requires named { is_name name.now ≡ true }
+    requires makeable { IsMakeable how.now }
+    ensures served { ServesLine S.state R.left O.told (λ f. opens_edit f name.now how.now) result shelf.old run.old script.old out.old shelf.new run.new script.new out.new }
     ensures fewer { OnOk result (run.new.lines.room ≤ run.old.lines.room) }
     ensures given { TakesLines R.given run.old script.old run.new script.new }
     ensures counted { CountsRun S.state R.faults O.faults result shelf.old script.old out.old shelf.new script.new out.new }
-    ensures shelf { LeavesShelf S.state S.may_leave S.left_between shelf.old shelf.new }
+    ensures shelf { LeavesShelf S.state S.left_between shelf.old shelf.new }
 {
-    let mut disk = match shelf.take(name, false) {
+    let text = name_text(name);
+    let mut disk = match shelf.take(text, is_making(how)) {
         Ok(disk) => disk,
         Err(ShelfFault::Missing) => return run.refuse(Refusal::MissingFile, out),
-        Err(ShelfFault::Failed) => return Err(Stop::Fault),
+        Err(ShelfFault::Failed) => return Err(Stop::File),
         Err(ShelfFault::Memory) => return Err(Stop::Memory),
     };
-    let served = serve_disk(alloc, &mut disk, script, out, run);
-    shelf.give(name, disk);
+    let served = serve_disk(alloc, &mut disk, how, script, out, run);
+    shelf.give(text, disk);
     served
+}
+
+// The parameters of a file that is to be made, where its kind holds them.
+fn params_for(kind: Kind, codec: Codec, channels: u64, rate: u64) -> Result<Params, OpenRefusal>
+    requires wave { kind ≡ Wave }
+    requires linear { is_none (linear_of codec) ≡ false }
+    ensures made { MakesOf kind (params_of channels rate codec) result }
+{
+    let params = Params::new(channels, rate, codec)?;
+    fit(kind, params)?;
+    Ok(params)
 }
 
 // One command while no file is open. A file that it opens is served up to its close.
@@ -64,20 +95,37 @@ fn closed_command<S: Shelf, R: Source, O: Sink>(
     run: &mut Run,
 ) -> Result<(), Stop>
     requires back { (n : List ℕ) → (S.state shelf.old).out n ≡ false }
-    requires named { (name : List ℕ) → said_of command.now ≡ Said.open_read name → is_name name ≡ true }
-    ensures served { ServesLine S.state R.left O.told (λ f. edit_closed f (said_of command.now)) result shelf.old run.old script.old out.old run.new script.new out.new }
+    requires named { (name : List ℕ) → name_of (said_of command.now) ≡ Some name → is_name name ≡ true }
+    ensures served { ServesLine S.state R.left O.told (λ f. edit_closed f (said_of command.now)) result shelf.old run.old script.old out.old shelf.new run.new script.new out.new }
     ensures fewer { OnOk result (run.new.lines.room ≤ run.old.lines.room) }
     ensures given { TakesLines R.given run.old script.old run.new script.new }
     ensures counted { CountsRun S.state R.faults O.faults result shelf.old script.old out.old shelf.new script.new out.new }
-    ensures shelf { LeavesShelf S.state S.may_leave S.left_between shelf.old shelf.new }
+    ensures shelf { LeavesShelf S.state S.left_between shelf.old shelf.new }
 {
     match work_of(command) {
-        Work::Open(name) => serve_name(alloc, name_text(name), shelf, script, out, run),
+        Work::Open(name) => serve_name(alloc, name, &OpenAs::Read, shelf, script, out, run),
+        Work::Update(name) => serve_name(alloc, name, &OpenAs::Update, shelf, script, out, run),
+        Work::Make(kind, codec, channels, rate, name) => {
+            match params_for(kind, codec, channels, rate) {
+                Ok(params) => {
+                    let how = OpenAs::Make(kind, params);
+                    serve_name(alloc, name, &how, shelf, script, out, run)
+                }
+                Err(refusal) => run.refuse(Refusal::Open(refusal), out),
+            }
+        }
         Work::NotBuilt => run.refuse(Refusal::NotBuilt, out),
-        Work::Close => run.refuse(Refusal::NotOpen, out),
-        Work::Tell => run.refuse(Refusal::NotOpen, out),
-        Work::Seek(_) => run.refuse(Refusal::NotOpen, out),
-        Work::Read(_) => run.refuse(Refusal::NotOpen, out),
+        Work::Close
+        | Work::Tell
+        | Work::SeekRead(_)
+        | Work::SeekWrite(_)
+        | Work::SeekBoth(_)
+        | Work::Read(_)
+        | Work::Write(_)
+        | Work::Truncate(_)
+        | Work::Trim
+        | Work::BringUp
+        | Work::Auto(_) => run.refuse(Refusal::NotOpen, out),
     }
 }
 
@@ -92,11 +140,11 @@ pub fn closed_line<S: Shelf, R: Source, O: Sink>(
     run: &mut Run,
 ) -> Result<(), Stop>
     requires { (n : List ℕ) → (S.state shelf.old).out n ≡ false }
-    ensures served { ServesLine S.state R.left O.told (λ f. edit_line f None line.now) result shelf.old run.old script.old out.old run.new script.new out.new }
+    ensures served { ServesLine S.state R.left O.told (λ f. edit_line (closed_desk f) line.now) result shelf.old run.old script.old out.old shelf.new run.new script.new out.new }
     ensures fewer { OnOk result (run.new.lines.room ≤ run.old.lines.room) }
     ensures given { TakesLines R.given run.old script.old run.new script.new }
     ensures counted { CountsRun S.state R.faults O.faults result shelf.old script.old out.old shelf.new script.new out.new }
-    ensures shelf { LeavesShelf S.state S.may_leave S.left_between shelf.old shelf.new }
+    ensures shelf { LeavesShelf S.state S.left_between shelf.old shelf.new }
 {
     match parse_line(line) {
         Ok(None) => Ok(()),

@@ -1,12 +1,16 @@
 //! The handle of one open file in whichever mode, and how a command on it ends.
 
 use snd_disk::Disk;
-use snd_modes::{File, Read};
+use snd_modes::{File, Read, Update, Write};
 
 /// An open file, by its mode.
 pub enum Handle<'d, D: Disk> {
     /// Opened to be read.
     R(File<'d, D, Read>),
+    /// Made, to be written.
+    W(File<'d, D, Write>),
+    /// Opened to be read and updated in place.
+    U(File<'d, D, Update>),
 }
 
 /// What a command is replied.

@@ -2,8 +2,10 @@
 #![tactic(auto)]
 
 mod carry;
+mod change;
 mod closed;
 mod handle;
+mod open;
 mod opened;
 mod opening;
 mod page;
@@ -14,6 +16,7 @@ mod run;
 mod say;
 mod serving;
 mod session;
+mod step;
 mod stop;
 mod text;
 mod work;

@@ -1,18 +1,17 @@
 //! The lines of a script while a file is open.
 
-ghost use Rattle.std.specs.Prelude.{◌≡◌, ◌≤◌, None, Some, OnOk};
+ghost use Rattle.std.specs.Prelude.{◌≡◌, ◌≤◌, List, ℕ, None, OnOk};
 ghost use Rattle.snd_command.specs.Said.{said_of};
-ghost use Rattle.snd_disk.specs.Shelf.{Files};
-ghost use Rattle.snd_script.specs.Edit.{edit_line, edit_open};
+ghost use Rattle.snd_script.specs.Edit.{edit_open};
 ghost use Rattle.snd_script.specs.Handled.{handle_known, LeavesHandle};
-ghost use Rattle.snd_script.specs.Serving.{IsWhole, ServesOpen, AnswersOpen, CountsHandle, CountsLine, TakesLines};
+ghost use Rattle.snd_script.specs.Stepped.{is_close};
+ghost use Rattle.snd_script.specs.Serving.{AnswersOpen, CountsHandle, CountsLine, IsWhole, ServesOpen, TakesLines, edit_open_line};
 
 use crate::handle::Handle;
 use crate::reader::LineBytes;
 use crate::refusal::line_refusal;
 use crate::run::Run;
 use crate::stop::{Next, Stop};
-use crate::work::{Work, work_of};
 use snd_command::{Command, parse_line};
 use snd_disk::{Disk, Sink, Source};
 
@@ -24,18 +23,16 @@ fn open_command<'d, D: Disk, O: Sink>(
     run: &mut Run,
 ) -> Result<Next, Stop>
     requires { (handle_known handle.old).broken ≡ None }
-    ensures answered { AnswersOpen D.state O.told (λ e. edit_open e (said_of command.now)) result handle.old run.old out.old handle.new run.new out.new }
+    ensures answered { (name : List ℕ) → AnswersOpen D.state O.told name (λ files file. edit_open files file (said_of command.now)) result handle.old run.old out.old handle.new run.new out.new }
     ensures lines { run.new.lines ≡ run.old.lines }
     ensures whole { IsWhole result (handle_known handle.new).broken }
     ensures counted { CountsLine D.state O.faults result handle.old out.old handle.new out.new }
     ensures leaves { LeavesHandle D.state D.may_leave D.left_between handle.old handle.new }
 {
-    match work_of(command) {
-        Work::Close => return Ok(Next::Close),
-        Work::Open(_) | Work::Tell | Work::Seek(_) | Work::Read(_) | Work::NotBuilt => {
-            run.step(handle, command, out)?
-        }
+    if is_close(command) {
+        return Ok(Next::Close);
     }
+    run.step(handle, command, out)?;
     Ok(Next::Open)
 }
 
@@ -47,7 +44,7 @@ fn open_line<'d, D: Disk, O: Sink>(
     run: &mut Run,
 ) -> Result<Next, Stop>
     requires { (handle_known handle.old).broken ≡ None }
-    ensures answered { (f : Files) → AnswersOpen D.state O.told (λ e. edit_line f (Some e) line.now) result handle.old run.old out.old handle.new run.new out.new }
+    ensures answered { (name : List ℕ) → AnswersOpen D.state O.told name (edit_open_line line.now) result handle.old run.old out.old handle.new run.new out.new }
     ensures lines { run.new.lines ≡ run.old.lines }
     ensures whole { IsWhole result (handle_known handle.new).broken }
     ensures counted { CountsLine D.state O.faults result handle.old out.old handle.new out.new }
@@ -72,7 +69,7 @@ pub fn serve_open<'d, D: Disk, R: Source, O: Sink>(
     run: &mut Run,
 ) -> Result<(), Stop>
     requires { (handle_known handle.old).broken ≡ None }
-    ensures served { ServesOpen D.state R.left O.told result handle.old run.old script.old out.old handle.new run.new script.new out.new }
+    ensures served { (name : List ℕ) → ServesOpen D.state R.left O.told name result handle.old run.old script.old out.old handle.new run.new script.new out.new }
     ensures fewer { OnOk result (run.new.lines.room ≤ run.old.lines.room) }
     ensures given { TakesLines R.given run.old script.old run.new script.new }
     ensures whole { IsWhole result (handle_known handle.new).broken }
@@ -87,4 +84,11 @@ pub fn serve_open<'d, D: Disk, R: Source, O: Sink>(
             Next::Close => return Ok(()),
         }
     }
+}
+
+// Whether a command closes the file.
+fn is_close(command: &Command<'_>) -> bool
+    ensures { result ≡ is_close (said_of command.now) }
+{
+    matches!(command, Command::Close)
 }

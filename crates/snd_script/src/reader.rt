@@ -3,7 +3,7 @@
 ghost use Rattle.std.specs.Prelude.{◌≡◌, ◌+◌, ◌-◌, ◌<◌, ◌≤◌, ◌↔◌, ◌++◌, ◌∷◌, List, ℕ, [], true, false, Some, IfOk, OnOk, OnErr, length, take, drop, IsTrue};
 ghost use Rattle.std.specs.List.{position};
 ghost use Rattle.snd_disk.specs.State.{Counts};
-ghost use Rattle.snd_script.specs.Lines.{Reading, Moves, most_kept, to_take, GivesBytes, IsAtEnd, ReadsOn, TakesUp, IsPrompt};
+ghost use Rattle.snd_script.specs.Lines.{Reading, Moves, most_kept, to_take, GivesBytes, IsAtEnd, ReadsOn, TakesUp, IsPrompt, StopsShort};
 ghost use Rattle.snd_script.specs.Script.{is_feed};
 
 use arrayvec::ArrayVec;
@@ -72,6 +72,7 @@ fn fill<R: Source>(script: &mut R, block: &mut [u8], most: usize) -> Result<usiz
     ensures told { IfOk result (λ n. GivesBytes R.left (take n block.new) script.old script.new) }
     ensures ended { IfOk result (λ n. n ≡ 0 → IsAtEnd R.left script.old) }
     ensures given { IfOk result (λ n. R.given script.new ≤ R.given script.old + n) }
+    ensures kept { OnErr result (R.left script.new ≡ R.left script.old) }
     ensures not_given { OnErr result (R.given script.new ≡ R.given script.old) }
     ensures faults { Counts (R.faults script.old) (R.faults script.new) result }
 {
@@ -128,6 +129,7 @@ impl ScriptLines {
         ensures some { IfOk result (λ more. more ≡ true → 0 < length self.new.rest) }
         ensures none { IfOk result (λ more. more ≡ false → self.new.rest ≡ []) }
         ensures told { OnOk result (GivesBytes R.left self.new.rest script.old script.new) }
+        ensures kept { OnErr result (R.left script.new ≡ R.left script.old) }
         ensures ended { IfOk result (λ more. more ≡ false → IsAtEnd R.left script.old) }
         ensures room { self.new.room ≡ self.old.room }
         ensures given { TakesUp R.given self.old script.old self.new script.new }
@@ -148,6 +150,7 @@ impl ScriptLines {
         line: &mut LineBytes,
     ) -> Result<NextLine, Failed>
         ensures next { IfOk result (ReadsOn R.left line.new.items self.old script.old self.new script.new) }
+        ensures short { OnErr result (StopsShort R.left self.old script.old script.new) }
         ensures prompt { IsPrompt self.old script.old script.new }
         ensures fewer { IfOk result (λ next. next ≡ NextLine.Line → self.new.room < self.old.room) }
         ensures given { TakesUp R.given self.old script.old self.new script.new }

@@ -2,17 +2,17 @@
 
 ghost use Rattle.std.specs.Prelude.{◌≡◌, ◌+◌, ◌*◌, ◌≤◌, None, IfOk, IfErr, OnOk, length};
 ghost use Rattle.snd_modes.specs.Handle.{channels_of, known_of, loan_of};
-ghost use Rattle.snd_script.specs.Stepped.{read_known};
+ghost use Rattle.snd_script.specs.Rules.{read_known};
 ghost use Rattle.snd_script.specs.Work.{CountsLeft, FileAsks, FileCalm, FileFault, FileReads, MovesOn, ReadsFrames};
 
 use crate::handle::StepFault;
 use snd_disk::Disk;
-use snd_modes::{File, Read, ReadError};
+use snd_modes::{CanRead, File, ReadError};
 
 /// Reads as many frames as are wanted and are left, into the front of the samples. Memory for as many as
 /// the file could give is taken first.
-pub fn read_some<'d, D: Disk>(
-    file: &mut File<'d, D, Read>,
+pub fn read_some<'d, D: Disk, M: CanRead>(
+    file: &mut File<'d, D, M>,
     samples: &mut Vec<i32>,
     wanted: u64,
 ) -> Result<usize, StepFault>

@@ -12,8 +12,22 @@ use snd_layout::OpenRefusal;
 pub enum Refusal {
     /// A file is not opened.
     Open(OpenRefusal),
+    /// A file of ADPCM blocks is not updated in place.
+    AdpcmUpdate,
+    /// A file that does not say its length is not updated in place.
+    UnknownLength,
+    /// The numbers are not whole frames.
+    PartFrame,
+    /// A number is not in the range of the codec.
+    SampleRange,
     /// A place lies behind the last frame.
     SeekRange,
+    /// The file goes on behind its sound, which then can change its length no more.
+    TrailingData,
+    /// The head has no room for so many frames.
+    ContainerFull,
+    /// The field that decides the count lies in two sectors.
+    Straddle,
     /// The line has the form of no command.
     BadCommand,
     /// The line has more than 4096 bytes.
@@ -22,6 +36,8 @@ pub enum Refusal {
     NotOpen,
     /// A file is open already.
     AlreadyOpen,
+    /// The file was opened in a mode that lacks the command.
+    WrongMode,
     /// There is no file of this name.
     MissingFile,
     /// The command is not built yet.
@@ -35,11 +51,19 @@ impl Refusal {
     {
         match self {
             Refusal::Open(refusal) => refusal.number(),
+            Refusal::AdpcmUpdate => 20,
+            Refusal::UnknownLength => 21,
+            Refusal::PartFrame => 22,
+            Refusal::SampleRange => 23,
             Refusal::SeekRange => 24,
+            Refusal::TrailingData => 25,
+            Refusal::ContainerFull => 26,
+            Refusal::Straddle => 27,
             Refusal::BadCommand => 40,
             Refusal::LineTooLong => 41,
             Refusal::NotOpen => 42,
             Refusal::AlreadyOpen => 43,
+            Refusal::WrongMode => 44,
             Refusal::MissingFile => 56,
             Refusal::NotBuilt => 99,
         }
@@ -51,11 +75,19 @@ impl Refusal {
     {
         match self {
             Refusal::Open(refusal) => refusal.name(),
+            Refusal::AdpcmUpdate => "AdpcmUpdate",
+            Refusal::UnknownLength => "UnknownLength",
+            Refusal::PartFrame => "PartFrame",
+            Refusal::SampleRange => "SampleRange",
             Refusal::SeekRange => "SeekRange",
+            Refusal::TrailingData => "TrailingData",
+            Refusal::ContainerFull => "ContainerFull",
+            Refusal::Straddle => "Straddle",
             Refusal::BadCommand => "BadCommand",
             Refusal::LineTooLong => "LineTooLong",
             Refusal::NotOpen => "NotOpen",
             Refusal::AlreadyOpen => "AlreadyOpen",
+            Refusal::WrongMode => "WrongMode",
             Refusal::MissingFile => "MissingFile",
             Refusal::NotBuilt => "NotBuilt",
         }

@@ -1,11 +1,12 @@
 //! A run over a script, and what it does for one line.
 
-ghost use Rattle.std.specs.Prelude.{◌≡◌, ◌<◌, ◌≤◌, false, None, OnOk};
+ghost use Rattle.std.specs.Prelude.{◌≡◌, ◌<◌, ◌≤◌, List, ℕ, false, None, OnOk};
 ghost use Rattle.snd_script.specs.Stepped.{is_close};
 ghost use Rattle.snd_command.specs.Said.{said_of};
-ghost use Rattle.snd_script.specs.Handled.{handle_known, LeavesHandle};
+ghost use Rattle.snd_script.specs.Handled.{handle_known, HandleAsks, HandleWrites, LeavesHandle};
 ghost use Rattle.snd_script.specs.Replies.{refuses};
-ghost use Rattle.snd_script.specs.Serving.{IsCountedOnce, IsWhole, Answers, CountsLine, TakesLines, BringsLine, StaysOpen, AnswersStep};
+ghost use Rattle.snd_script.specs.Script.{asked_by, written_by};
+ghost use Rattle.snd_script.specs.Serving.{IsScriptCounted, IsSinkCounted, IsWhole, Answers, CountsLine, TakesLines, BringsLine, AnswersStep};
 
 use crate::handle::{Handle, Reply, StepFault};
 use crate::reader::{LineBytes, NextLine, ScriptLines};
@@ -32,13 +33,13 @@ impl Run {
         ensures fewer { OnOk result (self.new.lines.room < self.old.lines.room) }
         ensures given { TakesLines R.given self.old script.old self.new script.new }
         ensures noted { self.new.refused ≡ self.old.refused }
-        ensures faults { IsCountedOnce result (R.faults script.old) (R.faults script.new) }
+        ensures faults { IsScriptCounted result (R.faults script.old) (R.faults script.new) }
     {
         match self.lines.next_line(script, line) {
             Ok(NextLine::Line) => Ok(()),
             Ok(NextLine::End) => Err(Stop::Ended),
             Ok(NextLine::TooLong) => Err(Stop::TooLong),
-            Err(_) => Err(Stop::Fault),
+            Err(_) => Err(Stop::Script),
         }
     }
 
@@ -46,12 +47,12 @@ impl Run {
     pub fn refuse<O: Sink>(&mut self, refusal: Refusal, out: &mut O) -> Result<(), Stop>
         ensures answered { Answers O.told (refuses refusal) result self.old out.old self.new out.new }
         ensures lines { self.new.lines ≡ self.old.lines }
-        ensures faults { IsCountedOnce result (O.faults out.old) (O.faults out.new) }
+        ensures faults { IsSinkCounted result (O.faults out.old) (O.faults out.new) }
     {
         self.refused = true;
         match put_refusal(out, refusal) {
             Ok(()) => Ok(()),
-            Err(_) => Err(Stop::Fault),
+            Err(_) => Err(Stop::Sink),
         }
     }
 
@@ -64,12 +65,13 @@ impl Run {
     ) -> Result<(), Stop>
         requires whole { (handle_known handle.old).broken ≡ None }
         requires step { is_close (said_of command.now) ≡ false }
-        ensures stands { OnOk result (StaysOpen D.state (said_of command.now) handle.old handle.new) }
-        ensures answered { AnswersStep D.state O.told (said_of command.now) result handle.old self.old out.old self.new out.new }
+        ensures answered { (name : List ℕ) → AnswersStep D.state O.told name (said_of command.now) result handle.old self.old out.old handle.new self.new out.new }
         ensures lines { self.new.lines ≡ self.old.lines }
         ensures whole { IsWhole result (handle_known handle.new).broken }
         ensures counted { CountsLine D.state O.faults result handle.old out.old handle.new out.new }
         ensures leaves { LeavesHandle D.state D.may_leave D.left_between handle.old handle.new }
+        ensures asked { HandleAsks D.state (asked_by (said_of command.now)) handle.old handle.new }
+        ensures written { HandleWrites D.state (written_by (said_of command.now)) handle.old handle.new }
     {
         match self.session.step(handle, command, out) {
             Ok(Reply::Ok) => Ok(()),
@@ -77,8 +79,8 @@ impl Run {
                 self.refused = true;
                 Ok(())
             }
-            Err(StepFault::Disk) => Err(Stop::Fault),
-            Err(StepFault::Out) => Err(Stop::Fault),
+            Err(StepFault::Disk) => Err(Stop::File),
+            Err(StepFault::Out) => Err(Stop::Sink),
             Err(StepFault::Memory) => Err(Stop::Memory),
         }
     }

@@ -1,10 +1,8 @@
 //! A whole script.
 
 ghost use Rattle.std.specs.Prelude.{◌≡◌, ◌+◌, ◌<◌, ◌≤◌, List, ℕ, OnOk, false};
-ghost use Rattle.snd_script.specs.Serving.{ServesLines, ServesAll, CountsRun, CountsStop, TakesLines, LeavesShelf};
-ghost use Rattle.snd_script.specs.Served.{ServesScript, RisesAtFault};
-ghost use Rattle.snd_disk.specs.Shelves.{KeepsFileImages};
-ghost use Rattle.snd_disk.specs.Shelf.{KeepsFiles};
+ghost use Rattle.snd_script.specs.Serving.{ServesLines, ServesAll, CountsRun, CountsStop, TakesLines};
+ghost use Rattle.snd_script.specs.Served.{LeavesShelf, ServesScript, RisesAtFault};
 
 use crate::closed::closed_line;
 use crate::reader::{LineBytes, ScriptLines};
@@ -40,11 +38,11 @@ fn serve_line<S: Shelf, R: Source, O: Sink>(
     run: &mut Run,
 ) -> Result<(), Stop>
     requires { (n : List ℕ) → (S.state shelf.old).out n ≡ false }
-    ensures served { ServesLines S.state R.left O.told result shelf.old run.old script.old out.old run.new script.new out.new }
+    ensures served { ServesLines S.state R.left O.told result shelf.old run.old script.old out.old shelf.new run.new script.new out.new }
     ensures fewer { OnOk result (run.new.lines.room < run.old.lines.room) }
     ensures given { TakesLines R.given run.old script.old run.new script.new }
     ensures counted { CountsRun S.state R.faults O.faults result shelf.old script.old out.old shelf.new script.new out.new }
-    ensures shelf { LeavesShelf S.state S.may_leave S.left_between shelf.old shelf.new }
+    ensures shelf { LeavesShelf S.state S.left_between shelf.old shelf.new }
 {
     match run.next(script, line) {
         Ok(()) => closed_line(alloc, line.as_slice(), shelf, script, out, run),
@@ -61,10 +59,10 @@ fn serve_lines<S: Shelf, R: Source, O: Sink>(
     run: &mut Run,
 ) -> Stop
     requires { (n : List ℕ) → (S.state shelf.old).out n ≡ false }
-    ensures served { ServesAll S.state R.left O.told result shelf.old run.old script.old out.old run.new script.new out.new }
+    ensures served { ServesAll S.state R.left O.told result shelf.old run.old script.old out.old shelf.new run.new script.new out.new }
     ensures given { TakesLines R.given run.old script.old run.new script.new }
     ensures counted { CountsStop S.state R.faults O.faults result shelf.old script.old out.old shelf.new script.new out.new }
-    ensures shelf { LeavesShelf S.state S.may_leave S.left_between shelf.old shelf.new }
+    ensures shelf { LeavesShelf S.state S.left_between shelf.old shelf.new }
 {
     let mut line = LineBytes::new();
     loop {
@@ -77,6 +75,10 @@ fn serve_lines<S: Shelf, R: Source, O: Sink>(
 
 /// Carries out a script and appends its replies, each line as soon as it has come. A file that is open
 /// at the end is closed, and every file that was taken is given back, also after a fault.
+///
+/// A fault ends the run at once. Where the script failed, what came before is done; where the sink failed
+/// in a reply, its command is carried out too. The open file is closed then, as at any end. Where a file
+/// failed, it is left as the failing call left it, and all others are as before.
 pub fn serve<S: Shelf, R: Source, O: Sink>(
     alloc: Global,
     shelf: &mut S,
@@ -87,9 +89,7 @@ pub fn serve<S: Shelf, R: Source, O: Sink>(
     ensures served { ServesScript S.state R.left R.faults O.told O.faults result shelf.old script.old out.old shelf.new script.new out.new }
     ensures fault { RisesAtFault S.state R.faults O.faults result shelf.old script.old out.old shelf.new script.new out.new }
     ensures taken { R.given script.new ≤ R.given script.old + 16777217 }
-    ensures back { (n : List ℕ) → (S.state shelf.new).out n ≡ false }
-    ensures files { KeepsFiles (S.state shelf.old) (S.state shelf.new) }
-    ensures images { KeepsFileImages S.state S.may_leave S.left_between shelf.old shelf.new }
+    ensures leaves { LeavesShelf S.state S.left_between shelf.old shelf.new }
 {
     let Ok(session) = Session::new(alloc) else {
         return ScriptEnd::Memory;
@@ -104,7 +104,7 @@ pub fn serve<S: Shelf, R: Source, O: Sink>(
             refused: run.refused,
         },
         Stop::TooLong => ScriptEnd::TooLong,
-        Stop::Fault => ScriptEnd::Fault,
+        Stop::Script | Stop::Sink | Stop::File => ScriptEnd::Fault,
         Stop::Memory => ScriptEnd::Memory,
     }
 }

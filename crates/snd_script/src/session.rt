@@ -1,19 +1,22 @@
 //! Commands on an open file.
 
-ghost use Rattle.std.specs.Prelude.{◌≡◌, true, false, None, Some, IfOk, IfErr, IsErrOf, IsOk, OnOk};
+ghost use Rattle.std.specs.Prelude.{◌≡◌, true, false, None, IfErr, IsErrOf, IsOk};
 ghost use Rattle.snd_command.specs.Said.{said_of};
-ghost use Rattle.snd_script.specs.Handled.{CountsFrames, CountsStep, HandleAsks, KnowsAfter, LeavesHandle, LeavesOpen, SaysReply, handle_disk, handle_known, handle_loan};
-ghost use Rattle.snd_script.specs.Stepped.{IsSilent, is_close, most_asked, takes_memory};
+ghost use Rattle.snd_modes.specs.Handle.{loan_of};
+ghost use Rattle.snd_script.specs.Desk.{writes};
+ghost use Rattle.snd_script.specs.Handled.{CountsStep, FinishesAs, HandleAsks, HandleWrites, IsFinishCause, KnowsAfter, LeavesDisk, LeavesHandle, LeavesOpen, OnlyChanges, SaysReply, back_of, handle_disk, handle_known, handle_loan, mode_of, rule_for};
+ghost use Rattle.snd_script.specs.Stepped.{IsSilent, is_close};
+ghost use Rattle.snd_script.specs.Work.{ClosesAs};
+ghost use Rattle.snd_disk.specs.Device.{WritesAtMost};
 
-use crate::carry::{read, seek, tell};
 use crate::handle::{Handle, Reply, StepFault};
-use crate::refusal::Refusal;
-use crate::say::refuse;
+use crate::step::{step_read, step_update, step_write};
 use crate::text::PAGE_BYTES;
-use crate::work::{Work, work_of};
+use crate::work::work_of;
 use arrayvec::ArrayVec;
 use snd_command::Command;
 use snd_disk::{Disk, Sink, Step};
+use snd_modes::{File, Mode};
 use std::alloc::{AllocError, Global};
 
 /// What is used again from command to command: room for samples, and for the text of a reply.
@@ -36,15 +39,16 @@ impl Session {
 
     /// Carries out one command on an open file, and appends its reply to the sink: `ok` lines, or the
     /// line of a refusal, whose number is the answer. The handle may not be broken, and the command may
-    /// not close the file. A refused command leaves what the handle knows.
+    /// not close the file. A refused command leaves what the handle knows, and the disk.
     ///
     /// `Disk` where a call of the disk failed: then nothing was appended, and the handle is broken.
     /// `Out` where the sink failed: then the command was carried out or refused, and a front of its reply
     /// was appended. `Memory` where there was none for the samples of a read, which takes it before it
     /// reads: then all is as before. Other commands take none.
     ///
-    /// The disk is only read. A read asks at most 1024 bytes of it for each frame that is wanted, and 16384
-    /// more; other commands ask nothing.
+    /// A read asks at most 1024 bytes of the disk for each frame that is wanted, and 16384 more. A write of
+    /// v numbers writes at most `4 v + 72` bytes, `trim` 80, and `truncate`, `update` and `auto` 72. Other
+    /// commands ask and write nothing.
     pub fn step<'d, D: Disk, O: Sink>(
         &mut self,
         handle: &mut Handle<'d, D>,
@@ -57,46 +61,52 @@ impl Session {
         ensures said { SaysReply D.state O.told result (said_of command.now) handle.old out.old out.new }
         ensures silent { IfErr result (λ fault. IsSilent fault (O.told out.old) (O.told out.new)) }
         ensures cause { CountsStep D.state O.faults result handle.old out.old handle.new out.new }
-        ensures memory { IsErrOf result StepFault.Memory → takes_memory (said_of command.now) ≡ true }
+        ensures memory { IsErrOf result StepFault.Memory → (rule_for handle.old (said_of command.now)).takes_memory ≡ true }
         ensures knows { KnowsAfter result (said_of command.now) handle.old handle.new }
         ensures leaves { LeavesHandle D.state D.may_leave D.left_between handle.old handle.new }
-        ensures asked { HandleAsks D.state (most_asked (said_of command.now)) handle.old handle.new }
+        ensures reads { OnlyChanges D.state D.may_leave D.left_between (said_of command.now) handle.old handle.new }
+        ensures asked { HandleAsks D.state (rule_for handle.old (said_of command.now)).asked handle.old handle.new }
+        ensures written { HandleWrites D.state (rule_for handle.old (said_of command.now)).written handle.old handle.new }
     {
+        let work = work_of(command);
         match handle {
-            Handle::R(file) => match work_of(command) {
-                Work::Open(_) => refuse(out, Refusal::AlreadyOpen),
-                Work::Close => unreachable!(),
-                Work::Tell => tell(file, out),
-                Work::Seek(to) => seek(file, to, out),
-                Work::Read(count) => read(file, &mut self.samples, &mut self.page, count, out),
-                Work::NotBuilt => refuse(out, Refusal::NotBuilt),
-            },
+            Handle::R(file) => step_read(file, work, &mut self.samples, &mut self.page, out),
+            Handle::W(file) => step_write(file, work, out),
+            Handle::U(file) => step_update(file, work, &mut self.samples, &mut self.page, out),
         }
     }
 
     /// Closes a file and gives its disk back, with the number of its frames, or with the step at which
-    /// the disk failed, where it did.
+    /// the disk failed, where it did. In a mode that writes the file is sealed first, with at most 72 bytes.
     pub fn finish<'d, D: Disk>(
         &mut self,
         handle: Handle<'d, D>,
     ) -> Result<(u64, &'d mut D), (Step, &'d mut D)>
-        ensures lends { IfOk result (λ r. r.1.ghost_name ≡ handle_loan handle.entry) }
-        ensures back { IfOk result (λ r. r.1.now ≡ handle_disk handle.entry) }
-        ensures whole { OnOk result ((handle_known handle.entry).broken ≡ None) }
-        ensures count { IfOk result (λ r. r.0 ≡ (handle_known handle.entry).shape.frames) }
-        ensures frames { IfOk result (λ r. CountsFrames D.state handle.entry r.0) }
-        ensures lends_broken { IfErr result (λ e. e.1.ghost_name ≡ handle_loan handle.entry) }
-        ensures back_broken { IfErr result (λ e. e.1.now ≡ handle_disk handle.entry) }
-        ensures cause { IfErr result (λ e. (handle_known handle.entry).broken ≡ Some e.0) }
+        ensures lends { (back_of result).ghost_name ≡ handle_loan handle.entry }
+        ensures back { FinishesAs (writes (mode_of handle.entry)) D.state D.may_leave handle.entry result }
+        ensures cause { IsFinishCause D.state handle.entry result }
+        ensures leaves { LeavesDisk D.state D.may_leave D.left_between handle.entry (back_of result).now }
+        ensures written { WritesAtMost D.state 72 (handle_disk handle.entry) (back_of result).now }
+        ensures asked { (D.state (back_of result).now).asked ≡ (D.state (handle_disk handle.entry)).asked }
     {
         match handle {
-            Handle::R(file) => {
-                let frames = file.frames();
-                match file.close() {
-                    Ok(disk) => Ok((frames, disk)),
-                    Err((fault, disk)) => Err((fault.0, disk)),
-                }
-            }
+            Handle::R(file) => close_file(file),
+            Handle::W(file) => close_file(file),
+            Handle::U(file) => close_file(file),
         }
+    }
+}
+
+// Closes a file in any mode.
+fn close_file<'d, D: Disk, M: Mode>(
+    file: File<'d, D, M>,
+) -> Result<(u64, &'d mut D), (Step, &'d mut D)>
+    ensures lends { (back_of result).ghost_name ≡ loan_of file.entry }
+    ensures closes { ClosesAs D.Disk M.WRITES file.entry result }
+{
+    let frames = file.frames();
+    match file.close() {
+        Ok(disk) => Ok((frames, disk)),
+        Err((fault, disk)) => Err((fault.0, disk)),
     }
 }

@@ -7,8 +7,12 @@ pub enum Stop {
     Ended,
     /// No further line ends within the bytes that a script may have, and there are more.
     TooLong,
-    /// The shelf, a disk, the script or the sink failed.
-    Fault,
+    /// The script failed.
+    Script,
+    /// The sink failed.
+    Sink,
+    /// The shelf or a disk failed.
+    File,
     /// There was no memory.
     Memory,
 }

@@ -1,14 +1,26 @@
-use Rattle.std.proofs.Common.{Ok, None, Some, ap, refl, sym, ◌∙◌}
-use Rattle.snd_script.specs.Edit.{line_edit, refused}
-use Rattle.snd_script.proofs.Openings.{answered_as}
+use Rattle.std.proofs.Common.{ap, sym, ◌∙◌}
+use Rattle.snd_script.specs.Desk.{closed_desk}
+use Rattle.snd_script.specs.Edit.{edit_line, line_edit}
+use Rattle.snd_script.specs.Replies.{refuses}
+use Rattle.snd_script.specs.Serving.{ShelfStands}
 use Rattle.snd_script.proofs.OpenNames.{name_is_good}
+use Rattle.snd_script.proofs.ShelfLeft.{still_stands}
+use Rattle.snd_script.proofs.ShelfSteps.{nothing_said, replied_closed}
 use Rattle.snd_script.proofs.closed.closed_line.Goals as goal
 
 pub closed_command-requires-clause-named : goal.closed_command-requires-clause-named
 closed_command-requires-clause-named g c = λ name is.
     let says = rw c.in-Ok-Some.field-0-is at c.in-Ok-Some.ensures in
-    name_is_good _ name (sym says ∙ ap (λ s. Ok (Some s)) is)
+    name_is_good _ name _ (sym says) is
 
 pub returns-in-Err-clause-served : goal.returns-in-Err-clause-served
-returns-in-Err-clause-served g c = λ files s told left.
-    answered_as _ files _ _ _ _ _ _ _ s _ (refused c.line_refusal.result None) (ap (line_edit files None) (sym c.in-Err.ensures) ∙ c.line_refusal.ensures files None) refl c.refuse.ensures.lines left c.refuse.ensures.answered
+returns-in-Err-clause-served g c = λ files s has left.
+    replied_closed _ files _ _ _ _ _ _ _ s (edit_line (closed_desk files) c.args.line.now) (refuses c.line_refusal.result) (ShelfStands g.S.Shelf.state c.args.shelf.now)
+    (ap (line_edit (closed_desk files)) (sym c.in-Err.ensures) ∙ c.line_refusal.ensures (closed_desk files))
+    c.refuse.ensures.lines left c.refuse.ensures.answered (still_stands g.S.Shelf.state c.args.shelf.now files has)
+
+pub returns-in-Ok-None-clause-served : goal.returns-in-Ok-None-clause-served
+returns-in-Ok-None-clause-served g c = λ files s has left.
+    let says = rw c.in-Ok-None.field-0-is at c.in-Ok-None.ensures in
+    nothing_said files (g.R.Source.left c.args.script.now) c.args.run.now.lines c.args.run.now.refused (g.O.Sink.told c.args.out.now) s (edit_line (closed_desk files) c.args.line.now) (ShelfStands g.S.Shelf.state c.args.shelf.now)
+    (ap (line_edit (closed_desk files)) (sym says)) left (still_stands g.S.Shelf.state c.args.shelf.now files has)

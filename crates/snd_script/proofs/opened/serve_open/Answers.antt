@@ -1,43 +1,57 @@
-use Rattle.std.proofs.Common.{Some, ◌∙◌, ap, refl, rules, arith}
+use Rattle.std.proofs.Common.{◌∙◌, ap, refl, rules, arith}
 use Rattle.std.proofs.lemmas.Result.{err_from_is_err_and}
-use Rattle.snd_command.specs.Said.{Said}
-use Rattle.snd_script.specs.Edit.{edit_line, edit_open}
+use Rattle.snd_script.specs.Desk.{OpenFile}
+use Rattle.snd_script.specs.Edit.{close_edit, edit_line}
+use Rattle.snd_script.specs.Handled.{mode_of}
 use Rattle.snd_script.specs.Lines.{Reading, to_take}
 use Rattle.snd_script.specs.Serving.{Moment, moment}
-use Rattle.snd_script.proofs.Left.{leaves_handle_then}
-use Rattle.snd_script.proofs.Chains.{at_close, at_open, at_stops, comes_at, none_left, stopped_as, stopped_then}
+use Rattle.snd_script.proofs.Chains.{none_left, serves_none, stopped_as, stopped_then}
+use Rattle.snd_script.proofs.OpenChains.{at_close, at_open, at_stops, comes_at, left_at}
+use Rattle.snd_script.proofs.Stepping.{held_desk, leaves_handle_none, leaves_handle_then, stands_open}
 use Rattle.snd_script.proofs.opened.serve_open.Goals as goal
+
+pub loop-line-init : goal.loop-line-init
+loop-line-init g c = record {
+  told = λ name files e s stands left. (e, s, left, stands, serves_none _ _ _ _ refl refl, refl);
+  whole = search rules;
+  fewer = omega arith;
+  given = omega arith;
+  counted = record { shelf = refl; script = refl; out = refl };
+  leaves = leaves_handle_none _ _ _ c.args.handle.now;
+}
 
 pub returns-in_err-next-clause-served : goal.returns-in_err-next-clause-served
 returns-in_err-next-clause-served g c =
     let p = err_from_is_err_and c.from_residual.result c.from_residual.ensures.1 in
-    rw (p.1, p.2) (λ files e s stands left.
-    let so_far = c.loop-line.invariant.told files e s stands left in
-    stopped_then _ _ _ _ _ _ _ so_far.4 (stopped_as _ _ _ _ _ _ so_far.5 (none_left _ files (Some so_far.0) so_far.1 _ _ (c.in_err-next.ensures.brought so_far.1 so_far.2) c.in_err-next.ensures.noted refl)))
+    rw (p.1, p.2) (λ name files e s stands left.
+    let so_far = c.loop-line.invariant.told name files e s stands left in
+    stopped_then _ _ _ _ _ _ _ _ _ _ so_far.4 (stopped_as _ _ _ _ _ _ _ _ so_far.5 (none_left _ (held_desk files name c.loop-line.handle so_far.0) so_far.1 _ _ _ (c.in_err-next.ensures.brought so_far.1 so_far.2) c.in_err-next.ensures.noted refl
+    (stands_open g.D.Disk.state files name c.loop-line.handle c.loop-line.handle so_far.0 _ refl so_far.3))))
 
 pub returns-in_err-open_line-clause-served : goal.returns-in_err-open_line-clause-served
 returns-in_err-open_line-clause-served g c =
     let p = err_from_is_err_and c.from_residual-in_err-open_line.result c.from_residual-in_err-open_line.ensures.1 in
-    rw (p.1, p.2) (λ files e s stands left.
-    let so_far = c.loop-line.invariant.told files e s stands left in
+    rw (p.1, p.2) (λ name files e s stands left.
+    let so_far = c.loop-line.invariant.told name files e s stands left in
     let comes = c.in_ok-next.ensures.brought so_far.1 so_far.2 in
     let m : Moment = moment c.loop-line.run.lines (g.R.Source.left c.loop-line.script) c.loop-line.run.refused (g.O.Sink.told c.loop-line.out) in
     let m' : Moment = moment c.next.new.self.lines (g.R.Source.left c.next.new.script) c.next.new.self.refused (g.O.Sink.told c.loop-line.out) in
-    let at = comes_at files (Some so_far.0) _ _ c.next.new.line.items so_far.1 comes.0 _ m m' so_far.4 so_far.5 comes.2 c.in_ok-next.ensures.noted refl in
-    at_stops files _ _ _ m' _ _ comes.0 _ at (rw c.as_slice.ensures.value at c.in_err-open_line.ensures.answered files so_far.0 so_far.3))
+    let at = comes_at _ _ _ (held_desk files name c.loop-line.handle so_far.0) c.next.new.line.items so_far.1 comes.0 _ m m' so_far.4 so_far.5 comes.2 c.in_ok-next.ensures.noted refl in
+    at_stops _ _ _ _ _ _ m' _ _ comes.0 _ at (rw c.as_slice.ensures.value at c.in_err-open_line.ensures.answered name files so_far.0 so_far.3))
 
 pub loop-line-preserved : goal.loop-line-preserved
 loop-line-preserved g c = record {
-  told = λ files e s stands left.
-      let so_far = c.loop-line.invariant.told files e s stands left in
+  told = λ name files e s stands left.
+      let so_far = c.loop-line.invariant.told name files e s stands left in
       let comes = c.in_ok-next.ensures.brought so_far.1 so_far.2 in
       let m : Moment = moment c.loop-line.run.lines (g.R.Source.left c.loop-line.script) c.loop-line.run.refused (g.O.Sink.told c.loop-line.out) in
       let m' : Moment = moment c.next.new.self.lines (g.R.Source.left c.next.new.script) c.next.new.self.refused (g.O.Sink.told c.loop-line.out) in
-      let at = comes_at files (Some so_far.0) _ _ c.next.new.line.items so_far.1 comes.0 _ m m' so_far.4 so_far.5 comes.2 c.in_ok-next.ensures.noted refl in
-      let answered = rw c.as_slice.ensures.value at c.in_ok-open_line.ensures.answered files so_far.0 so_far.3 in
+      let desk = held_desk files name c.loop-line.handle so_far.0 in
+      let at = comes_at _ _ _ desk c.next.new.line.items so_far.1 comes.0 _ m m' so_far.4 so_far.5 comes.2 c.in_ok-next.ensures.noted refl in
+      let answered = rw c.as_slice.ensures.value at c.in_ok-open_line.ensures.answered name files so_far.0 so_far.3 in
       let said = rw c.in-Open.is at answered in
-      let next = at_open files _ _ _ _ c.next.new.self.lines c.open_line.new.run.lines _ _ _ _ comes.0 c.in_ok-open_line.ensures.lines (edit_line files (Some so_far.0) c.next.new.line.items) (Some said.0) at said.1 said.3 said.4 in
-      (said.0, comes.0, comes.1, said.2, next.0, next.1);
+      let next = at_open _ _ _ _ c.next.new.self.lines c.open_line.new.run.lines _ _ _ _ comes.0 c.in_ok-open_line.ensures.lines _ desk (edit_line desk c.next.new.line.items) at said.0 said.1 in
+      (said.2.editing, comes.0, comes.1, said.2.stands refl, left_at _ _ _ _ _ _ _ said.2.is next.0, next.1);
   whole = search rules;
   fewer = omega (arith, ap (λ (x : Reading). x.room) c.in_ok-open_line.ensures.lines, c.in_ok-next.ensures.fewer, c.loop-line.invariant.fewer);
   given = omega (arith, ap (λ (x : Reading). to_take x) c.in_ok-open_line.ensures.lines, c.next.ensures.given, c.loop-line.invariant.given);
@@ -50,16 +64,18 @@ loop-line-preserved g c = record {
 }
 
 pub returns-in-Close-clause-served : goal.returns-in-Close-clause-served
-returns-in-Close-clause-served g c = λ files e s stands left.
-    let so_far = c.loop-line.invariant.told files e s stands left in
+returns-in-Close-clause-served g c = λ name files e s stands left.
+    let so_far = c.loop-line.invariant.told name files e s stands left in
     let comes = c.in_ok-next.ensures.brought so_far.1 so_far.2 in
     let m : Moment = moment c.loop-line.run.lines (g.R.Source.left c.loop-line.script) c.loop-line.run.refused (g.O.Sink.told c.loop-line.out) in
     let m' : Moment = moment c.next.new.self.lines (g.R.Source.left c.next.new.script) c.next.new.self.refused (g.O.Sink.told c.loop-line.out) in
-    let at = comes_at files (Some so_far.0) _ _ c.next.new.line.items so_far.1 comes.0 _ m m' so_far.4 so_far.5 comes.2 c.in_ok-next.ensures.noted refl in
-    let answered = rw c.as_slice.ensures.value at c.in_ok-open_line.ensures.answered files so_far.0 so_far.3 in
+    let file : OpenFile = record { name = name; mode = mode_of c.loop-line.handle; editing = so_far.0 } in
+    let desk = held_desk files name c.loop-line.handle so_far.0 in
+    let at = comes_at _ _ _ desk c.next.new.line.items so_far.1 comes.0 _ m m' so_far.4 so_far.5 comes.2 c.in_ok-next.ensures.noted refl in
+    let answered = rw c.as_slice.ensures.value at c.in_ok-open_line.ensures.answered name files so_far.0 so_far.3 in
     let said = rw c.in-Close.is at answered in
-    let next = at_close files _ _ _ _ c.next.new.self.lines c.open_line.new.run.lines _ _ _ _ comes.0 c.in_ok-open_line.ensures.lines (edit_line files (Some so_far.0) c.next.new.line.items) (edit_open so_far.0 Said.close) at said.0 said.2 said.3 in
-    (so_far.0, comes.0, comes.1, said.1, next.0, next.1)
+    let next = at_close _ _ _ _ c.next.new.self.lines c.open_line.new.run.lines _ _ _ _ comes.0 c.in_ok-open_line.ensures.lines _ desk (edit_line desk c.next.new.line.items) (close_edit files file) at said.0 said.1 said.2 in
+    (file, comes.0, comes.1, next.0, said.3, next.1)
 
 pub returns-in-Close-clause-counted : goal.returns-in-Close-clause-counted
 returns-in-Close-clause-counted g c = record {

@@ -4,15 +4,18 @@ use Rattle.snd_modes.specs.Editing.{Editing}
 use Rattle.snd_script.specs.Handled.{HandleStands, LeavesHandle, handle_disk, handle_known}
 use Rattle.snd_script.specs.Lines.{to_take}
 use Rattle.snd_script.specs.Served.{SameCounts}
-use Rattle.snd_script.specs.Serving.{Serves, answers_left, disk_faults_of, is_longer, moment_of}
+use Rattle.snd_script.specs.Serving.{Serves, disk_faults_of, is_longer, moment_of, steps_left}
+use Rattle.snd_script.proofs.Stepping.{held_desk}
 use Rattle.snd_script.proofs.opened.serve_open.Given as goal
 
 abbrev pub invariant-loop-line : goal.invariant-loop-line
 invariant-loop-line g l = record {
-  told : (files : Files) (e : Editing) (s : List ℕ) → HandleStands g.D.Disk.state l.fn.handle e → g.R.Source.left l.fn.script ≡ Some s →
+  told : (name : List ℕ) (files : Files) (e : Editing) (s : List ℕ) → HandleStands g.D.Disk.state l.fn.handle e → g.R.Source.left l.fn.script ≡ Some s →
       (e' : Editing) × (s' : List ℕ) × (g.R.Source.left l.script ≡ Some s') × HandleStands g.D.Disk.state l.handle e'
-      × Serves (answers_left files (Some e) (moment_of g.R.Source.left g.O.Sink.told l.fn.run l.fn.script l.fn.out) s)
-      (answers_left files (Some e') (moment_of g.R.Source.left g.O.Sink.told l.run l.script l.out) s')
+      × Serves (steps_left (held_desk files name l.fn.handle e) (moment_of g.R.Source.left g.O.Sink.told l.fn.run l.fn.script l.fn.out) s)
+      (steps_left (held_desk files name l.handle e') (moment_of g.R.Source.left g.O.Sink.told l.run l.script l.out) s')
+      (held_desk files name l.fn.handle e)
+      (held_desk files name l.handle e')
       (moment_of g.R.Source.left g.O.Sink.told l.fn.run l.fn.script l.fn.out)
       (moment_of g.R.Source.left g.O.Sink.told l.run l.script l.out)
       × (is_longer (moment_of g.R.Source.left g.O.Sink.told l.run l.script l.out) s'

@@ -1,6 +1,9 @@
-use Rattle.snd_script.proofs.Openings.{not_opened_on, read_error}
+use Rattle.std.proofs.Common.{rules}
+use Rattle.snd_script.proofs.NotOpened.{not_opened_on}
 use Rattle.snd_script.proofs.opening.serve_disk.Goals as goal
 
 pub returns-in-Err-clause-served : goal.returns-in-Err-clause-served
-returns-in-Err-clause-served g c = λ files b s told left.
-    not_opened_on c.in-Err.error _ files b _ _ _ _ _ _ _ _ _ s (read_error _ _ _ c.in-Err.ensures.faults) c.not_opened.ensures.answered (λ x is. c.in-Err.ensures.opened x b is told) c.not_opened.ensures.lines left
+returns-in-Err-clause-served g c = λ name files b s told there left.
+    let served = not_opened_on g.D.Disk c.args.how.now c.in-Err.error c.not_opened.result files name b c.args.disk.now c.in-Err.back.now (g.R.Source.left c.args.script.now) c.args.run.now.lines c.not_opened.new.run.lines c.args.run.now.refused c.not_opened.new.run.refused (g.O.Sink.told c.args.out.now) (g.O.Sink.told c.not_opened.new.out) _ _ s
+    c.requires c.in-Err.ensures.reads told there c.in-Err.ensures.opened c.not_opened.ensures.answered c.not_opened.ensures.lines left in
+    search (rules, served)

@@ -1,21 +1,32 @@
-use Rattle.std.proofs.Common.{Some}
-use Rattle.snd_command.specs.Said.{Said}
-use Rattle.snd_script.specs.Edit.{edit_open}
-use Rattle.snd_script.proofs.Chains.{answered_open, cut_stops, longer_as}
-use Rattle.snd_script.proofs.Openings.{counted_then, served_open_then}
+use Rattle.std.proofs.Common.{false, refl}
+use Rattle.snd_script.specs.Desk.{OpenFile, closed_desk, open_desk}
+use Rattle.snd_script.specs.Edit.{opened_edit}
+use Rattle.snd_script.specs.Handled.{handle_known, mode_of}
+use Rattle.snd_script.specs.Replies.{file_line, says}
+use Rattle.snd_script.specs.Served.{none_lost}
+use Rattle.snd_script.specs.Serving.{Moment, OpenStands, moment, steps_left}
+use Rattle.snd_script.proofs.Chains.{line_stops}
+use Rattle.snd_script.proofs.Openings.{answer_stops, counted_then, file_said, said_of_shape, served_open_then, shape_stands}
+use Rattle.snd_script.proofs.Stepping.{stands_open}
 use Rattle.snd_script.proofs.opening.serve_opened.Goals as goal
 
 pub returns-in-Ok-clause-served : goal.returns-in-Ok-clause-served
-returns-in-Ok-clause-served g c = λ files e s stands left.
-    let next = c.in-Ok.ensures.stands e stands in
-    let said = c.in-Ok.ensures.answered e stands in
-    served_open_then _ files _ _ _ _ _ _ _ _
-    (answered_open files (g.R.Source.left c.args.script.now) c.args.run.now.lines c.step.new.self.lines c.args.run.now.refused c.step.new.self.refused (g.O.Sink.told c.args.out.now) (g.O.Sink.told c.step.new.out) s c.step.ensures.lines (edit_open e Said.info) (Some next.0) next.1 said.0 said.1)
-    (longer_as files (g.R.Source.left c.args.script.now) c.args.run.now.lines c.step.new.self.lines c.args.run.now.refused c.step.new.self.refused (g.O.Sink.told c.args.out.now) (g.O.Sink.told c.step.new.out) s c.step.ensures.lines)
-    (c.serve_open.ensures.served files next.0 s next.2 left)
-
-pub returns-in-Ok-clause-counted : goal.returns-in-Ok-clause-counted
-returns-in-Ok-clause-counted g c = counted_then _ _ _ _ (c.in-Ok.ensures.counted _) c.serve_open.ensures.counted
+returns-in-Ok-clause-served g c = λ name files e s stands left.
+    let file : OpenFile = record { name = name; mode = mode_of c.args.handle.now; editing = e } in
+    let m : Moment = moment c.args.run.now.lines (g.R.Source.left c.args.script.now) c.args.run.now.refused (g.O.Sink.told c.args.out.now) in
+    let m' : Moment = moment c.args.run.now.lines (g.R.Source.left c.args.script.now) c.args.run.now.refused (g.O.Sink.told c.reply_opened.new.out) in
+    served_open_then _ _ _ _ _ files (closed_desk files) (open_desk files file) m m' _ _ refl
+    (file_said (g.R.Source.left c.args.script.now) c.args.run.now.lines c.args.run.now.refused (g.O.Sink.told c.args.out.now) (g.O.Sink.told c.reply_opened.new.out) s files file (handle_known c.args.handle.now).shape (shape_stands g.D.Disk.state c.args.handle.now e stands) c.in-Ok.ensures.answered)
+    (c.serve_open.ensures.served name files e s stands left)
 
 pub returns-in-Err-clause-served : goal.returns-in-Err-clause-served
-returns-in-Err-clause-served g c = λ files e s stands left. cut_stops _ _ (edit_open e Said.info) _ _ _ (c.in-Err.ensures.answered e stands)
+returns-in-Err-clause-served g c = λ name files e s stands left.
+    let file : OpenFile = record { name = name; mode = mode_of c.args.handle.now; editing = e } in
+    let m : Moment = moment c.args.run.now.lines (g.R.Source.left c.args.script.now) c.args.run.now.refused (g.O.Sink.told c.args.out.now) in
+    let m' : Moment = moment c.args.run.now.lines (g.R.Source.left c.args.script.now) c.args.run.now.refused (g.O.Sink.told c.reply_opened.new.out) in
+    line_stops c.in-Err.stop _ (opened_edit files file) (steps_left (open_desk files file) m s) (closed_desk files) m m' (OpenStands g.D.Disk.state files name c.args.handle.now)
+    (answer_stops c.in-Err.stop (opened_edit files file) (says (file_line (handle_known c.args.handle.now).shape)) (closed_desk files) false false _ _ _ (said_of_shape _ _ (shape_stands g.D.Disk.state c.args.handle.now e stands)) c.in-Err.ensures.answered
+    (stands_open g.D.Disk.state files name c.args.handle.now c.args.handle.now e none_lost refl stands))
+
+pub returns-in-Ok-clause-counted : goal.returns-in-Ok-clause-counted
+returns-in-Ok-clause-counted g c = counted_then _ _ _ _ (record { shelf = refl; script = refl; out = c.in-Ok.ensures.faults }) c.serve_open.ensures.counted

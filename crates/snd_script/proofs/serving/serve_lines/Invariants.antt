@@ -1,23 +1,26 @@
-use Rattle.std.proofs.Common.{◌≡◌, ◌+◌, ◌≤◌, List, ℕ, None, Some}
-use Rattle.snd_disk.specs.Shelf.{Files, SameFiles}
+use Rattle.std.proofs.Common.{◌≡◌, ◌+◌, ◌≤◌, List, ℕ, Some}
+use Rattle.snd_disk.specs.Shelf.{Files}
+use Rattle.snd_script.specs.Desk.{closed_desk}
 use Rattle.snd_script.specs.Lines.{to_take}
-use Rattle.snd_script.specs.Served.{SameCounts, faults_of}
-use Rattle.snd_script.specs.Serving.{LeavesShelf, Serves, answers_left, is_longer, moment_of}
+use Rattle.snd_script.specs.Served.{HasFiles, LeavesShelf, SameCounts, faults_of}
+use Rattle.snd_script.specs.Serving.{Serves, is_longer, moment_of, steps_left}
 use Rattle.snd_script.proofs.serving.serve_lines.Given as goal
 
 abbrev pub invariant-loop-stop : goal.invariant-loop-stop
 invariant-loop-stop g l = record {
-  told : (files : Files) (s : List ℕ) → (g.S.Shelf.state l.fn.shelf).files ≡ Some files → g.R.Source.left l.fn.script ≡ Some s →
-      (files' : Files) × (s' : List ℕ) × ((g.S.Shelf.state l.shelf).files ≡ Some files') × SameFiles files files' × (g.R.Source.left l.script ≡ Some s')
-      × Serves (answers_left files None (moment_of g.R.Source.left g.O.Sink.told l.fn.run l.fn.script l.fn.out) s)
-      (answers_left files None (moment_of g.R.Source.left g.O.Sink.told l.run l.script l.out) s')
+  served : (files : Files) (s : List ℕ) → HasFiles g.S.Shelf.state l.fn.shelf files → g.R.Source.left l.fn.script ≡ Some s →
+      (files' : Files) × (s' : List ℕ) × HasFiles g.S.Shelf.state l.shelf files' × (g.R.Source.left l.script ≡ Some s')
+      × Serves (steps_left (closed_desk files) (moment_of g.R.Source.left g.O.Sink.told l.fn.run l.fn.script l.fn.out) s)
+      (steps_left (closed_desk files') (moment_of g.R.Source.left g.O.Sink.told l.run l.script l.out) s')
+      (closed_desk files)
+      (closed_desk files')
       (moment_of g.R.Source.left g.O.Sink.told l.fn.run l.fn.script l.fn.out)
       (moment_of g.R.Source.left g.O.Sink.told l.run l.script l.out)
       × (is_longer (moment_of g.R.Source.left g.O.Sink.told l.run l.script l.out) s'
       ≡ is_longer (moment_of g.R.Source.left g.O.Sink.told l.fn.run l.fn.script l.fn.out) s);
   given : g.R.Source.given l.script + to_take l.run.lines ≤ g.R.Source.given l.fn.script + to_take l.fn.run.lines;
   counted : SameCounts (faults_of g.S.Shelf.state g.R.Source.faults g.O.Sink.faults l.fn.shelf l.fn.script l.fn.out) (faults_of g.S.Shelf.state g.R.Source.faults g.O.Sink.faults l.shelf l.script l.out);
-  shelf : LeavesShelf g.S.Shelf.state g.S.Shelf.may_leave g.S.Shelf.left_between l.fn.shelf l.shelf;
+  shelf : LeavesShelf g.S.Shelf.state g.S.Shelf.left_between l.fn.shelf l.shelf;
 }
 
 abbrev pub decreases-loop-stop : goal.decreases-loop-stop

@@ -1,7 +1,8 @@
 use Rattle.std.proofs.Common.{rules, arith, length, ◌<◌, ◌∙◌, ap, sym, refl}
 use Rattle.std.proofs.lemmas.Bool.{eqb-true, eqb-false}
+use Rattle.std.proofs.lemmas.Result.{err_from_is_err_and}
 use Rattle.snd_script.specs.Lines.{Reading}
-use Rattle.snd_script.proofs.Ways.{moved, line_moved, no_more_moved, under_way, nothing_left, last_left, is_none_left, is_some_left, full_then, above_none, feed_ends, fewer_left}
+use Rattle.snd_script.proofs.Ways.{moved, line_moved, no_more_moved, under_way, cut_off, nothing_left, last_left, is_none_left, is_some_left, full_then, above_none, feed_ends, fewer_left}
 use Rattle.snd_script.proofs.reader.ScriptLines.next_line.Goals as goal
 
 pub returns-then-move_part-clause-next : goal.returns-then-move_part-clause-next
@@ -54,3 +55,11 @@ returns-clause-prompt g c = λ before after is lt. absurd (let same = c.loop-sel
 
 pub returns-in_err-refill-clause-prompt : goal.returns-in_err-refill-clause-prompt
 returns-in_err-refill-clause-prompt g c = λ before after is lt. absurd (let same = c.loop-self.invariant.prompt before after is lt in feed_ends _ _ _ _ _ before after c.if-move_part.ensures.moved.1 (ap (λ (x : Reading). x.rest) same.0 ∙ is) (omega (arith, ap (λ (x : Reading). x.room) same.0, lt)))
+
+pub returns-in_err-refill-clause-short : goal.returns-in_err-refill-clause-short
+returns-in_err-refill-clause-short g c =
+    let p = err_from_is_err_and c.from_residual.result c.from_residual.ensures.1 in
+    rw p.1 (λ s told.
+    let under = c.loop-self.invariant.told s told in
+    let moves = c.if-move_part.ensures.moved in
+    cut_off _ _ _ _ _ _ _ (moved _ _ _ _ _ _ _ _ _ _ under.3 moves.1) (is_none_left _ c.if-not-is_used_up.ensures.0) (c.in_err-refill.ensures.kept ∙ under.2))

@@ -1,0 +1,138 @@
+-- A rule is followed on an open file, by what became of the call and of its reply.
+use Rattle.std.proofs.Common.{◌≡◌, ℕ, List, Bool, true, false, ◌&&◌, Option, None, Some, Result, Ok, Err, refl, sym, ap, ◌∙◌, subst, arith, rules}
+use Rattle.std.specs.Prelude.{IfErr, IsErrOf, is_none, is_some}
+use Rattle.snd_disk.specs.Device.{AsksAtMost, GoesOnFrom, OnlyReadsOn, WritesAtMost}
+use Rattle.snd_disk.specs.declared.disk.Disk.{Ghosts}
+use Rattle.snd_disk.specs.declared.disk.Step.{Step}
+use Rattle.snd_disk.specs.declared.streams.Sink.{Ghosts as SinkMeaning}
+use Rattle.snd_modes.specs.Editing.{Editing}
+use Rattle.snd_modes.specs.Handle.{Known, Stands, disk_of, known_of}
+use Rattle.snd_modes.specs.declared.handle.File.{File}
+use Rattle.snd_modes.specs.declared.mode.Mode.{Ghosts as ModeGhosts}
+use Rattle.snd_patch.specs.Steps.{StillTells}
+use Rattle.snd_script.specs.Edit.{edit_by, edit_unless}
+use Rattle.snd_script.specs.Rules.{FileEdited, Rule}
+use Rattle.snd_script.specs.Replies.{Answer, says, refuses}
+use Rattle.snd_script.specs.Stepped.{IsSaid, IsSilent, IsStepCause, Knows, LeavesFile, IsBrokenAt, Rose, changes_by, known_unless, refusal_by, reply_of, reply_unless}
+use Rattle.snd_script.specs.Work.{Follows, IsSent}
+use Rattle.snd_script.specs.declared.handle.Reply.{Reply}
+use Rattle.snd_script.specs.declared.handle.StepFault.{StepFault}
+use Rattle.snd_script.specs.declared.handle.StepFault.TheVariants.{Disk, Out, Memory}
+use Rattle.snd_script.specs.declared.refusal.Refusal.{Refusal}
+
+-- ---- a reply that was sent, whether or not it got out
+
+sent_stands : (r : Result Reply StepFault) (o o' : ℕ) (edited : FileEdited) (e : Editing) (stands : Editing → Type 0) → IsSent r o o' → stands edited.editing → LeavesFile r edited e stands
+sent_stands (Ok reply) o o' edited e stands sent here = here
+sent_stands (Err Out) o o' edited e stands sent here = here
+sent_stands (Err Disk) o o' edited e stands sent here = absurd sent
+sent_stands (Err Memory) o o' edited e stands sent here = absurd sent
+
+sent_silent : (r : Result Reply StepFault) (o o' : ℕ) (t t' : Option (List ℕ)) → IsSent r o o' → IfErr r (λ fault. IsSilent fault t t')
+sent_silent (Ok reply) o o' t t' sent = tt
+sent_silent (Err Out) o o' t t' sent = tt
+sent_silent (Err Disk) o o' t t' sent = absurd sent
+sent_silent (Err Memory) o o' t t' sent = absurd sent
+
+sent_cause : (r : Result Reply StepFault) (d d' o o' : ℕ) → IsSent r o o' → d' ≡ d → IsStepCause r d d' o o'
+sent_cause (Ok reply) d d' o o' sent calm = (calm, sent)
+sent_cause (Err Out) d d' o o' sent calm = (calm, sent)
+sent_cause (Err Disk) d d' o o' sent calm = absurd sent
+sent_cause (Err Memory) d d' o o' sent calm = absurd sent
+
+sent_memory : (r : Result Reply StepFault) (o o' : ℕ) (takes : Bool) → IsSent r o o' → IsErrOf r Memory → takes ≡ true
+sent_memory (Ok reply) o o' takes sent is = absurd (cc)
+sent_memory (Err Out) o o' takes sent is = absurd (cc)
+sent_memory (Err Disk) o o' takes sent is = absurd sent
+sent_memory (Err Memory) o o' takes sent is = absurd sent
+
+sent_knows : (r : Result Reply StepFault) (o o' : ℕ) (rule : Rule) (old new : Known) (answer : Answer) (t t' : Option (List ℕ)) → IsSent r o o' → IsSaid r answer t t'
+    → reply_of answer ≡ reply_unless (refusal_by rule old) → new ≡ known_unless (refusal_by rule old) (rule.known old) old → Knows r rule old new
+sent_knows (Ok reply) o o' rule old new answer t t' sent said same is = (said.0 ∙ same, is)
+sent_knows (Err Out) o o' rule old new answer t t' sent said same is = is
+sent_knows (Err Disk) o o' rule old new answer t t' sent said same is = absurd sent
+sent_knows (Err Memory) o o' rule old new answer t t' sent said same is = absurd sent
+
+-- ---- whole rules
+
+module _ {D M O : Type 0} {mode : ModeGhosts M} (d : Ghosts D) (o : SinkMeaning O) (rule : Rule) (r : Result Reply StepFault) (old : File D M d mode) (out : O) (new : File D M d mode) (out' : O) where
+  -- why it is refused, by what the file stands for
+  refusal_on : (e : Editing) → Stands d.state old e → rule.refusal e.write_place e.shape ≡ refusal_by rule (known_of old)
+  refusal_on e stands = ap (λ n. rule.refusal n e.shape) (sym stands.write_place) ∙ ap (rule.refusal (known_of old).write_place) (sym stands.shape)
+
+  edited_on : (refusal : Option Refusal) → refusal_by rule (known_of old) ≡ refusal → (e : Editing) → Stands d.state old e → edit_unless refusal (rule.done e) e ≡ edit_by rule e
+  edited_on refusal why e stands = ap (λ x. edit_unless x (rule.done e) e) (sym (refusal_on e stands ∙ why))
+
+  -- a command that was carried out, and that says a text
+  pub carried_out : (text : List ℕ) → refusal_by rule (known_of old) ≡ None → IsSent r (o.faults out) (o.faults out') → IsSaid r (says text) (o.told out) (o.told out')
+      → ((e : Editing) → Stands d.state old e → (rule.done e).answer ≡ says text) → ((e : Editing) → Stands d.state old e → Stands d.state new (rule.done e).editing)
+      → known_of new ≡ rule.known (known_of old) → (d.state (disk_of new)).faults ≡ (d.state (disk_of old)).faults
+      → StillTells (d.state (disk_of old)) (d.state (disk_of new)) → GoesOnFrom d.state d.left_between (disk_of old) (disk_of new)
+      → (rule.changes ≡ false → OnlyReadsOn d.state d.may_leave d.left_between (disk_of old) (disk_of new))
+      → AsksAtMost d.state rule.asked (disk_of old) (disk_of new) → WritesAtMost d.state rule.written (disk_of old) (disk_of new) → Follows d o rule r old out new out'
+  carried_out text free sent said answer stands known calm tells time reads asked written = record {
+    stands = λ e here. subst (λ (x : FileEdited). LeavesFile r x e (Stands d.state new)) (edited_on None free e here) (sent_stands r _ _ (rule.done e) e _ sent (stands e here));
+    said = λ e here. subst (λ (x : FileEdited). IsSaid r x.answer (o.told out) (o.told out')) (edited_on None free e here) (subst (λ (a : Answer). IsSaid r a (o.told out) (o.told out')) (sym (answer e here)) said);
+    silent = sent_silent r _ _ _ _ sent;
+    cause = sent_cause r _ _ _ _ sent calm;
+    memory = sent_memory r _ _ _ sent;
+    knows = sent_knows r _ _ rule (known_of old) (known_of new) (says text) _ _ sent said (ap reply_unless (sym free)) (known ∙ ap (λ x. known_unless x (rule.known (known_of old)) (known_of old)) (sym free));
+    tells = tells;
+    time = time;
+    reads = λ same. reads (unchanging rule.changes (sym (ap (λ x. rule.changes && is_none x) free) ∙ same));
+    asked = asked;
+    written = written;
+  }
+    where
+      unchanging : (b : Bool) → (b && true) ≡ false → b ≡ false
+      unchanging true is = is
+      unchanging false is = is
+
+  -- one that was refused, and that left what the handle knows, and the disk
+  pub refused_on : (refusal : Refusal) → refusal_by rule (known_of old) ≡ Some refusal → IsSent r (o.faults out) (o.faults out') → IsSaid r (refuses refusal) (o.told out) (o.told out')
+      → known_of new ≡ known_of old → disk_of new ≡ disk_of old → Follows d o rule r old out new out'
+  refused_on refusal why sent said known disk = record {
+    stands = λ e here. subst (λ (x : FileEdited). LeavesFile r x e (Stands d.state new)) (edited_on (Some refusal) why e here) (sent_stands r _ _ _ e _ sent (same_stands e here));
+    said = λ e here. subst (λ (x : FileEdited). IsSaid r x.answer (o.told out) (o.told out')) (edited_on (Some refusal) why e here) said;
+    silent = sent_silent r _ _ _ _ sent;
+    cause = sent_cause r _ _ _ _ sent (ap (λ x. (d.state x).faults) disk);
+    memory = sent_memory r _ _ _ sent;
+    knows = sent_knows r _ _ rule (known_of old) (known_of new) (refuses refusal) _ _ sent said (ap reply_unless (sym why)) (known ∙ ap (λ x. known_unless x (rule.known (known_of old)) (known_of old)) (sym why));
+    tells = record { told = ap (λ x. is_some (d.state x).contents) disk; name = ap (λ x. (d.state x).name) disk };
+    time = subst (λ (x : D). GoesOnFrom d.state d.left_between (disk_of old) x) (sym disk) (record { later = omega arith; same = λ s t x le left. left; kept = λ s t x left. left });
+    reads = λ same. subst (λ (x : D). OnlyReadsOn d.state d.may_leave d.left_between (disk_of old) x) (sym disk) (search rules);
+    asked = subst (λ (x : D). AsksAtMost d.state rule.asked (disk_of old) x) (sym disk) (record { later = omega arith; most = omega arith });
+    written = subst (λ (x : D). WritesAtMost d.state rule.written (disk_of old) x) (sym disk) (record { later = omega arith; most = omega arith });
+  }
+    where
+      same_stands : (e : Editing) → Stands d.state old e → Stands d.state new e
+      same_stands e here = record {
+        bytes = ap (λ x. (d.state x).contents) disk ∙ here.bytes;
+        shape = ap (λ (k : Known). k.shape) known ∙ here.shape;
+        place = ap (λ (k : Known). k.place) known ∙ here.place;
+        write_place = ap (λ (k : Known). k.write_place) known ∙ here.write_place;
+        automatic = ap (λ (k : Known). k.automatic) known ∙ here.automatic;
+        written = ap (λ (k : Known). k.written) known ∙ here.written;
+        sound = here.sound;
+        count = here.count;
+      }
+
+-- the disk failed at a command that changes the file and was not refused
+pub failed : {D M O : Type 0} {mode : ModeGhosts M} (d : Ghosts D) (o : SinkMeaning O) (rule : Rule) (old : File D M d mode) (out : O) (new : File D M d mode)
+    → refusal_by rule (known_of old) ≡ None → rule.changes ≡ true → Rose (d.state (disk_of old)).faults (d.state (disk_of new)).faults
+    → ((step : Step) × IsBrokenAt rule.seals_first step (known_of old) (known_of new))
+    → StillTells (d.state (disk_of old)) (d.state (disk_of new)) → GoesOnFrom d.state d.left_between (disk_of old) (disk_of new)
+    → AsksAtMost d.state rule.asked (disk_of old) (disk_of new) → WritesAtMost d.state rule.written (disk_of old) (disk_of new) → Follows d o rule (Err Disk) old out new out
+failed d o rule old out new free changes rose broken tells time asked written = record {
+  stands = λ e here. tt;
+  said = λ e here. refl;
+  silent = refl;
+  cause = (rose, refl);
+  memory = λ is. absurd (cc);
+  knows = broken;
+  tells = tells;
+  time = time;
+  reads = λ same. absurd (let all : changes_by rule (known_of old) ≡ true = simp (changes, free) in cc);
+  asked = asked;
+  written = written;
+}

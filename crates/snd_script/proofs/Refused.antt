@@ -1,0 +1,124 @@
+-- Why a command on an open file is refused, in the words of the calls and in those of the rules.
+use Rattle.std.proofs.Common.{◌≡◌, ◌≢◌, ℕ, ℤ, ◌%◌, ◌<◌, ◌≤◌, Bool, true, false, not, T, ◌&&◌, List, Option, None, Some, inl, inr, length, refl, sym, ap, ◌∙◌, subst, arith}
+use Rattle.std.specs.Prelude.{All, int_le, nat_lt}
+use Rattle.std.proofs.lemmas.Bool.{and_from, and_left, and_parts, cases_lt, cases_Bool, lt-ltb, le-ltb}
+use Rattle.std.proofs.lemmas.List.Elements.{All-weaker}
+use Rattle.std.proofs.lemmas.List.Sums.{AllPass-from_list_all, list_all-from_AllPass}
+use Rattle.snd_container.specs.Sound.{linear_of}
+use Rattle.snd_layout.specs.Params.{data_bytes}
+use Rattle.snd_layout.specs.Shape.{Shape, room}
+use Rattle.snd_layout.specs.declared.codec.Codec.{Codec}
+use Rattle.snd_modes.specs.Handle.{Known}
+use Rattle.snd_modes.specs.Reading.{FitCodec}
+use Rattle.snd_modes.specs.WriteCalls.{AreFrames, MayCut, MayWrite, end_written}
+use Rattle.snd_pcm.specs.Pcm.{InRange, high, low}
+use Rattle.snd_pcm.specs.declared.linear.Linear.{Linear}
+use Rattle.snd_script.specs.Rules.{are_between, growth_refusal, is_between, refused_if, truncate_refusal, write_refusal}
+use Rattle.snd_script.specs.declared.refusal.Refusal.{Refusal}
+use Rattle.snd_script.specs.declared.refusal.Refusal.TheVariants.{PartFrame, SampleRange, SeekRange, TrailingData, ContainerFull}
+
+-- ---- tests
+
+not_refused : (so : Bool) (refusal : Refusal) (rest : Option Refusal) → so ≡ false → refused_if so refusal rest ≡ rest
+not_refused so refusal rest is = ap (λ b. refused_if b refusal rest) is
+
+is_refused : (so : Bool) (refusal : Refusal) (rest : Option Refusal) → so ≡ true → refused_if so refusal rest ≡ Some refusal
+is_refused so refusal rest is = ap (λ b. refused_if b refusal rest) is
+
+some_rest : (n : ℕ) → n ≢ 0 → nat_lt 0 n ≡ true
+some_rest n some = elim (cases_lt 0 n) [ inl lt ↦ lt-ltb 0 n lt | inr le ↦ absurd (some (omega arith)) ]
+
+no_rest : (n : ℕ) → n ≡ 0 → nat_lt 0 n ≡ false
+no_rest n none = le-ltb 0 n (omega (arith, none))
+
+-- ---- cuts
+
+cut_free : (to : ℕ) (k : Known) → MayCut to k → (nat_lt to k.shape.frames && k.shape.trailing) ≡ false
+cut_free to k may = elim (cases_lt to k.shape.frames) [
+  | inl lt ↦ ap (λ b. nat_lt to k.shape.frames && b) (may.free lt) ∙ and_none (nat_lt to k.shape.frames)
+  | inr le ↦ and_left (nat_lt to k.shape.frames) k.shape.trailing (le-ltb to k.shape.frames le)
+]
+  where
+    and_none : (b : Bool) → (b && false) ≡ false
+    and_none true = refl
+    and_none false = refl
+
+pub truncate_free : (to : ℕ) (k : Known) → MayCut to k → truncate_refusal to k.shape ≡ None
+truncate_free to k may =
+    not_refused (nat_lt k.shape.frames to) SeekRange _ (le-ltb k.shape.frames to may.within) ∙ not_refused _ TrailingData None (cut_free to k may)
+
+pub truncate_past : (to : ℕ) (h : Shape) → h.frames < to → truncate_refusal to h ≡ Some SeekRange
+truncate_past to h lt = is_refused (nat_lt h.frames to) SeekRange _ (lt-ltb h.frames to lt)
+
+pub truncate_trailing : (to : ℕ) (h : Shape) → to < h.frames → h.trailing ≡ true → truncate_refusal to h ≡ Some TrailingData
+truncate_trailing to h lt trailing =
+    not_refused (nat_lt h.frames to) SeekRange _ (le-ltb h.frames to (omega arith))
+    ∙ is_refused (nat_lt to h.frames && h.trailing) TrailingData None (and_from _ _ (lt-ltb to h.frames lt) trailing)
+
+-- ---- numbers in the range of a codec
+
+is_true : (b : Bool) → T b → b ≡ true
+is_true true holds = refl
+is_true false holds = absurd holds
+
+between_in : (form : Linear) (x : ℤ) → InRange form x → is_between form x ≡ true
+between_in form x within = and_from _ _ (is_true _ within.0.le) (is_true _ within.1.le)
+
+in_between : (form : Linear) (x : ℤ) → is_between form x ≡ true → InRange form x
+in_between form x test =
+    let both = and_parts (int_le (low form) x) (int_le x (high form)) test in
+    (record { le = subst T (sym both.0) tt }, record { le = subst T (sym both.1) tt })
+
+fit_between : (form : Option Linear) (xs : List ℤ) → ((f : Linear) → form ≡ Some f → All (InRange f) xs) → are_between form xs ≡ true
+fit_between None xs fit = refl
+fit_between (Some form) xs fit = list_all-from_AllPass (is_between form) xs (All-weaker (InRange form) (λ x. is_between form x ≡ true) (between_in form) xs (fit form refl))
+
+between_fit : (form : Option Linear) (xs : List ℤ) → are_between form xs ≡ true → (f : Linear) → form ≡ Some f → All (InRange f) xs
+between_fit None xs test f is = absurd (cc)
+between_fit (Some form) xs test f is =
+    let all : All (InRange form) xs = All-weaker (λ x. is_between form x ≡ true) (InRange form) (in_between form) xs (AllPass-from_list_all (is_between form) xs test) in
+    subst (λ (l : Linear). All (InRange l) xs) (cc) all
+
+are_fit : (codec : Codec) (xs : List ℤ) → FitCodec codec xs → not (are_between (linear_of codec) xs) ≡ false
+are_fit codec xs fit = ap not (fit_between (linear_of codec) xs fit)
+
+are_unfit : (codec : Codec) (xs : List ℤ) → (FitCodec codec xs → ⊥) → not (are_between (linear_of codec) xs) ≡ true
+are_unfit codec xs unfit = elim (cases_Bool (are_between (linear_of codec) xs)) [
+  | inl fit ↦ absurd (unfit (between_fit (linear_of codec) xs fit))
+  | inr none ↦ ap not none
+]
+
+-- ---- frames that are written
+
+pub write_part : (xs : List ℤ) (h : Shape) (place : ℕ) → length xs % h.params.channels ≢ 0 → write_refusal xs place h ≡ Some PartFrame
+write_part xs h place part = is_refused (nat_lt 0 (length xs % h.params.channels)) PartFrame _ (some_rest _ part)
+
+pub write_range : (xs : List ℤ) (h : Shape) (place : ℕ) → length xs % h.params.channels ≡ 0 → (FitCodec h.params.codec xs → ⊥) → write_refusal xs place h ≡ Some SampleRange
+write_range xs h place whole unfit =
+    not_refused (nat_lt 0 (length xs % h.params.channels)) PartFrame _ (no_rest _ whole)
+    ∙ is_refused (not (are_between (linear_of h.params.codec) xs)) SampleRange _ (are_unfit h.params.codec xs unfit)
+
+write_frames : (xs : List ℤ) (h : Shape) (place : ℕ) → AreFrames xs h → write_refusal xs place h ≡ growth_refusal (end_written xs h place) h
+write_frames xs h place are =
+    not_refused (nat_lt 0 (length xs % h.params.channels)) PartFrame _ (no_rest _ are.whole)
+    ∙ not_refused (not (are_between (linear_of h.params.codec) xs)) SampleRange _ (are_fit h.params.codec xs are.in_range)
+
+growth_by : (to : ℕ) (h : Shape) → h.frames < to → growth_refusal to h ≡ refused_if h.trailing TrailingData (refused_if (nat_lt (room h) (data_bytes h.params to)) ContainerFull None)
+growth_by to h lt = simp (lt-ltb h.frames to lt)
+
+pub write_trailing : (xs : List ℤ) (h : Shape) (place : ℕ) → AreFrames xs h → h.frames < end_written xs h place → h.trailing ≡ true → write_refusal xs place h ≡ Some TrailingData
+write_trailing xs h place are lt trailing = write_frames xs h place are ∙ growth_by _ h lt ∙ is_refused h.trailing TrailingData _ trailing
+
+pub write_full : (xs : List ℤ) (h : Shape) (place : ℕ) → AreFrames xs h → h.frames < end_written xs h place → h.trailing ≡ false → room h < data_bytes h.params (end_written xs h place)
+    → write_refusal xs place h ≡ Some ContainerFull
+write_full xs h place are lt free full =
+    write_frames xs h place are ∙ growth_by _ h lt ∙ not_refused h.trailing TrailingData _ free ∙ is_refused (nat_lt (room h) (data_bytes h.params (end_written xs h place))) ContainerFull None (lt-ltb _ _ full)
+
+growth_free : (to : ℕ) (h : Shape) → (h.frames < to → h.trailing ≡ false) → (h.frames < to → data_bytes h.params to ≤ room h) → growth_refusal to h ≡ None
+growth_free to h free fits = elim (cases_lt h.frames to) [
+  | inl lt ↦ growth_by to h lt ∙ not_refused h.trailing TrailingData _ (free lt) ∙ not_refused (nat_lt (room h) (data_bytes h.params to)) ContainerFull None (le-ltb _ _ (fits lt))
+  | inr le ↦ simp (le-ltb h.frames to le)
+]
+
+pub write_free : (xs : List ℤ) (h : Shape) (place : ℕ) → MayWrite xs h place → write_refusal xs place h ≡ None
+write_free xs h place may = write_frames xs h place may.frames ∙ growth_free _ h may.free may.in_room

@@ -1,0 +1,79 @@
+-- A command on an open file: what stands at the desk that it leaves.
+use Rattle.std.proofs.Common.{◌≡◌, ℕ, List, Bool, true, false, ◌||◌, refl, sym, ◌∙◌, ap, arith, rules}
+use Rattle.std.specs.Str.{bytes_eq}
+use Rattle.snd_disk.proofs.Chains.{goes_on_then, only_reads_then}
+use Rattle.snd_disk.proofs.Names.{same_bytes}
+use Rattle.snd_disk.specs.Shelf.{Files}
+use Rattle.snd_disk.specs.State.{State}
+use Rattle.snd_disk.specs.declared.disk.Disk.{Ghosts}
+use Rattle.snd_modes.specs.Editing.{Editing}
+use Rattle.snd_script.specs.Desk.{Desk, open_desk, writes}
+use Rattle.snd_script.specs.Edit.{Edited}
+use Rattle.snd_script.specs.Handled.{HandleStands, LeavesHandle, handle_disk, mode_of}
+use Rattle.snd_script.specs.Replies.{Answer, nothing, says, refuses, is_refusal}
+use Rattle.snd_script.specs.Served.{lost_at}
+use Rattle.snd_script.specs.Serving.{OpenStands}
+use Rattle.snd_script.specs.Stepped.{reply_of}
+use Rattle.snd_script.specs.declared.handle.Handle.{Handle}
+use Rattle.snd_script.specs.declared.handle.Reply.TheVariants as reply
+
+-- a reply tells whether the answer is a refusal
+pub or_no_refusal : (r : Bool) (a : Answer) → reply.Ok ≡ reply_of a → r ≡ (r || is_refusal a)
+or_no_refusal true a is = refl
+or_no_refusal false nothing is = refl
+or_no_refusal false (says text) is = refl
+or_no_refusal false (refuses refusal) is = absurd cc
+
+pub or_refusal : (r : Bool) (a : Answer) (n : ℕ) → reply.Refused n ≡ reply_of a → true ≡ (r || is_refusal a)
+or_refusal true a n is = refl
+or_refusal false nothing n is = absurd cc
+or_refusal false (says text) n is = absurd cc
+or_refusal false (refuses refusal) n is = refl
+
+-- the name of the open file is lost where that failed
+pub lost_not : (name : List ℕ) (b : Bool) → (bytes_eq name name || b) ≡ false → ⊥
+lost_not name b kept = let is : (true || b) ≡ false = ap (λ x. x || b) (sym (same_bytes name)) ∙ kept in cc
+
+-- the desk with the file of a handle open
+abbrev pub held_desk : {D : Type 0} {ghosts : Ghosts D} → Files → List ℕ → Handle D ghosts → Editing → Desk
+held_desk files name handle e = open_desk files (record { name = name; mode = mode_of handle; editing = e })
+
+module _ {D : Type 0} {ghosts : Ghosts D} (state : D → State) (files : Files) (name : List ℕ) where
+  -- the handle stands for a file, in the mode that it had
+  pub stands_open : (old new : Handle D ghosts) (e : Editing) (lost : List ℕ → Bool) → mode_of new ≡ mode_of old → HandleStands state new e
+      → OpenStands state files name new lost (held_desk files name old e)
+  stands_open old new e lost mode here = record {
+    editing = e;
+    is = ap (λ m. open_desk files (record { name = name; mode = m; editing = e })) (sym mode);
+    stands = λ kept. here;
+  }
+
+  -- .. or its file failed
+  pub stands_lost : (old new : Handle D ghosts) (e : Editing) (left : List Edited) → mode_of new ≡ mode_of old
+      → OpenStands state files name new (lost_at (held_desk files name old e) left) (held_desk files name old e)
+  stands_lost old new e left mode = record {
+    editing = e;
+    is = ap (λ m. open_desk files (record { name = name; mode = m; editing = e })) (sym mode);
+    stands = λ kept. absurd (lost_not name _ kept);
+  }
+
+-- nothing was done
+pub leaves_handle_none : {D : Type 0} {ghosts : Ghosts D} (state : D → State) (may_leave : D → List ℕ → Type 0) (left_between : D → ℕ → ℕ → List ℕ → Type 0) (a : Handle D ghosts) → LeavesHandle state may_leave left_between a a
+leaves_handle_none state may_leave left_between a = record {
+  mode = refl;
+  loan = refl;
+  tells = record { told = refl; name = refl };
+  time = record { later = omega arith; same = λ s t x le left. left; kept = λ s t x left. left };
+  reads = λ plain. search rules;
+}
+
+-- one command after another
+pub leaves_handle_then : {D : Type 0} {ghosts : Ghosts D} (state : D → State) (may_leave : D → List ℕ → Type 0) (left_between : D → ℕ → ℕ → List ℕ → Type 0) (a b c : Handle D ghosts)
+    → LeavesHandle state may_leave left_between a b → LeavesHandle state may_leave left_between b c → LeavesHandle state may_leave left_between a c
+leaves_handle_then state may_leave left_between a b c first second = record {
+  mode = second.mode ∙ first.mode;
+  loan = second.loan ∙ first.loan;
+  tells = record { told = second.tells.told ∙ first.tells.told; name = second.tells.name ∙ first.tells.name };
+  time = goes_on_then _ _ _ (left_between (handle_disk a)) (left_between (handle_disk b)) (left_between (handle_disk c)) first.time second.time;
+  reads = λ plain. only_reads_then (state (handle_disk a)) (state (handle_disk b)) (state (handle_disk c)) (may_leave (handle_disk a)) (may_leave (handle_disk b)) (may_leave (handle_disk c)) (left_between (handle_disk a)) (left_between (handle_disk b)) (left_between (handle_disk c)) (first.reads plain) (second.reads (ap writes first.mode ∙ plain));
+}

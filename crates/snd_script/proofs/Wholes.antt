@@ -1,0 +1,67 @@
+-- A command that is not cut short leaves a handle whole.
+use Rattle.std.specs.Prelude.{if◌then◌else◌, is_none}
+use Rattle.std.proofs.Common.{◌≡◌, ℕ, Bool, true, false, Option, None, Some, ⊎_elim, refl, ◌∙◌, ap}
+use Rattle.snd_command.specs.Said.{Said}
+use Rattle.snd_disk.specs.declared.disk.Step.{Step}
+use Rattle.snd_modes.specs.Handle.{Known}
+use Rattle.snd_script.specs.Desk.{Mode, reading, reads, updating, writes, writing}
+use Rattle.snd_script.specs.Rules.{Rule, auto_rule, built_rule, in_mode, is_built, read_rule, refused_rule, rule_of, seek_read_rule, seek_rule, seek_write_rule, trim_rule, truncate_rule, update_rule, write_rule}
+use Rattle.snd_script.specs.Stepped.{IsBrokenAt, known_by, known_unless}
+use Rattle.snd_script.specs.declared.refusal.Refusal.{Refusal}
+use Rattle.snd_script.specs.declared.refusal.Refusal.TheVariants.{NotBuilt}
+
+pub record KeepsBroken (rule : Rule) : Type 0 where
+  pub same : (k : Known) → (rule.known k).broken ≡ k.broken
+
+keeps_in : (has : Bool) (rule : Rule) → KeepsBroken rule → KeepsBroken (in_mode has rule)
+keeps_in true rule keeps = keeps
+keeps_in false rule keeps = record { same = λ k. refl }
+
+keeps_seek : (mode : Mode) (n : ℕ) → KeepsBroken (seek_rule mode n)
+keeps_seek reading n = record { same = λ k. refl }
+keeps_seek writing n = record { same = λ k. refl }
+keeps_seek updating n = record { same = λ k. refl }
+
+keeps_built : (mode : Mode) (said : Said) → KeepsBroken (built_rule mode said)
+keeps_built mode (Said.open_read name) = record { same = λ k. refl }
+keeps_built mode (Said.open_update name) = record { same = λ k. refl }
+keeps_built mode (Said.create kind codec channels rate name) = record { same = λ k. refl }
+keeps_built mode Said.info = record { same = λ k. refl }
+keeps_built mode Said.close = record { same = λ k. refl }
+keeps_built mode (Said.seek_read n) = keeps_in (reads mode) (seek_read_rule n) (record { same = λ k. refl })
+keeps_built mode (Said.seek_write n) = keeps_in (writes mode) (seek_write_rule n) (record { same = λ k. refl })
+keeps_built mode (Said.seek_both n) = keeps_seek mode n
+keeps_built mode (Said.read n) = keeps_in (reads mode) (read_rule n) (record { same = λ k. refl })
+keeps_built mode (Said.write xs) = keeps_in (writes mode) (write_rule xs) (record { same = λ k. refl })
+keeps_built mode (Said.truncate n) = keeps_in (writes mode) (truncate_rule n) (record { same = λ k. refl })
+keeps_built mode Said.trim = keeps_in (writes mode) trim_rule (record { same = λ k. refl })
+keeps_built mode Said.update = keeps_in (writes mode) update_rule (record { same = λ k. refl })
+keeps_built mode (Said.auto on) = keeps_in (writes mode) (auto_rule on) (record { same = λ k. refl })
+keeps_built mode (Said.set_chunk id hex) = record { same = λ k. refl }
+keeps_built mode (Said.set_string key text) = record { same = λ k. refl }
+keeps_built mode (Said.set_bext key text) = record { same = λ k. refl }
+keeps_built mode (Said.set_cue places) = record { same = λ k. refl }
+keeps_built mode (Said.get_chunk id) = record { same = λ k. refl }
+keeps_built mode Said.get_chunks = record { same = λ k. refl }
+keeps_built mode Said.get_strings = record { same = λ k. refl }
+keeps_built mode Said.get_bext = record { same = λ k. refl }
+keeps_built mode Said.get_cues = record { same = λ k. refl }
+keeps_built mode (Said.tap kind) = record { same = λ k. refl }
+keeps_built mode (Said.untap kind) = record { same = λ k. refl }
+
+keeps_if : (built : Bool) (rule : Rule) → KeepsBroken rule → KeepsBroken (if built then rule else refused_rule NotBuilt)
+keeps_if true rule keeps = keeps
+keeps_if false rule keeps = record { same = λ k. refl }
+
+keeps_unless : (refusal : Option Refusal) (done k : Known) → done.broken ≡ k.broken → (known_unless refusal done k).broken ≡ k.broken
+keeps_unless (Some refusal) done k same = refl
+keeps_unless None done k same = same
+
+pub whole_after : (mode : Mode) (said : Said) (k k' : Known) → k.broken ≡ None → k' ≡ known_by (rule_of mode said) k → k'.broken ≡ None
+whole_after mode said k k' whole is =
+    ap (λ (x : Known). x.broken) is ∙ keeps_unless _ ((rule_of mode said).known k) k ((keeps_if (is_built said) (built_rule mode said) (keeps_built mode said)).same k) ∙ whole
+
+-- .. and a fault of its disk breaks it
+pub broken_after : (first : Bool) (step : Step) (k k' : Known) → IsBrokenAt first step k k' → is_none k'.broken ≡ false
+broken_after true step k k' is = ⊎_elim (λ plain. ap (λ (x : Known). is_none x.broken) plain) (λ done. ap (λ (x : Known). is_none x.broken) done) is
+broken_after false step k k' is = ap (λ (x : Known). is_none x.broken) is

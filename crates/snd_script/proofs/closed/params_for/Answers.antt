@@ -1,0 +1,13 @@
+use Rattle.std.proofs.Common.{rules}
+use Rattle.snd_script.proofs.Makings.{misfit_is_refused, wave_is_made}
+use Rattle.snd_script.proofs.closed.params_for.Goals as goal
+
+pub returns-in_err-fit : goal.returns-in_err-fit
+returns-in_err-fit c = record {
+  made = misfit_is_refused c.args.kind _ c.in_ok-params.params c.in_err-fit.field-0.0 c.from_residual-in_err-fit.result (search rules) (search rules) (search rules);
+}
+
+pub returns : goal.returns
+returns c = record {
+  made = (search rules, wave_is_made c.args.kind c.args.channels c.args.rate c.args.codec c.in_ok-params.params c.requires.wave c.requires.linear (search rules) (search rules));
+}
