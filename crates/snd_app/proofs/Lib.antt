@@ -1,3 +1,5 @@
+mod Fronts
+mod Left
 mod Looks
 mod Outcomes
 mod Scripts

@@ -1,5 +1,5 @@
 -- What stands under a name that was taken out.
-use Rattle.std.proofs.Common.{◌≡◌, ◌≤◌, ℕ, List, [], false, Some, unwrap_or, Result, Ok, Err, IfOk, refl, sym, ◌∙◌, ap, inl, inr, subst, arith}
+use Rattle.std.proofs.Common.{◌≡◌, ℕ, List, [], false, Some, unwrap_or, Result, Ok, Err, IfOk, refl, sym, ◌∙◌, ap, inl, inr, subst, arith}
 use Rattle.snd_disk.specs.State.{Adds, Rises, State}
 use Rattle.snd_disk.specs.Shelf.{Files, ShelfState, Takes}
 use Rattle.snd_container.specs.Sound.{layout_of}

@@ -1,10 +1,12 @@
 -- From what was put to the outcome.
 use Rattle.std.proofs.Common.{◌≡◌, inl, inr, ℕ, List, [], true, false, Some, refl, sym, ◌∙◌, ap, subst, append-nil, arith}
+use Rattle.snd_disk.specs.Shelf.{Files, ShelfState}
 use Rattle.snd_disk.specs.Streams.{AppendsFront}
+use Rattle.snd_script.specs.Served.{HasFiles}
 use Rattle.snd_app.specs.declared.look.Found.{Found}
 use Rattle.snd_app.specs.declared.look.Found.TheVariants.{Missing, Refused, Sound}
-use Rattle.snd_app.specs.Outcome.{Outcome, info, text_of, is_refused}
-use Rattle.snd_app.specs.Run.{Faults, Told, Appends, PrintsFront, IsOutcome, IsPut}
+use Rattle.snd_app.specs.Outcome.{Asked, Outcome, files_of, info, is_refused, outcome_of, text_of}
+use Rattle.snd_app.specs.Run.{Appends, Faults, IsOutcome, IsPut, IsRun, PrintsFront, Told}
 
 -- nothing is put to a sink
 pub none_put : (sink : Told) → sink.after ≡ sink.before → Appends sink []
@@ -48,6 +50,13 @@ module _ (result : ℕ) (old new : Faults) (out err : Told) (o : Outcome) where
   pub is_put_err : (status : ℕ) (text : List ℕ) → record { out = []; err = text; status = status } ≡ o → new.shelf ≡ old.shelf → new.script ≡ old.script → new.out ≡ old.out → out.after ≡ out.before → IsPut result status text old.err new.err err → IsOutcome result o old new out err
   is_put_err status text is shelf script other same puts = subst (λ (o : Outcome). IsOutcome result o old new out err) is (put_err result status text old new out err shelf script other same puts)
 
-  -- the outcome, told otherwise
-  pub as_outcome : (o' : Outcome) → o ≡ o' → IsOutcome result o old new out err → IsOutcome result o' old new out err
-  as_outcome o' is done = subst (λ (o : Outcome). IsOutcome result o old new out err) is done
+  -- .. and the shelf has the files
+  pub with_files : (leaves : Type 0) → leaves → IsOutcome result o old new out err → IsRun result o old new out err leaves
+  with_files leaves there (inl done) = inl (done.0, done.1, done.2, there)
+  with_files leaves there (inr other) = inr other
+
+-- the run, told otherwise
+module _ {S : Type 0} (state : S → ShelfState) (shelf : S) (result : ℕ) (old new : Faults) (out err : Told) (files : Files) (text : List ℕ) where
+  pub run_as : (a a' : Asked) → a ≡ a' → IsRun result (outcome_of a files text) old new out err (HasFiles state shelf (files_of a files text))
+      → IsRun result (outcome_of a' files text) old new out err (HasFiles state shelf (files_of a' files text))
+  run_as a a' is runs = subst (λ (a : Asked). IsRun result (outcome_of a files text) old new out err (HasFiles state shelf (files_of a files text))) is runs

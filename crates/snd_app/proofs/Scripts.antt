@@ -1,46 +1,57 @@
 -- From a script that was served to the outcome.
-use Rattle.std.proofs.Common.{◌≡◌, inl, inr, ℕ, List, ◌++◌, Bool, true, false, Some, length, refl, sym, ◌∙◌, ap, codes, arith}
-use Rattle.std.proofs.lemmas.List.{take_all}
+use Rattle.std.proofs.Common.{◌≡◌, inl, inr, ℕ, List, Bool, true, false, Option, refl, sym, ◌∙◌, codes}
+use Rattle.snd_disk.specs.Shelf.{Files, ShelfState}
 use Rattle.snd_disk.specs.Streams.{AppendsFront}
+use Rattle.snd_script.specs.Desk.{closed_desk}
+use Rattle.snd_script.specs.Edit.{Edited}
+use Rattle.snd_script.specs.Script.{last_desk, texts}
+use Rattle.snd_script.specs.Served.{HasFiles, IsDone, IsFault, IsServed, SameCounts, StopsAtMemory}
 use Rattle.snd_script.specs.declared.serving.ScriptEnd.TheVariants.{TooLong, Fault}
-use Rattle.snd_script.specs.Script.{Answered}
-use Rattle.snd_script.specs.Served.{Counts, IsServed, AnyCountRises, SameCounts}
 use Rattle.snd_app.specs.Outcome.{script_outcome}
-use Rattle.snd_app.specs.Run.{Faults, Told, Appends, AnyRises, IsOutcome, IsPut}
+use Rattle.snd_app.specs.Run.{AnyRises, Faults, IsPut, IsRun, IsScriptStop, PrintsFront, Told, counts_of}
+use Rattle.snd_app.proofs.Fronts.{fault_front, memory_front, whole_front}
 use Rattle.snd_app.proofs.Outcomes.{no_front}
 
--- the counts that serving sees
-abbrev pub counts_of : Faults → Counts
-counts_of f = record { shelf = f.shelf; script = f.script; out = f.out }
+module _ {S : Type 0} (state : S → ShelfState) (files : Files) (all : List Edited) (old new : Faults) (out err : Told) (more : Option (List ℕ)) (shelf : S) where
+  abbrev Left : Type 0
+  Left = HasFiles state shelf (last_desk (closed_desk files) all).files
 
-whole_front : (sink : Told) (text : List ℕ) → Appends sink text → AppendsFront sink.before sink.after text
-whole_front sink text put t told = (length text, omega arith, put t told ∙ ap (λ (l : List ℕ). Some (t ++ l)) (sym (take_all (length text) text (omega arith))))
+  -- a count that rose while the script was served
+  pub any_rose : IsFault state files all (counts_of old) (counts_of new) out.before out.after more shelf → AnyRises old new
+  any_rose (inl stops) = inr (inl stops.1)
+  any_rose (inr (inl stops)) = inr (inr (inl stops.2))
+  any_rose (inr (inr stops)) = inl stops.0
 
--- a count that rose while the script was served
-any_rose : (old new : Faults) → AnyCountRises (counts_of old) (counts_of new) → AnyRises old new
-any_rose old new (inl shelf) = inl shelf
-any_rose old new (inr (inl script)) = inr (inl script)
-any_rose old new (inr (inr sink)) = inr (inr (inl sink))
+  -- its front is one of the outcome's, however long the script
+  prints_front : (longer : Bool) → err.after ≡ err.before → AppendsFront out.before out.after (texts all) → PrintsFront (script_outcome longer all) out err
+  prints_front true same front = record { on_out = front; on_err = no_front err _ same }
+  prints_front false same front = record { on_out = front; on_err = no_front err _ same }
 
--- the script is too long, and the message on this is put to `err`
-module _ (result : ℕ) (a : Answered) (old new : Faults) (out err : Told) where
-  too_long_said : SameCounts (counts_of old) (counts_of new) → Appends out a.out → IsPut result 2 (codes "snd: script too long\n") old.err new.err err
-      → IsOutcome result (script_outcome true a) old new out err
-  too_long_said same put (inl done) = inl (done.0, record { shelf = same.shelf; script = same.script; out = same.out; err = done.1 }, record { on_out = put; on_err = done.2 })
-  too_long_said same put (inr failed) = inr (inl (failed.0, inr (inr (inr failed.1)), record { on_out = whole_front out a.out put; on_err = failed.2 }))
+  -- it is too long, and the message on this is put to `err`
+  said_or_not : (status : ℕ) → SameCounts (counts_of old) (counts_of new) → IsDone state files all out.before out.after shelf → IsPut status 2 (codes "snd: script too long\n") old.err new.err err
+      → IsRun status (script_outcome true all) old new out err Left
+  said_or_not status same done (inl said) = inl (said.0, record { shelf = same.shelf; script = same.script; out = same.out; err = said.1 }, record { on_out = done.appended; on_err = said.2 }, done.files)
+  said_or_not status same done (inr failed) =
+      inr (inl (failed.0, inr (inr (inr failed.1)), record { on_out = whole_front out.before out.after (texts all) done.appended; on_err = failed.2 }))
 
-  pub too_long_is : (longer : Bool) → IsServed TooLong longer a (counts_of old) (counts_of new) out.before out.after → IsPut result 2 (codes "snd: script too long\n") old.err new.err err
-      → IsOutcome result (script_outcome longer a) old new out err
-  too_long_is true (inl served) puts = too_long_said served.1 served.2 puts
-  too_long_is false (inl served) puts = absurd (cc)
-  too_long_is longer (inr (inl served)) puts = absurd (cc)
-  too_long_is longer (inr (inr served)) puts = absurd (cc)
+  pub too_long_is : (status : ℕ) (longer : Bool) → IsPut status 2 (codes "snd: script too long\n") old.err new.err err
+      → IsServed state files longer all TooLong (counts_of old) (counts_of new) out.before out.after more shelf → IsRun status (script_outcome longer all) old new out err Left
+  too_long_is status true puts (long, counts, done) = said_or_not status counts done puts
+  too_long_is status false puts (long, counts, done) = absurd (cc)
 
--- serving the script met a fault
-module _ (a : Answered) (old new : Faults) (out err : Told) where
-  pub fault_is : (longer : Bool) → IsServed Fault longer a (counts_of old) (counts_of new) out.before out.after → err.after ≡ err.before → IsOutcome 3 (script_outcome longer a) old new out err
-  fault_is true (inl served) same = absurd (cc)
-  fault_is false (inl served) same = absurd (cc)
-  fault_is true (inr (inl served)) same = inr (inl (refl, any_rose old new served.1, record { on_out = served.2; on_err = no_front err _ same }))
-  fault_is false (inr (inl served)) same = inr (inl (refl, any_rose old new served.1, record { on_out = served.2; on_err = no_front err _ same }))
-  fault_is longer (inr (inr served)) same = absurd (cc)
+  pub too_long_stops : (status : ℕ) (longer : Bool) → IsPut status 2 (codes "snd: script too long\n") old.err new.err err
+      → IsServed state files longer all TooLong (counts_of old) (counts_of new) out.before out.after more shelf → IsScriptStop state files all status old new out more shelf
+  too_long_stops status longer (inl said) (long, counts, done) = (λ three. absurd (let e : 2 ≡ 3 = sym said.0 ∙ three in cc), λ four. absurd (let e : 2 ≡ 4 = sym said.0 ∙ four in cc))
+  too_long_stops status longer (inr failed) (long, counts, done) = (λ three. inr (failed.1, done), λ four. absurd (let e : 3 ≡ 4 = sym failed.0 ∙ four in cc))
+
+  -- serving it met a fault
+  pub fault_is : (longer : Bool) → err.after ≡ err.before
+      → IsServed state files longer all Fault (counts_of old) (counts_of new) out.before out.after more shelf → IsRun 3 (script_outcome longer all) old new out err Left
+  fault_is longer same stops = inr (inl (refl, any_rose stops, prints_front longer same (fault_front state files all out.before out.after shelf (counts_of old) (counts_of new) more stops)))
+
+  pub fault_stops : IsFault state files all (counts_of old) (counts_of new) out.before out.after more shelf → IsScriptStop state files all 3 old new out more shelf
+  fault_stops stops = (λ three. inl stops, λ four. absurd (cc))
+
+  -- there was no memory for it
+  pub memory_is : (longer : Bool) → err.after ≡ err.before → StopsAtMemory state files all out.before out.after shelf → IsRun 4 (script_outcome longer all) old new out err Left
+  memory_is longer same stops = inr (inr (refl, prints_front longer same (memory_front state files all out.before out.after shelf stops)))

@@ -1,4 +1,5 @@
--- What a run of the program prints and answers: a function of the words, the files that are there, and the script.
+-- What a run of the program prints and answers, and which files it leaves: functions of the words, the files that are there,
+-- and the script.
 use Rattle.std.specs.Prelude.{ℕ, Bool, true, false, ◌&&◌, ◌==◌, not, List, [], ◌∷◌, Option, Some, None, Result, Ok, Err, length, slice_index, codes, nat_le, if◌then◌else◌}
 use Rattle.std.specs.List.{list_all}
 use Rattle.std.specs.Str.{bytes_eq}
@@ -7,7 +8,9 @@ use Rattle.snd_disk.specs.Shelf.{Files}
 use Rattle.snd_layout.specs.Shape.{Shape}
 use Rattle.snd_layout.specs.declared.refusal.OpenRefusal.{OpenRefusal}
 use Rattle.snd_script.specs.declared.refusal.Refusal.TheVariants.{MissingFile, Open}
-use Rattle.snd_script.specs.Script.{Answered, is_too_long, most_bytes, script_answered}
+use Rattle.snd_script.specs.Desk.{closed_desk}
+use Rattle.snd_script.specs.Edit.{Edited}
+use Rattle.snd_script.specs.Script.{any_refused, is_too_long, last_desk, most_bytes, script_steps, texts}
 use Rattle.snd_app.specs.declared.look.Found.{Found}
 use Rattle.snd_app.specs.declared.look.Found.TheVariants.{Missing, Refused, Sound}
 use Rattle.snd_app.specs.Text.{is_printed, refusal}
@@ -51,14 +54,18 @@ info name found = if is_refused found then record { out = []; err = text_of name
 abbrev pub too_long : Outcome → Outcome
 too_long o = record o { err = codes "snd: script too long\n"; status = 2 }
 
-abbrev pub answers : Answered → Outcome
-answers a = record { out = a.out; err = []; status = if a.refused then 1 else 0 }
+abbrev pub answers : List Edited → Outcome
+answers all = record { out = texts all; err = []; status = if any_refused all then 1 else 0 }
 
-abbrev pub script_outcome : Bool → Answered → Outcome
-script_outcome longer a = if longer then too_long (answers a) else answers a
+abbrev pub script_outcome : Bool → List Edited → Outcome
+script_outcome longer all = if longer then too_long (answers all) else answers all
 
 abbrev pub outcome_of_script : Files → List ℕ → Outcome
-outcome_of_script files text = script_outcome (is_too_long most_bytes text) (script_answered files text)
+outcome_of_script files text = script_outcome (is_too_long most_bytes text) (script_steps files text)
+
+-- .. and it leaves the files of its last step
+abbrev pub files_of_script : Files → List ℕ → Files
+files_of_script files text = (last_desk (closed_desk files) (script_steps files text)).files
 
 abbrev pub outcome_of_info : List ℕ → Files → Outcome
 outcome_of_info name files = info name (found_in (files name))
@@ -82,3 +89,11 @@ outcome_of Asked.script files text = outcome_of_script files text
 -- the outcome of the words, over these files and with this script to come
 abbrev pub outcome : List (List ℕ) → Files → List ℕ → Outcome
 outcome words files text = outcome_of (asked words) files text
+
+-- the files that are there afterwards: only a script changes any
+abbrev pub files_of : Asked → Files → List ℕ → Files
+files_of Asked.script files text = files_of_script files text
+files_of other files text = files
+
+abbrev pub files_after : List (List ℕ) → Files → List ℕ → Files
+files_after words files text = files_of (asked words) files text

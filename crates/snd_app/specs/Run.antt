@@ -8,6 +8,9 @@ use Rattle.snd_disk.specs.Streams.{AppendsFront}
 use Rattle.snd_disk.specs.declared.shelf.Shelf.{Ghosts as ShelfMeaning}
 use Rattle.snd_disk.specs.declared.streams.Sink.{Ghosts as SinkMeaning}
 use Rattle.snd_disk.specs.declared.streams.Source.{Ghosts as SourceMeaning}
+use Rattle.snd_script.specs.Edit.{Edited}
+use Rattle.snd_script.specs.Script.{script_steps}
+use Rattle.snd_script.specs.Served.{FaultCounts, HasFiles, IsDone, IsFault, StopsAtMemory}
 use Rattle.snd_app.specs.Outcome.{Outcome}
 
 -- no name is taken out
@@ -29,6 +32,10 @@ pub record SameFaults (old new : Faults) : Type 0 where
   pub script : new.script ≡ old.script
   pub out : new.out ≡ old.out
   pub err : new.err ≡ old.err
+
+-- those that serving a script sees
+abbrev pub counts_of : Faults → FaultCounts
+counts_of f = record { shelf = f.shelf; script = f.script; out = f.out }
 
 -- what a sink tells before and after
 pub record Told : Type 0 where
@@ -54,6 +61,12 @@ IsOutcome status o old new out err =
     ((status ≡ o.status) × SameFaults old new × Prints o out err)
     ⊎ (((status ≡ 3) × AnyRises old new × PrintsFront o out err) ⊎ ((status ≡ 4) × PrintsFront o out err))
 
+-- .. and where it does so, the shelf has these files
+abbrev pub IsRun : ℕ → Outcome → Faults → Faults → Told → Told → Type 0 → Type 0
+IsRun status o old new out err leaves =
+    ((status ≡ o.status) × SameFaults old new × Prints o out err × leaves)
+    ⊎ (((status ≡ 3) × AnyRises old new × PrintsFront o out err) ⊎ ((status ≡ 4) × PrintsFront o out err))
+
 -- the counts at a moment, with the script's given, or with the script itself
 abbrev pub faults_with : {S D O E : Type 0} → ShelfMeaning S D → SinkMeaning O → SinkMeaning E → ℕ → S → O → E → Faults
 faults_with s o e script shelf out err = record { shelf = (s.state shelf).faults; script = script; out = o.faults out; err = e.faults err }
@@ -70,10 +83,24 @@ abbrev pub EndsAs : {S D R O E : Type 0} → ShelfMeaning S D → SourceMeaning 
 EndsAs s r o e given shelf script out err shelf' script' out' err' status =
     IsOutcome status given (faults_of s r o e shelf script out err) (faults_of s r o e shelf' script' out' err') (told_by o out out') (told_by e err err')
 
--- over files and a script that are told, it is the outcome of these
-abbrev pub RunsAs : {S D R O E : Type 0} → ShelfMeaning S D → SourceMeaning R → SinkMeaning O → SinkMeaning E → (Files → List ℕ → Outcome) → S → R → O → E → S → R → O → E → ℕ → Type 0
-RunsAs s r o e given shelf script out err shelf' script' out' err' status =
-    (files : Files) (text : List ℕ) → TellsFiles s.state shelf files → r.left script ≡ Some text → EndsAs s r o e (given files text) shelf script out err shelf' script' out' err' status
+-- over files and a script that are told, it is the outcome of these, and leaves the files that they give
+abbrev pub RunsAs : {S D R O E : Type 0} → ShelfMeaning S D → SourceMeaning R → SinkMeaning O → SinkMeaning E → (Files → List ℕ → Outcome) → (Files → List ℕ → Files) → S → R → O → E → S → R → O → E → ℕ → Type 0
+RunsAs s r o e given after shelf script out err shelf' script' out' err' status =
+    (files : Files) (text : List ℕ) → TellsFiles s.state shelf files → r.left script ≡ Some text →
+    IsRun status (given files text) (faults_of s r o e shelf script out err) (faults_of s r o e shelf' script' out' err') (told_by o out out') (told_by e err err')
+    (HasFiles s.state shelf' (after files text))
+
+-- a script that ends with 3 was served up to a fault; or it was served, and the message that it is too long did not get out. One
+-- that ends with 4 was served up to want of memory.
+abbrev pub IsScriptStop : {S : Type 0} → (S → ShelfState) → Files → List Edited → ℕ → Faults → Faults → Told → Option (List ℕ) → S → Type 0
+IsScriptStop state files all status old new out more shelf' =
+    (status ≡ 3 → IsFault state files all (counts_of old) (counts_of new) out.before out.after more shelf' ⊎ (Rises old.err new.err × IsDone state files all out.before out.after shelf'))
+    × (status ≡ 4 → StopsAtMemory state files all out.before out.after shelf')
+
+abbrev pub StopsAs : {S D R O E : Type 0} → ShelfMeaning S D → SourceMeaning R → SinkMeaning O → SinkMeaning E → S → R → O → E → S → R → O → E → ℕ → Type 0
+StopsAs s r o e shelf script out err shelf' script' out' err' status =
+    (files : Files) (text : List ℕ) → TellsFiles s.state shelf files → r.left script ≡ Some text →
+    IsScriptStop s.state files (script_steps files text) status (faults_of s r o e shelf script out err) (faults_of s r o e shelf' script' out' err') (told_by o out out') (r.left script') shelf'
 
 -- a count of faults rises
 abbrev pub FaultRises : {S D R O E : Type 0} → ShelfMeaning S D → SourceMeaning R → SinkMeaning O → SinkMeaning E → S → R → O → E → S → R → O → E → Type 0
@@ -83,7 +110,7 @@ FaultRises s r o e shelf script out err shelf' script' out' err' = AnyRises (fau
 abbrev pub DescribesAs : {S D O E : Type 0} → ShelfMeaning S D → SinkMeaning O → SinkMeaning E → (Files → Outcome) → S → O → E → S → O → E → ℕ → Type 0
 DescribesAs s o e given shelf out err shelf' out' err' status =
     (files : Files) (script : ℕ) → TellsFiles s.state shelf files
-    → IsOutcome status (given files) (faults_with s o e script shelf out err) (faults_with s o e script shelf' out' err') (told_by o out out') (told_by e err err')
+    → IsRun status (given files) (faults_with s o e script shelf out err) (faults_with s o e script shelf' out' err') (told_by o out out') (told_by e err err') (HasFiles s.state shelf' files)
 
 abbrev pub DescribingFaultRises : {S D O E : Type 0} → ShelfMeaning S D → SinkMeaning O → SinkMeaning E → S → O → E → S → O → E → Type 0
 DescribingFaultRises s o e shelf out err shelf' out' err' = (script : ℕ) → AnyRises (faults_with s o e script shelf out err) (faults_with s o e script shelf' out' err')

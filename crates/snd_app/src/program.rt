@@ -4,8 +4,9 @@ ghost use Rattle.std.specs.Prelude.{◌≡◌, ◌≤◌, ◌+◌, IfOk};
 ghost use Rattle.std.specs.List.{list_all};
 ghost use Rattle.snd_disk.specs.Shelf.{KeepsFiles};
 ghost use Rattle.snd_disk.specs.Shelves.{KeepsFileImages};
-ghost use Rattle.snd_app.specs.Outcome.{Asked, asked, bad_words, is_name, outcome, outcome_of_info, outcome_of_script, text_of};
-ghost use Rattle.snd_app.specs.Run.{DescribesAs, DescribingFaultRises, EndsAs, FaultRises, IsAllIn, PutsText, RunsAs};
+ghost use Rattle.snd_script.specs.Served.{LeavesShelf};
+ghost use Rattle.snd_app.specs.Outcome.{Asked, asked, bad_words, is_name, files_after, files_of_script, outcome, outcome_of_info, outcome_of_script, text_of};
+ghost use Rattle.snd_app.specs.Run.{DescribesAs, DescribingFaultRises, EndsAs, FaultRises, IsAllIn, PutsText, RunsAs, StopsAs};
 ghost use Rattle.snd_app.specs.Text.{is_printed};
 ghost use Rattle.snd_app.specs.Words.{asked_by};
 
@@ -119,14 +120,14 @@ fn run_script<S: Shelf, R: Source, O: Sink, E: Sink>(
     err: &mut E,
 ) -> u8
     requires { IsAllIn (S.state shelf.old) }
-    ensures outcome { RunsAs S.Shelf R.Source O.Sink E.Sink outcome_of_script
+    ensures outcome { RunsAs S.Shelf R.Source O.Sink E.Sink outcome_of_script files_of_script
+        shelf.old script.old out.old err.old shelf.new script.new out.new err.new result }
+    ensures stops { StopsAs S.Shelf R.Source O.Sink E.Sink
         shelf.old script.old out.old err.old shelf.new script.new out.new err.new result }
     ensures fault { result ≡ 3 → FaultRises S.Shelf R.Source O.Sink E.Sink
         shelf.old script.old out.old err.old shelf.new script.new out.new err.new }
     ensures taken { R.given script.new ≤ R.given script.old + 16777217 }
-    ensures back { IsAllIn (S.state shelf.new) }
-    ensures files { KeepsFiles (S.state shelf.old) (S.state shelf.new) }
-    ensures images { KeepsFileImages S.state S.may_leave S.left_between shelf.old shelf.new }
+    ensures leaves { LeavesShelf S.state S.left_between shelf.old shelf.new }
 {
     match serve(alloc, shelf, script, out) {
         ScriptEnd::Done { refused } => u8::from(refused),
@@ -152,8 +153,12 @@ pub fn run<S: Shelf, R: Source, O: Sink, E: Sink>(
     requires { IsAllIn (S.state shelf.old) }
 
     // The headline: over files and a script that are told, the run is the outcome of the words, the
-    // files and the script.
-    ensures headline { RunsAs S.Shelf R.Source O.Sink E.Sink (outcome words.now)
+    // files and the script, and it leaves the files that these give.
+    ensures headline { RunsAs S.Shelf R.Source O.Sink E.Sink (outcome words.now) (files_after words.now)
+        shelf.old script.old out.old err.old shelf.new script.new out.new err.new result }
+
+    // Where a script was not carried out whole: which replies there are, and which files.
+    ensures stops { asked words.now ≡ Asked.script → StopsAs S.Shelf R.Source O.Sink E.Sink
         shelf.old script.old out.old err.old shelf.new script.new out.new err.new result }
 
     // Words that are refused need no file and no script.
@@ -167,10 +172,11 @@ pub fn run<S: Shelf, R: Source, O: Sink, E: Sink>(
     // A script that never ends is no exception.
     ensures taken { R.given script.new ≤ R.given script.old + 16777217 }
 
-    // Every file that was taken is given back, and no file changes, nor what a crash may leave of one.
-    ensures back { IsAllIn (S.state shelf.new) }
-    ensures files { KeepsFiles (S.state shelf.old) (S.state shelf.new) }
-    ensures images { KeepsFileImages S.state S.may_leave S.left_between shelf.old shelf.new }
+    // Every file that was taken is given back, none is gone, and time has gone on for each. Without a
+    // script no file changes, nor what a crash may leave of one.
+    ensures leaves { LeavesShelf S.state S.left_between shelf.old shelf.new }
+    ensures files { (asked words.now ≡ Asked.script → ⊥) → KeepsFiles (S.state shelf.old) (S.state shelf.new) }
+    ensures images { (asked words.now ≡ Asked.script → ⊥) → KeepsFileImages S.state S.may_leave S.left_between shelf.old shelf.new }
 {
     match request_of(words) {
         Some(Request::Info(name)) => run_info(alloc, name, shelf, out, err),
