@@ -9,5 +9,7 @@ mod kinds;
 mod memory;
 #[cfg(test)]
 mod tests;
+#[cfg(test)]
+mod writing;
 
 pub use memory::{Printed, run_in_memory};

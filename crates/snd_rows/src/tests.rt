@@ -189,8 +189,8 @@ static SCRIPTS: [(&str, &str, u8); 12] = [
         1,
     ),
     (
-        "open u a.wav\nwrite 1\ntap peak\nget chunks\nseek w 0\n",
-        "error 99 NotBuilt\nerror 99 NotBuilt\nerror 99 NotBuilt\nerror 99 NotBuilt\nerror 99 NotBuilt\n",
+        "create au pcm_8 1 1 a\ncreate au pcm_16_be 1 1 a\ntap peak\nget chunks\nseek w 0\n",
+        "error 40 BadCommand\nerror 99 NotBuilt\nerror 99 NotBuilt\nerror 99 NotBuilt\nerror 42 NotOpen\n",
         1,
     ),
     (

@@ -15,7 +15,7 @@ returns c =
     let out : p.out.items ≡ c.bytes.result.now = search rules in
     let err : p.err.items ≡ c.bytes-2.result.now = search rules in
     subst (λ (o : Outcome). IsPrinted o p) (outcome_same (one_file c.args.name.now c.args.bytes.items) there.0 there.2 c.args.words.now c.args.script.items)
-    (printed (outcome c.args.words.now there.0 c.args.script.items) _ _ _ _ p c.bytes.result.now c.bytes-2.result.now c.new-out.ensures.told c.new-err.ensures.told c.bytes.ensures c.bytes-2.ensures out err (c.run-status.ensures.headline there.0 c.args.script.items there.1 c.new-script.ensures.left))
+    (printed (outcome c.args.words.now there.0 c.args.script.items) _ _ _ _ _ p c.bytes.result.now c.bytes-2.result.now c.new-out.ensures.told c.new-err.ensures.told c.bytes.ensures c.bytes-2.ensures out err (c.run-status.ensures.headline there.0 c.args.script.items there.1 c.new-script.ensures.left))
 
 pub run-status-requires : goal.run-status-requires
 run-status-requires c = λ n. c.in_ok-put.ensures.out n ∙ none_out (bytes_eq n c.args.name.now) _ (ap (λ (s : ShelfState). s.out n) c.new-shelf.ensures.state)
