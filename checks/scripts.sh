@@ -1,0 +1,224 @@
+#!/usr/bin/env bash
+# Scripts of the built program that make and change WAVE files, on the real system: the whole streams, the status, and every
+# byte of the files afterwards. What is wanted comes from the layout of a WAVE file as the format's document gives it, and from
+# a list of frames that is edited beside the program. Needs Python 3. What a full disk leaves is skipped where no file system
+# can be mounted; what a folder without permission does is skipped for a user who may write everywhere.
+set -u
+source "$(dirname "$(readlink -f "${BASH_SOURCE[0]}")")/built_program.bash"
+PYTHONDONTWRITEBYTECODE=1 PYTHONPATH=$top/checks python3 - "$program" <<'PY'
+import os
+import random
+import struct
+import subprocess
+import sys
+import tempfile
+
+from common import Cases, first_difference
+
+program = sys.argv[1]
+cases = Cases("scripts")
+BITS = {"pcm_u8": 8, "pcm_16_le": 16, "pcm_24_le": 24, "pcm_32_le": 32}
+skipped = 0
+
+
+def coded(bits, numbers):
+    if bits == 8:
+        return bytes(x + 128 for x in numbers)
+    return b"".join((x % (1 << bits)).to_bytes(bits // 8, "little") for x in numbers)
+
+
+def head(codec, channels, rate, size):
+    """The head of a WAVE file of so many data bytes, without further chunks."""
+    bits = BITS[codec]
+    align = channels * bits // 8
+    return struct.pack("<4sI4s4sIHHIIHH4sI", b"RIFF", 36 + size + size % 2, b"WAVE", b"fmt ", 16, 1, channels, rate, min(rate * align, 2**32 - 1), align, bits, b"data", size)
+
+
+def made(codec, channels, rate, frames):
+    data = coded(BITS[codec], [x for frame in frames for x in frame])
+    return head(codec, channels, rate, len(data)) + data + b"\0" * (len(data) % 2)
+
+
+def files():
+    found = {}
+    for name in sorted(os.listdir(".")):
+        if os.path.isfile(name):
+            with open(name, "rb") as file:
+                found[name] = file.read()
+    return found
+
+
+def run(name, lines, replies, status, after, before=None, **options):
+    """One run over these files in a new folder; the faults of its streams, its status and the files."""
+    with tempfile.TemporaryDirectory() as folder:
+        at = os.getcwd()
+        os.chdir(folder)
+        for file, data in (before or {}).items():
+            with open(file, "wb") as out:
+                out.write(data)
+        script = "".join(f"{line}\n" for line in lines).encode()
+        done = subprocess.run([program, "script"], input=script, capture_output=True, timeout=60, **options)
+        wrong = first_difference("standard output", done.stdout, "".join(f"{line}\n" for line in replies).encode())
+        wrong += first_difference("standard error", done.stderr, b"")
+        if done.returncode != status:
+            wrong.append(f"status {done.returncode} for {status}")
+        left = files()
+        for file in sorted(set(left) | set(after)):
+            if file not in left or file not in after:
+                wrong.append(f"{file} is {'missing' if file in after else 'there'}")
+            else:
+                wrong += first_difference(file, left[file], after[file])
+        os.chdir(at)
+    cases.case(name, wrong)
+
+
+def line_of(codec, channels, rate, frames):
+    return f"ok {frames} {channels} {rate} wave {codec}"
+
+
+# every linear codec, with the ends of its range and one channel or more; what is made is read again
+for codec, bits in BITS.items():
+    for channels in (1, 2, 5):
+        low, high = -(1 << (bits - 1)), (1 << (bits - 1)) - 1
+        numbers = [low, high, 0, 1, -1, 7, -7][:7]
+        frames = [[numbers[(i + c) % 7] for c in range(channels)] for i in range(3)]
+        flat = " ".join(str(x) for frame in frames for x in frame)
+        shown = [" ".join(map(str, frame)) for frame in frames]
+        run(f"{codec} of {channels} channels", [f"create wave {codec} {channels} 8000 o.wav", f"write {flat}", "info", "close", "open r o.wav", "read 9"],
+            [line_of(codec, channels, 8000, 0), "ok 3", line_of(codec, channels, 8000, 3), "ok 3", line_of(codec, channels, 8000, 3), "ok 3", *shown], 0,
+            {"o.wav": made(codec, channels, 8000, frames)})
+        run(f"{codec} of {channels} channels, out of range", [f"create wave {codec} {channels} 8000 o.wav", f"write {' '.join(['0'] * channels)}"]
+            + ([f"write {' '.join([str(high + 1)] + ['0'] * (channels - 1))}", f"write {' '.join(['0'] * (channels - 1) + [str(low - 1)])}"] if bits < 32 else ["write 2147483648"] * 2)
+            + [f"write {' '.join(['0'] * (channels + 1))}" if channels > 1 else "write", "info", "close"],
+            [line_of(codec, channels, 8000, 0), "ok 1"] + (["error 23 SampleRange"] * 2 if bits < 32 else ["error 40 BadCommand"] * 2)
+            + ["error 22 PartFrame" if channels > 1 else "error 40 BadCommand", line_of(codec, channels, 8000, 1), "ok 1"], 1,
+            {"o.wav": made(codec, channels, 8000, [[0] * channels])})
+
+two = [[1, -1], [2, -2]]
+old = {"a.wav": made("pcm_16_le", 2, 44100, two), "other": b"stays"}
+opened = line_of("pcm_16_le", 2, 44100, 2)
+run("refusals, and nothing changes", ["write 1", "update", "close", "open u none.wav", "create wave pcm_16_be 1 1 n.wav", "create wave pcm_16_le 0 1 n.wav", "create wave pcm_16_le 257 1 n.wav",
+    "create wave pcm_16_le 1 0 n.wav", "create au pcm_16_be 1 1 n.wav", "create wave ulaw 1 1 n.wav", "open r a.wav", "open u a.wav", "create wave pcm_u8 1 1 n.wav", "create au pcm_u8 1 1 n.wav",
+    "write 1 1", "truncate 1", "trim", "update", "auto on", "auto off", "seek w 0", "seek rw 2", "seek r 3", "set cue 1", "close"],
+    ["error 42 NotOpen"] * 3 + ["error 56 MissingFile", "error 18 BadPair", "error 11 BadChannels", "error 11 BadChannels", "error 12 BadRate", "error 99 NotBuilt", "error 99 NotBuilt", opened]
+    + ["error 43 AlreadyOpen"] * 2 + ["error 99 NotBuilt"] + ["error 44 WrongMode"] * 7 + ["ok 2", "error 24 SeekRange", "error 99 NotBuilt", "ok 2"], 1, old, old)
+run("a file that is made is not read", ["create wave pcm_u8 1 8000 n.wav", "write 1", "read 1", "seek r 0", "seek rw 0", "write 2", "truncate 9", "truncate 1"],
+    [line_of("pcm_u8", 1, 8000, 0), "ok 1", "error 44 WrongMode", "error 44 WrongMode", "ok 0", "ok 1", "error 24 SeekRange", "ok 1"], 1, {"n.wav": made("pcm_u8", 1, 8000, [[2]])})
+run("made over a file that is there", ["create wave pcm_16_le 2 44100 a.wav"], [line_of("pcm_16_le", 2, 44100, 0)], 0, {**old, "a.wav": made("pcm_16_le", 2, 44100, [])}, old)
+run("a script that ends with a file open", ["open u a.wav", "seek w 2", "write 3 -3"], [opened, "ok 2", "ok 1"], 0, {**old, "a.wav": made("pcm_16_le", 2, 44100, two + [[3, -3]])}, old)
+
+# a chunk behind the data: frames are written over, and the end does not move
+tail = {"t.wav": made("pcm_16_le", 1, 8000, [[1], [2]])[:4] + struct.pack("<I", 36 + 4 + 12) + made("pcm_16_le", 1, 8000, [[1], [2]])[8:] + b"note\4\0\0\0text"}
+run("a file that goes on behind its data", ["open u t.wav", "write 5", "seek w 1", "write 6 7", "truncate 1", "trim", "truncate 2", "auto on", "write 8"],
+    [line_of("pcm_16_le", 1, 8000, 2), "ok 1", "ok 1", "error 25 TrailingData", "error 25 TrailingData", "error 25 TrailingData", "ok 2", "ok 2", "ok 1"], 1,
+    {"t.wav": tail["t.wav"].replace(struct.pack("<hh", 1, 2), struct.pack("<hh", 5, 8))}, tail)
+# a wrong size of the whole, and a byte behind the data
+loose = {"l.wav": made("pcm_u8", 1, 8000, [[1], [2], [3]])[:4] + b"\0\0\0\0" + made("pcm_u8", 1, 8000, [[1], [2], [3]])[8:] + b"x"}
+run("a file is healed as it is closed", ["open u l.wav"], [line_of("pcm_u8", 1, 8000, 3)], 0, {"l.wav": made("pcm_u8", 1, 8000, [[1], [2], [3]]) + b"x"}, loose)
+run("what stands behind the sound is cut off", ["open u l.wav", "trim"], [line_of("pcm_u8", 1, 8000, 3), "ok 3"], 0, {"l.wav": made("pcm_u8", 1, 8000, [[1], [2], [3]])}, loose)
+
+
+def edited(seed, codec, channels):
+    """A session of random edits, beside a list of frames. Wants the replies and the file."""
+    dice = random.Random(seed)
+    bits = BITS[codec]
+    frames, read_at, write_at = [], 0, 0
+    lines, replies = [f"create wave {codec} {channels} 48000 o.wav", "close", "open u o.wav"], [line_of(codec, channels, 48000, 0), "ok 0", line_of(codec, channels, 48000, 0)]
+    for _ in range(120):
+        command = dice.choice(["write"] * 4 + ["seek r", "seek w", "seek rw", "read", "read", "truncate", "trim", "update", "auto on", "auto off", "info"])
+        line, reply = command, None
+        if command == "write":
+            count = dice.randint(1, 40)
+            new = [[dice.randint(-(1 << (bits - 1)), (1 << (bits - 1)) - 1) for _ in range(channels)] for _ in range(count)]
+            line += " " + " ".join(str(x) for frame in new for x in frame)
+            frames[write_at:write_at + count] = new
+            write_at += count
+            reply = [f"ok {count}"]
+        elif command.startswith("seek"):
+            to = dice.randint(0, len(frames))
+            line += f" {to}"
+            read_at, write_at = to if "r" in command[5:] else read_at, to if "w" in command[5:] else write_at
+            reply = [f"ok {to}"]
+        elif command == "read":
+            count = dice.randint(0, 30)
+            line += f" {count}"
+            got = frames[read_at:read_at + count]
+            read_at += len(got)
+            reply = [f"ok {len(got)}"] + [" ".join(map(str, frame)) for frame in got]
+        elif command == "truncate":
+            to = dice.randint(len(frames) // 2, len(frames))
+            line += f" {to}"
+            del frames[to:]
+            read_at, write_at = min(read_at, to), min(write_at, to)
+            reply = [f"ok {to}"]
+        elif command == "info":
+            reply = [line_of(codec, channels, 48000, len(frames))]
+        lines.append(line)
+        replies += reply or [f"ok {len(frames)}"]
+    run(f"random edits {seed}", lines, replies, 0, {"o.wav": made(codec, channels, 48000, frames)})
+
+
+for seed in range(12):
+    edited(seed, list(BITS)[seed % 4], 1 + seed % 3)
+
+
+# ---- names and devices that fail
+
+def failing(name, prepare, lines, replies, after=None, stdout=None):
+    """A run whose status is 3, in a folder that was prepared."""
+    with tempfile.TemporaryDirectory() as folder:
+        at = os.getcwd()
+        os.chdir(folder)
+        with open("a.wav", "wb") as out:
+            out.write(old["a.wav"])
+        prepare()
+        done = subprocess.run([program, "script"], input="".join(f"{line}\n" for line in lines).encode(), stdout=stdout or subprocess.PIPE, stderr=subprocess.PIPE, timeout=60)
+        wrong = [] if stdout else first_difference("standard output", done.stdout, "".join(f"{line}\n" for line in replies).encode())
+        wrong += first_difference("standard error", done.stderr, b"")
+        if done.returncode != 3:
+            wrong.append(f"status {done.returncode} for 3")
+        with open("a.wav", "rb") as file:
+            wrong += first_difference("a.wav", file.read(), after or old["a.wav"])
+        os.chdir(at)
+    cases.case(name, wrong)
+
+
+failing("a folder is not made a file", lambda: os.mkdir("f"), ["create wave pcm_u8 1 1 f"], [])
+failing("a folder is not opened", lambda: os.mkdir("f"), ["open u f"], [])
+failing("a pipe is not made a file", lambda: os.mkfifo("p"), ["create wave pcm_u8 1 1 p"], [])
+failing("a name in a folder that is not there", lambda: None, ["create wave pcm_u8 1 1 no/n.wav"], [])
+failing("a file that was replaced is not written", lambda: None, ["open r a.wav", "close", "open u /dev/null"], [opened, "ok 2"])
+with open("/dev/full", "wb") as full:
+    failing("a reply that does not get out leaves its command carried out", lambda: None, ["open u a.wav"], [], old["a.wav"], full)
+if os.geteuid() == 0:
+    print("scripts: skipped: a file and a folder without permission, since this user may write everywhere")
+    skipped += 2
+else:
+    failing("a file that may not be written", lambda: os.chmod("a.wav", 0o444), ["open u a.wav", "write 5 5"], [opened])
+    failing("a folder that may not be written", lambda: (os.mkdir("f"), os.chmod("f", 0o555)), ["create wave pcm_u8 1 1 f/n.wav"], [])
+
+# a disk that is full: what was acknowledged while updates were automatic is in the file
+folder = tempfile.mkdtemp()
+if subprocess.run(["mount", "-t", "tmpfs", "-o", "size=1m", "tmpfs", folder], capture_output=True).returncode == 0:
+    try:
+        row = "write " + " ".join(str(i % 100) for i in range(1000))
+        script = "".join(f"{line}\n" for line in ["create wave pcm_16_le 1 8000 " + folder + "/o.wav", "auto on"] + [row] * 2000).encode()
+        done = subprocess.run([program, "script"], input=script, capture_output=True, timeout=60)
+        acknowledged = 1000 * (done.stdout.count(b"ok 1000\n"))
+        again = subprocess.run([program, "info", folder + "/o.wav"], capture_output=True, timeout=60)
+        frames = int(next((line.split()[1] for line in again.stdout.decode().splitlines() if line.startswith("frames")), -1))
+        wrong = [] if done.returncode == 3 else [f"status {done.returncode} for 3"]
+        if acknowledged < 400000 or frames not in (acknowledged, acknowledged + 1000):
+            wrong.append(f"{acknowledged} frames were acknowledged, and the file says {frames}")
+        with open(folder + "/o.wav", "rb") as file:
+            data = file.read()[44:44 + 2 * acknowledged]
+        wrong += first_difference("the frames", data, struct.pack("<1000h", *(i % 100 for i in range(1000))) * (acknowledged // 1000))
+        cases.case("a full disk", wrong)
+    finally:
+        subprocess.run(["umount", folder])
+else:
+    print("scripts: skipped: a full disk, since no file system can be mounted")
+    skipped += 1
+os.rmdir(folder)
+cases.end(24 + 4 + 3 + 12 + 6 + 3 - skipped)
+PY
