@@ -18,6 +18,8 @@ pub mod ShelfCounts
 pub mod ShelfLeft
 pub mod ShelfSteps
 pub mod Stepping
+pub mod Tails
+pub mod Uses
 pub mod Ways
 pub mod WholeScript
 pub mod Wholes

@@ -1,26 +1,23 @@
 -- What is known of a run once a file was opened, or was not, and once it was closed.
-use Rattle.std.proofs.Common.{◌≡◌, ◌⊎◌, inl, inr, ℕ, List, [], ◌++◌, Bool, true, false, Option, None, Some, Result, Ok, Err, refl, sym, ◌∙◌, ap, subst, cond}
-use Rattle.std.specs.Prelude.{is_none, unwrap_or}
+use Rattle.std.proofs.Common.{◌≡◌, inl, inr, ℕ, List, [], ◌++◌, Bool, true, false, Option, Some, Result, Ok, Err, refl, sym, ◌∙◌, ap, subst, cond}
+use Rattle.std.specs.Prelude.{unwrap_or}
 use Rattle.std.specs.Str.{bytes_eq}
 use Rattle.std.specs.Borrow.{MutBor}
-use Rattle.snd_disk.proofs.Chains.{goes_on_then, only_reads_then}
 use Rattle.snd_disk.proofs.Names.{same_bytes}
 use Rattle.snd_disk.specs.Device.{Tells}
 use Rattle.snd_disk.specs.Shelf.{Files}
 use Rattle.snd_disk.specs.State.{Rises, State}
 use Rattle.snd_disk.specs.declared.disk.Disk.{Ghosts}
-use Rattle.snd_disk.specs.declared.disk.Step.{Step}
 use Rattle.snd_layout.specs.Shape.{Shape}
 use Rattle.snd_modes.specs.Editing.{Editing}
 use Rattle.snd_script.specs.Desk.{Desk, OpenFile, closed_as, closed_bytes, closed_desk, files_closed, open_desk, writes}
 use Rattle.snd_script.specs.Edit.{Edited, close_edit, opened_edit}
-use Rattle.snd_script.specs.Handled.{FinishesAs, HandleStands, LeavesDisk, LeavesHandle, handle_disk, handle_known, mode_of}
+use Rattle.snd_script.specs.Handled.{FinishesAs, HandleStands, handle_disk, handle_known, mode_of}
 use Rattle.snd_script.specs.Lines.{Reading}
 use Rattle.snd_script.specs.Replies.{Answer, file_line, ok_line, says}
 use Rattle.snd_script.specs.Script.{ending}
 use Rattle.snd_script.specs.Served.{FaultCounts, SameCounts, lost_at, none_lost}
-use Rattle.snd_script.specs.Serving.{CountsAt, DiskStands, IsAnswered, IsCounted, IsServedOn, IsServedOpen, IsStopped, Moment, OpenStands, Serves, ServesPart, StopsLine, WholeAt, is_longer, moment, steps_from, steps_left}
-use Rattle.snd_script.specs.Stepped.{Rose}
+use Rattle.snd_script.specs.Serving.{CountsAt, DiskStands, IsAnswered, IsCounted, IsServedOn, IsServedOpen, IsStopped, Moment, OpenStands, Serves, ServesPart, StopsLine, is_longer, moment, steps_from, steps_left}
 use Rattle.snd_script.specs.declared.handle.Handle.{Handle}
 use Rattle.snd_script.specs.declared.handle.Handle.TheVariants.{R, W, U}
 use Rattle.snd_script.specs.declared.stop.Stop.{Stop}
@@ -160,16 +157,6 @@ closed_then (Err stop) files longer all d m reading left refused t t' s file n s
     (line_stops stop longer (close_edit files file) (steps_left (close_edit files file).desk (moment reading left refused t) s) (open_desk files file) (moment reading left refused t) (moment reading left refused t') stands
     (answer_stops stop (close_edit files file) (says (ok_line n)) (open_desk files file) false false t t' stands (ap (λ k. says (ok_line k)) count) said stand))
 
--- ---- how the disk was left
-
-pub leaves_disk_then : {D : Type 0} {ghosts : Ghosts D} (state : D → State) (may_leave : D → List ℕ → Type 0) (left_between : D → ℕ → ℕ → List ℕ → Type 0) (a b : Handle D ghosts) (disk : D)
-    → LeavesHandle state may_leave left_between a b → LeavesDisk state may_leave left_between b disk → LeavesDisk state may_leave left_between a disk
-leaves_disk_then state may_leave left_between a b disk first second = record {
-  tells = record { told = second.tells.told ∙ first.tells.told; name = second.tells.name ∙ first.tells.name };
-  time = goes_on_then _ _ _ (left_between (handle_disk a)) (left_between (handle_disk b)) (left_between disk) first.time second.time;
-  reads = λ plain. only_reads_then (state (handle_disk a)) (state (handle_disk b)) (state disk) (may_leave (handle_disk a)) (may_leave (handle_disk b)) (may_leave disk) (left_between (handle_disk a)) (left_between (handle_disk b)) (left_between disk) (first.reads plain) (second.reads (ap writes first.mode ∙ plain));
-}
-
 -- ---- counts
 
 pub same_counts_then : (a b c : FaultCounts) → SameCounts a b → SameCounts b c → SameCounts a c
@@ -186,28 +173,3 @@ counts_at_then Memory a b c same counts = same_counts_then a b c same counts
 pub counted_then : {T : Type 0} (r : Result T Stop) (a b c : FaultCounts) → SameCounts a b → IsCounted r b c → IsCounted r a c
 counted_then (Ok x) a b c same counts = same_counts_then a b c same counts
 counted_then (Err stop) a b c same counts = counts_at_then stop a b c same counts
-
--- .. of a disk that came back
-pub counted_back : (stop : Stop) (a : FaultCounts) (n n' script out : ℕ) → n' ≡ n → CountsAt stop a (record { shelf = n; script = script; out = out }) → CountsAt stop a (record { shelf = n'; script = script; out = out })
-counted_back stop a n n' script out is counts = subst (λ (k : ℕ). CountsAt stop a (record { shelf = k; script = script; out = out })) (sym is) counts
-
-not_whole : (broken : Option Step) (step : Step) → broken ≡ None → broken ≡ Some step → ⊥
-not_whole broken step whole is = cc
-
-not_broken : (broken : Option Step) → broken ≡ None → is_none broken ≡ false → ⊥
-not_broken broken whole is = let no : true ≡ false = sym (ap is_none whole) ∙ is in cc
-
-pub failed_count : (broken : Option Step) (step : Step) (a n n' : ℕ) {same wrote : Type 0} → a ≡ n → broken ≡ None → ((broken ≡ Some step) × same) ⊎ ((broken ≡ None) × wrote × Rose n n') → Rises a n'
-failed_count broken step a n n' is whole (inl was) = absurd (not_whole broken step whole was.0)
-failed_count broken step a n n' is whole (inr now) = subst (λ (k : ℕ). Rises k n') (sym is) now.2.rises
-
-pub failed_counts : (stop : Stop) (broken : Option Step) (step : Step) (a n n' script script' out out' : ℕ) (wrote : Type 0) → WholeAt stop broken
-    → ((broken ≡ Some step) × (n' ≡ n)) ⊎ ((broken ≡ None) × wrote × Rose n n')
-    → CountsAt stop (record { shelf = a; script = script; out = out }) (record { shelf = n; script = script'; out = out' }) → Rises a n'
-failed_counts File broken step a n n' script script' out out' wrote whole (inl was) counts = subst (λ (k : ℕ). Rises a k) (sym was.1) counts
-failed_counts File broken step a n n' script script' out out' wrote whole (inr now) counts = absurd (not_broken broken now.0 whole)
-failed_counts Ended broken step a n n' script script' out out' wrote whole cause counts = failed_count broken step a n n' (sym counts.shelf) whole cause
-failed_counts TooLong broken step a n n' script script' out out' wrote whole cause counts = failed_count broken step a n n' (sym counts.shelf) whole cause
-failed_counts Memory broken step a n n' script script' out out' wrote whole cause counts = failed_count broken step a n n' (sym counts.shelf) whole cause
-failed_counts Script broken step a n n' script script' out out' wrote whole cause counts = failed_count broken step a n n' (sym counts.0) whole cause
-failed_counts Sink broken step a n n' script script' out out' wrote whole cause counts = failed_count broken step a n n' (sym counts.0) whole cause

@@ -1,5 +1,5 @@
 -- What is seen of an open file in whichever mode.
-use Rattle.std.specs.Prelude.{◌≡◌, ◌⊎◌, ℕ, List, Bool, true, false, Option, None, Some, Result, Ok, Err}
+use Rattle.std.specs.Prelude.{◌≡◌, ◌⊎◌, ◌≤◌, ℕ, List, Bool, true, false, Option, None, Some, Result, Ok, Err}
 use Rattle.std.specs.Borrow.{GName, MutBor}
 use Rattle.snd_command.specs.Said.{Said}
 use Rattle.snd_disk.specs.Device.{AsksAtMost, GoesOnFrom, IsStable, OnlyReadsOn, Tells, WritesAtMost}
@@ -8,6 +8,7 @@ use Rattle.snd_disk.specs.declared.disk.Step.{Step}
 use Rattle.snd_disk.specs.State.{State}
 use Rattle.snd_modes.specs.Editing.{Editing}
 use Rattle.snd_modes.specs.Handle.{Known, Stands, disk_of, known_of, loan_of}
+use Rattle.snd_modes.specs.Loans.{disk_back}
 use Rattle.snd_patch.specs.Steps.{StillTells}
 use Rattle.snd_script.specs.Desk.{Mode, closed_as, reading, updating, writes, writing}
 use Rattle.snd_script.specs.Edit.{edit_file}

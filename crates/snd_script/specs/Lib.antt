@@ -1,6 +1,7 @@
 pub mod Desk
 pub mod Edit
 pub mod Handled
+pub mod Kept
 pub mod Lines
 pub mod Opened
 pub mod Replies
@@ -9,4 +10,5 @@ pub mod Script
 pub mod Served
 pub mod Serving
 pub mod Stepped
+pub mod Used
 pub mod Work

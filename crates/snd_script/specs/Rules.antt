@@ -1,5 +1,5 @@
 -- What each command does on an open file: why it is refused, and what it does where it is not.
-use Rattle.std.specs.Prelude.{ℕ, ℤ, ◌+◌, ◌-◌, ◌*◌, ◌/◌, ◌%◌, Bool, true, false, not, ◌&&◌, List, Option, None, Some, is_some, length, min, int_le, nat_lt, if◌then◌else◌}
+use Rattle.std.specs.Prelude.{ℕ, ℤ, ◌+◌, ◌-◌, ◌*◌, ◌/◌, ◌%◌, Bool, true, false, not, ◌&&◌, List, Option, None, Some, is_some, length, min, int_le, nat_le, nat_lt, if◌then◌else◌}
 use Rattle.std.specs.List.{list_all}
 use Rattle.snd_command.specs.Said.{Said}
 use Rattle.snd_command.specs.declared.tables.CodecWord.{CodecWord}
@@ -18,7 +18,7 @@ use Rattle.snd_modes.specs.WriteCalls.{end_written, is_whole_field, known_cut, k
 use Rattle.snd_pcm.specs.Pcm.{high, low}
 use Rattle.snd_pcm.specs.declared.linear.Linear.{Linear}
 use Rattle.snd_script.specs.Desk.{Mode, reading, reads, updating, writes, writing}
-use Rattle.snd_script.specs.Replies.{Answer, nothing, says, file_line, ok_line, frames_text}
+use Rattle.snd_script.specs.Replies.{Answer, nothing, says, refuses, file_line, ok_line, frames_text}
 use Rattle.snd_script.specs.declared.refusal.Refusal.{Refusal}
 use Rattle.snd_script.specs.declared.refusal.Refusal.TheVariants.{PartFrame, SampleRange, SeekRange, TrailingData, ContainerFull, Straddle, AlreadyOpen, WrongMode, NotBuilt}
 

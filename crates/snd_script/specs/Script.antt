@@ -1,5 +1,5 @@
 -- A whole script: its lines, what each is answered, and the state that it leaves.
-use Rattle.std.specs.Prelude.{ℕ, ◌+◌, ◌-◌, ◌*◌, ◌==◌, List, [], ◌∷◌, ◌++◌, Bool, false, ◌||◌, Option, None, Some, Result, Ok, length, sum_by, take, nat_le, nat_lt, if◌then◌else◌}
+use Rattle.std.specs.Prelude.{ℕ, ◌+◌, ◌-◌, ◌*◌, ◌==◌, List, [], ◌∷◌, ◌++◌, Bool, true, false, ◌||◌, Option, None, Some, Result, Ok, length, take, nat_le, nat_lt, if◌then◌else◌}
 use Rattle.std.specs.List.{slice_split}
 use Rattle.std.specs.Str.{bytes_eq}
 use Rattle.snd_command.specs.Line.{command_of}
@@ -95,7 +95,8 @@ by_command most (Ok (Some said)) = most said
 by_command most other = 0
 
 abbrev pub by_lines : (Said → ℕ) → List (List ℕ) → ℕ
-by_lines most lines = sum_by (λ line. by_command most (command_of line)) lines
+by_lines most [] = 0
+by_lines most (line ∷ lines) = by_command most (command_of line) + by_lines most lines
 
 -- ---- which files they write
 

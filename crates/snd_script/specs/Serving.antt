@@ -1,5 +1,5 @@
 -- How a run goes on from one moment to a later one.
-use Rattle.std.specs.Prelude.{◌≡◌, ◌⊎◌, ℕ, List, [], ◌∷◌, ◌++◌, Bool, true, false, ◌||◌, Option, None, Some, Result, Ok, Err, is_none}
+use Rattle.std.specs.Prelude.{◌≡◌, ◌⊎◌, ℕ, ◌+◌, ◌≤◌, List, [], ◌∷◌, ◌++◌, Bool, true, false, ◌||◌, Option, None, Some, Result, Ok, Err, is_none, unwrap_or}
 use Rattle.std.specs.Str.{bytes_eq}
 use Rattle.snd_command.specs.Line.{command_of}
 use Rattle.snd_command.specs.Said.{Said}
@@ -13,13 +13,13 @@ use Rattle.snd_layout.specs.declared.error.OpenError.{OpenError}
 use Rattle.snd_layout.specs.declared.error.OpenError.TheVariants as cause
 use Rattle.snd_layout.specs.Shape.{Shape}
 use Rattle.snd_modes.specs.Editing.{Editing}
-use Rattle.snd_script.specs.Desk.{Desk, OpenFile, closed_desk, files_closed, open_desk}
+use Rattle.snd_script.specs.Desk.{Desk, OpenFile, closed_bytes, closed_desk, files_closed, open_desk}
 use Rattle.snd_script.specs.Edit.{Edited, close_edit, edit_file, edit_line, keep_open, open_refusal, opened_edit}
-use Rattle.snd_script.specs.Handled.{HandleStands, handle_disk, mode_of}
+use Rattle.snd_script.specs.Handled.{HandleStands, handle_disk, handle_known, mode_of}
 use Rattle.snd_script.specs.Lines.{CutsOff, Reading, TakesUp}
 use Rattle.snd_script.specs.Replies.{Answer, file_line, ok_line, refuses, says, text_of, is_refusal}
-use Rattle.snd_script.specs.Script.{any_refused, ending, is_too_long, last_desk, lines_within, steps, texts}
-use Rattle.snd_script.specs.Served.{Appends, AppendsPart, FaultCounts, HasFiles, HasFilesBut, IsCutOff, SameCounts, faults_of, first_text, lost_at, made_next, none_lost}
+use Rattle.snd_script.specs.Script.{any_refused, any_writes, asked_by, by_lines, ending, is_too_long, last_desk, lines_within, steps, texts, written_by}
+use Rattle.snd_script.specs.Served.{AnyCountRises, Appends, AppendsPart, FaultCounts, HasFiles, HasFilesBut, IsCutOff, SameCounts, faults_of, first_text, lost_at, made_next, none_lost}
 use Rattle.snd_script.specs.declared.handle.Handle.{Handle}
 use Rattle.snd_script.specs.declared.run.Run.{Run}
 use Rattle.snd_script.specs.declared.stop.Next.{Next}

@@ -1,6 +1,7 @@
 -- What is done for a command, and how that leaves a file.
-use Rattle.std.specs.Prelude.{◌≡◌, ◌⊎◌, ℕ, ℤ, List, Bool, true, false, Option, None, Some, Result, Ok, Err, IfErr, IfOk, IsErrOf, MatchResult, is_none}
+use Rattle.std.specs.Prelude.{◌≡◌, ◌⊎◌, ◌≤◌, ◌*◌, ℕ, ℤ, List, Bool, true, false, Option, None, Some, Result, Ok, Err, IfErr, IfOk, IsErrOf, MatchResult, is_none, length}
 use Rattle.std.specs.Borrow.{MutBor}
+use Rattle.std.specs.Str.{bytes_eq}
 use Rattle.snd_command.specs.Said.{Said}
 use Rattle.snd_command.specs.declared.tables.CodecWord.{CodecWord}
 use Rattle.snd_container.specs.Sound.{linear_of}
@@ -24,6 +25,8 @@ use Rattle.snd_script.specs.Desk.{Mode, closed_desk, reads, writes}
 use Rattle.snd_script.specs.Edit.{Edited, Opening, edit_by, edit_closed, make_edit, open_edit, refused}
 use Rattle.snd_script.specs.Rules.{Rule, auto_rule, in_mode, read_rule, refused_rule, rule_of, seek_read_rule, seek_rule, seek_write_rule, tell_rule, trim_rule, truncate_rule, update_rule, write_rule}
 use Rattle.snd_script.specs.Handled.{back_of}
+use Rattle.snd_script.specs.Kept.{work_writes}
+use Rattle.snd_script.specs.Used.{work_asks, work_makes}
 use Rattle.snd_script.specs.Stepped.{IsSaid, IsSilent, IsStepCause, Knows, LeavesFile, Rose, changes_by}
 use Rattle.snd_script.specs.declared.handle.Reply.{Reply}
 use Rattle.snd_script.specs.declared.handle.StepFault.{StepFault}
@@ -84,6 +87,9 @@ pub record MakesFor (work : Work) (kind : Kind) (word : CodecWord) (channels rat
   pub named : (n : List ℕ) → work_name work ≡ Some n → n ≡ name
   pub stays : work_closes work ≡ false
   pub built : IsBuiltWork work
+  pub asked : work_asks work ≡ 0
+  pub made : work_makes work ≤ 2048
+  pub writes : (n : List ℕ) → bytes_eq n name ≡ false → work_writes n work ≡ false
 
 -- these numbers are written
 abbrev pub WritesFor : Work → List ℤ → Type 0

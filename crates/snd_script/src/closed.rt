@@ -2,13 +2,17 @@
 
 ghost use Rattle.std.specs.Prelude.{◌≡◌, ◌≤◌, List, ℕ, Some, false, true, is_none, OnOk};
 ghost use Rattle.snd_command.specs.Forms.{is_name};
+ghost use Rattle.snd_command.specs.Line.{command_of};
 ghost use Rattle.snd_command.specs.Said.{said_of};
 ghost use Rattle.snd_container.specs.Sound.{linear_of};
 ghost use Rattle.snd_layout.specs.Params.{params_of};
 ghost use Rattle.snd_layout.specs.declared.kind.Kind.TheVariants.{Wave};
 ghost use Rattle.snd_script.specs.Desk.{closed_desk};
 ghost use Rattle.snd_script.specs.Edit.{edit_closed, edit_line};
-ghost use Rattle.snd_script.specs.Opened.{IsMakeable, is_making, MakesOf, opens_edit};
+ghost use Rattle.snd_script.specs.Kept.{KeepsUnless, LeavesLines, how_writes};
+ghost use Rattle.snd_script.specs.Opened.{IsMakeable, is_making, MakesOf, most_made, opens_edit};
+ghost use Rattle.snd_script.specs.Script.{asked_by, by_command, by_writing, writes_name, written_by};
+ghost use Rattle.snd_script.specs.Used.{UsesOn, most_asked};
 ghost use Rattle.snd_script.specs.Served.{LeavesShelf};
 ghost use Rattle.snd_script.specs.Serving.{CountsRun, ServesLine, TakesLines};
 ghost use Rattle.snd_script.specs.Work.{name_of};
@@ -61,6 +65,10 @@ fn serve_name<S: Shelf, R: Source, O: Sink>(
     ensures given { TakesLines R.given run.old script.old run.new script.new }
     ensures counted { CountsRun S.state R.faults O.faults result shelf.old script.old out.old shelf.new script.new out.new }
     ensures shelf { LeavesShelf S.state S.left_between shelf.old shelf.new }
+    ensures asked { UsesOn (λ s. (S.state s).asked) R.left result asked_by (most_asked how.now) shelf.old run.old script.old shelf.new run.new script.new }
+    ensures written { UsesOn (λ s. (S.state s).written) R.left result written_by (most_made how.now) shelf.old run.old script.old shelf.new run.new script.new }
+    ensures tail { LeavesLines R.left result run.old script.old run.new script.new }
+    ensures images { KeepsUnless S.state S.may_leave S.left_between (λ n. how_writes n how.now name.now) shelf.old shelf.new }
 {
     let text = name_text(name);
     let mut disk = match shelf.take(text, is_making(how)) {
@@ -101,6 +109,10 @@ fn closed_command<S: Shelf, R: Source, O: Sink>(
     ensures given { TakesLines R.given run.old script.old run.new script.new }
     ensures counted { CountsRun S.state R.faults O.faults result shelf.old script.old out.old shelf.new script.new out.new }
     ensures shelf { LeavesShelf S.state S.left_between shelf.old shelf.new }
+    ensures asked { UsesOn (λ s. (S.state s).asked) R.left result asked_by (asked_by (said_of command.now)) shelf.old run.old script.old shelf.new run.new script.new }
+    ensures written { UsesOn (λ s. (S.state s).written) R.left result written_by (written_by (said_of command.now)) shelf.old run.old script.old shelf.new run.new script.new }
+    ensures tail { LeavesLines R.left result run.old script.old run.new script.new }
+    ensures images { KeepsUnless S.state S.may_leave S.left_between (λ n. writes_name n (said_of command.now)) shelf.old shelf.new }
 {
     match work_of(command) {
         Work::Open(name) => serve_name(alloc, name, &OpenAs::Read, shelf, script, out, run),
@@ -145,6 +157,10 @@ pub fn closed_line<S: Shelf, R: Source, O: Sink>(
     ensures given { TakesLines R.given run.old script.old run.new script.new }
     ensures counted { CountsRun S.state R.faults O.faults result shelf.old script.old out.old shelf.new script.new out.new }
     ensures shelf { LeavesShelf S.state S.left_between shelf.old shelf.new }
+    ensures asked { UsesOn (λ s. (S.state s).asked) R.left result asked_by (by_command asked_by (command_of line.now)) shelf.old run.old script.old shelf.new run.new script.new }
+    ensures written { UsesOn (λ s. (S.state s).written) R.left result written_by (by_command written_by (command_of line.now)) shelf.old run.old script.old shelf.new run.new script.new }
+    ensures tail { LeavesLines R.left result run.old script.old run.new script.new }
+    ensures images { KeepsUnless S.state S.may_leave S.left_between (λ n. by_writing n (command_of line.now)) shelf.old shelf.new }
 {
     match parse_line(line) {
         Ok(None) => Ok(()),

@@ -1,10 +1,14 @@
 //! The lines of a script while a file is open.
 
 ghost use Rattle.std.specs.Prelude.{◌≡◌, ◌≤◌, List, ℕ, None, OnOk};
+ghost use Rattle.snd_command.specs.Line.{command_of};
 ghost use Rattle.snd_command.specs.Said.{said_of};
 ghost use Rattle.snd_script.specs.Edit.{edit_open};
 ghost use Rattle.snd_script.specs.Handled.{handle_known, LeavesHandle};
+ghost use Rattle.snd_script.specs.Kept.{LeavesLines};
+ghost use Rattle.snd_script.specs.Script.{asked_by, by_command, written_by};
 ghost use Rattle.snd_script.specs.Stepped.{is_close};
+ghost use Rattle.snd_script.specs.Used.{HandleUses, UsesOpen};
 ghost use Rattle.snd_script.specs.Serving.{AnswersOpen, CountsHandle, CountsLine, IsWhole, ServesOpen, TakesLines, edit_open_line};
 
 use crate::handle::Handle;
@@ -28,6 +32,8 @@ fn open_command<'d, D: Disk, O: Sink>(
     ensures whole { IsWhole result (handle_known handle.new).broken }
     ensures counted { CountsLine D.state O.faults result handle.old out.old handle.new out.new }
     ensures leaves { LeavesHandle D.state D.may_leave D.left_between handle.old handle.new }
+    ensures asked { HandleUses (λ d. (D.state d).asked) result asked_by (asked_by (said_of command.now)) handle.old handle.new }
+    ensures written { HandleUses (λ d. (D.state d).written) result written_by (written_by (said_of command.now)) handle.old handle.new }
 {
     if is_close(command) {
         return Ok(Next::Close);
@@ -49,6 +55,8 @@ fn open_line<'d, D: Disk, O: Sink>(
     ensures whole { IsWhole result (handle_known handle.new).broken }
     ensures counted { CountsLine D.state O.faults result handle.old out.old handle.new out.new }
     ensures leaves { LeavesHandle D.state D.may_leave D.left_between handle.old handle.new }
+    ensures asked { HandleUses (λ d. (D.state d).asked) result asked_by (by_command asked_by (command_of line.now)) handle.old handle.new }
+    ensures written { HandleUses (λ d. (D.state d).written) result written_by (by_command written_by (command_of line.now)) handle.old handle.new }
 {
     match parse_line(line) {
         Ok(None) => Ok(Next::Open),
@@ -75,6 +83,9 @@ pub fn serve_open<'d, D: Disk, R: Source, O: Sink>(
     ensures whole { IsWhole result (handle_known handle.new).broken }
     ensures counted { CountsHandle D.state R.faults O.faults result handle.old script.old out.old handle.new script.new out.new }
     ensures leaves { LeavesHandle D.state D.may_leave D.left_between handle.old handle.new }
+    ensures asked { UsesOpen (λ d. (D.state d).asked) R.left result asked_by handle.old run.old script.old handle.new run.new script.new }
+    ensures written { UsesOpen (λ d. (D.state d).written) R.left result written_by handle.old run.old script.old handle.new run.new script.new }
+    ensures tail { LeavesLines R.left result run.old script.old run.new script.new }
 {
     let mut line = LineBytes::new();
     loop {

@@ -6,7 +6,10 @@ ghost use Rattle.snd_modes.specs.Handle.{known_of};
 ghost use Rattle.snd_patch.specs.Steps.{StillTells};
 ghost use Rattle.snd_script.specs.Edit.{open_edit_of, opened_as};
 ghost use Rattle.snd_script.specs.Handled.{LeavesDisk, LeavesHandle, handle_known, handle_loan};
-ghost use Rattle.snd_script.specs.Opened.{IsMakeable, OnlyServes, is_making, opening_by};
+ghost use Rattle.snd_script.specs.Kept.{LeavesLines};
+ghost use Rattle.snd_script.specs.Opened.{IsMakeable, OnlyServes, is_making, most_made, opening_by};
+ghost use Rattle.snd_script.specs.Script.{asked_by, written_by};
+ghost use Rattle.snd_script.specs.Used.{UsesClosed, UsesOn, UsesOpen, most_asked};
 ghost use Rattle.snd_script.specs.Serving.{AnswersClose, AnswersError, AnswersFile, CountsClosed, CountsDisk, CountsHandle, IsSinkCounted, IsWhole, ServesDisk, ServesHandle, ServesToClose, TakesLines};
 
 use crate::handle::Handle;
@@ -58,6 +61,9 @@ fn serve_opened<'d, D: Disk, R: Source, O: Sink>(
     ensures whole { IsWhole result (handle_known handle.new).broken }
     ensures counted { CountsHandle D.state R.faults O.faults result handle.old script.old out.old handle.new script.new out.new }
     ensures leaves { LeavesHandle D.state D.may_leave D.left_between handle.old handle.new }
+    ensures asked { UsesOpen (λ d. (D.state d).asked) R.left result asked_by handle.old run.old script.old handle.new run.new script.new }
+    ensures written { UsesOpen (λ d. (D.state d).written) R.left result written_by handle.old run.old script.old handle.new run.new script.new }
+    ensures tail { LeavesLines R.left result run.old script.old run.new script.new }
 {
     match reply_opened(handle, out) {
         Ok(()) => serve_open(handle, script, out, run),
@@ -90,6 +96,9 @@ fn serve_handle<'d, D: Disk, R: Source, O: Sink>(
     ensures given { TakesLines R.given run.old script.old run.new script.new }
     ensures counted { CountsClosed D.state R.faults O.faults result.0 handle.entry script.old out.old result.1.now script.new out.new }
     ensures leaves { LeavesDisk D.state D.may_leave D.left_between handle.entry result.1.now }
+    ensures asked { UsesClosed (λ d. (D.state d).asked) R.left result.0 asked_by handle.entry run.old script.old result.1.now run.new script.new }
+    ensures written { UsesClosed (λ d. (D.state d).written) R.left result.0 written_by handle.entry run.old script.old result.1.now run.new script.new }
+    ensures tail { LeavesLines R.left result.0 run.old script.old run.new script.new }
 {
     let mut handle = handle;
     match serve_opened(&mut handle, script, out, run) {
@@ -136,6 +145,9 @@ pub fn serve_disk<D: Disk, R: Source, O: Sink>(
     ensures tells { StillTells (D.state disk.old) (D.state disk.new) }
     ensures time { GoesOnFrom D.state D.left_between disk.old disk.new }
     ensures reads { OnlyServes D.Disk how.now disk.old disk.new }
+    ensures asked { UsesOn (λ d. (D.state d).asked) R.left result asked_by (most_asked how.now) disk.old run.old script.old disk.new run.new script.new }
+    ensures written { UsesOn (λ d. (D.state d).written) R.left result written_by (most_made how.now) disk.old run.old script.old disk.new run.new script.new }
+    ensures tail { LeavesLines R.left result run.old script.old run.new script.new }
 {
     match open_disk(alloc, disk, how) {
         Ok(handle) => {

@@ -1,8 +1,11 @@
 //! A whole script.
 
 ghost use Rattle.std.specs.Prelude.{◌≡◌, ◌+◌, ◌<◌, ◌≤◌, List, ℕ, OnOk, false};
+ghost use Rattle.snd_script.specs.Kept.{KeepsByLines, LeavesLines};
 ghost use Rattle.snd_script.specs.Serving.{ServesLines, ServesAll, CountsRun, CountsStop, TakesLines};
-ghost use Rattle.snd_script.specs.Served.{LeavesShelf, ServesScript, RisesAtFault};
+ghost use Rattle.snd_script.specs.Served.{BoundsScript, KeepsUnnamed, LeavesShelf, ServesScript, RisesAtFault};
+ghost use Rattle.snd_script.specs.Script.{asked_by, written_by};
+ghost use Rattle.snd_script.specs.Used.{UsesAll, UsesOn};
 
 use crate::closed::closed_line;
 use crate::reader::{LineBytes, ScriptLines};
@@ -43,6 +46,10 @@ fn serve_line<S: Shelf, R: Source, O: Sink>(
     ensures given { TakesLines R.given run.old script.old run.new script.new }
     ensures counted { CountsRun S.state R.faults O.faults result shelf.old script.old out.old shelf.new script.new out.new }
     ensures shelf { LeavesShelf S.state S.left_between shelf.old shelf.new }
+    ensures asked { UsesOn (λ s. (S.state s).asked) R.left result asked_by 0 shelf.old run.old script.old shelf.new run.new script.new }
+    ensures written { UsesOn (λ s. (S.state s).written) R.left result written_by 0 shelf.old run.old script.old shelf.new run.new script.new }
+    ensures tail { LeavesLines R.left result run.old script.old run.new script.new }
+    ensures images { KeepsByLines S.state S.may_leave S.left_between R.left shelf.old run.old script.old shelf.new }
 {
     match run.next(script, line) {
         Ok(()) => closed_line(alloc, line.as_slice(), shelf, script, out, run),
@@ -63,6 +70,9 @@ fn serve_lines<S: Shelf, R: Source, O: Sink>(
     ensures given { TakesLines R.given run.old script.old run.new script.new }
     ensures counted { CountsStop S.state R.faults O.faults result shelf.old script.old out.old shelf.new script.new out.new }
     ensures shelf { LeavesShelf S.state S.left_between shelf.old shelf.new }
+    ensures asked { UsesAll (λ s. (S.state s).asked) R.left asked_by shelf.old run.old script.old shelf.new }
+    ensures written { UsesAll (λ s. (S.state s).written) R.left written_by shelf.old run.old script.old shelf.new }
+    ensures images { KeepsByLines S.state S.may_leave S.left_between R.left shelf.old run.old script.old shelf.new }
 {
     let mut line = LineBytes::new();
     loop {
@@ -90,6 +100,8 @@ pub fn serve<S: Shelf, R: Source, O: Sink>(
     ensures fault { RisesAtFault S.state R.faults O.faults result shelf.old script.old out.old shelf.new script.new out.new }
     ensures taken { R.given script.new ≤ R.given script.old + 16777217 }
     ensures leaves { LeavesShelf S.state S.left_between shelf.old shelf.new }
+    ensures bounds { BoundsScript S.state R.left shelf.old script.old shelf.new }
+    ensures images { KeepsUnnamed S.state S.may_leave S.left_between R.left shelf.old script.old shelf.new }
 {
     let Ok(session) = Session::new(alloc) else {
         return ScriptEnd::Memory;

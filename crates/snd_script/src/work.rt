@@ -1,12 +1,15 @@
 //! What is done for a command.
 
-ghost use Rattle.std.specs.Prelude.{◌≡◌, List, Some, false, ℕ};
+ghost use Rattle.std.specs.Prelude.{◌≡◌, ◌≤◌, List, Some, false, ℕ};
 ghost use Rattle.snd_command.specs.Said.{said_of};
 ghost use Rattle.snd_disk.specs.Shelf.{Files};
 ghost use Rattle.snd_script.specs.Desk.{Mode};
 ghost use Rattle.snd_script.specs.Edit.{edit_closed};
+ghost use Rattle.snd_script.specs.Kept.{work_writes};
 ghost use Rattle.snd_script.specs.Rules.{is_wave, linear_word, rule_of};
+ghost use Rattle.snd_script.specs.Script.{asked_by, writes_name, written_by};
 ghost use Rattle.snd_script.specs.Stepped.{is_close};
+ghost use Rattle.snd_script.specs.Used.{work_asks, work_makes};
 ghost use Rattle.snd_script.specs.Work.{IsBuiltWork, MakesFor, WritesFor, name_of, work_closed, work_closes, work_name, work_rule};
 
 use arrayvec::ArrayVec;
@@ -92,6 +95,9 @@ pub fn work_of<'c>(command: &'c Command<'_>) -> Work<'c>
     ensures named { (n : List ℕ) → work_name result ≡ Some n → name_of (said_of command.now) ≡ Some n }
     ensures closes { is_close (said_of command.now) ≡ work_closes result }
     ensures built { IsBuiltWork result }
+    ensures asked { work_asks result ≤ asked_by (said_of command.now) }
+    ensures writes { (n : List ℕ) → writes_name n (said_of command.now) ≡ false → work_writes n result ≡ false }
+    ensures made { work_makes result ≤ written_by (said_of command.now) }
 {
     if let Command::Write(samples) = command {
         return write_of(samples);

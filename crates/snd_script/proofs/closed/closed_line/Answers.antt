@@ -2,10 +2,12 @@ use Rattle.std.proofs.Common.{ap, sym, ◌∙◌}
 use Rattle.snd_script.specs.Desk.{closed_desk}
 use Rattle.snd_script.specs.Edit.{edit_line, line_edit}
 use Rattle.snd_script.specs.Replies.{refuses}
+use Rattle.snd_script.specs.Script.{asked_by, written_by}
 use Rattle.snd_script.specs.Serving.{ShelfStands}
 use Rattle.snd_script.proofs.OpenNames.{name_is_good}
 use Rattle.snd_script.proofs.ShelfLeft.{still_stands}
 use Rattle.snd_script.proofs.ShelfSteps.{nothing_said, replied_closed}
+use Rattle.snd_script.proofs.Uses.{uses_said}
 use Rattle.snd_script.proofs.closed.closed_line.Goals as goal
 
 pub closed_command-requires-clause-named : goal.closed_command-requires-clause-named
@@ -24,3 +26,13 @@ returns-in-Ok-None-clause-served g c = λ files s has left.
     let says = rw c.in-Ok-None.field-0-is at c.in-Ok-None.ensures in
     nothing_said files (g.R.Source.left c.args.script.now) c.args.run.now.lines c.args.run.now.refused (g.O.Sink.told c.args.out.now) s (edit_line (closed_desk files) c.args.line.now) (ShelfStands g.S.Shelf.state c.args.shelf.now)
     (ap (line_edit (closed_desk files)) (sym says)) left (still_stands g.S.Shelf.state c.args.shelf.now files has)
+
+pub returns-in-Ok-Some-clause-asked : goal.returns-in-Ok-Some-clause-asked
+returns-in-Ok-Some-clause-asked g c = λ s left.
+    let says = rw c.in-Ok-Some.field-0-is at c.in-Ok-Some.ensures in
+    uses_said _ asked_by _ _ _ _ s _ _ _ _ says (c.closed_command.ensures.asked s left)
+
+pub returns-in-Ok-Some-clause-written : goal.returns-in-Ok-Some-clause-written
+returns-in-Ok-Some-clause-written g c = λ s left.
+    let says = rw c.in-Ok-Some.field-0-is at c.in-Ok-Some.ensures in
+    uses_said _ written_by _ _ _ _ s _ _ _ _ says (c.closed_command.ensures.written s left)

@@ -1,5 +1,6 @@
-use Rattle.std.proofs.Common.{[], refl, rules}
+use Rattle.std.proofs.Common.{◌≡◌, [], refl, rules, sym}
 use Rattle.std.specs.Prelude.{unwrap_or}
+use Rattle.snd_script.specs.Kept.{how_writes}
 use Rattle.snd_script.specs.Opened.{opens_edit}
 use Rattle.snd_script.specs.Replies.{refuses}
 use Rattle.snd_script.specs.Served.{none_lost}
@@ -7,6 +8,7 @@ use Rattle.snd_script.specs.Serving.{DiskStands, ShelfStands}
 use Rattle.snd_script.specs.declared.refusal.Refusal.TheVariants.{MissingFile}
 use Rattle.snd_script.proofs.ShelfLeft.{came_back, stands_on_shelf, stayed, stayed_stands, taken_there}
 use Rattle.snd_script.proofs.ShelfSteps.{made_not, opened_on_shelf, opens_missing, replied_closed, take_failed, take_lacks_memory}
+use Rattle.snd_script.proofs.Tails.{returned_unless, stayed_unless}
 use Rattle.snd_script.proofs.closed.serve_name.Goals as goal
 
 pub returns-in-Err-Missing-clause-shelf : goal.returns-in-Err-Missing-clause-shelf
@@ -49,3 +51,19 @@ returns-clause-served g c = λ files s has left.
     (stands_on_shelf g.S.Shelf.state g.S.Shelf.may_leave g.S.Shelf.left_between g.S.Disk.Disk.state g.S.Disk.Disk.may_leave g.S.Disk.Disk.left_between c.name_text-text.result.now c.is_making.result
     c.args.shelf.now c.take.new.self c.give.new.self c.in-Ok.disk c.serve_disk-served.new.disk c.in-Ok.ensures.taken c.give.ensures.given c.serve_disk-served.ensures.tells files has)
     (λ there. c.serve_disk-served.ensures.served c.name_text-text.result.now files (unwrap_or (has.0 c.name_text-text.result.now) []) s (c.in-Ok.ensures.taken.contents has.0 has.1) there left)
+
+pub returns-in-Err-Missing-clause-images : goal.returns-in-Err-Missing-clause-images
+returns-in-Err-Missing-clause-images g c = stayed_unless g.S.Shelf.state g.S.Shelf.may_leave g.S.Shelf.left_between c.name_text-text.result.now (λ n. how_writes n c.args.how.now c.args.name.now) c.args.shelf.now c.take.new.self c.in-Err-Missing.ensures.same_images c.take.ensures.others
+
+pub returns-in-Err-Failed-clause-images : goal.returns-in-Err-Failed-clause-images
+returns-in-Err-Failed-clause-images g c = stayed_unless g.S.Shelf.state g.S.Shelf.may_leave g.S.Shelf.left_between c.name_text-text.result.now (λ n. how_writes n c.args.how.now c.args.name.now) c.args.shelf.now c.take.new.self c.in-Err-Failed.ensures.same_images c.take.ensures.others
+
+pub returns-in-Err-Memory-clause-images : goal.returns-in-Err-Memory-clause-images
+returns-in-Err-Memory-clause-images g c = stayed_unless g.S.Shelf.state g.S.Shelf.may_leave g.S.Shelf.left_between c.name_text-text.result.now (λ n. how_writes n c.args.how.now c.args.name.now) c.args.shelf.now c.take.new.self c.in-Err-Memory.ensures.same_images c.take.ensures.others
+
+pub returns-clause-images : goal.returns-clause-images
+returns-clause-images g c =
+    let named : c.name_text-text.result.now ≡ c.args.name.now = c.name_text-text.ensures in
+    rw (sym named) (
+    returned_unless g.S.Shelf.state g.S.Shelf.may_leave g.S.Shelf.left_between g.S.Disk.Disk c.name_text-text.result.now c.args.shelf.now c.take.new.self c.give.new.self c.in-Ok.disk c.serve_disk-served.new.disk
+    c.in-Ok.ensures.images c.give.ensures.images c.take.ensures.others c.give.ensures.others c.args.how.now c.serve_disk-served.ensures.reads)

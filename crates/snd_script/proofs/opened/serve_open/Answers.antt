@@ -4,10 +4,13 @@ use Rattle.snd_script.specs.Desk.{OpenFile}
 use Rattle.snd_script.specs.Edit.{close_edit, edit_line}
 use Rattle.snd_script.specs.Handled.{mode_of}
 use Rattle.snd_script.specs.Lines.{Reading, to_take}
+use Rattle.snd_script.specs.Script.{asked_by, written_by}
 use Rattle.snd_script.specs.Serving.{Moment, moment}
 use Rattle.snd_script.proofs.Chains.{none_left, serves_none, stopped_as, stopped_then}
 use Rattle.snd_script.proofs.OpenChains.{at_close, at_open, at_stops, comes_at, left_at}
 use Rattle.snd_script.proofs.Stepping.{held_desk, leaves_handle_none, leaves_handle_then, stands_open}
+use Rattle.snd_script.proofs.Tails.{tail_none, tail_of_line}
+use Rattle.snd_script.proofs.Uses.{line_is_to_close, line_stays_open, line_stops_run, so_far_stops, uses_so_far_none}
 use Rattle.snd_script.proofs.opened.serve_open.Goals as goal
 
 pub loop-line-init : goal.loop-line-init
@@ -18,6 +21,9 @@ loop-line-init g c = record {
   given = omega arith;
   counted = record { shelf = refl; script = refl; out = refl };
   leaves = leaves_handle_none _ _ _ c.args.handle.now;
+  tail = λ s left. tail_none _ s _ left;
+  asked = λ s left. uses_so_far_none _ _ s _ _ left;
+  written = λ s left. uses_so_far_none _ _ s _ _ left;
 }
 
 pub returns-in_err-next-clause-served : goal.returns-in_err-next-clause-served
@@ -61,6 +67,20 @@ loop-line-preserved g c = record {
     out = (c.in_ok-open_line.ensures.counted 0).out ∙ c.loop-line.invariant.counted.out;
   };
   leaves = leaves_handle_then _ _ _ _ _ _ c.loop-line.invariant.leaves c.in_ok-open_line.ensures.leaves;
+  tail = λ s left.
+      let so_far = c.loop-line.invariant.tail s left in
+      let comes = c.in_ok-next.ensures.brought so_far.0 so_far.1 in
+      tail_of_line _ c.loop-line.run.lines c.next.new.self.lines _ c.next.new.line.items comes.0 _ _ so_far comes.2 c.in_ok-open_line.ensures.lines comes.1;
+  asked = λ s left.
+      let so_far = c.loop-line.invariant.asked s left in
+      let comes = c.in_ok-next.ensures.brought so_far.1.0 so_far.1.1 in
+      line_stays_open asked_by _ c.loop-line.run.lines s c.next.new.line.items _ _ _ _ so_far c.next.new.self.lines _ comes.0 _ _ comes.2 c.in_ok-open_line.ensures.lines comes.1
+      (rw c.in-Open.is at (rw c.as_slice.ensures.value at c.in_ok-open_line.ensures.asked));
+  written = λ s left.
+      let so_far = c.loop-line.invariant.written s left in
+      let comes = c.in_ok-next.ensures.brought so_far.1.0 so_far.1.1 in
+      line_stays_open written_by _ c.loop-line.run.lines s c.next.new.line.items _ _ _ _ so_far c.next.new.self.lines _ comes.0 _ _ comes.2 c.in_ok-open_line.ensures.lines comes.1
+      (rw c.in-Open.is at (rw c.as_slice.ensures.value at c.in_ok-open_line.ensures.written));
 }
 
 pub returns-in-Close-clause-served : goal.returns-in-Close-clause-served
@@ -83,3 +103,51 @@ returns-in-Close-clause-counted g c = record {
   script = c.in_ok-next.ensures.faults ∙ c.loop-line.invariant.counted.script;
   out = (c.in_ok-open_line.ensures.counted 0).out ∙ c.loop-line.invariant.counted.out;
 }
+
+pub returns-in_err-next-clause-asked : goal.returns-in_err-next-clause-asked
+returns-in_err-next-clause-asked g c =
+    let p = err_from_is_err_and c.from_residual.result c.from_residual.ensures.1 in
+    rw (p.1, p.2) (λ s left. so_far_stops asked_by _ _ _ s c.loop-line.run.lines _ _ _ _ _ _ (c.loop-line.invariant.asked s left))
+
+pub returns-in_err-open_line-clause-asked : goal.returns-in_err-open_line-clause-asked
+returns-in_err-open_line-clause-asked g c =
+    let p = err_from_is_err_and c.from_residual-in_err-open_line.result c.from_residual-in_err-open_line.ensures.1 in
+    rw (p.1, p.2) (λ s left.
+    let so_far = c.loop-line.invariant.asked s left in
+    let comes = c.in_ok-next.ensures.brought so_far.1.0 so_far.1.1 in
+    line_stops_run asked_by _ c.loop-line.run.lines s c.next.new.line.items _ _ _ _ so_far _ c.next.new.self.lines _ comes.0 _ _ _ comes.2
+    (rw c.as_slice.ensures.value at c.in_err-open_line.ensures.asked))
+
+pub returns-in-Close-clause-asked : goal.returns-in-Close-clause-asked
+returns-in-Close-clause-asked g c = λ s left.
+    let so_far = c.loop-line.invariant.asked s left in
+    let comes = c.in_ok-next.ensures.brought so_far.1.0 so_far.1.1 in
+    line_is_to_close asked_by _ c.loop-line.run.lines s c.next.new.line.items _ _ _ _ so_far _ c.next.new.self.lines _ comes.0 _ _ _ comes.2 c.in_ok-open_line.ensures.lines comes.1
+    (rw c.in-Close.is at (rw c.as_slice.ensures.value at c.in_ok-open_line.ensures.asked))
+
+pub returns-in_err-next-clause-written : goal.returns-in_err-next-clause-written
+returns-in_err-next-clause-written g c =
+    let p = err_from_is_err_and c.from_residual.result c.from_residual.ensures.1 in
+    rw (p.1, p.2) (λ s left. so_far_stops written_by _ _ _ s c.loop-line.run.lines _ _ _ _ _ _ (c.loop-line.invariant.written s left))
+
+pub returns-in_err-open_line-clause-written : goal.returns-in_err-open_line-clause-written
+returns-in_err-open_line-clause-written g c =
+    let p = err_from_is_err_and c.from_residual-in_err-open_line.result c.from_residual-in_err-open_line.ensures.1 in
+    rw (p.1, p.2) (λ s left.
+    let so_far = c.loop-line.invariant.written s left in
+    let comes = c.in_ok-next.ensures.brought so_far.1.0 so_far.1.1 in
+    line_stops_run written_by _ c.loop-line.run.lines s c.next.new.line.items _ _ _ _ so_far _ c.next.new.self.lines _ comes.0 _ _ _ comes.2
+    (rw c.as_slice.ensures.value at c.in_err-open_line.ensures.written))
+
+pub returns-in-Close-clause-written : goal.returns-in-Close-clause-written
+returns-in-Close-clause-written g c = λ s left.
+    let so_far = c.loop-line.invariant.written s left in
+    let comes = c.in_ok-next.ensures.brought so_far.1.0 so_far.1.1 in
+    line_is_to_close written_by _ c.loop-line.run.lines s c.next.new.line.items _ _ _ _ so_far _ c.next.new.self.lines _ comes.0 _ _ _ comes.2 c.in_ok-open_line.ensures.lines comes.1
+    (rw c.in-Close.is at (rw c.as_slice.ensures.value at c.in_ok-open_line.ensures.written))
+
+pub returns-in-Close-clause-tail : goal.returns-in-Close-clause-tail
+returns-in-Close-clause-tail g c = λ s left.
+    let so_far = c.loop-line.invariant.tail s left in
+    let comes = c.in_ok-next.ensures.brought so_far.0 so_far.1 in
+    tail_of_line _ c.loop-line.run.lines c.next.new.self.lines _ c.next.new.line.items comes.0 _ _ so_far comes.2 c.in_ok-open_line.ensures.lines comes.1

@@ -2,10 +2,14 @@ use Rattle.std.proofs.Common.{◌≡◌, ◌+◌, ◌≤◌, List, ℕ, None, So
 use Rattle.snd_disk.specs.Shelf.{Files}
 use Rattle.snd_modes.specs.Editing.{Editing}
 use Rattle.snd_script.specs.Handled.{HandleStands, LeavesHandle, handle_disk, handle_known}
+use Rattle.snd_script.specs.Kept.{lines_to_serve}
 use Rattle.snd_script.specs.Lines.{to_take}
+use Rattle.snd_script.specs.Script.{asked_by, written_by}
 use Rattle.snd_script.specs.Served.{SameCounts}
 use Rattle.snd_script.specs.Serving.{Serves, disk_faults_of, is_longer, moment_of, steps_left}
 use Rattle.snd_script.proofs.Stepping.{held_desk}
+use Rattle.snd_script.proofs.Uses.{UsesSoFar}
+use Rattle.snd_script.proofs.Tails.{TailSoFar}
 use Rattle.snd_script.proofs.opened.serve_open.Given as goal
 
 abbrev pub invariant-loop-line : goal.invariant-loop-line
@@ -25,6 +29,11 @@ invariant-loop-line g l = record {
   given : g.R.Source.given l.script + to_take l.run.lines ≤ g.R.Source.given l.fn.script + to_take l.fn.run.lines;
   counted : SameCounts (disk_faults_of g.D.Disk.state g.R.Source.faults g.O.Sink.faults (handle_disk l.fn.handle) l.fn.script l.fn.out) (disk_faults_of g.D.Disk.state g.R.Source.faults g.O.Sink.faults (handle_disk l.handle) l.script l.out);
   leaves : LeavesHandle g.D.Disk.state g.D.Disk.may_leave g.D.Disk.left_between l.fn.handle l.handle;
+  tail : (s : List ℕ) → g.R.Source.left l.fn.script ≡ Some s → TailSoFar (lines_to_serve l.fn.run.lines s) l.run.lines (g.R.Source.left l.script);
+  asked : (s : List ℕ) → g.R.Source.left l.fn.script ≡ Some s
+      → UsesSoFar asked_by l.fn.run.lines s l.run.lines (g.R.Source.left l.script) (g.D.Disk.state (handle_disk l.fn.handle)).asked (g.D.Disk.state (handle_disk l.handle)).asked;
+  written : (s : List ℕ) → g.R.Source.left l.fn.script ≡ Some s
+      → UsesSoFar written_by l.fn.run.lines s l.run.lines (g.R.Source.left l.script) (g.D.Disk.state (handle_disk l.fn.handle)).written (g.D.Disk.state (handle_disk l.handle)).written;
 }
 
 abbrev pub decreases-loop-line : goal.decreases-loop-line

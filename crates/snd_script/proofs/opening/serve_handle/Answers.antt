@@ -1,9 +1,12 @@
-use Rattle.std.proofs.Common.{refl, ◌∙◌}
+use Rattle.std.proofs.Common.{refl, ◌∙◌, arith}
 use Rattle.snd_script.specs.Desk.{closed_desk, open_desk, writes}
 use Rattle.snd_script.specs.Handled.{mode_of}
+use Rattle.snd_script.specs.Script.{asked_by, written_by}
 use Rattle.snd_script.specs.Served.{none_lost}
 use Rattle.snd_script.specs.Serving.{DiskStands, OpenStands}
+use Rattle.snd_script.specs.declared.stop.Stop.TheVariants.{File}
 use Rattle.snd_script.proofs.Openings.{closed_then, desk_closed, disk_lost, disk_stands, finished_tells, frames_open, open_failed, stopped_failed, stopped_stands}
+use Rattle.snd_script.proofs.Uses.{closed_where_stopped}
 use Rattle.snd_script.proofs.opening.serve_handle.Goals as goal
 
 pub returns-in-Ok-finish-clause-served : goal.returns-in-Ok-finish-clause-served
@@ -31,3 +34,19 @@ pub returns-in-Err-finish-2-clause-served : goal.returns-in-Err-finish-2-clause-
 returns-in-Err-finish-2-clause-served g c = λ name files e s stands left.
     stopped_failed _ _ _ _ _ (OpenStands g.D.Disk.state files name c.serve_opened.new.handle) (DiskStands g.D.Disk.state files name c.in-Err-finish-2.disk.now)
     (disk_lost g.D.Disk.state files name c.serve_opened.new.handle c.in-Err-finish-2.disk.now) c.in-Err.stop (c.in-Err.ensures.served name files e s stands left)
+
+pub returns-in-Ok-finish-2-clause-asked : goal.returns-in-Ok-finish-2-clause-asked
+returns-in-Ok-finish-2-clause-asked g c = λ s left.
+    closed_where_stopped c.in-Err.stop c.in-Err.stop asked_by _ _ s _ _ _ _ _ (c.in-Err.ensures.asked s left) (omega (arith, c.in-Ok-finish-2.ensures.asked)) (omega (arith, c.in-Ok-finish-2.ensures.asked))
+
+pub returns-in-Err-finish-2-clause-asked : goal.returns-in-Err-finish-2-clause-asked
+returns-in-Err-finish-2-clause-asked g c = λ s left.
+    closed_where_stopped c.in-Err.stop File asked_by _ _ s _ _ _ _ _ (c.in-Err.ensures.asked s left) (omega (arith, c.in-Err-finish-2.ensures.asked)) (omega (arith, c.in-Err-finish-2.ensures.asked))
+
+pub returns-in-Ok-finish-2-clause-written : goal.returns-in-Ok-finish-2-clause-written
+returns-in-Ok-finish-2-clause-written g c = λ s left.
+    closed_where_stopped c.in-Err.stop c.in-Err.stop written_by _ _ s _ _ _ _ _ (c.in-Err.ensures.written s left) c.in-Ok-finish-2.ensures.written.later c.in-Ok-finish-2.ensures.written.most
+
+pub returns-in-Err-finish-2-clause-written : goal.returns-in-Err-finish-2-clause-written
+returns-in-Err-finish-2-clause-written g c = λ s left.
+    closed_where_stopped c.in-Err.stop File written_by _ _ s _ _ _ _ _ (c.in-Err.ensures.written s left) c.in-Err-finish-2.ensures.written.later c.in-Err-finish-2.ensures.written.most

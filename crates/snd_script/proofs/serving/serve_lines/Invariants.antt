@@ -1,9 +1,13 @@
 use Rattle.std.proofs.Common.{◌≡◌, ◌+◌, ◌≤◌, List, ℕ, Some}
 use Rattle.snd_disk.specs.Shelf.{Files}
 use Rattle.snd_script.specs.Desk.{closed_desk}
+use Rattle.snd_script.specs.Kept.{KeepsByLines, lines_to_serve}
 use Rattle.snd_script.specs.Lines.{to_take}
+use Rattle.snd_script.specs.Script.{asked_by, written_by}
 use Rattle.snd_script.specs.Served.{HasFiles, LeavesShelf, SameCounts, faults_of}
 use Rattle.snd_script.specs.Serving.{Serves, is_longer, moment_of, steps_left}
+use Rattle.snd_script.proofs.Uses.{UsesSoFar}
+use Rattle.snd_script.proofs.Tails.{TailSoFar}
 use Rattle.snd_script.proofs.serving.serve_lines.Given as goal
 
 abbrev pub invariant-loop-stop : goal.invariant-loop-stop
@@ -21,6 +25,12 @@ invariant-loop-stop g l = record {
   given : g.R.Source.given l.script + to_take l.run.lines ≤ g.R.Source.given l.fn.script + to_take l.fn.run.lines;
   counted : SameCounts (faults_of g.S.Shelf.state g.R.Source.faults g.O.Sink.faults l.fn.shelf l.fn.script l.fn.out) (faults_of g.S.Shelf.state g.R.Source.faults g.O.Sink.faults l.shelf l.script l.out);
   shelf : LeavesShelf g.S.Shelf.state g.S.Shelf.left_between l.fn.shelf l.shelf;
+  tail : (s : List ℕ) → g.R.Source.left l.fn.script ≡ Some s → TailSoFar (lines_to_serve l.fn.run.lines s) l.run.lines (g.R.Source.left l.script);
+  images : KeepsByLines g.S.Shelf.state g.S.Shelf.may_leave g.S.Shelf.left_between g.R.Source.left l.fn.shelf l.fn.run l.fn.script l.shelf;
+  asked : (s : List ℕ) → g.R.Source.left l.fn.script ≡ Some s
+      → UsesSoFar asked_by l.fn.run.lines s l.run.lines (g.R.Source.left l.script) (g.S.Shelf.state l.fn.shelf).asked (g.S.Shelf.state l.shelf).asked;
+  written : (s : List ℕ) → g.R.Source.left l.fn.script ≡ Some s
+      → UsesSoFar written_by l.fn.run.lines s l.run.lines (g.R.Source.left l.script) (g.S.Shelf.state l.fn.shelf).written (g.S.Shelf.state l.shelf).written;
 }
 
 abbrev pub decreases-loop-stop : goal.decreases-loop-stop

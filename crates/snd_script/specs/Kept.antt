@@ -1,0 +1,52 @@
+-- Which lines are left as a run goes on, and which files keep their images.
+use Rattle.std.specs.Prelude.{◌≡◌, ℕ, List, ◌++◌, Bool, false, Option, Some, Result, Ok, Err, is_none}
+use Rattle.std.specs.Str.{bytes_eq}
+use Rattle.snd_disk.specs.Shelf.{ShelfState, Files}
+use Rattle.snd_disk.specs.Shelves.{KeepsImagesOf, TellsFiles}
+use Rattle.snd_script.specs.Lines.{Reading}
+use Rattle.snd_script.specs.Script.{any_writes, lines_within}
+use Rattle.snd_script.specs.declared.open.OpenAs.{OpenAs}
+use Rattle.snd_script.specs.declared.open.OpenAs.TheVariants as how
+use Rattle.snd_script.specs.declared.run.Run.{Run}
+use Rattle.snd_script.specs.declared.stop.Stop.{Stop}
+use Rattle.snd_script.specs.declared.work.Work.{Work}
+use Rattle.snd_script.specs.declared.work.Work.TheVariants as work
+
+-- the file of this name is opened to be written, or made
+abbrev pub how_writes : List ℕ → OpenAs → List ℕ → Bool
+how_writes n how.Read name = false
+how_writes n opening name = bytes_eq n name
+
+abbrev pub work_writes : List ℕ → Work → Bool
+work_writes n (work.Update name) = bytes_eq n name.now
+work_writes n (work.Make kind codec channels rate name) = bytes_eq n name.now
+work_writes n other = false
+
+-- the lines that are left, where the source has the bytes s left
+abbrev pub lines_to_serve : Reading → List ℕ → List (List ℕ)
+lines_to_serve reading s = lines_within reading.room (reading.rest ++ s)
+
+-- these are the last of all
+abbrev pub IsTail : List (List ℕ) → List (List ℕ) → Type 0
+IsTail all lines = (done : List (List ℕ)) × (all ≡ done ++ lines)
+
+-- where a run goes on, the last lines are left
+abbrev pub LeavesTail : {T : Type 0} → Result T Stop → List (List ℕ) → Reading → Option (List ℕ) → Type 0
+LeavesTail (Ok x) all reading left = (s : List ℕ) × (left ≡ Some s) × IsTail all (lines_to_serve reading s)
+LeavesTail (Err stop) all reading left = Unit {0}
+
+-- ---- WHOLE OBJECTS. The arguments are the meanings of the shelf and of the source.
+
+abbrev pub LeavesLines : {R T : Type 0} → (R → Option (List ℕ)) → Result T Stop → Run → R → Run → R → Type 0
+LeavesLines left result run script run' script' =
+    (s : List ℕ) → left script ≡ Some s → LeavesTail result (lines_to_serve run.lines s) run'.lines (left script')
+
+-- a file that is there and is not opened to be written keeps its images
+abbrev pub KeepsUnless : {S : Type 0} → (S → ShelfState) → (S → List ℕ → List ℕ → Type 0) → (S → List ℕ → ℕ → ℕ → List ℕ → Type 0) → (List ℕ → Bool) → S → S → Type 0
+KeepsUnless state may_leave left_between writes shelf shelf' =
+    (f : Files) (n : List ℕ) → TellsFiles state shelf f → is_none (f n) ≡ false → writes n ≡ false → KeepsImagesOf state may_leave left_between n shelf shelf'
+
+-- .. by the lines that are left
+abbrev pub KeepsByLines : {S R : Type 0} → (S → ShelfState) → (S → List ℕ → List ℕ → Type 0) → (S → List ℕ → ℕ → ℕ → List ℕ → Type 0) → (R → Option (List ℕ)) → S → Run → R → S → Type 0
+KeepsByLines state may_leave left_between left shelf run script shelf' =
+    (s : List ℕ) → left script ≡ Some s → KeepsUnless state may_leave left_between (λ n. any_writes n (lines_to_serve run.lines s)) shelf shelf'

@@ -1,0 +1,79 @@
+-- How many bytes a run uses of the disks: asks of them, or writes on them.
+use Rattle.std.specs.Prelude.{◌≡◌, ℕ, ◌+◌, ◌≤◌, List, ◌++◌, Option, Some, Result, Ok, Err}
+use Rattle.snd_command.specs.Said.{Said}
+use Rattle.snd_disk.specs.declared.disk.Disk.{Ghosts}
+use Rattle.snd_script.specs.Handled.{handle_disk}
+use Rattle.snd_script.specs.Lines.{Reading}
+use Rattle.snd_script.specs.Script.{by_lines, lines_within}
+use Rattle.snd_script.specs.declared.handle.Handle.{Handle}
+use Rattle.snd_script.specs.declared.open.OpenAs.{OpenAs}
+use Rattle.snd_script.specs.declared.open.OpenAs.TheVariants as how
+use Rattle.snd_script.specs.declared.run.Run.{Run}
+use Rattle.snd_script.specs.declared.stop.Next.{Next}
+use Rattle.snd_script.specs.declared.stop.Next.TheVariants as next
+use Rattle.snd_script.specs.declared.stop.Stop.{Stop}
+use Rattle.snd_script.specs.declared.work.Work.{Work}
+use Rattle.snd_script.specs.declared.work.Work.TheVariants as work
+
+-- bytes asked to open a file, and written to make one
+abbrev pub most_asked : OpenAs → ℕ
+most_asked (how.Make kind params) = 0
+most_asked opening = 16384
+
+abbrev pub work_asks : Work → ℕ
+work_asks (work.Open name) = 16384
+work_asks (work.Update name) = 16384
+work_asks other = 0
+
+abbrev pub work_makes : Work → ℕ
+work_makes (work.Make kind codec channels rate name) = 2048
+work_makes other = 0
+
+-- what the lines that are left may use, where the source has the bytes s left
+abbrev pub use_left : (Said → ℕ) → Reading → List ℕ → ℕ
+use_left most reading s = by_lines most (lines_within reading.room (reading.rest ++ s))
+
+-- Where a run goes on, what it has used, what it owes and what the lines that are left may use stay within what there was;
+-- where it stops, it may use so many more.
+abbrev pub IsWithin : {T : Type 0} → Result T Stop → (Said → ℕ) → ℕ → ℕ → ℕ → Reading → Option (List ℕ) → ℕ → Type 0
+IsWithin (Ok x) most owed over all reading left new = (s : List ℕ) × (left ≡ Some s) × (new + owed + use_left most reading s ≤ all)
+IsWithin (Err stop) most owed over all reading left new = new ≤ all + over
+
+-- .. with so many in hand for a line that came
+pub record Uses {T : Type 0} (result : Result T Stop) (most : Said → ℕ) (hand owed over : ℕ) (before : Reading) (s : List ℕ) (after : Reading) (left : Option (List ℕ)) (old new : ℕ) : Type 0 where
+  pub later : old ≤ new
+  pub within : IsWithin result most owed over (old + hand + use_left most before s) after left new
+
+-- one line while a file is open: where the file is to be closed, that is owed
+abbrev pub IsLineWithin : Result Next Stop → ℕ → ℕ → ℕ → Type 0
+IsLineWithin (Ok next.Close) owed all new = new + owed ≤ all
+IsLineWithin result owed all new = new ≤ all
+
+pub record LineUses (result : Result Next Stop) (owed hand old new : ℕ) : Type 0 where
+  pub later : old ≤ new
+  pub within : IsLineWithin result owed (old + hand) new
+
+-- ---- WHOLE OBJECTS. The first argument is what is counted of a shelf or a disk, and the second what a source has left.
+
+-- lines are served with no file open, behind one for which so much is in hand; the open file is closed where the run stops
+abbrev pub UsesOn : {X R T : Type 0} → (X → ℕ) → (R → Option (List ℕ)) → Result T Stop → (Said → ℕ) → ℕ → X → Run → R → X → Run → R → Type 0
+UsesOn count left result most hand x run script x' run' script' =
+    (s : List ℕ) → left script ≡ Some s → Uses result most hand 0 (most Said.close) run.lines s run'.lines (left script') (count x) (count x')
+
+-- .. with a file open, which is closed
+abbrev pub UsesClosed : {D R T : Type 0} {ghosts : Ghosts D} → (D → ℕ) → (R → Option (List ℕ)) → Result T Stop → (Said → ℕ) → Handle D ghosts → Run → R → D → Run → R → Type 0
+UsesClosed count left result most handle run script disk run' script' = UsesOn count left result most 0 (handle_disk handle) run script disk run' script'
+
+-- .. or is still to be closed
+abbrev pub UsesOpen : {D R T : Type 0} {ghosts : Ghosts D} → (D → ℕ) → (R → Option (List ℕ)) → Result T Stop → (Said → ℕ) → Handle D ghosts → Run → R → Handle D ghosts → Run → R → Type 0
+UsesOpen count left result most handle run script handle' run' script' =
+    (s : List ℕ) → left script ≡ Some s → Uses result most 0 (most Said.close) 0 run.lines s run'.lines (left script') (count (handle_disk handle)) (count (handle_disk handle'))
+
+-- .. for one line
+abbrev pub HandleUses : {D : Type 0} {ghosts : Ghosts D} → (D → ℕ) → Result Next Stop → (Said → ℕ) → ℕ → Handle D ghosts → Handle D ghosts → Type 0
+HandleUses count result most hand handle handle' = LineUses result (most Said.close) hand (count (handle_disk handle)) (count (handle_disk handle'))
+
+-- .. up to where the run stops
+abbrev pub UsesAll : {X R : Type 0} → (X → ℕ) → (R → Option (List ℕ)) → (Said → ℕ) → X → Run → R → X → Type 0
+UsesAll count left most x run script x' =
+    (s : List ℕ) → left script ≡ Some s → (count x ≤ count x') × (count x' ≤ count x + use_left most run.lines s + most Said.close)
