@@ -4,7 +4,7 @@ ghost use Rattle.std.specs.Prelude.{◌≡◌, ◌≤◌, ◌+◌, IfOk};
 ghost use Rattle.std.specs.List.{list_all};
 ghost use Rattle.snd_disk.specs.Shelf.{KeepsFiles};
 ghost use Rattle.snd_disk.specs.Shelves.{KeepsFileImages};
-ghost use Rattle.snd_script.specs.Served.{LeavesShelf};
+ghost use Rattle.snd_script.specs.Served.{BoundsScript, KeepsUnnamed, LeavesShelf};
 ghost use Rattle.snd_app.specs.Outcome.{Asked, asked, bad_words, is_name, files_after, files_of_script, outcome, outcome_of_info, outcome_of_script, text_of};
 ghost use Rattle.snd_app.specs.Run.{DescribesAs, DescribingFaultRises, EndsAs, FaultRises, IsAllIn, PutsText, RunsAs, StopsAs};
 ghost use Rattle.snd_app.specs.Text.{is_printed};
@@ -127,7 +127,9 @@ fn run_script<S: Shelf, R: Source, O: Sink, E: Sink>(
     ensures fault { result ≡ 3 → FaultRises S.Shelf R.Source O.Sink E.Sink
         shelf.old script.old out.old err.old shelf.new script.new out.new err.new }
     ensures taken { R.given script.new ≤ R.given script.old + 16777217 }
+    ensures bounds { BoundsScript S.state R.left shelf.old script.old shelf.new }
     ensures leaves { LeavesShelf S.state S.left_between shelf.old shelf.new }
+    ensures unnamed { KeepsUnnamed S.state S.may_leave S.left_between R.left shelf.old script.old shelf.new }
 {
     match serve(alloc, shelf, script, out) {
         ScriptEnd::Done { refused } => u8::from(refused),
@@ -177,6 +179,11 @@ pub fn run<S: Shelf, R: Source, O: Sink, E: Sink>(
     ensures leaves { LeavesShelf S.state S.left_between shelf.old shelf.new }
     ensures files { (asked words.now ≡ Asked.script → ⊥) → KeepsFiles (S.state shelf.old) (S.state shelf.new) }
     ensures images { (asked words.now ≡ Asked.script → ⊥) → KeepsFileImages S.state S.may_leave S.left_between shelf.old shelf.new }
+
+    // With one, so does a file that no line opens to be written; and no more bytes are asked of the files
+    // and written than the lines may.
+    ensures unnamed { KeepsUnnamed S.state S.may_leave S.left_between R.left shelf.old script.old shelf.new }
+    ensures bounds { asked words.now ≡ Asked.script → BoundsScript S.state R.left shelf.old script.old shelf.new }
 {
     match request_of(words) {
         Some(Request::Info(name)) => run_info(alloc, name, shelf, out, err),

@@ -2,6 +2,7 @@ use Rattle.std.proofs.Common.{◌≡◌, refl, rules}
 use Rattle.snd_app.specs.Outcome.{Asked, asked, outcome_of}
 use Rattle.snd_app.proofs.Left.{kept_leaves}
 use Rattle.snd_app.proofs.Outcomes.{is_put_err, run_as, with_files}
+use Rattle.snd_script.proofs.ShelfLeft.{some_of}
 use Rattle.snd_app.proofs.program.run.Goals as goal
 
 pub returns-in-Some-Info-clause-headline : goal.returns-in-Some-Info-clause-headline
@@ -22,3 +23,8 @@ returns-in-Some-Info-clause-fault g c = λ is. c.run_info.ensures.fault is (g.R.
 pub returns-in-Some-Info-clause-leaves : goal.returns-in-Some-Info-clause-leaves
 returns-in-Some-Info-clause-leaves g c =
     kept_leaves g.S.Shelf.state g.S.Shelf.may_leave g.S.Shelf.left_between _ _ c.requires c.run_info.ensures.back c.run_info.ensures.files c.run_info.ensures.images
+
+pub returns-in-Some-Info-clause-unnamed : goal.returns-in-Some-Info-clause-unnamed
+returns-in-Some-Info-clause-unnamed g c = λ f s n told left there none.
+    let is = some_of (f n) there in
+    c.run_info.ensures.images f n is.0 told is.1
