@@ -1,5 +1,7 @@
 //! Scripts that make and change files, over a shelf in memory: worked rows with every byte afterwards, and each call of a disk, of
 //! the script and of the output that fails.
+ghost use Rattle.std.specs.Prelude.{◌≡◌, List, ℕ, false};
+
 use crate::tests::words_of;
 use snd_app::run;
 use snd_disk::{FailingCall, FailingPut, MemoryDisk, MemoryShelf, MemorySink, MemorySource, Shelf};
@@ -71,28 +73,6 @@ static ROWS: [Row; 5] = [
     },
 ];
 
-/// The bytes of a file of the shelf, which has it back.
-fn bytes_in(alloc: Global, shelf: &mut MemoryShelf, name: &str) -> Option<Vec<u8>> {
-    let disk = shelf.take(name, false).ok()?;
-    let bytes = disk.bytes().to_vec(alloc).ok();
-    shelf.give(name, disk);
-    bytes
-}
-
-/// A shelf with one file, or none.
-fn shelf_with(
-    alloc: Global,
-    name: &str,
-    bytes: Option<&[u8]>,
-    failing: Vec<FailingCall>,
-) -> Result<MemoryShelf, AllocError> {
-    let mut shelf = MemoryShelf::new(alloc);
-    if let Some(bytes) = bytes {
-        shelf.put(name, MemoryDisk::new(alloc, bytes.to_vec(alloc)?, failing)?)?;
-    }
-    Ok(shelf)
-}
-
 /// What stands afterwards: the status, what was printed, and the file's bytes.
 #[derive(Drop)]
 struct Left {
@@ -118,21 +98,17 @@ const NONE: Failing = Failing {
 /// How many bytes of a script come at a time.
 const PIECE: usize = 8;
 
-/// Runs a script where a call fails.
-fn run_script(
+/// Runs a script over a shelf, where a call of the script or of the output fails: the status, and what was printed.
+fn run_over<S: Shelf>(
     alloc: Global,
-    name: &str,
-    before: Option<&[u8]>,
+    shelf: &mut S,
     script: &[u8],
     failing: Failing,
-) -> Result<Left, AllocError> {
+) -> Result<(u8, Vec<u8>), AllocError>
+    requires { (n : List ℕ) → (S.state shelf.old).out n ≡ false }
+    ensures { (n : List ℕ) → (S.state shelf.new).out n ≡ false }
+{
     let words = words_of(alloc, &["script"])?;
-    let mut calls = Vec::new(alloc);
-    calls.push(FailingCall {
-        number: failing.disk,
-        sectors: 0,
-    })?;
-    let mut shelf = shelf_with(alloc, name, before, calls)?;
     let mut calls = Vec::new(alloc);
     calls.push(failing.script)?;
     let mut script = MemorySource::new(script.to_vec(alloc)?, PIECE, calls);
@@ -143,12 +119,33 @@ fn run_script(
     })?;
     let mut out = MemorySink::new(alloc, puts);
     let mut err = MemorySink::new(alloc, Vec::new(alloc));
-    let status = run(alloc, &words, &mut shelf, &mut script, &mut out, &mut err);
-    Ok(Left {
-        status,
-        out: out.bytes().to_vec(alloc)?,
-        file: bytes_in(alloc, &mut shelf, name),
-    })
+    let status = run(alloc, &words, shelf, &mut script, &mut out, &mut err);
+    Ok((status, out.bytes().to_vec(alloc)?))
+}
+
+/// Runs a script over one file, or over another one alone, where a call fails.
+fn run_script(
+    alloc: Global,
+    name: &str,
+    before: Option<&[u8]>,
+    script: &[u8],
+    failing: Failing,
+) -> Result<Left, AllocError> {
+    let mut calls = Vec::new(alloc);
+    calls.push(FailingCall {
+        number: failing.disk,
+        sectors: 0,
+    })?;
+    let there = if before.is_some() { name } else { "other" };
+    let bytes = before.unwrap_or(b"").to_vec(alloc)?;
+    let mut shelf = MemoryShelf::new(alloc);
+    shelf.put(there, MemoryDisk::new(alloc, bytes, calls)?)?;
+    let (status, out) = run_over(alloc, &mut shelf, script, failing)?;
+    let file = match shelf.take(name, false) {
+        Ok(disk) => Some(disk.bytes().to_vec(alloc)?),
+        Err(_) => None,
+    };
+    Ok(Left { status, out, file })
 }
 
 fn has(rt: &impl Abort, left: &Left, bytes: &[u8]) {
