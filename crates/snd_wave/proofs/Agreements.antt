@@ -27,11 +27,11 @@ use Rattle.snd_wave.proofs.Opens.{Opens, not_refused, opened, opens}
 abbrev pub IsBeside : Option Chunk → ℕ → Type 0
 IsBeside fact i = (f : Chunk) → fact ≡ Some f → (i < f.at) ⊎ (f.at + 4 ≤ i)
 
-outside : (at size i : ℕ) → (i < at) ⊎ (at + size ≤ i) → is_in at size i ≡ false
+pub outside : (at size i : ℕ) → (i < at) ⊎ (at + size ≤ i) → is_in at size i ≡ false
 outside at size i (inl before) = and_left (nat_le at i) (nat_lt i (at + size)) (lt-leb at i before)
 outside at size i (inr behind) = and_right (nat_le at i) (nat_lt i (at + size)) (le-ltb i (at + size) behind)
 
-side_is : (p : Parameters) (fact : Option Chunk) (i : ℕ) → IsBeside fact i → is_in_field (side_field p fact) i ≡ false
+pub side_is : (p : Parameters) (fact : Option Chunk) (i : ℕ) → IsBeside fact i → is_in_field (side_field p fact) i ≡ false
 side_is p None i beside = elim (cases_Bool (is_adpcm p.codec)) [ inl is ↦ rw is refl | inr other ↦ rw other refl ]
 side_is p (Some fact) i beside = elim (cases_Bool (is_adpcm p.codec)) [
   | inl is ↦ rw is refl
@@ -133,13 +133,13 @@ module _ (x y : List ℕ) (p : Parameters) (sound : Chunk) (same : SameButNumber
       bytes_same i (omega (arith, between.after)) (omega (arith, between.before, sound_at))
       (λ f found. is_beside_head f (get_or (wave_front y).chunks k d) i (apart_from f found k d lt) (counted f found) from to)
 
-  sound_same : StandsIn Little x reach.last sound
+  pub sound_same : StandsIn Little x reach.last sound
   sound_same = stands_in Little x y reach.last sound reach.at (omega (arith, sound_at))
       (λ i from to. bytes_same i (omega (arith, ordered.0)) (omega (arith, sound_at)) (λ f found.
       let has = find_has is_fact (IsBetween 12 reach.last) (wave_front y).chunks f ordered.1 found in
       inr (omega (arith, has.0.before, counted f found))))
 
-  front_same : wave_front x ≡ record { chunks = (wave_front y).chunks; ending = AtSound sound_same.chunk }
+  pub front_same : wave_front x ≡ record { chunks = (wave_front y).chunks; ending = AtSound sound_same.chunk }
   unfolding wave_front
   front_same =
       walks (chunk_at Little x) (codes "data") (length x) 257 12 (wave_front y).chunks reach.last sound_same.chunk
@@ -156,7 +156,7 @@ module _ (x y : List ℕ) (p : Parameters) (sound : Chunk) (same : SameButNumber
       let fact_is = (find_has is_fact (IsBetween 12 reach.last) (wave_front y).chunks f ordered.1 fact).1 in
       is_beside_body f format i beside (λ both. not_both f (rw both at has.1) fact_is) (counted f fact) from to))
 
-  opens_too : (format : Chunk) → front_refusal (wave_front y) ≡ None → format_chunk (wave_front y).chunks ≡ Some format → (wave_front y).ending ≡ AtSound sound → format_of (body_of y format) ≡ Ok p
+  pub opens_too : (format : Chunk) → front_refusal (wave_front y) ≡ None → format_chunk (wave_front y).chunks ≡ Some format → (wave_front y).ending ≡ AtSound sound → format_of (body_of y format) ≡ Ok p
       → Opens x (wave_front x) (wave_shape x (wave_front x) p sound_same.chunk)
   opens_too format none found ends read =
       let chunks_are : (wave_front x).chunks ≡ (wave_front y).chunks = ap (λ (f : Front). f.chunks) front_same in

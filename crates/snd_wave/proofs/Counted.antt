@@ -1,7 +1,7 @@
 -- A file whose fields say a number of frames has its layout with so many frames.
-use Rattle.std.proofs.Common.{◌≡◌, ◌⊎◌, ℕ, ◌+◌, ◌-◌, ◌<◌, ◌≤◌, ◌^◌, List, [], ◌∷◌, ◌++◌, All, Bool, true, false, not, ◌&&◌, ◌||◌, Option, None, Some, Ok, length, take, drop, get_or, refl, sym, ap, ◌∙◌, inl, inr, arith}
+use Rattle.std.proofs.Common.{◌≡◌, ◌⊎◌, ℕ, ◌+◌, ◌-◌, ◌<◌, ◌≤◌, ◌^◌, List, [], ◌∷◌, ◌++◌, All, Bool, true, false, not, ◌&&◌, ◌||◌, Option, None, Some, Ok, length, take, drop, get_or, refl, sym, ap, subst, ◌∙◌, inl, inr, arith}
 use Rattle.std.proofs.Math.Nat.{div-mul-le_self}
-use Rattle.std.proofs.lemmas.Bool.{cases_Bool, le-leb, le-ltb, lt-ltb, or_parts, cases_lt}
+use Rattle.std.proofs.lemmas.Bool.{cases_Bool, le-leb, le-ltb, lt-ltb, or_from, or_parts, cases_lt}
 use Rattle.std.proofs.lemmas.List.{length-take, places}
 use Rattle.std.proofs.lemmas.List.Elements.{All-head, All-tail}
 use Rattle.std.proofs.lemmas.Slice.Eq.{bytes_eq-Decides}
@@ -12,6 +12,7 @@ use Rattle.snd_chunks.proofs.Chains.{IsHead, is_head}
 use Rattle.snd_chunks.proofs.WrittenChunks.{has_left, has_number, has_right}
 use Rattle.snd_chunks.specs.declared.chunk.Chunk.{Chunk}
 use Rattle.snd_chunks.specs.Chunks.{padded_end}
+use Rattle.snd_fields.proofs.Numbers.{length-bytes_of}
 use Rattle.snd_fields.specs.Field.{bytes_of, number, with_field}
 use Rattle.snd_fields.specs.declared.field.Order.TheVariants.{Little}
 use Rattle.snd_layout.proofs.Formats.{format_fits}
@@ -24,17 +25,18 @@ use Rattle.snd_layout.specs.declared.kind.Kind.{Kind}
 use Rattle.snd_layout.specs.declared.kind.Kind.TheVariants.{Wave}
 use Rattle.snd_layout.specs.declared.piece.Piece.{Piece}
 use Rattle.snd_wave.specs.Layout.{body_of, fact_chunk, inner_field, is_joined, outer_end, wave_front, wave_layout, frame_count}
+use Rattle.snd_wave.specs.Images.{KeepsHead, NewCountReadsBack, OuterReaches, ValuesFillFields, ValuesStand, is_in_fields}
 use Rattle.snd_wave.specs.Laws.{FieldsStandApart, HoldsBlocks, SameButNumbers, SameHead, count_of, is_in, is_in_field, padded_data_end, pieces_before}
 use Rattle.snd_wave.specs.Sealed.{CountedReadsBack, CutReadsBack, MayBeCounted, RoomMayBeCounted, SealedReadsBack, counted_shape, put_in, with_values}
 use Rattle.snd_wave.specs.Values.{count_bytes, inner_value, outer_value, riff_size, side_value}
-use Rattle.snd_wave.proofs.Agreements.{layouts_agree}
+use Rattle.snd_wave.proofs.Agreements.{layouts_agree, outside}
 use Rattle.snd_wave.proofs.Counts.{count_is_stated, no_piece_behind, numbers_stand_before, reached, trailing_is_stated}
 use Rattle.snd_wave.proofs.Made.{counted}
 use Rattle.snd_wave.proofs.Opens.{Opens, opens}
 use Rattle.snd_wave.proofs.Standing.{fields_are_apart}
 
 -- a place that is not in a field lies before it or behind it
-apart_of : (at size i : ℕ) → is_in at size i ≡ false → (i < at) ⊎ (at + size ≤ i)
+pub apart_of : (at size i : ℕ) → is_in at size i ≡ false → (i < at) ⊎ (at + size ≤ i)
 apart_of at size i out = elim (cases_lt i at) [
   | inl before ↦ inl before
   | inr from ↦ elim (cases_lt i (at + size)) [
@@ -42,6 +44,10 @@ apart_of at size i out = elim (cases_lt i at) [
     | inr behind ↦ inr behind
   ]
 ]
+
+-- a place beside each field
+pub out_of_fields : (h : Shape) (i : ℕ) → is_in_field (Some h.inner) i ≡ false → is_in_field h.outer i ≡ false → is_in_field h.side i ≡ false → is_in_fields h i ≡ false
+out_of_fields h i inner outer side = or_from (is_in_field (Some h.inner) i || is_in_field h.outer i) (is_in_field h.side i) (or_from (is_in_field (Some h.inner) i) (is_in_field h.outer i) inner outer) side
 
 -- what stands in a field, beside it, and how long the list is
 field_in : (b v : List ℕ) (at j : ℕ) → at + length v ≤ length b → j < length v → get_or (with_field b at v) (at + j) 0 ≡ get_or v j 0
@@ -87,12 +93,13 @@ joined_parts x h n twelve ends has =
       has_right x h.inner.at (h.start - 8) (bytes_of Little 4 n) (codes "data") (omega (arith, twelve, ends)) front,
     )
 
--- a file has, before its data, the bytes of another but in the three fields, and these say so many frames
+-- a file has, before its data, the bytes of another but in the three fields; the one that decides the count says so many frames,
+-- and the whole ends by their data
 pub record Says (b : List ℕ) (h : Shape) (n : ℕ) (x : List ℕ) : Type 0 where
   pub inner : HasAt x h.inner.at (inner_value h n)
-  pub outer : HasAt x 4 (outer_value h n)
-  pub beside : (i : ℕ) → i < h.inner.at → is_in_field h.outer i ≡ false → is_in_field h.side i ≡ false → get_or x i 0 ≡ get_or b i 0
+  pub beside : KeepsHead h b x
   pub long : padded_end h.start (data_bytes h.params n) ≤ length x
+  pub ends : outer_end x ≤ padded_end h.start (data_bytes h.params n)
 
 -- what a layout says of its file: the identifier of the data stands before their size
 pub record StandsIn (b : List ℕ) (h : Shape) : Type 0 where
@@ -151,7 +158,7 @@ by_parts k k' p p' a a' b b' c c' d d' e e' f f' g g' i i' j j' l l' ek ep ea eb
 kept_first : (test : Piece → Bool) (piece : Piece) (pieces : List Piece) → test piece ≡ true → filter test (piece ∷ pieces) ≡ piece ∷ filter test pieces
 kept_first test piece pieces is = rw is refl
 
-all_before : (pieces : List Piece) → All (λ piece. piece.after ≡ false) pieces → filter (λ piece. not piece.after) pieces ≡ pieces
+pub all_before : (pieces : List Piece) → All (λ piece. piece.after ≡ false) pieces → filter (λ piece. not piece.after) pieces ≡ pieces
 all_before [] all = refl
 all_before (piece ∷ pieces) all =
     let here : piece.after ≡ false = All-head (λ (p : Piece). p.after ≡ false) piece pieces all in
@@ -169,17 +176,13 @@ module _ (b x : List ℕ) (h : Shape) (n : ℕ) (may : MayBeCounted b h n) (says
       in_middle twelve j at lt = rw at ((joined_parts x h n twelve apart.start says.inner).1 j lt ∙ sym (there.sound j lt))
 
       by_place : (i < h.inner.at) ⊎ (h.inner.at + 4 ≤ i) → (i < h.start - 4) ⊎ (h.start - 4 + 4 ≤ i) → is_in_field h.outer i ≡ false → is_in_field h.side i ≡ false → (h.inner.size ≡ 4) ⊎ (h.inner.size ≡ 12) → get_or x i 0 ≡ get_or b i 0
-      by_place (inl early) last outer side sizes = says.beside i early outer side
+      by_place (inl early) last outer side sizes = says.beside i before (out_of_fields h i (outside h.inner.at h.inner.size i (inl early)) outer side)
       by_place (inr late) (inr behind) outer side sizes = absurd (omega arith)
       by_place (inr late) (inl first) outer side (inl four) = absurd (omega (arith, four, apart.start))
       by_place (inr late) (inl first) outer side (inr twelve) = in_middle twelve (i - (h.start - 8)) (omega (arith, twelve, apart.start)) (omega (arith, twelve, apart.start))
 
   size_read : number Little x (h.start - 4) 4 ≡ data_bytes h.params n
   size_read = has_number Little x (h.start - 4) (data_bytes h.params n) (data_size x h n there.sizes apart.start says.inner) may.few
-
-  riff_read : number Little x 4 4 ≡ riff_size h.start (data_bytes h.params n)
-  unfolding outer_value
-  riff_read = has_number Little x 4 (riff_size h.start (data_bytes h.params n)) says.outer (omega arith)
 
   module _ (h' : Shape) (is : wave_layout x ≡ Ok h') (agrees : SameHead h h') where
     numbers : (h'.declared ≡ number Little x (h'.start - 4) 4) × (h'.inner.size ≡ 12 → count_of x ≡ Some (number Little x h'.inner.at 4))
@@ -214,7 +217,7 @@ module _ (b x : List ℕ) (h : Shape) (n : ℕ) (may : MayBeCounted b h n) (says
         ap (λ k. padded_end h'.start k) all ∙ ap (λ k. padded_end k (data_bytes h.params n)) agrees.start
 
     ends : outer_end x ≤ padded_data_end h' (length x)
-    ends = omega (arith, data_reach, riff_read, apart.inner, apart.start)
+    ends = omega (arith, data_reach, says.ends)
 
     trailing : h'.trailing ≡ false
     trailing = trailing_is_stated x h' is ∙ le-ltb (padded_data_end h' (length x)) (outer_end x) ends
@@ -237,6 +240,15 @@ says_so b x h n may says =
     let agreed = layouts_agree x b h may.opened (omega (arith, says.long)) (same b x h n may says apart there) in
     agreed.1 ∙ ap (λ (s : Shape). Ok s) (shape_is b x h n may says apart there agreed.0 agreed.1 agreed.2)
 
+pub new_count_reads_back : NewCountReadsBack
+new_count_reads_back b x h n may keeps inner long ends = says_so b x h n may (record { inner = inner; beside = keeps; long = long; ends = ends })
+
+pub outer_reaches : OuterReaches
+unfolding outer_value
+outer_reaches x h n early has =
+    let read : number Little x 4 4 ≡ riff_size h.start (data_bytes h.params n) = has_number Little x 4 (riff_size h.start (data_bytes h.params n)) has (omega arith) in
+    omega (arith, read, early)
+
 -- what is put into the three fields stands there
 length-put_in : (side : Option Field) (v y : List ℕ) → IfSome side (λ field. field.at + length v ≤ length y) → length (put_in side v y) ≡ length y
 length-put_in None v y within = refl
@@ -251,6 +263,15 @@ side_within : (side : Option Field) (n limit : ℕ) → IfSome side (λ field. (
     → length (put_in side (count_bytes side n) y) ≡ length y
 side_within None n limit stands y within = refl
 side_within (Some field) n limit stands y within = length-field y (bytes_of Little 4 n) field.at (omega (arith, stands.2, within))
+
+side_in : (side : Option Field) (n limit : ℕ) (y : List ℕ) → IfSome side (λ field. (field.size ≡ 4) × (20 ≤ field.at) × (field.at + 4 ≤ limit)) → limit ≤ length y
+    → IfSome side (λ field. HasAt (put_in side (count_bytes side n) y) field.at (count_bytes side n))
+side_in None n limit y stands within = tt
+side_in (Some field) n limit y stands within = λ j lt. field_in y (bytes_of Little 4 n) field.at j (omega (arith, stands.2, within)) lt
+
+side_fills : (side : Option Field) (n limit : ℕ) → IfSome side (λ field. (field.size ≡ 4) × (20 ≤ field.at) × (field.at + 4 ≤ limit)) → IfSome side (λ field. length (count_bytes side n) ≡ field.size)
+side_fills None n limit stands = tt
+side_fills (Some field) n limit stands = length-bytes_of Little 4 n ∙ sym stands.0
 
 side_early : (side : Option Field) (limit i : ℕ) → IfSome side (λ field. (field.size ≡ 4) × (20 ≤ field.at) × (field.at + 4 ≤ limit)) → (i < 20) ⊎ (limit ≤ i) → (field : Field) → side ≡ Some field → (i < field.at) ⊎ (field.at + 4 ≤ i)
 side_early None limit i stands place field is = absurd (cc)
@@ -317,25 +338,43 @@ module _ (b : List ℕ) (h : Shape) (n : ℕ) (apart : FieldsStandApart h) (ther
       value_at (4 + j) (side_early h.side h.inner.at (4 + j) apart.side (inl (omega (arith, outer_long, lt))))
       ∙ field_in first (outer_value h n) 4 j outer_fits lt
 
-  beside_there : (i : ℕ) → i < h.inner.at → is_in_field h.outer i ≡ false → is_in_field h.side i ≡ false → get_or (with_values b h n) i 0 ≡ get_or b i 0
-  beside_there i early outer side =
-      let out : is_in 4 4 i ≡ false = rw apart.outer at outer in
+  side_there : IfSome h.side (λ field. HasAt (with_values b h n) field.at (side_value h n))
+  unfolding side_value
+  side_there = rw values_are (side_in h.side n h.inner.at second apart.side (omega (arith, second_long, apart.start, there.within)))
+
+  beside_there : (i : ℕ) → is_in_fields h i ≡ false → get_or (with_values b h n) i 0 ≡ get_or b i 0
+  beside_there i none =
+      let one = or_parts (is_in_field (Some h.inner) i || is_in_field h.outer i) (is_in_field h.side i) none in
+      let two = or_parts (is_in_field (Some h.inner) i) (is_in_field h.outer i) one.0 in
+      let out : is_in 4 4 i ≡ false = rw apart.outer at two.1 in
+      let beside : (i < h.inner.at) ⊎ (h.inner.at + length (inner_value h n) ≤ i) = elim (apart_of h.inner.at h.inner.size i two.0) [ inl before ↦ inl before | inr behind ↦ inr (omega (arith, inner_long, behind)) ] in
       let place : (i < 4) ⊎ (4 + length (outer_value h n) ≤ i) = elim (apart_of 4 4 i out) [ inl before ↦ inl before | inr behind ↦ inr (omega (arith, outer_long)) ] in
-      value_at i (side_out h.side h.inner.at i apart.side side)
+      value_at i (side_out h.side h.inner.at i apart.side one.1)
       ∙ field_out first (outer_value h n) 4 i outer_fits place
-      ∙ field_out b (inner_value h n) h.inner.at i inner_fits (inl early)
+      ∙ field_out b (inner_value h n) h.inner.at i inner_fits beside
 
 pub counted_reads_back : CountedReadsBack
 counted_reads_back b x h n may same long =
     let apart : FieldsStandApart h = fields_are_apart b h may.opened in
     let there : StandsIn b h = stands b h may.opened in
     let inner_long = length-inner_value h n there.sizes in
-    says_so b x h n may (record {
-      inner = λ j lt. same (h.inner.at + j) (omega (arith, inner_long, apart.start, lt)) ∙ inner_there b h n apart there j lt;
-      outer = λ j lt. same (4 + j) (omega (arith, outer_long b h n apart there, apart.inner, apart.start, lt)) ∙ outer_there b h n apart there j lt;
-      beside = λ i early outer side. same i (omega (arith, apart.start)) ∙ beside_there b h n apart there i early outer side;
-      long = long;
-    })
+    let outer : HasAt x 4 (outer_value h n) = λ j lt. same (4 + j) (omega (arith, outer_long b h n apart there, apart.inner, apart.start, lt)) ∙ outer_there b h n apart there j lt in
+    new_count_reads_back b x h n may (λ i lt out. same i lt ∙ beside_there b h n apart there i out)
+    (λ j lt. same (h.inner.at + j) (omega (arith, inner_long, apart.start, lt)) ∙ inner_there b h n apart there j lt) long
+    (outer_reaches x h n (omega (arith, apart.inner, apart.start)) outer)
+
+pub values_stand : ValuesStand
+values_stand b h n is =
+    let apart : FieldsStandApart h = fields_are_apart b h is in
+    let there : StandsIn b h = stands b h is in
+    record { inner = inner_there b h n apart there; outer = subst (λ (o : Option Field). IfSome o (λ field. HasAt (with_values b h n) field.at (outer_value h n))) (sym apart.outer) (outer_there b h n apart there); side = side_there b h n apart there }
+
+pub values_fill_fields : ValuesFillFields
+unfolding side_value
+values_fill_fields b h n is =
+    let apart : FieldsStandApart h = fields_are_apart b h is in
+    let there : StandsIn b h = stands b h is in
+    record { inner = inner_long b h n apart there; outer = subst (λ (o : Option Field). IfSome o (λ field. length (outer_value h n) ≡ field.size)) (sym apart.outer) (outer_long b h n apart there); side = side_fills h.side n h.inner.at apart.side }
 
 pub room_may_be_counted : RoomMayBeCounted
 room_may_be_counted b h n is good fits few early joined =

@@ -82,7 +82,7 @@ numbers_stand_before b h is =
 before_all : (chunks : List Chunk) → All (λ piece. piece.after ≡ false) (pieces_of false chunks)
 before_all chunks = All-map (λ (piece : Piece). piece.after ≡ false) (piece_of false) (filter (λ chunk. not (is_own chunk)) chunks) (λ k d lt. refl)
 
-none_behind : (b : List ℕ) (front : Front) (sound : Chunk) → outer_end b ≤ data_end b sound → wave_tail b front sound ≡ []
+pub none_behind : (b : List ℕ) (front : Front) (sound : Chunk) → outer_end b ≤ data_end b sound → wave_tail b front sound ≡ []
 none_behind b front sound reached = no_tail Little b (outer_end b) _ (data_end b sound) reached
 
 pub trailing_is_stated : TrailingIsStated

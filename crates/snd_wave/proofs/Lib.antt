@@ -6,6 +6,7 @@ pub mod Counted
 pub mod Counts
 pub mod Standing
 pub mod HeadValues
+pub mod Images
 pub mod Layouts
 pub mod Made
 pub mod MadeParts

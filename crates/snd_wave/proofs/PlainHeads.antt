@@ -1,9 +1,9 @@
 -- The head of a file without pieces and frames.
-use Rattle.std.proofs.Common.{◌≡◌, ℕ, ◌-◌, Bool, true, false, List, [], ◌++◌, Option, None, Some, length, refl, sym, ap, ◌∙◌, append_assoc}
+use Rattle.std.proofs.Common.{◌≡◌, ℕ, ◌-◌, Bool, true, false, List, [], ◌++◌, Option, None, Some, length, take, refl, sym, ap, ◌∙◌, append_assoc}
 use Rattle.std.proofs.lemmas.List.{append-nil}
 use Rattle.std.specs.Prelude.{codes, option_map}
 use Rattle.snd_chunks.specs.Written.{chunk_bytes, chunks_bytes, head_bytes, pad}
-use Rattle.snd_disk.specs.State.{IsMeant, State}
+use Rattle.snd_disk.specs.State.{IsCut, IsMeant, State}
 use Rattle.snd_fields.specs.Field.{bytes_of}
 use Rattle.snd_fields.specs.declared.field.Order.TheVariants.{Little}
 use Rattle.snd_layout.specs.Fit.{fit_refusal}
@@ -124,15 +124,15 @@ plain_shape p start inner side pieces good fits at inner_is side_is none =
     ∙ same_shape p start (head_size p []) 0 0 (data_bytes p 0) inner _ side _ false false pieces (made_pieces p []) size refl
     (inner_is ∙ ap (inner_at p.codec) size) (side_is ∙ ap (side_at p.codec) size) refl (none ∙ sym (no_pieces_yet p))
 
-option_twice : (o : Option (List ℕ)) (x y : List ℕ) → option_map (λ (b : List ℕ). y) (option_map (λ (b : List ℕ). x) o) ≡ option_map (λ (b : List ℕ). y) o
-option_twice None x y = refl
-option_twice (Some b) x y = refl
+option_twice : (o : Option (List ℕ)) (meant : List ℕ → List ℕ) (y : List ℕ) → option_map (λ (b : List ℕ). y) (option_map meant o) ≡ option_map (λ (b : List ℕ). y) o
+option_twice None meant y = refl
+option_twice (Some b) meant y = refl
 
 -- a write of all behind a cut of all
-pub laid : (old mid new : State) (bytes : List ℕ) → IsMeant 0 (λ b. []) old mid → IsMeant (length bytes) (λ b. bytes) mid new → IsMeant (length bytes) (λ b. bytes) old new
+pub laid : (old mid new : State) (bytes : List ℕ) → IsCut 0 old mid → IsMeant (length bytes) (λ b. bytes) mid new → IsMeant (length bytes) (λ b. bytes) old new
 laid old mid new bytes cut put = record {
   size = put.size;
-  contents = put.contents ∙ ap (option_map (λ (b : List ℕ). bytes)) cut.contents ∙ option_twice old.contents [] bytes;
+  contents = put.contents ∙ ap (option_map (λ (b : List ℕ). bytes)) cut.contents ∙ option_twice old.contents (take 0) bytes;
   name = put.name ∙ cut.name;
 }
 

@@ -42,7 +42,7 @@ side_stands p (Some fact) sound stands = elim (cases_Bool (is_adpcm p.codec)) [
   | inr other ↦ rw other (refl, stands.behind, omega (arith, stands.before))
 ]
 
-stands_before : (b : List ℕ) (sound : Chunk) (reach : Reaches (chunk_at Little b) (codes "data") (length b) 257 12 (wave_front b).chunks sound) (fact : Option Chunk)
+pub stands_before : (b : List ℕ) (sound : Chunk) (reach : Reaches (chunk_at Little b) (codes "data") (length b) 257 12 (wave_front b).chunks sound) (fact : Option Chunk)
     → fact_chunk (wave_front b).chunks ≡ fact → IfSome fact (StandsBefore sound)
 stands_before b sound reach None found = tt
 stands_before b sound reach (Some fact) found =

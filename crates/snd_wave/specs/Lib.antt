@@ -4,6 +4,7 @@ pub mod Laws
 pub mod Values
 pub mod Written
 pub mod Sealed
+pub mod Images
 pub mod Put
 pub mod Relaid
 pub mod Changes

@@ -12,6 +12,7 @@ ghost use Rattle.snd_wave.specs.Put.{IsHeadOf};
 ghost use Rattle.snd_wave.specs.Written.{Becomes, IsLayCause, has_fact, inner_at, made_shape, new_fact, plain_start, side_at, wave_head};
 
 use crate::put::{put_all, put_chunk, put_number};
+use crate::steps::cut_to;
 use arrayvec::ArrayVec;
 use snd_disk::{Disk, Step};
 use snd_layout::{Codec, Field, Kind, Layout, OpenError, Params, PieceList, put_fmt};
@@ -126,22 +127,6 @@ fn plain_layout(alloc: Global, params: Params) -> Layout
     }
 }
 
-// Cuts a disk to nothing.
-fn cut_whole<D: Disk>(disk: &mut D) -> Result<(), Step>
-    ensures done { OnOk result (Becomes [] (D.state disk.old) (D.state disk.new)) }
-    ensures faults { CountsOn D.state disk.old disk.new result }
-    ensures name { (D.state disk.new).name ≡ (D.state disk.old).name }
-    ensures told { is_some (D.state disk.new).contents ≡ is_some (D.state disk.old).contents }
-    ensures time { GoesOnFrom D.state D.left_between disk.old disk.new }
-    ensures written { (D.state disk.new).written ≡ (D.state disk.old).written }
-    ensures asked { (D.state disk.new).asked ≡ (D.state disk.old).asked }
-{
-    let Ok(()) = disk.cut(0) else {
-        return Err(Step::Cut);
-    };
-    Ok(())
-}
-
 // Writes all bytes of an empty disk.
 fn fill<D: Disk>(disk: &mut D, bytes: &[u8]) -> Result<(), Step>
     requires empty { (D.state disk.old).size ≡ 0 }
@@ -171,7 +156,7 @@ fn write_whole<D: Disk>(disk: &mut D, bytes: &[u8]) -> Result<(), Step>
     ensures written { WritesAtMost D.state 2048 disk.old disk.new }
     ensures asked { (D.state disk.new).asked ≡ (D.state disk.old).asked }
 {
-    cut_whole(disk)?;
+    cut_to(disk, 0)?;
     fill(disk, bytes)?;
     Ok(())
 }

@@ -1,6 +1,7 @@
 //! The laws of WAVE files' layouts, proved of every file. The functions do nothing: their contracts are
 //! the laws.
 
+ghost use Rattle.snd_wave.specs.Images.{NewCountReadsBack, OldCountReadsBack, OuterReaches, OuterStops, SameOutsideDataReadsBack, ValuesFillFields, ValuesStand};
 ghost use Rattle.snd_wave.specs.Laws.{CountIsStated, FieldsAreApart, LayoutsAgree, NoPieceBehind, NumbersStandBefore, TrailingIsStated};
 ghost use Rattle.snd_wave.specs.Sealed.{CountedReadsBack, CutReadsBack, HeadIsCounted, RoomMayBeCounted, SealedReadsBack};
 ghost use Rattle.snd_wave.specs.Written.{HeadHasItsSize, HeadReadsBack, MadeHoldsAll, MadeInOneSector, MadeReadsBack};
@@ -55,4 +56,28 @@ pub fn counted_files_read_back()
     ensures cut { CutReadsBack }
     ensures room { RoomMayBeCounted }
     ensures head { HeadIsCounted }
+{}
+
+/// Where the field that decides the count has its old bytes, or those for a number of frames, and the
+/// others have any, the layout says the old frames, or so many: as long as the data are there, and the
+/// whole ends by them. Where only the data change, the layout stays, with all that stands behind them.
+#[tactic(auto, using(crate::proofs::Images::old_count_reads_back, crate::proofs::Counted::new_count_reads_back, crate::proofs::Images::same_outside_data_reads_back))]
+pub fn images_read_back()
+    ensures old { OldCountReadsBack }
+    ensures new { NewCountReadsBack }
+    ensures outside { SameOutsideDataReadsBack }
+{}
+
+/// The size of the whole that is that of a number of frames reaches no further than their data; and none
+/// does where a file does not go on behind its data.
+#[tactic(auto, using(crate::proofs::Counted::outer_reaches, crate::proofs::Images::outer_stops))]
+pub fn outer_reaches()
+    ensures reaches { OuterReaches }
+    ensures stops { OuterStops }
+{}
+
+/// A file that is brought up to a number of frames has their values in its fields, which they fill.
+pub fn values_stand()
+    ensures stand { ValuesStand }
+    ensures fill { ValuesFillFields }
 {}

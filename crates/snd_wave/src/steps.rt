@@ -12,8 +12,8 @@ use snd_disk::{Disk, Step};
 /// The place of the size of the whole.
 const SIZE_AT: u64 = 4;
 
-// Shortens a disk to a length.
-fn cut_to<D: Disk>(disk: &mut D, len: u64) -> Result<(), Step>
+/// Shortens a disk to a length.
+pub(crate) fn cut_to<D: Disk>(disk: &mut D, len: u64) -> Result<(), Step>
     requires { len ≤ (D.state disk.old).size }
     ensures done { OnOk result (IsCut len (D.state disk.old) (D.state disk.new)) }
     ensures faults { CountsOn D.state disk.old disk.new result }
