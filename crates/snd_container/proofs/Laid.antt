@@ -1,5 +1,5 @@
 -- A head that is laid, where the kind is known.
-use Rattle.std.proofs.Common.{◌≡◌, ℕ, List, [], length, Result, sym, subst}
+use Rattle.std.proofs.Common.{◌≡◌, [], length, Result, sym, subst}
 use Rattle.std.specs.Prelude.{OnOk}
 use Rattle.snd_disk.specs.State.{State, IsMeant}
 use Rattle.snd_layout.specs.Params.{Parameters}

@@ -1,6 +1,8 @@
 pub mod Blocks
 mod Fronts
 mod Heads
+pub mod Images
 mod Laid
-mod OfKinds
+pub mod Marks
+pub mod OfKinds
 pub mod Widths

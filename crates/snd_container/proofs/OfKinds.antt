@@ -7,10 +7,11 @@ use Rattle.snd_layout.specs.Shape.{Shape}
 use Rattle.snd_layout.specs.declared.error.OpenError.{OpenError}
 use Rattle.snd_layout.specs.declared.error.OpenError.TheVariants.{Refused}
 use Rattle.snd_layout.specs.declared.kind.Kind.{Kind}
-use Rattle.snd_layout.specs.declared.kind.Kind.TheVariants.{Rf64, W64, Au, Dns, Voc, Svx, Sphere}
+use Rattle.snd_layout.specs.declared.kind.Kind.TheVariants.{Wave, Rf64, W64, Au, Dns, Voc, Svx, Sphere}
 use Rattle.snd_layout.specs.declared.refusal.OpenRefusal.{OpenRefusal}
 use Rattle.snd_layout.specs.declared.refusal.OpenRefusal.TheVariants.{NotBuilt}
 use Rattle.snd_container.specs.Recognised.{recognised}
+use Rattle.snd_wave.specs.Layout.{wave_layout}
 use Rattle.snd_container.specs.Sound.{layout_as, layout_of, layout_of_kind}
 
 pub layout_by_kind : (b : List ℕ) (kind : Result Kind OpenRefusal) → recognised (take 40 b) ≡ kind → layout_of b ≡ layout_as kind b
@@ -53,3 +54,17 @@ pub refused_by : {D : Type 0} (state : D → State) (old : D) (r : Result Kind O
 refused_by state old r r' e is is' found =
     subst (λ (q : Result Shape OpenError). OpensAs state old layout_of q) (sym is')
     (λ refusal b by told. layout_by_kind b (Err refusal) (subst (λ (q : Result Kind OpenError). OpensAs state old (λ b. recognised (take 40 b)) q) is found refusal b by told))
+
+-- a file that has a layout is a WAVE file, the one kind that is built
+pub wave_only : (b : List ℕ) (h : Shape) → layout_of b ≡ Ok h → (recognised (take 40 b) ≡ Ok Wave) × (wave_layout b ≡ Ok h)
+unfolding layout_of
+wave_only b h is = by_kind (recognised (take 40 b)) refl is
+  where
+    by_kind : (r : Result Kind OpenRefusal) → recognised (take 40 b) ≡ r → layout_as r b ≡ Ok h → (recognised (take 40 b) ≡ Ok Wave) × (wave_layout b ≡ Ok h)
+    by_kind (Err refusal) found laid = absurd (cc)
+    by_kind (Ok Wave) found laid = (found, laid)
+    by_kind (Ok _) found laid = absurd (cc)
+
+pub of_wave : (b : List ℕ) (h : Shape) → recognised (take 40 b) ≡ Ok Wave → wave_layout b ≡ Ok h → layout_of b ≡ Ok h
+unfolding layout_of
+of_wave b h found is = ap (λ (r : Result Kind OpenRefusal). layout_as r b) found ∙ is

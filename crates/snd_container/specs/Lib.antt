@@ -1,3 +1,4 @@
+pub mod Images
 pub mod Made
 pub mod Put
 pub mod Recognised

@@ -1,4 +1,4 @@
-use Rattle.std.proofs.Common.{◌≡◌, ℕ, List, ap, length, arith, rules, subst, sym}
+use Rattle.std.proofs.Common.{◌≡◌, ap, length, arith, rules}
 use Rattle.snd_container.specs.Values.{inner_value}
 use Rattle.snd_container.proofs.Widths.{inner_value_fits, few_in_inner}
 use Rattle.snd_container.proofs.fields.inner_bytes.Goals as goal

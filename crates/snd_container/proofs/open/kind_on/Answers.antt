@@ -1,4 +1,4 @@
-use Rattle.std.proofs.Common.{rules, ap, subst, sym, ◌∙◌, ◌≡◌, Ok, Err}
+use Rattle.std.proofs.Common.{rules, ap, sym, ◌∙◌, ◌≡◌, Ok, Err}
 use Rattle.snd_container.specs.Recognised.{recognised}
 use Rattle.snd_container.proofs.Fronts.{front_of}
 use Rattle.snd_container.proofs.OfKinds.{refusal_found}
