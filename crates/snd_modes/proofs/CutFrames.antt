@@ -9,7 +9,8 @@ use Rattle.snd_container.specs.Sound.{decoded, decoded_as, linear_of, sound_byte
 use Rattle.snd_container.specs.Values.{HasRoomFor}
 use Rattle.snd_disk.specs.Bytes.{over}
 use Rattle.snd_container.specs.Values.{closing}
-use Rattle.snd_patch.specs.Sealed.{SameBesideFields, closed_end, counted, over_closing, shrunk}
+use Rattle.snd_patch.specs.Sealed.{SameBesideFields, counted, over_closing, shrunk}
+use Rattle.snd_container.specs.Images.{closed_end}
 use Rattle.snd_patch.proofs.Bytes.{take_before}
 use Rattle.snd_patch.proofs.Lists.{closing_same, shrunk_keeps}
 use Rattle.snd_modes.specs.Edits.{cut_off}
@@ -26,7 +27,7 @@ use Rattle.snd_modes.proofs.Sealing.{ends_before}
 use Rattle.snd_modes.proofs.SoundFrames.{frames_told, linear_bytes}
 
 -- the first frames of a sound
-front_decoded : (b : List ℕ) (h : Shape) (form : Linear) (n : ℕ) → linear_of h.params.codec ≡ Some form → 1 ≤ h.params.channels → n ≤ h.frames → end h h.frames ≤ length b → end h n ≤ length b
+pub front_decoded : (b : List ℕ) (h : Shape) (form : Linear) (n : ℕ) → linear_of h.params.codec ≡ Some form → 1 ≤ h.params.channels → n ≤ h.frames → end h h.frames ≤ length b → end h n ≤ length b
     → decoded h.params (take (data_bytes h.params n) (drop h.start b)) ≡ take n (decoded h.params (sound_bytes b h))
 front_decoded b h form n is some within fits fits' =
     let w = byte_count form in
@@ -71,7 +72,7 @@ cut_to_all k to is placed placed' =
     ∙ ap (λ (q : ℕ). made to (min k.place to) q) (let e : k.write_place ≡ min k.write_place to = omega (arith, is, placed') in e)
 
 -- all cut off behind what closes the data
-off_same : (b : List ℕ) (h : Shape) (n : ℕ) → SameBesideFields h n b (cut_off b h n)
+pub off_same : (b : List ℕ) (h : Shape) (n : ℕ) → SameBesideFields h n b (cut_off b h n)
 off_same b h n = λ i lt out. take_before (over_closing b h n) (closed_end h n) i (omega (arith, lt)) ∙ closing_same b h n i lt out
 
 pub off_decoded : (b : List ℕ) (h : Shape) → KeepsRule h → end h h.frames ≤ length b → end h h.frames ≤ length (cut_off b h h.frames)

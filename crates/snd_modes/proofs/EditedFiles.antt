@@ -14,18 +14,19 @@ use Rattle.snd_layout.specs.declared.error.OpenError.{OpenError}
 use Rattle.snd_layout.specs.declared.refusal.OpenRefusal.{OpenRefusal}
 use Rattle.snd_patch.proofs.Bytes.{over_beside, take_before}
 use Rattle.snd_patch.proofs.Lists.{closed_same, order_is_free, sealed_keeps, sealed_length, shrunk_keeps, shrunk_length}
-use Rattle.snd_patch.specs.Sealed.{FieldsLieApart, closed, closed_end, counted, over_closing, patched, sealed, sealed_size, shrunk, with_fewer, with_fields}
-use Rattle.snd_wave.proofs.Standing.{fields_are_apart}
+use Rattle.snd_patch.specs.Sealed.{FieldsLieApart, closed, counted, over_closing, patched, sealed, sealed_size, shrunk, with_fewer, with_fields}
+use Rattle.snd_container.specs.Images.{KeepsHead, closed_end}
 use Rattle.snd_modes.specs.Editing.{Editing, first_editing, moved_to, opening_as, opening_of}
 use Rattle.snd_modes.specs.Edits.{automatic_to, cut_off, moved_write_to, sealed_to}
-use Rattle.snd_modes.specs.Laws.{AutomaticReadsBack, HoldsFrames, IsEdited, KeepsHead, OpenedHoldsFrames, SealedReadsBack, UpdatedIsEdited, as_opened}
+use Rattle.snd_modes.specs.Laws.{AutomaticReadsBack, HoldsFrames, IsEdited, OpenedHoldsFrames, SealedReadsBack, UpdatedIsEdited, as_opened}
 use Rattle.snd_modes.specs.Updating.{updating_as, updating_of}
-use Rattle.snd_modes.proofs.FileRules.{LiesIn, lies_in, wave_only}
+use Rattle.snd_modes.proofs.FileRules.{LiesIn, lies_in}
 use Rattle.snd_modes.proofs.Opened.{update_ok}
 use Rattle.snd_modes.proofs.Opening.{count_opened, opening_ok}
 use Rattle.snd_modes.proofs.Rooms.{not_adpcm}
 use Rattle.snd_modes.proofs.SealedFrames.{sealed_decoded, sealed_no_less}
-use Rattle.snd_modes.proofs.SealedHeads.{apart_too, fields_read_back, lie_apart, recounted}
+use Rattle.snd_modes.proofs.ImageFields.{fields_lie_apart, recounted}
+use Rattle.snd_modes.proofs.SealedHeads.{fields_read_back}
 
 -- ---- a layout with another number of frames
 
@@ -60,10 +61,10 @@ counted_stays h is = ap (λ (t : Bool). record h { declared = cond t h.declared 
 pub sealed_same : (b : List ℕ) (h : Shape) (n : ℕ) → h.trailing ≡ true → sealed b h n ≡ b
 sealed_same b h n is = ap (λ (t : Bool). cond t b (patched (closed b h n) h n)) is
 
-longer_closed : (b : List ℕ) (h : Shape) (n : ℕ) → length b ≤ length (closed b h n)
+pub longer_closed : (b : List ℕ) (h : Shape) (n : ℕ) → length b ≤ length (closed b h n)
 longer_closed b h n = cond_both (nat_lt (length b) (closed_end h n)) (over_closing b h n) b (λ x. length b ≤ length x) (λ is. omega (arith, length-over b (end h n) (closing h n))) (λ other. omega arith)
 
-sealed_is : (b : List ℕ) (h : Shape) (n : ℕ) → KeepsRule h → FieldsLieApart h → h.trailing ≡ false → h.start ≤ length (closed b h n) → sealed b h n ≡ with_fields (closed b h n) h n
+pub sealed_is : (b : List ℕ) (h : Shape) (n : ℕ) → KeepsRule h → FieldsLieApart h → h.trailing ≡ false → h.start ≤ length (closed b h n) → sealed b h n ≡ with_fields (closed b h n) h n
 sealed_is b h n rule apart free long =
     let y = closed b h n in
     ap (λ (t : Bool). cond t b (patched y h n)) free
@@ -79,7 +80,7 @@ pub shrunk_kept : (file b : List ℕ) (h : Shape) (n : ℕ) → KeepsRule h → 
 shrunk_kept file b h n rule kept = λ i lt out. shrunk_keeps b h n rule i (omega (arith, lt)) out ∙ kept i lt out
 
 -- what stands before the data where all behind what closes these is cut off
-off_before : (b : List ℕ) (h : Shape) (n i : ℕ) → i < h.start → get_or (cut_off b h n) i 0 ≡ get_or b i 0
+pub off_before : (b : List ℕ) (h : Shape) (n i : ℕ) → i < h.start → get_or (cut_off b h n) i 0 ≡ get_or b i 0
 off_before b h n i lt = take_before (over_closing b h n) (closed_end h n) i (omega (arith, lt)) ∙ over_beside b (end h n) (closing h n) i (inl (omega (arith, lt)))
 
 pub off_kept : (file b : List ℕ) (h : Shape) (n : ℕ) → KeepsHead h file b → KeepsHead h file (cut_off b h n)
@@ -91,7 +92,7 @@ off_length b h n = length-take (closed_end h n) (over_closing b h n) ∙ omega (
 module _ (file : List ℕ) (head : Shape) (bytes : All IsByte file) (opened : layout_of file ≡ Ok head) (linear : is_none (linear_of head.params.codec) ≡ false)
     (h : Shape) (shape : h ≡ recounted head h.frames h.declared) (rule : KeepsRule h) (free : h.trailing ≡ false) (n : ℕ) (fits : data_bytes head.params n ≤ max (room head) head.declared) where
   apart : FieldsLieApart h
-  apart = subst FieldsLieApart (sym shape) (lie_apart (recounted head h.frames h.declared) (apart_too head h.frames h.declared (fields_are_apart file head (wave_only file head opened).1)))
+  apart = subst FieldsLieApart (sym shape) (fields_lie_apart file head h.frames h.declared opened).inner
 
   closed_kept : (b : List ℕ) → KeepsHead h file b → KeepsHead h file (closed b h n)
   closed_kept b kept = λ i lt out. closed_same b h n i (omega (arith, lt)) out ∙ kept i lt out
@@ -120,11 +121,11 @@ module _ (file : List ℕ) (head : Shape) (bytes : All IsByte file) (opened : la
 -- ---- where editing begins
 
 -- a state in which editing begins, and the layout of its file
-record Begins (b : List ℕ) (e : Editing) : Type 0 where
-  layout : Shape
-  opened : layout_of b ≡ Ok layout
-  linear : is_none (linear_of layout.params.codec) ≡ false
-  is : first_editing b layout ≡ e
+pub record Begins (b : List ℕ) (e : Editing) : Type 0 where
+  pub layout : Shape
+  pub opened : layout_of b ≡ Ok layout
+  pub linear : is_none (linear_of layout.params.codec) ≡ false
+  pub is : first_editing b layout ≡ e
 
 module _ (b : List ℕ) (e : Editing) where
   opening_begins : opening_of b ≡ Ok e → Begins b e
@@ -138,7 +139,7 @@ module _ (b : List ℕ) (e : Editing) where
         | inr other ↦ let same : ◌≡◌ {A = Result Editing OpenRefusal} (Ok (first_editing b s)) (Ok e) = rw other at given in record { layout = s; opened = found; linear = other; is = cc }
       ]
 
-  updating_begins : updating_of b ≡ Ok e → (from : Begins b e) × (from.layout.unknown_length ≡ false)
+  pub updating_begins : updating_of b ≡ Ok e → (from : Begins b e) × (from.layout.unknown_length ≡ false)
   unfolding updating_of
   updating_begins is = by_layout (layout_of b) refl is
     where

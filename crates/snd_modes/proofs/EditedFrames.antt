@@ -13,7 +13,8 @@ use Rattle.snd_layout.specs.declared.kind.Kind.TheVariants.{Wave}
 use Rattle.snd_chunks.specs.Written.{pad}
 use Rattle.snd_wave.specs.Values.{closing as wave_closing}
 use Rattle.snd_container.specs.Values.{closing_of_kind}
-use Rattle.snd_patch.specs.Sealed.{SameBesideFields, closed_end, counted, over_closing, sealed}
+use Rattle.snd_patch.specs.Sealed.{SameBesideFields, counted, over_closing, sealed}
+use Rattle.snd_container.specs.Images.{closed_end}
 use Rattle.snd_patch.proofs.Lists.{closing_same, sealed_keeps}
 use Rattle.snd_pcm.specs.Groups.{first_groups, groups}
 use Rattle.snd_pcm.specs.Pcm.{InRange, byte_count, samples, samples_bytes}

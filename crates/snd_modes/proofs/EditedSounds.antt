@@ -1,36 +1,44 @@
 -- The sound of an edited file that is sealed.
-use Rattle.std.proofs.Common.{◌≡◌, ◌∙◌, ap, sym, subst, ℕ, ◌≤◌, ℤ, Bool, false, cond, List, None, Ok, Err, length, map, arith}
+use Rattle.std.proofs.Common.{◌≡◌, ◌∙◌, ap, sym, subst, ℕ, ◌≤◌, ℤ, Bool, true, false, cond, List, None, Ok, Err, length, get_or, map, arith}
 use Rattle.std.specs.Prelude.{Result, is_none}
+use Rattle.snd_container.proofs.OfKinds.{wave_only}
 use Rattle.snd_container.specs.Sound.{Kept, Sound, decoded, kept_of, layout_of, linear_of, sound_bytes, sound_in, sound_of}
 use Rattle.snd_layout.specs.Fit.{fit_refusal}
-use Rattle.snd_layout.specs.Shape.{Shape}
+use Rattle.snd_layout.specs.Shape.{Shape, end}
 use Rattle.snd_layout.specs.declared.kind.Kind.{Kind}
 use Rattle.snd_layout.specs.declared.kind.Kind.TheVariants.{Wave}
 use Rattle.snd_layout.specs.declared.refusal.OpenRefusal.{OpenRefusal}
 use Rattle.snd_layout.specs.declared.refusal.OpenRefusal.TheVariants.{NotBuilt}
 use Rattle.snd_modes.specs.Editing.{Editing}
 use Rattle.snd_modes.specs.Edits.{sealed_to}
-use Rattle.snd_modes.specs.Laws.{IsEdited, KeepsHead, SealedSound}
+use Rattle.snd_modes.specs.Laws.{IsEdited, SealedSound}
+use Rattle.snd_container.specs.Images.{KeepsHead}
 use Rattle.snd_modes.proofs.EditedFiles.{lies_under, sealed_is_edited, sealed_told}
-use Rattle.snd_modes.proofs.FileRules.{wave_only}
 use Rattle.snd_modes.proofs.KeptPieces.{pieces_stay}
 use Rattle.snd_modes.proofs.Rooms.{not_adpcm}
 
--- the further chunks of an edited file
-edited_pieces : (file : List ℕ) (e : Editing) (ed : IsEdited file e) → map (kept_of e.bytes) ed.head.pieces ≡ map (kept_of file) ed.head.pieces
-edited_pieces file e ed =
+-- the further chunks of a file with the head of an edited one, and with its tail where it goes on behind its data
+pub image_pieces : (file : List ℕ) (e : Editing) (ed : IsEdited file e) (x : List ℕ) → e.shape.start ≤ length x → KeepsHead e.shape file x
+    → (e.shape.trailing ≡ true → (length x ≡ length file) × ((i : ℕ) → end ed.head ed.head.frames ≤ i → get_or x i 0 ≡ get_or file i 0)) → map (kept_of x) ed.head.pieces ≡ map (kept_of file) ed.head.pieces
+image_pieces file e ed x begins kept tail =
     let head = ed.head in
     let lies = lies_under file e ed in
     let fits : fit_refusal Wave head.params ≡ None = subst (λ (kind : Kind). fit_refusal kind head.params ≡ None) lies.kind lies.rule.fits in
-    let here : head.start ≤ length e.bytes = subst (λ (s : Shape). s.start ≤ length e.bytes) ed.shape (let le : e.shape.start ≤ length e.bytes = omega (arith, ed.holds.held) in le) in
-    let kept : KeepsHead (record head { frames = e.shape.frames; declared = e.shape.declared }) file e.bytes = subst (λ (s : Shape). KeepsHead s file e.bytes) ed.shape ed.kept in
-    pieces_stay e.bytes file head (wave_only file head ed.opened).1 (not_adpcm head.params.codec ed.linear) lies.params fits here kept
-    (λ goes_on. let tail = ed.stays (ap (λ (s : Shape). s.trailing) ed.shape ∙ goes_on) in (tail.size, tail.behind))
+    let here : head.start ≤ length x = subst (λ (s : Shape). s.start ≤ length x) ed.shape begins in
+    let kept_too : KeepsHead (record head { frames = e.shape.frames; declared = e.shape.declared }) file x = subst (λ (s : Shape). KeepsHead s file x) ed.shape kept in
+    pieces_stay x file head (wave_only file head ed.opened).1 (not_adpcm head.params.codec ed.linear) lies.params fits here kept_too
+    (λ goes_on. tail (ap (λ (s : Shape). s.trailing) ed.shape ∙ goes_on))
 
-abbrev sound_with : List ℕ → Shape → List (List ℤ) → Result Sound OpenRefusal
+-- .. and so of an edited file
+pub edited_pieces : (file : List ℕ) (e : Editing) (ed : IsEdited file e) → map (kept_of e.bytes) ed.head.pieces ≡ map (kept_of file) ed.head.pieces
+edited_pieces file e ed =
+    image_pieces file e ed e.bytes (let le : e.shape.start ≤ length e.bytes = omega (arith, ed.holds.held) in le) ed.kept
+    (λ goes_on. let tail = ed.stays goes_on in (tail.size, tail.behind))
+
+abbrev pub sound_with : List ℕ → Shape → List (List ℤ) → Result Sound OpenRefusal
 sound_with x s frames = Ok (record { kind = s.kind; params = s.params; frames = frames; pieces = map (kept_of x) s.pieces })
 
-sound_by : (x : List ℕ) (s : Shape) → layout_of x ≡ Ok s → is_none (linear_of s.params.codec) ≡ false → sound_of x ≡ sound_with x s (decoded s.params (sound_bytes x s))
+pub sound_by : (x : List ℕ) (s : Shape) → layout_of x ≡ Ok s → is_none (linear_of s.params.codec) ≡ false → sound_of x ≡ sound_with x s (decoded s.params (sound_bytes x s))
 sound_by x s is linear = ap (sound_in x) is ∙ ap (λ (t : Bool). cond t (Err NotBuilt) (sound_with x s (decoded s.params (sound_bytes x s)))) linear
 
 pub sealed_sound : SealedSound

@@ -1,33 +1,29 @@
 -- The steps of editing keep what an edited file owes the file that was opened or made.
-use Rattle.std.proofs.Common.{◌≡◌, ◌⊎◌, ◌∙◌, ap, sym, subst, refl, inl, inr, ⊎_elim, ℕ, ◌+◌, ◌*◌, ◌/◌, ◌^◌, ◌<◌, ◌≤◌, ℤ, Bool, true, false, ◌||◌, cond, List, None, Ok, length, take, get_or, max, arith}
+use Rattle.std.proofs.Common.{◌≡◌, ◌⊎◌, ◌∙◌, ap, sym, subst, refl, inl, inr, ⊎_elim, ℕ, ◌+◌, ◌*◌, ◌/◌, ◌^◌, ◌<◌, ◌≤◌, ℤ, Bool, true, false, ◌||◌, cond, List, Ok, length, take, get_or, max, arith}
 use Rattle.std.specs.Prelude.{nat_lt}
 use Rattle.std.proofs.lemmas.Bool.{cases_Bool, cases_lt, cond_both, le-ltb, ltb-true}
 use Rattle.std.proofs.lemmas.List.{length-take}
+use Rattle.snd_container.proofs.Images.{same_outside_data_reads_back}
 use Rattle.snd_container.specs.Sound.{layout_of}
 use Rattle.snd_container.specs.Values.{closing}
 use Rattle.snd_disk.proofs.Lists.{length-over}
-use Rattle.snd_layout.specs.Fit.{fit_refusal}
 use Rattle.snd_layout.specs.Params.{AreParams, data_bytes}
 use Rattle.snd_layout.specs.Shape.{KeepsRule, Shape, end, room}
-use Rattle.snd_layout.specs.declared.kind.Kind.{Kind}
 use Rattle.snd_layout.specs.declared.kind.Kind.TheVariants.{Voc, Wave}
 use Rattle.snd_patch.proofs.Bytes.{over_beside}
-use Rattle.snd_patch.proofs.Lists.{closing_same, shrunk_length}
-use Rattle.snd_patch.specs.Sealed.{closed_end, counted, over_closing, sealed, shrunk}
+use Rattle.snd_patch.proofs.Lists.{shrunk_length}
+use Rattle.snd_patch.specs.Sealed.{counted, over_closing, sealed, shrunk}
+use Rattle.snd_container.specs.Images.{KeepsHead, closed_end}
 use Rattle.snd_pcm.specs.Groups.{groups}
-use Rattle.snd_wave.proofs.Standing.{fields_are_apart}
 use Rattle.snd_modes.specs.Editing.{Editing}
 use Rattle.snd_modes.specs.Edits.{closed_behind, coded, count_written, cut_to, over_data, put_frames, sealed_to, trimmed, trimmed_to, truncated_to, written_bytes, written_shape}
-use Rattle.snd_modes.specs.Laws.{HoldsFrames, IsEdited, KeepsHead, LeadsToEdited, MayTruncate, ReachedIsEdited, begins, goes_on, reads, seals, seeks, seeks_to_write, sets_automatic, trims, truncates, writes}
+use Rattle.snd_modes.specs.Laws.{HoldsFrames, IsEdited, LeadsToEdited, MayTruncate, ReachedIsEdited, begins, goes_on, reads, seals, seeks, seeks_to_write, sets_automatic, trims, truncates, writes}
 use Rattle.snd_modes.specs.WriteCalls.{MayWrite}
 use Rattle.snd_modes.proofs.CutFrames.{cut_decoded, may_count_fewer, off_decoded}
 use Rattle.snd_modes.proofs.EditedFiles.{automatic_edited, begins_early, counted_rule, counted_stays, is_known, is_linear, lies_under, moved_edited, moved_write_edited, off_kept, off_length, sealed_is_edited, sealed_kept, sealed_long, sealed_same, sealed_says, shrunk_kept, shrunk_says, some_channel, trimmed_says, updated_is_edited}
 use Rattle.snd_modes.proofs.EditedFrames.{CanPut, end_max, whole_frames, written_count, written_end, written_sound}
-use Rattle.snd_modes.proofs.FileRules.{of_wave, wave_only}
 use Rattle.snd_modes.proofs.Rooms.{may_count}
-use Rattle.snd_modes.proofs.SameLayouts.{data_are_free}
 use Rattle.snd_modes.proofs.SealedFrames.{sealed_decoded}
-use Rattle.snd_modes.proofs.SealedHeads.{recognised_too}
 use Rattle.snd_modes.proofs.Sealing.{ends_before}
 
 module _ (file : List ℕ) (e : Editing) (ed : IsEdited file e) where
@@ -45,15 +41,20 @@ module _ (file : List ℕ) (e : Editing) (ed : IsEdited file e) where
 
   -- ---- frames cut off
 
-  cut_edited : (to : ℕ) → to < h.frames → h.trailing ≡ false → IsEdited file (cut_to to e)
+  -- the data of fewer frames are there, and have room
+  pub may_cut : (to : ℕ) → to < h.frames → (end h to ≤ length e.bytes) × (data_bytes ed.head.params to ≤ max (room ed.head) ed.head.declared)
+  may_cut to fewer =
+      let before : end h to ≤ end h h.frames = ends_before h to h.frames (is_linear file e ed) (omega (arith, fewer)) in
+      (omega (arith, before, ed.holds.held), omega (arith, before, data_is to, data_is h.frames, ed.in_room))
+
+  pub cut_edited : (to : ℕ) → to < h.frames → h.trailing ≡ false → IsEdited file (cut_to to e)
   cut_edited to fewer free =
       let linear = is_linear file e ed in
       let known = is_known file e ed in
       let within : to ≤ h.frames = omega (arith, fewer) in
-      let before : end h to ≤ end h h.frames = ends_before h to h.frames linear within in
-      let there : end h to ≤ length e.bytes = omega (arith, before, ed.holds.held) in
+      let there = (may_cut to fewer).0 in
       let size : length (shrunk e.bytes h to) ≡ closed_end h to = shrunk_length e.bytes h to ed.rule there in
-      let few : data_bytes ed.head.params to ≤ max (room ed.head) ed.head.declared = omega (arith, before, data_is to, data_is h.frames, ed.in_room) in
+      let few = (may_cut to fewer).1 in
       record {
         head = ed.head;
         bytes = ed.bytes;
@@ -104,7 +105,7 @@ module _ (file : List ℕ) (e : Editing) (ed : IsEdited file e) where
       }
 
   -- a WAVE file is trimmed where it does not go on behind its data
-  is_free : (h.trailing ≡ true → h.kind ≡ Voc) → h.trailing ≡ false
+  pub is_free : (h.trailing ≡ true → h.kind ≡ Voc) → h.trailing ≡ false
   is_free may = elim (cases_Bool h.trailing) [
     | inl trailing ↦ absurd (let voc : h.kind ≡ Voc = may trailing in let both : Wave ≡ Voc = sym kind_is ∙ voc in cc)
     | inr free ↦ free
@@ -164,13 +165,13 @@ module _ (file : List ℕ) (e : Editing) (ed : IsEdited file e) (xs : List ℤ) 
   whole : length xs ≡ s.params.channels * k
   whole = whole_frames (length xs) s.params.channels k (some_channel file e ed) may.frames.whole refl
 
-  grows : (n ≡ s.frames) ⊎ (data_bytes s.params n ≤ room s)
+  pub grows : (n ≡ s.frames) ⊎ (data_bytes s.params n ≤ room s)
   grows = elim (cases_lt s.frames (w + k)) [
     | inl lt ↦ let last : w + k ≡ n = omega (arith, lt) in inr (subst (λ (m : ℕ). data_bytes s.params m ≤ room s) last (may.in_room lt))
     | inr le ↦ inl (omega (arith, le))
   ]
 
-  stays : s.trailing ≡ true → n ≡ s.frames
+  pub stays : s.trailing ≡ true → n ≡ s.frames
   stays trailing = elim (cases_lt s.frames (w + k)) [
     | inl lt ↦ absurd (let free : s.trailing ≡ false = may.free lt in cc)
     | inr le ↦ omega (arith, le)
@@ -179,7 +180,7 @@ module _ (file : List ℕ) (e : Editing) (ed : IsEdited file e) (xs : List ℤ) 
   ends : end s n + 8 ≤ 2 ^ 63
   ends = (may_count s n ed.rule (is_linear file e ed) (is_known file e ed) (begins_early file e ed) grows).1
 
-  last_end : end s w + length (coded s.params xs) ≡ end s (w + k)
+  pub last_end : end s w + length (coded s.params xs) ≡ end s (w + k)
   last_end = written_end s xs w k (is_linear file e ed) whole
 
   put_length : length put ≡ max (length e.bytes) (end s (w + k))
@@ -188,22 +189,25 @@ module _ (file : List ℕ) (e : Editing) (ed : IsEdited file e) (xs : List ℤ) 
   put_there : end s n ≤ length put
   put_there = omega (arith, put_length, end_max s s.frames (w + k), ed.holds.held)
 
-  shut_longer : length put ≤ length shut
+  pub shut_longer : length put ≤ length shut
   shut_longer = cond_both (nat_lt s.frames n) (over_closing put s n) put (λ x. length put ≤ length x) (λ is. omega (arith, length-over put (end s n) (closing s n))) (λ other. omega arith)
 
-  shut_there : end s n ≤ length shut
+  pub shut_there : end s n ≤ length shut
   shut_there = omega (arith, put_there, shut_longer)
 
   -- what stands before the data stays
   put_before : (i : ℕ) → i < s.start → get_or put i 0 ≡ get_or e.bytes i 0
   put_before i lt = over_beside e.bytes (end s w) (coded s.params xs) i (inl (omega (arith, lt)))
 
-  shut_kept : KeepsHead s file shut
-  shut_kept = λ i lt out.
-      cond_both (nat_lt s.frames n) (over_closing put s n) put (λ x. get_or x i 0 ≡ get_or put i 0) (λ is. closing_same put s n i (omega (arith, lt)) out) (λ other. refl)
-      ∙ put_before i lt ∙ ed.kept i lt out
+  pub shut_before : (i : ℕ) → i < s.start → get_or shut i 0 ≡ get_or e.bytes i 0
+  shut_before i lt =
+      cond_both (nat_lt s.frames n) (over_closing put s n) put (λ x. get_or x i 0 ≡ get_or put i 0) (λ is. over_beside put (end s n) (closing s n) i (inl (omega (arith, lt)))) (λ other. refl)
+      ∙ put_before i lt
 
-  few : data_bytes ed.head.params n ≤ max (room ed.head) ed.head.declared
+  pub shut_kept : KeepsHead s file shut
+  shut_kept = λ i lt out. shut_before i lt ∙ ed.kept i lt out
+
+  pub few : data_bytes ed.head.params n ≤ max (room ed.head) ed.head.declared
   few = ⊎_elim (λ same. subst (λ (m : ℕ). data_bytes ed.head.params m ≤ max (room ed.head) ed.head.declared) (sym same) ed.in_room)
       (λ fits. omega (arith, fits, data_is file e ed n, room_is file e ed)) grows
 
@@ -220,15 +224,8 @@ module _ (file : List ℕ) (e : Editing) (ed : IsEdited file e) (xs : List ℤ) 
 
   put_says : s.trailing ≡ true → layout_of put ≡ Ok s
   put_says trailing =
-      let wave = wave_only e.bytes s (ed.told (inr trailing)) in
-      let fits : fit_refusal Wave s.params ≡ None = subst (λ (kind : Kind). fit_refusal kind s.params ≡ None) (kind_is file e ed) ed.rule.fits in
       let good : AreParams s.params = subst (λ (h : Shape). AreParams h.params) (sym ed.shape) (lies_under file e ed).params in
-      let long : length put ≡ length e.bytes = put_size trailing in
-      let apart = fields_are_apart e.bytes s wave.1 in
-      let begins : 16 ≤ s.start = omega (arith, apart.inner, apart.start) in
-      of_wave put s
-      (recognised_too put e.bytes (omega (arith, long, begins, ed.holds.held)) (omega (arith, begins, ed.holds.held)) (λ i place early. put_before i (omega (arith, early, begins))) wave.0)
-      (data_are_free put e.bytes s wave.1 good fits long put_before (put_behind trailing))
+      same_outside_data_reads_back e.bytes put s (ed.told (inr trailing)) good (put_size trailing) (λ i place. ⊎_elim (λ early. put_before i early) (λ late. put_behind trailing i late) place)
 
   shut_same : s.trailing ≡ true → shut ≡ put
   shut_same trailing = ap (λ (t : Bool). cond t (over_closing put s n) put) (le-ltb s.frames n (omega (arith, stays trailing)))
@@ -236,13 +233,17 @@ module _ (file : List ℕ) (e : Editing) (ed : IsEdited file e) (xs : List ℤ) 
   shut_says : s.trailing ≡ true → layout_of shut ≡ Ok s
   shut_says trailing = ap layout_of (shut_same trailing) ∙ put_says trailing
 
+  pub shut_size : s.trailing ≡ true → length shut ≡ length e.bytes
+  shut_size trailing = ap length (shut_same trailing) ∙ put_size trailing
+
+  pub shut_behind : s.trailing ≡ true → (i : ℕ) → end s s.frames ≤ i → get_or shut i 0 ≡ get_or e.bytes i 0
+  shut_behind trailing i behind = ap (λ (l : List ℕ). get_or l i 0) (shut_same trailing) ∙ put_behind trailing i behind
+
   shut_stays : s.trailing ≡ true → (length shut ≡ length file) × ((i : ℕ) → end ed.head ed.head.frames ≤ i → get_or shut i 0 ≡ get_or file i 0)
   shut_stays trailing =
       let tail = ed.stays trailing in
-      let same : end s s.frames ≡ end ed.head ed.head.frames = ap (λ (h : Shape). end h h.frames) tail.shape in (
-        ap length (shut_same trailing) ∙ put_size trailing ∙ tail.size,
-        λ i behind. ap (λ (l : List ℕ). get_or l i 0) (shut_same trailing) ∙ put_behind trailing i (omega (arith, same, behind)) ∙ tail.behind i behind,
-      )
+      let same : end s s.frames ≡ end ed.head ed.head.frames = ap (λ (h : Shape). end h h.frames) tail.shape in
+      (shut_size trailing ∙ tail.size, λ i behind. shut_behind trailing i (omega (arith, same, behind)) ∙ tail.behind i behind)
 
   sealed_said : layout_of (sealed shut s n) ≡ Ok (counted s n)
   sealed_said = elim (cases_Bool s.trailing) [
@@ -252,7 +253,7 @@ module _ (file : List ℕ) (e : Editing) (ed : IsEdited file e) (xs : List ℤ) 
   ]
 
   -- the state then, where each write seals the file or none does
-  abbrev then : Bool → Editing
+  abbrev pub then : Bool → Editing
   then t = record {
     bytes = written_bytes t e.bytes s w n xs;
     shape = written_shape t s n;
@@ -275,7 +276,7 @@ module _ (file : List ℕ) (e : Editing) (ed : IsEdited file e) (xs : List ℤ) 
     write_placed = omega (arith, frames);
   }
 
-  then_edited : (t : Bool) → IsEdited file (then t)
+  pub then_edited : (t : Bool) → IsEdited file (then t)
   then_edited true = record {
     head = ed.head;
     bytes = ed.bytes;

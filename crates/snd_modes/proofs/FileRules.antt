@@ -1,5 +1,5 @@
 -- What holds of the layout that a list of bytes gives.
-use Rattle.std.proofs.Common.{◌≡◌, ◌∙◌, ap, sym, refl, inl, inr, ℕ, zero, suc, ◌+◌, ◌*◌, ◌-◌, ◌^◌, ◌<◌, ◌≤◌, false, not, List, [], ◌∷◌, All, Option, None, Some, Ok, Err, length, take, drop, arith}
+use Rattle.std.proofs.Common.{◌≡◌, ◌∙◌, ap, sym, refl, inl, inr, ℕ, zero, suc, ◌+◌, ◌*◌, ◌-◌, ◌^◌, ◌<◌, ◌≤◌, false, not, List, [], ◌∷◌, All, Option, None, Some, Ok, Err, length, drop, arith}
 use Rattle.std.proofs.lemmas.Bool.{and_parts, cases_Bool, cases_lt, eqb-false, leb-true}
 use Rattle.std.proofs.lemmas.List.Elements.{All-cons, All-drop, All-nil, All-take, All-weaker}
 use Rattle.std.specs.Prelude.{◌==◌, IfSome, Result, codes, is_none, nat_le, option_map}
@@ -7,8 +7,8 @@ use Rattle.snd_chunks.proofs.Chains.{IsBetween, IsChain, IsHead, Reaches, find_h
 use Rattle.snd_chunks.specs.declared.chunk.Chunk.{Chunk}
 use Rattle.snd_chunks.specs.Chunks.{chunk_at, tail, tail_from}
 use Rattle.snd_chunks.specs.Walks.{EndsBy, IsSound}
-use Rattle.snd_container.specs.Recognised.{recognised}
-use Rattle.snd_container.specs.Sound.{layout_as, layout_of, linear_of}
+use Rattle.snd_container.proofs.OfKinds.{wave_only}
+use Rattle.snd_container.specs.Sound.{layout_of, linear_of}
 use Rattle.snd_fields.proofs.Numbers.{number_fits}
 use Rattle.snd_fields.specs.Field.{number}
 use Rattle.snd_fields.specs.Laws.{IsByte}
@@ -22,29 +22,14 @@ use Rattle.snd_layout.specs.Refusals.{first_refusal, refuse_if, unless}
 use Rattle.snd_layout.specs.Shape.{IsPlaced, KeepsRule, Shape, end}
 use Rattle.snd_layout.specs.declared.codec.Codec.{Codec}
 use Rattle.snd_layout.specs.declared.codec.Codec.TheVariants.{Ima, Ms}
-use Rattle.snd_layout.specs.declared.kind.Kind.{Kind}
 use Rattle.snd_layout.specs.declared.kind.Kind.TheVariants.{Wave}
 use Rattle.snd_layout.specs.declared.refusal.OpenRefusal.{OpenRefusal}
 use Rattle.snd_layout.specs.declared.refusal.OpenRefusal.TheVariants.{BadChannels, BadRate}
 use Rattle.snd_wave.proofs.Counts.{reached}
 use Rattle.snd_wave.proofs.Opens.{Opens, opens}
 use Rattle.snd_wave.proofs.Shapes.{counted_bytes, keeps_rule, pieces_end}
-use Rattle.snd_wave.specs.Layout.{body_of, fact_chunk, fact_count, has_id, held, is_fact, outer_end, wave_front, wave_layout, wave_shape, wave_tail}
+use Rattle.snd_wave.specs.Layout.{body_of, fact_chunk, fact_count, has_id, held, is_fact, outer_end, wave_front, wave_shape, wave_tail}
 use Rattle.snd_wave.specs.Parts.{IsFact}
-
--- a file that has a layout is a WAVE file, the one kind that is built
-pub wave_only : (b : List ℕ) (h : Shape) → layout_of b ≡ Ok h → (recognised (take 40 b) ≡ Ok Wave) × (wave_layout b ≡ Ok h)
-unfolding layout_of
-wave_only b h is = by_kind (recognised (take 40 b)) refl is
-  where
-    by_kind : (r : Result Kind OpenRefusal) → recognised (take 40 b) ≡ r → layout_as r b ≡ Ok h → (recognised (take 40 b) ≡ Ok Wave) × (wave_layout b ≡ Ok h)
-    by_kind (Err refusal) found laid = absurd (cc)
-    by_kind (Ok Wave) found laid = (found, laid)
-    by_kind (Ok _) found laid = absurd (cc)
-
-pub of_wave : (b : List ℕ) (h : Shape) → recognised (take 40 b) ≡ Ok Wave → wave_layout b ≡ Ok h → layout_of b ≡ Ok h
-unfolding layout_of
-of_wave b h found is = ap (λ (r : Result Kind OpenRefusal). layout_as r b) found ∙ is
 
 -- ---- the parameters that a format states
 

@@ -4,7 +4,7 @@ use Rattle.std.proofs.lemmas.Bool.{and_parts, cases_Bool, leb-true, ltb-false}
 use Rattle.std.proofs.lemmas.List.Elements.{All-append, All-cons, All-filter, All-head, All-map, All-nil, All-tail, All-weaker, filter_passes}
 use Rattle.std.proofs.lemmas.Slice.Eq.{bytes_eq-Decides}
 use Rattle.std.specs.List.{filter}
-use Rattle.std.specs.Prelude.{codes, nat_le, nat_lt}
+use Rattle.std.specs.Prelude.{codes, nat_le, nat_lt, option_map}
 use Rattle.snd_chunks.proofs.Chains.{IsApart, IsBetween, IsHead, Reaches, apart, find_has, in_order, is_head, no_tail, same_part}
 use Rattle.snd_chunks.specs.declared.chunk.Chunk.{Chunk}
 use Rattle.snd_chunks.specs.Chunks.{chunk_at, tail, tail_from}
@@ -17,12 +17,12 @@ use Rattle.snd_layout.specs.Params.{AreParams, Parameters}
 use Rattle.snd_layout.specs.Shape.{Shape, end}
 use Rattle.snd_layout.specs.declared.kind.Kind.TheVariants.{Wave}
 use Rattle.snd_layout.specs.declared.piece.Piece.{Piece}
-use Rattle.snd_patch.specs.Sealed.{is_in, is_in_fields, is_in_some}
+use Rattle.snd_container.specs.Images.{is_in, is_in_fields, is_in_some}
 use Rattle.snd_wave.proofs.Counts.{reached}
+use Rattle.snd_wave.proofs.Shapes.{counted_bytes}
 use Rattle.snd_wave.proofs.Opens.{Opens, opens}
-use Rattle.snd_wave.specs.Layout.{data_end, fact_chunk, has_id, inner_field, is_fact, is_own, outer_end, piece_of, pieces_of, side_field, wave_front, wave_layout, wave_shape, wave_tail}
+use Rattle.snd_wave.specs.Layout.{data_end, fact_chunk, fact_count, has_id, held, inner_field, is_fact, is_own, outer_end, piece_of, pieces_of, side_field, wave_front, wave_layout, wave_shape, wave_tail}
 use Rattle.snd_modes.proofs.FileRules.{tail_ends}
-use Rattle.snd_modes.proofs.SameLayouts.{frames_end}
 use Rattle.snd_modes.proofs.SealedHeads.{not_in, out_of_fields}
 
 -- ---- the bodies of pieces
@@ -133,6 +133,10 @@ bodies_behind x y limit n p few long same =
     same_part chunk.len chunk.at x y (omega (arith, ends, few, long)) (omega (arith, ends, few)) (λ i from to. same i (omega (arith, begins, from))))
 
 -- ---- all of them
+
+-- the data of the frames end with the data that the file holds
+frames_end : (b : List ℕ) (p : Parameters) (sound : Chunk) → AreParams p → fit_refusal Wave p ≡ None → end (wave_shape b (wave_front b) p sound) (wave_shape b (wave_front b) p sound).frames ≤ data_end b sound
+frames_end b p sound good fits = omega (arith, counted_bytes p (held (length b) sound) (option_map (fact_count b) (fact_chunk (wave_front b).chunks)) good fits)
 
 -- where the bytes before the data are those of a file, but for the fields, and behind them too where it goes on there
 pub pieces_stay : (x y : List ℕ) (h : Shape) → wave_layout y ≡ Ok h → is_adpcm h.params.codec ≡ false → AreParams h.params → fit_refusal Wave h.params ≡ None → h.start ≤ length x

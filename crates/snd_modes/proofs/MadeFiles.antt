@@ -1,14 +1,14 @@
 -- A file that is made is one that may be opened to be updated.
-use Rattle.std.proofs.Common.{◌≡◌, ◌∙◌, ap, sym, subst, refl, inl, inr, ℕ, ◌%◌, Bool, true, false, ◌&&◌, cond, List, [], ◌∷◌, ◌++◌, All, Option, None, Some, Ok, Err, length, take, arith}
-use Rattle.std.proofs.lemmas.Bool.{and_parts, cases_Bool, ltb-true}
+use Rattle.std.proofs.Common.{◌≡◌, ◌∙◌, ap, sym, subst, refl, inl, inr, ℕ, ◌%◌, Bool, true, false, cond, List, [], ◌∷◌, ◌++◌, All, Option, None, Some, Ok, Err, length, take, arith}
+use Rattle.std.proofs.lemmas.Bool.{cases_Bool}
 use Rattle.std.proofs.lemmas.List.{append-nil}
-use Rattle.std.proofs.lemmas.List.Elements.{All-append, All-cons, All-nil, All-replicate}
-use Rattle.std.specs.Prelude.{Result, codes, is_none, nat_lt}
+use Rattle.std.proofs.lemmas.List.Elements.{All-append, All-nil, All-replicate}
+use Rattle.std.specs.Prelude.{Result, codes, is_none}
 use Rattle.snd_chunks.specs.Written.{NewChunk, chunk_bytes, chunks_bytes, head_bytes, pad}
+use Rattle.snd_container.proofs.OfKinds.{of_wave}
 use Rattle.snd_container.specs.Made.{new_file, new_layout}
-use Rattle.snd_container.specs.Recognised.{is_form}
+use Rattle.snd_container.specs.Recognised.{is_form, recognised}
 use Rattle.snd_container.specs.Sound.{layout_of, linear_of}
-use Rattle.snd_fields.proofs.Numbers.{bytes_are_bytes}
 use Rattle.snd_fields.specs.Field.{bytes_of}
 use Rattle.snd_fields.specs.Laws.{IsByte}
 use Rattle.snd_fields.specs.declared.field.Order.TheVariants.{Little}
@@ -30,23 +30,11 @@ use Rattle.snd_modes.specs.Laws.{MadeIsEdited, MadeIsUpdated}
 use Rattle.snd_modes.specs.Making.{made_as, making_as, making_of}
 use Rattle.snd_modes.specs.Updating.{updating_of}
 use Rattle.snd_modes.proofs.EditedFiles.{updated_is_edited}
-use Rattle.snd_modes.proofs.FileRules.{of_wave}
 use Rattle.snd_modes.proofs.Opened.{update_ok}
 use Rattle.snd_modes.proofs.Rooms.{not_adpcm}
-use Rattle.snd_modes.proofs.SealedHeads.{wave_of_form}
+use Rattle.snd_modes.proofs.AreBytes.{from_test, number_bytes}
 
 -- ---- its bytes
-
-abbrev are_bytes : List ℕ → Bool
-are_bytes [] = true
-are_bytes (x ∷ xs) = nat_lt x 256 && are_bytes xs
-
-from_test : (xs : List ℕ) → are_bytes xs ≡ true → All IsByte xs
-from_test [] is = All-nil IsByte
-from_test (x ∷ xs) is = let parts = and_parts (nat_lt x 256) (are_bytes xs) is in All-cons IsByte x xs (ltb-true x 256 parts.0) (from_test xs parts.1)
-
-number_bytes : (k n : ℕ) → All IsByte (bytes_of Little k n)
-number_bytes k n = (bytes_are_bytes Little k n).1
 
 both : (xs ys : List ℕ) → All IsByte xs → All IsByte ys → All IsByte (xs ++ ys)
 both xs ys one two = All-append IsByte xs ys one two
@@ -134,6 +122,10 @@ no_pieces p good fits = record {
 form_of_head : (p : Parameters) → is_form (take 40 (wave_head p [])) (codes "RIFF") (codes "WAVE") ≡ true
 unfolding head_for riff_head
 form_of_head p = refl
+
+wave_of_form : (head : List ℕ) → is_form head (codes "RIFF") (codes "WAVE") ≡ true → recognised head ≡ Ok Wave
+unfolding recognised
+wave_of_form head form = rw form refl
 
 head_layout : (p : Parameters) → AreParams p → fit_refusal Wave p ≡ None → layout_of (wave_head p []) ≡ Ok (made_shape p [] 0)
 head_layout p good fits = of_wave (wave_head p []) (made_shape p [] 0) (wave_of_form (take 40 (wave_head p [])) (form_of_head p)) (head_reads_back p [] (no_pieces p good fits))

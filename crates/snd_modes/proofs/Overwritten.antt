@@ -8,7 +8,8 @@ use Rattle.snd_disk.specs.Bytes.{over}
 use Rattle.snd_layout.specs.Params.{data_bytes}
 use Rattle.snd_layout.specs.Shape.{EndsBy, KeepsRule, Shape, end}
 use Rattle.snd_layout.specs.declared.field.Field.{Field}
-use Rattle.snd_patch.specs.Sealed.{SameBesideFields, is_in, is_in_fields, is_in_some}
+use Rattle.snd_patch.specs.Sealed.{SameBesideFields}
+use Rattle.snd_container.specs.Images.{is_in, is_in_fields, is_in_some}
 use Rattle.snd_pcm.specs.Groups.{first_groups}
 use Rattle.snd_pcm.specs.Pcm.{InRange, byte_count, samples, samples_bytes}
 use Rattle.snd_pcm.specs.declared.linear.Linear.{Linear}
@@ -107,7 +108,7 @@ none_of : (s t u : Bool) → s ≡ false → t ≡ false → u ≡ false → (s 
 none_of s t u one two three = rw (one, two, three) refl
 
 -- no place of the data is one of the fields
-data_beside : (h : Shape) (i : ℕ) → KeepsRule h → h.start ≤ i → is_in_fields h i ≡ false
+pub data_beside : (h : Shape) (i : ℕ) → KeepsRule h → h.start ≤ i → is_in_fields h i ≡ false
 data_beside h i rule behind =
     none_of _ _ _ (out_of_field h.inner h.start i rule.inner_end behind) (out_of_some h.outer h.start i rule.outer_end behind) (out_of_some h.side h.start i rule.side_end behind)
 

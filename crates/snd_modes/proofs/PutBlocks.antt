@@ -97,7 +97,7 @@ none_written s at there told = record {
   name = refl;
 }
 
-bytes_of_none : (form : Linear) → samples_bytes form [] ≡ []
+pub bytes_of_none : (form : Linear) → samples_bytes form [] ≡ []
 unfolding samples_bytes
 bytes_of_none form = refl
 

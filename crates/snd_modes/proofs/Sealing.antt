@@ -9,7 +9,8 @@ use Rattle.snd_layout.specs.declared.field.Field.{Field}
 use Rattle.snd_layout.specs.declared.kind.Kind.{Kind}
 use Rattle.snd_layout.specs.declared.kind.Kind.TheVariants.{Voc}
 use Rattle.snd_container.specs.Values.{outer_value, side_value}
-use Rattle.snd_patch.specs.Sealed.{closed, closed_end, grown, over_closing, over_field, patched, sealed, with_fewer, with_fields, with_inner}
+use Rattle.snd_patch.specs.Sealed.{closed, grown, over_closing, over_field, patched, sealed, with_fewer, with_fields, with_inner}
+use Rattle.snd_container.specs.Images.{closed_end}
 use Rattle.snd_patch.specs.Steps.{Updates}
 use Rattle.snd_container.specs.Sound.{linear_of}
 use Rattle.snd_pcm.specs.Pcm.{byte_count, samples_bytes}

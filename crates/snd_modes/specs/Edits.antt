@@ -8,7 +8,8 @@ use Rattle.snd_pcm.specs.Groups.{groups}
 use Rattle.snd_pcm.specs.Pcm.{samples_bytes}
 use Rattle.snd_pcm.specs.declared.linear.Linear.{Linear}
 use Rattle.snd_container.specs.Sound.{linear_of}
-use Rattle.snd_patch.specs.Sealed.{closed_end, counted, over_closing, sealed, shrunk}
+use Rattle.snd_patch.specs.Sealed.{counted, over_closing, sealed, shrunk}
+use Rattle.snd_container.specs.Images.{closed_end}
 use Rattle.snd_modes.specs.Editing.{Editing}
 
 -- the bytes of the numbers of frames, a number for each channel in turn

@@ -8,7 +8,7 @@ use Rattle.snd_layout.specs.Params.{AreParams, Parameters, data_bytes}
 use Rattle.snd_layout.specs.Shape.{KeepsRule, Shape, end, room}
 use Rattle.snd_layout.specs.declared.kind.Kind.{Kind}
 use Rattle.snd_layout.specs.declared.kind.Kind.TheVariants.{Voc}
-use Rattle.snd_patch.specs.Sealed.{is_in_fields}
+use Rattle.snd_container.specs.Images.{KeepsHead}
 use Rattle.snd_modes.specs.Calls.{ReadLeaves, SeekLeaves}
 use Rattle.snd_modes.specs.Editing.{Editing, moved_by, moved_to, opening_of}
 use Rattle.snd_modes.specs.Edits.{automatic_to, moved_write_to, sealed_to, trimmed_to, truncated_to, written_to}
@@ -24,10 +24,6 @@ pub record HoldsFrames (e : Editing) : Type 0 where
   pub held : end e.shape e.shape.frames ≤ length e.bytes
   pub placed : e.place ≤ e.shape.frames
   pub write_placed : e.write_place ≤ e.shape.frames
-
--- before the data, every byte beside the fields of a layout is that of a file
-abbrev pub KeepsHead : Shape → List ℕ → List ℕ → Type 0
-KeepsHead h file x = (i : ℕ) → i < h.start → is_in_fields h i ≡ false → get_or x i 0 ≡ get_or file i 0
 
 -- the layout is that of a file, and so are the length and every byte behind the data
 pub record KeepsTail (file : List ℕ) (head : Shape) (e : Editing) : Type 0 where

@@ -7,7 +7,11 @@ pub mod Laws
 pub mod Loans
 pub mod Making
 pub mod Outcomes
+pub mod Putting
 pub mod Reading
+pub mod Rest
+pub mod Safe
+pub mod SafeLaws
 pub mod Updating
 pub mod WriteCalls
 pub mod Writing

@@ -1,15 +1,19 @@
 -- Bytes that are put on a disk by several calls, one of which may fail, and what is put when frames are written.
-use Rattle.std.specs.Prelude.{◌≡◌, ◌≢◌, ℕ, ◌*◌, ◌≤◌, Bool, List, ℤ, get_or, max, nat_lt, if◌then◌else◌}
+use Rattle.std.specs.Prelude.{◌≡◌, ◌≢◌, ℕ, ◌*◌, ◌≤◌, Bool, List, ℤ, Some, get_or, length, max, nat_lt, take, if◌then◌else◌}
 use Rattle.snd_disk.specs.Device.{GoesOnFrom, Tells, WritesAtMost}
 use Rattle.snd_disk.specs.Runs.{IsBeside}
 use Rattle.snd_disk.specs.State.{IsWritten, State}
+use Rattle.snd_fields.specs.declared.field.Order.TheVariants.{Little}
 use Rattle.snd_layout.specs.Params.{data_bytes}
 use Rattle.snd_layout.specs.Shape.{Shape}
+use Rattle.snd_layout.specs.declared.codec.Codec.{Codec}
 use Rattle.snd_layout.specs.declared.kind.Kind.TheVariants.{Voc}
-use Rattle.snd_patch.specs.Sealed.{closed_end}
+use Rattle.snd_container.specs.Sound.{linear_of}
+use Rattle.snd_container.specs.Images.{closed_end}
 use Rattle.snd_patch.specs.Steps.{StillTells}
 use Rattle.snd_pcm.specs.Pcm.{byte_count, samples_bytes}
 use Rattle.snd_pcm.specs.declared.linear.Linear.{Linear}
+use Rattle.snd_pcm.specs.declared.linear.Linear.TheVariants.{S16}
 
 -- every byte but the n from a place on is as it was, and no more than n were passed to writes
 pub record PutsAt {D : Type 0} (state : D → State) (left_between : D → ℕ → ℕ → List ℕ → Type 0) (at n : ℕ) (old new : D) : Type 0 where
@@ -26,6 +30,14 @@ PutsSamples state left_between form at count old new = PutsAt state left_between
 -- samples stand at a place
 abbrev pub HasWritten : {D : Type 0} → (D → State) → Linear → ℕ → List ℤ → D → D → Type 0
 HasWritten state form at xs old new = IsWritten at (samples_bytes form xs) (state old) (state new)
+
+-- where samples have 16 bits, the lowest byte first, and a block has room for them, they stand at its front; also where the
+-- codec gives their form
+abbrev pub HoldsEarly : Linear → List ℤ → List ℕ → Type 0
+HoldsEarly form xs block = form ≡ S16 Little → 2 * length xs ≤ length block → take (2 * length xs) block ≡ samples_bytes (S16 Little) xs
+
+abbrev pub HoldsCoded : Codec → List ℤ → List ℕ → Type 0
+HoldsCoded codec xs block = (form : Linear) → linear_of codec ≡ Some form → HoldsEarly form xs block
 
 -- the length, once what closes the data of n frames stands behind them, where these are more than there were
 abbrev pub closed_size : ℕ → Shape → ℕ → ℕ

@@ -6,7 +6,8 @@ ghost use Rattle.snd_layout.specs.declared.kind.Kind.TheVariants.{Voc};
 ghost use Rattle.snd_patch.specs.Steps.{Updates};
 ghost use Rattle.snd_modes.specs.Edits.{cut_to, trimmed_to, truncated_to, without_tail};
 ghost use Rattle.snd_modes.specs.Handle.{StandsAfter, disk_of, known_of, loan_of};
-ghost use Rattle.snd_modes.specs.Outcomes.{AsksNothing, CountsCall, KeepsFrames, KeepsFront, StandsOn, TellsOn, shrink_outcome};
+ghost use Rattle.snd_modes.specs.Outcomes.{AsksNothing, CountsCall, Done, KeepsFrames, KeepsFront, StandsOn, TellsOn, shrink_outcome};
+ghost use Rattle.snd_modes.specs.Rest.{CutsBehind, LeavesSafe, StaysAtRest};
 ghost use Rattle.snd_modes.specs.WriteCalls.{TrimLeaves, TruncateLeaves, known_cut, known_without_tail};
 
 use crate::error::ShrinkError;
@@ -27,11 +28,17 @@ impl<'d, D: Disk, M: CanShrink> File<'d, D, M> {
     /// frames, and `TrailingData` exactly where there are more and the file goes on behind its data: these
     /// leave all as it was. `DiskFault` where a call of the disk failed now: from then on the file is
     /// broken; what stands before the end of so many frames, beside the fields of the head, is as it was.
+    ///
+    /// Where the file is at rest, a crash at any moment of the call is as harmless as in `write_frames`, and
+    /// a call that succeeds leaves the file at rest.
     pub fn truncate(&mut self, to: u64) -> Result<(), ShrinkError>
         ensures loan { loan_of self.new ≡ loan_of self.old }
         ensures left { TruncateLeaves to (known_of self.old) (known_of self.new) result }
         ensures stands { StandsOn (shrink_outcome result) D.state self.old self.new (truncated_to to) }
         ensures stable { OnOk result (IsStable D.state D.may_leave (disk_of self.new)) }
+
+        ensures leaves { LeavesSafe D.Disk (shrink_outcome result) (truncated_to to) self.old self.new }
+        ensures rests { StaysAtRest D.Disk (shrink_outcome result) (truncated_to to) self.old self.new }
 
         ensures beside { KeepsFront D.state to self.old self.new }
         ensures tells { TellsOn D.state self.old self.new }
@@ -68,6 +75,7 @@ impl<'d, D: Disk, M: CanShrink> File<'d, D, M> {
         ensures left { MatchResult result (λ _. known_of self.new ≡ known_cut to (known_of self.old)) (λ step. known_of self.new ≡ record (known_of self.old) { broken = Some step }) }
         ensures stands { OnOk result (StandsAfter D.state self.old self.new (cut_to to)) }
         ensures stable { OnOk result (IsStable D.state D.may_leave (disk_of self.new)) }
+        ensures leaves { LeavesSafe D.Disk Done (cut_to to) self.old self.new }
 
         ensures beside { KeepsFront D.state to self.old self.new }
         ensures tells { TellsOn D.state self.old self.new }
@@ -98,11 +106,17 @@ impl<'d, D: Disk, M: CanShrink> File<'d, D, M> {
     /// behind its data and is not a Creative Voice file: these leave all as it was. `DiskFault` where a
     /// call of the disk failed now: from then on the file is broken; what stands before the end of the
     /// data, beside the fields of the head, is as it was.
+    ///
+    /// Where the file is at rest, a crash at any moment of the call is as harmless as in `write_frames`, and
+    /// a call that succeeds leaves the file at rest.
     pub fn trim(&mut self) -> Result<(), ShrinkError>
         ensures loan { loan_of self.new ≡ loan_of self.old }
         ensures left { TrimLeaves (known_of self.old) (known_of self.new) result }
         ensures stands { StandsOn (shrink_outcome result) D.state self.old self.new trimmed_to }
         ensures stable { OnOk result (IsStable D.state D.may_leave (disk_of self.new)) }
+
+        ensures leaves { LeavesSafe D.Disk (shrink_outcome result) trimmed_to self.old self.new }
+        ensures rests { StaysAtRest D.Disk (shrink_outcome result) trimmed_to self.old self.new }
 
         ensures beside { KeepsFrames D.state self.old self.new }
         ensures tells { TellsOn D.state self.old self.new }
@@ -131,6 +145,7 @@ impl<'d, D: Disk, M: CanShrink> File<'d, D, M> {
         ensures left { MatchResult result (λ _. known_of self.new ≡ known_without_tail (known_of self.old)) (λ step. known_of self.new ≡ record (known_of self.old) { broken = Some step }) }
         ensures stands { OnOk result (StandsAfter D.state self.old self.new without_tail) }
         ensures stable { OnOk result (IsStable D.state D.may_leave (disk_of self.new)) }
+        ensures leaves { CutsBehind D.Disk self.old self.new }
 
         ensures updates { Updates D.state D.left_between (known_of self.old).shape (known_of self.old).shape.frames 8 (disk_of self.old) (disk_of self.new) }
         ensures faults { CountsOn D.state (disk_of self.old) (disk_of self.new) result }

@@ -9,6 +9,7 @@ ghost use Rattle.snd_modes.specs.Editing.{state_read, state_sought};
 ghost use Rattle.snd_modes.specs.Handle.{IfOkStanding, StandsAfter, channels_of, codec_of, disk_of, known_of, loan_of};
 ghost use Rattle.snd_modes.specs.Loans.{disk_back, loan_back};
 ghost use Rattle.snd_modes.specs.Reading.{FitCodec, GivesFrames, front_of, rest_of};
+ghost use Rattle.snd_modes.specs.Rest.{ClosesSafely};
 
 use crate::error::{DiskFault, ReadError, SeekError};
 use crate::frames::{channels_of, frames_ahead, read_from};
@@ -45,11 +46,16 @@ impl<'d, D: Disk, M: Mode> File<'d, D, M> {
     ///
     /// The answer is the step at which the disk failed, where it did: before, and then nothing is done; or
     /// now, in a mode that writes.
+    ///
+    /// Where the file is at rest, as `File::set_auto` says, a crash at any moment of the call leaves a file
+    /// that opens with all its frames.
     pub fn close(self) -> Result<&'d mut D, (DiskFault, &'d mut D)>
         ensures lends { loan_back result ≡ loan_of self.entry }
         ensures back { ClosesFile M.WRITES D.state self.entry result }
         ensures cause { IsCloseCause M.WRITES D.state self.entry result }
         ensures stable { M.WRITES ≡ true → OnOk result (IsStable D.state D.may_leave (disk_back result)) }
+
+        ensures leaves { M.WRITES ≡ true → ClosesSafely D.Disk self.entry result }
 
         ensures beside { KeepsBeside D.state (known_of self.entry).shape (known_of self.entry).shape.frames (disk_of self.entry) (disk_back result) }
         ensures tells { StillTells (D.state (disk_of self.entry)) (D.state (disk_back result)) }
@@ -65,6 +71,7 @@ impl<'d, D: Disk, M: Mode> File<'d, D, M> {
             automatic: _,
             written: _,
             broken,
+            block: _,
             mode: _,
         } = self;
         if let Some(step) = broken {

@@ -6,23 +6,26 @@ ghost use Rattle.snd_layout.specs.Shape.{KeepsRule, room as shape_room};
 ghost use Rattle.snd_container.specs.Sound.{linear_of};
 ghost use Rattle.snd_modes.specs.Reading.{FitCodec};
 ghost use Rattle.snd_modes.specs.WriteCalls.{IsGrowthRefusal, IsWriteRefusal, MayWrite, is_whole_field};
+ghost use Rattle.snd_modes.specs.Writing.{HoldsCoded};
 
 use crate::codec::form_of;
+use crate::coding::put_in_range;
 use crate::error::WriteError;
 use crate::frames::channels_of;
 use snd_container::room;
 use snd_layout::{Layout, one_sector};
-use snd_pcm::in_range;
 
-// Whether numbers are in the range of the codec.
-fn fits_codec(layout: &Layout, from: &[i32]) -> bool
+// Whether numbers are in the range of the codec. Where they are, the samples that are made
+// early then stand at the front of the block.
+fn fits_codec(layout: &Layout, from: &[i32], block: &mut [u8]) -> bool
     requires { is_none (linear_of layout.now.params.codec) ≡ false }
-    ensures { IsTrue result ↔ FitCodec layout.now.params.codec from.now }
+    ensures fit { IsTrue result ↔ FitCodec layout.now.params.codec from.now }
+    ensures coded { IsTrue result → HoldsCoded layout.now.params.codec from.now block.new }
 {
     let Some(form) = form_of(layout) else {
         unreachable!()
     };
-    in_range(form, from)
+    put_in_range(form, from, block)
 }
 
 // Whether the head has room for the data of so many frames.
@@ -54,14 +57,20 @@ fn may_grow(layout: &Layout, to: u64) -> Result<(), WriteError>
 }
 
 // The frame behind those that the numbers are, where these may be written from a frame on, which is at
-// most the end.
-pub(crate) fn end_of_write(layout: &Layout, place: u64, from: &[i32]) -> Result<u64, WriteError>
+// most the end. The samples that are made early then stand at the front of the block.
+pub(crate) fn end_of_write(
+    layout: &Layout,
+    place: u64,
+    from: &[i32],
+    block: &mut [u8],
+) -> Result<u64, WriteError>
     requires linear { is_none (linear_of layout.now.params.codec) ≡ false }
     requires placed { place ≤ layout.now.frames }
     ensures value { IfOk result (λ end. end ≡ place + length from.now / layout.now.params.channels) }
     ensures some { 1 ≤ layout.now.params.channels }
     ensures rule { KeepsRule layout.now }
     ensures ready { OnOk result (MayWrite from.now layout.now place) }
+    ensures coded { OnOk result (HoldsCoded layout.now.params.codec from.now block.new) }
     ensures refused { IfErr result (IsWriteRefusal from.now layout.now place) }
 {
     layout.keeps_rule();
@@ -69,7 +78,7 @@ pub(crate) fn end_of_write(layout: &Layout, place: u64, from: &[i32]) -> Result<
     if !from.len().is_multiple_of(channels) {
         return Err(WriteError::PartFrame);
     }
-    if !fits_codec(layout, from) {
+    if !fits_codec(layout, from, block) {
         return Err(WriteError::SampleRange);
     }
     let count = (from.len() / channels) as u64;

@@ -5,9 +5,10 @@ ghost use Rattle.snd_container.specs.Sound.{linear_of};
 ghost use Rattle.snd_layout.specs.Params.{data_bytes};
 ghost use Rattle.snd_layout.specs.Shape.{end};
 ghost use Rattle.snd_layout.specs.declared.kind.Kind.TheVariants.{Voc};
-ghost use Rattle.snd_patch.specs.Sealed.{closed_end};
+ghost use Rattle.snd_container.specs.Images.{closed_end};
 
 use crate::mode::Mode;
+use crate::writes::BLOCK_BYTES;
 use snd_disk::{Disk, Step};
 use snd_layout::Layout;
 use std::marker::PhantomData;
@@ -24,6 +25,8 @@ pub struct File<'d, D: Disk, M: Mode> {
     pub(crate) automatic: bool,
     pub(crate) written: bool,
     pub(crate) broken: Option<Step>,
+    // where samples are made as they are tested: here, since it is cleared where it is made
+    pub(crate) block: [u8; BLOCK_BYTES],
     pub(crate) mode: PhantomData<M>,
     ghost stands: { broken ≡ None → end layout layout.frames ≤ (D.state disk.now).size },
     ghost placed: { read_place ≤ layout.frames },

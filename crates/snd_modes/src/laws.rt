@@ -2,6 +2,7 @@
 //! contracts are the laws.
 
 ghost use Rattle.snd_modes.specs.Laws.{AutomaticReadsBack, CutLeads, LeadsToEdited, MadeIsEdited, MadeIsUpdated, OpenedHoldsFrames, ReachedIsEdited, ReachedSound, ReadLeads, SealedReadsBack, SealedSound, SeekLeads, SeekWriteLeads, TrimLeads, UpdatedIsEdited, WriteLeads};
+ghost use Rattle.snd_modes.specs.SafeLaws.{AutomaticRests, CutIsSafe, CutRests, GrownIsSafe, LeadsToBytes, LeadsToRest, ReachedIsBytes, RestIsSafe, SafeAcross, SafeFromAfter, SealedIsSafe, SealedRests, StaysSafe, TailCutIsSafe, TrimmedIsSafe, TrimmedRests, WrittenIsSafe, WrittenRests};
 
 /// A file that is opened holds the frames that it counts. One that is opened to be updated, or made, begins
 /// as an edited file.
@@ -39,4 +40,45 @@ pub fn sealed_files_read_back()
     ensures automatic { AutomaticReadsBack }
     ensures sound { SealedSound }
     ensures reached { ReachedSound }
+{}
+
+/// What a crash leaves of a file at rest is safe, and stays so during each call from there, and during each
+/// that leads there, or from another state of the file with the same frames.
+pub fn files_at_rest_are_safe()
+    ensures rest { RestIsSafe }
+    ensures before { StaysSafe }
+    ensures after { SafeFromAfter }
+    ensures across { SafeAcross }
+{}
+
+/// While frames are written over the data and behind them, and while the head is then brought up to them,
+/// whatever a crash leaves is safe.
+pub fn writing_is_safe()
+    ensures written { WrittenIsSafe }
+    ensures grown { GrownIsSafe }
+{}
+
+/// So it is while frames are cut off, while a file is sealed, and while all behind its data is cut off.
+pub fn cutting_is_safe()
+    ensures cut { CutIsSafe }
+    ensures sealed { SealedIsSafe }
+    ensures tail { TailCutIsSafe }
+    ensures trimmed { TrimmedIsSafe }
+{}
+
+/// The bytes of an open file are bytes, wherever calls lead.
+pub fn files_are_bytes()
+    ensures step { LeadsToBytes }
+    ensures steps { ReachedIsBytes }
+{}
+
+/// A file that was sealed, cut or trimmed is fit for updates that a crash cannot hurt, where the field that
+/// decides the count lies in one sector; and while updates are automatic each call leaves it so.
+pub fn calls_leave_fit_files()
+    ensures sealed { SealedRests }
+    ensures automatic { AutomaticRests }
+    ensures cut { CutRests }
+    ensures trimmed { TrimmedRests }
+    ensures written { WrittenRests }
+    ensures step { LeadsToRest }
 {}

@@ -3,6 +3,7 @@
 #![tactic(auto)]
 
 mod codec;
+mod coding;
 mod cutting;
 mod error;
 mod file;

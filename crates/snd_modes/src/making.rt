@@ -12,11 +12,11 @@ ghost use Rattle.snd_patch.specs.Steps.{StillTells};
 use crate::codec::linear_form;
 use crate::handle::File;
 use crate::mode::Write;
+use crate::open::at_first_frame;
 use snd_container::{fit, lay_head};
 use snd_disk::Disk;
 use snd_layout::{Kind, OpenError, OpenRefusal, Params};
 use std::alloc::Global;
-use std::marker::PhantomData;
 
 /// Makes a disk a sound file of a kind with these parameters and no frames, whatever it held before, and
 /// opens it to be written. It writes at most 2048 bytes and reads none.
@@ -51,14 +51,5 @@ pub fn create<'d, D: Disk>(
         Ok(layout) => layout,
         Err(error) => return Err((error, disk)),
     };
-    Ok(File {
-        disk,
-        layout,
-        read_place: 0,
-        write_place: 0,
-        automatic: false,
-        written: false,
-        broken: None,
-        mode: PhantomData,
-    })
+    Ok(at_first_frame(disk, layout))
 }

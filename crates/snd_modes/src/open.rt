@@ -1,19 +1,52 @@
 //! Files that are opened.
 
-ghost use Rattle.std.specs.Prelude.{◌≡◌, None, IfOk};
-ghost use Rattle.snd_disk.specs.Device.{AsksAtMost, OnlyReadsOn};
+ghost use Rattle.std.specs.Prelude.{◌≡◌, ◌<◌, ◌≤◌, ◌^◌, List, ℕ, None, IfOk, false, is_none, true};
+ghost use Rattle.snd_disk.specs.Device.{AsksAtMost, OnlyReadsOn, Tells};
 ghost use Rattle.snd_layout.specs.Opened.{CountsOpening};
-ghost use Rattle.snd_modes.specs.Handle.{known_of};
+ghost use Rattle.snd_layout.specs.Shape.{end};
+ghost use Rattle.snd_container.specs.Sound.{linear_of};
+ghost use Rattle.snd_modes.specs.Editing.{first_editing};
+ghost use Rattle.snd_modes.specs.Handle.{IsFresh, Stands, disk_of, known_of, loan_of};
 ghost use Rattle.snd_modes.specs.Loans.{OpensFile, answer_of, disk_after, loan_after};
 
 use crate::codec::form_of;
+use crate::frames::keeps_rules;
 use crate::handle::File;
-use crate::mode::Read;
+use crate::mode::{Mode, Read};
+use crate::writes::BLOCK_BYTES;
 use snd_container::open_layout;
 use snd_disk::Disk;
-use snd_layout::{OpenError, OpenRefusal};
+use snd_layout::{Layout, OpenError, OpenRefusal};
 use std::alloc::Global;
 use std::marker::PhantomData;
+
+// A file that is opened or made, at its first frame.
+pub(crate) fn at_first_frame<'d, D: Disk, M: Mode>(
+    disk: &'d mut D,
+    layout: Layout,
+) -> File<'d, D, M>
+    requires held { end layout layout.frames ≤ (D.state disk.old).size }
+    requires linear { is_none (linear_of layout.params.codec) ≡ false }
+    requires early { layout.start < 2 ^ 62 }
+    requires sized { M.WRITES ≡ true → layout.unknown_length ≡ false }
+    ensures lends { loan_of result ≡ disk.entry.ghost_name }
+    ensures same_disk { disk_of result ≡ disk.old }
+    ensures fresh { IsFresh (known_of result) }
+    ensures stands { (b : List ℕ) → Tells D.state disk.old b → Stands D.state result (first_editing b layout) }
+{
+    keeps_rules(&layout);
+    File {
+        disk,
+        layout,
+        read_place: 0,
+        write_place: 0,
+        automatic: false,
+        written: false,
+        broken: None,
+        block: [0; BLOCK_BYTES],
+        mode: PhantomData,
+    }
+}
 
 /// Opens a sound file to be read, at its first frame. It asks at most 16384 bytes of the disk and never
 /// writes.
@@ -39,14 +72,5 @@ pub fn open_read<'d, D: Disk>(
     if form_of(&layout).is_none() {
         return Err((OpenError::Refused(OpenRefusal::NotBuilt), disk));
     }
-    Ok(File {
-        disk,
-        layout,
-        read_place: 0,
-        write_place: 0,
-        automatic: false,
-        written: false,
-        broken: None,
-        mode: PhantomData,
-    })
+    Ok(at_first_frame(disk, layout))
 }

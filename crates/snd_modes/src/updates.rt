@@ -7,12 +7,14 @@ ghost use Rattle.snd_layout.specs.Params.{data_bytes};
 ghost use Rattle.snd_layout.specs.Shape.{end};
 ghost use Rattle.snd_container.specs.Sound.{linear_of};
 ghost use Rattle.snd_container.specs.Values.{HasRoomFor};
-ghost use Rattle.snd_patch.specs.Sealed.{closed_end};
+ghost use Rattle.snd_patch.specs.Images.{LeavesCutting};
+ghost use Rattle.snd_container.specs.Images.{closed_end};
 ghost use Rattle.snd_patch.specs.Steps.{Becomes, KeepsSize, MayCount, Updates};
 ghost use Rattle.snd_modes.specs.Edits.{closed_behind, coded, count_written, cut_off, sealed_where, written_bytes, written_shape};
+ghost use Rattle.snd_modes.specs.Putting.{LeavesFields, LeavesWritten, PutsClosing, PutsData};
 ghost use Rattle.snd_modes.specs.Reading.{FitCodec, bytes_of_frames};
 ghost use Rattle.snd_modes.specs.WriteCalls.{MayWrite};
-ghost use Rattle.snd_modes.specs.Writing.{IsKeptUp, PutsAt, closed_size, most_fields};
+ghost use Rattle.snd_modes.specs.Writing.{HoldsCoded, IsKeptUp, PutsAt, closed_size, most_fields};
 
 use crate::codec::form_of;
 use crate::frames::place_of;
@@ -22,21 +24,30 @@ use snd_disk::{Disk, Step};
 use snd_layout::Layout;
 use snd_patch::{cut_behind, grow, put_closing};
 
-// Writes the numbers of frames over the data from a frame on, which is at most the end.
-fn write_data<D: Disk>(disk: &mut D, layout: &Layout, place: u64, from: &[i32]) -> Result<(), Step>
+// Writes the numbers of frames over the data from a frame on, which is at most the end. The samples
+// that are made early stand at the front of the block.
+fn write_data<D: Disk>(
+    disk: &mut D,
+    layout: &Layout,
+    place: u64,
+    from: &[i32],
+    block: &[u8],
+) -> Result<(), Step>
     requires linear { is_none (linear_of layout.now.params.codec) ≡ false }
     requires fit { FitCodec layout.now.params.codec from.now }
+    requires coded { HoldsCoded layout.now.params.codec from.now block.now }
     requires placed { place ≤ layout.now.frames }
     requires held { end layout.now layout.now.frames ≤ (D.state disk.old).size }
     requires fits { end layout.now place + length (coded layout.now.params from.now) < 2 ^ 63 }
     ensures done { OnOk result (IsWritten (end layout.now place) (coded layout.now.params from.now) (D.state disk.old) (D.state disk.new)) }
     ensures puts { PutsAt D.state D.left_between (end layout.now place) (length (coded layout.now.params from.now)) disk.old disk.new }
+    ensures partly { PutsData D.Disk layout.now place from.now disk.old disk.new }
     ensures faults { CountsOn D.state disk.old disk.new result }
 {
     let Some(form) = form_of(layout) else {
         unreachable!()
     };
-    write_run(disk, form, place_of(layout, form, place), from)
+    write_run(disk, form, place_of(layout, form, place), from, block)
 }
 
 // Puts what closes the data of so many frames behind them, where these are more than there were.
@@ -44,6 +55,7 @@ fn close_behind<D: Disk>(disk: &mut D, layout: &Layout, to: u64) -> Result<(), S
     requires { MayCount layout.now to (D.state disk.old).size }
     ensures contents { OnOk result (Becomes D.state (λ b. closed_behind b layout.now to) disk.old disk.new) }
     ensures size { OnOk result ((D.state disk.new).size ≡ closed_size (D.state disk.old).size layout.now to) }
+    ensures partly { PutsClosing D.Disk layout.now to disk.old disk.new }
     ensures updates { Updates D.state D.left_between layout.now to 8 disk.old disk.new }
     ensures faults { CountsOn D.state disk.old disk.new result }
 {
@@ -83,6 +95,7 @@ fn bring_up<D: Disk>(
     ensures stable { OnOk result (automatic ≡ true → IsStable D.state D.may_leave disk.new) }
     ensures layout { OnOk result (layout.new ≡ written_shape automatic layout.old to) }
     ensures kept { OnErr result (layout.new ≡ layout.old) }
+    ensures leaves { LeavesFields D.Disk layout.old to disk.old disk.new }
     ensures updates { Updates D.state D.left_between layout.old to (most_fields automatic) disk.old disk.new }
     ensures faults { CountsOn D.state disk.old disk.new result }
 {
@@ -103,10 +116,12 @@ fn put_frames<D: Disk>(
     place: u64,
     to: u64,
     from: &[i32],
+    block: &[u8],
     automatic: bool,
 ) -> Result<(), Step>
     requires linear { is_none (linear_of layout.old.params.codec) ≡ false }
     requires fit { FitCodec layout.old.params.codec from.now }
+    requires coded { HoldsCoded layout.old.params.codec from.now block.now }
     requires placed { place ≤ layout.old.frames }
     requires held { end layout.old layout.old.frames ≤ (D.state disk.old).size }
     requires more { layout.old.frames ≤ to }
@@ -122,10 +137,11 @@ fn put_frames<D: Disk>(
     ensures stable { OnOk result (automatic ≡ true → IsStable D.state D.may_leave disk.new) }
     ensures layout { OnOk result (layout.new ≡ written_shape automatic layout.old to) }
     ensures kept { OnErr result (layout.new ≡ layout.old) }
+    ensures leaves { LeavesWritten D.Disk layout.old place to from.now disk.old disk.new }
     ensures updates { Updates D.state D.left_between layout.old place (length (coded layout.old.params from.now) + 8 + most_fields automatic) disk.old disk.new }
     ensures faults { CountsOn D.state disk.old disk.new result }
 {
-    write_data(disk, layout, place, from)?;
+    write_data(disk, layout, place, from, block)?;
     close_behind(disk, layout, to)?;
     bring_up(disk, layout, to, automatic)
 }
@@ -139,6 +155,7 @@ pub(crate) fn write_over<D: Disk>(
     place: u64,
     count: u64,
     from: &[i32],
+    block: &[u8],
     automatic: bool,
 ) -> Result<(), Step>
     requires linear { is_none (linear_of layout.old.params.codec) ≡ false }
@@ -147,6 +164,7 @@ pub(crate) fn write_over<D: Disk>(
     requires placed { place ≤ layout.old.frames }
     requires held { end layout.old layout.old.frames ≤ (D.state disk.old).size }
     requires ready { MayWrite from.now layout.old place }
+    requires coded { HoldsCoded layout.old.params.codec from.now block.now }
     requires count { count ≡ length from.now / layout.old.params.channels }
     requires kept_up { automatic ≡ true → layout.old.trailing ≡ false → IsKeptUp layout.old layout.old.frames (D.state disk.old).size }
     ensures contents { OnOk result (Becomes D.state (λ b. written_bytes automatic b layout.old place (count_written layout.old place count) from.now) disk.old disk.new) }
@@ -155,13 +173,14 @@ pub(crate) fn write_over<D: Disk>(
     ensures stable { OnOk result (automatic ≡ true → IsStable D.state D.may_leave disk.new) }
     ensures layout { OnOk result (layout.new ≡ written_shape automatic layout.old (count_written layout.old place count)) }
     ensures kept { OnErr result (layout.new ≡ layout.old) }
+    ensures leaves { LeavesWritten D.Disk layout.old place (count_written layout.old place count) from.now disk.old disk.new }
     ensures updates { Updates D.state D.left_between layout.old place (bytes_of_frames layout.old.params count + 8 + most_fields automatic) disk.old disk.new }
     ensures faults { CountsOn D.state disk.old disk.new result }
 {
     layout.keeps_rule();
     layout.params.are_good();
     let to = layout.frames.max(place + count);
-    put_frames(disk, layout, place, to, from, automatic)
+    put_frames(disk, layout, place, to, from, block, automatic)
 }
 
 // Cuts off all that stands behind what closes the data, and notes that.
@@ -171,6 +190,7 @@ pub(crate) fn cut_off<D: Disk>(disk: &mut D, layout: &mut Layout) -> Result<(), 
     ensures size { OnOk result ((D.state disk.new).size ≡ closed_end layout.old layout.old.frames) }
     ensures stable { OnOk result (IsStable D.state D.may_leave disk.new) }
     ensures layout { OnOk result (layout.new ≡ record layout.old { trailing = false }) }
+    ensures leaves { LeavesCutting D.Disk layout.old layout.old.frames disk.old disk.new }
     ensures kept { OnErr result (layout.new ≡ layout.old) }
     ensures updates { Updates D.state D.left_between layout.old layout.old.frames 8 disk.old disk.new }
     ensures faults { CountsOn D.state disk.old disk.new result }

@@ -4,16 +4,17 @@ ghost use Rattle.std.specs.Prelude.{◌≡◌, None, IfOk, false};
 ghost use Rattle.snd_disk.specs.Device.{AsksAtMost, OnlyReadsOn};
 ghost use Rattle.snd_modes.specs.Handle.{IsFresh, known_of};
 ghost use Rattle.snd_modes.specs.Loans.{answer_of, disk_after, loan_after};
+ghost use Rattle.snd_modes.specs.Rest.{OpensAtRest};
 ghost use Rattle.snd_modes.specs.Updating.{CountsUpdating, UpdatesFile};
 
 use crate::codec::{form_of, is_adpcm};
 use crate::handle::File;
 use crate::mode::Update;
+use crate::open::at_first_frame;
 use snd_container::open_layout;
 use snd_disk::Disk;
 use snd_layout::{OpenError, OpenRefusal};
 use std::alloc::Global;
-use std::marker::PhantomData;
 
 /// Opens a sound file to be read and updated in place, at its first frame. It asks at most 16384 bytes of
 /// the disk and writes nothing.
@@ -22,6 +23,9 @@ use std::marker::PhantomData;
 /// `AdpcmUpdate` exactly where its samples stand in blocks, and `UnknownLength` exactly where its head
 /// does not say its length; `NotBuilt` where its codec is a law; `DiskFault` where a call of the disk
 /// failed; `Memory` where there is none. The disk comes back with it.
+///
+/// Where a crash leaves the disk's contents alone, these hold all the data that their head declares, and the
+/// field that decides the count lies in one sector, the file is at rest, as `File::set_auto` says.
 pub fn open_update<'d, D: Disk>(
     alloc: Global,
     disk: &'d mut D,
@@ -29,6 +33,7 @@ pub fn open_update<'d, D: Disk>(
     ensures lends { loan_after result ≡ disk.entry.ghost_name }
     ensures opened { UpdatesFile D.state disk.old (answer_of result) }
     ensures fresh { IfOk result (λ f. IsFresh (known_of f)) }
+    ensures rests { IfOk result (OpensAtRest D.Disk disk.old) }
     ensures faults { CountsUpdating D.state disk.old (disk_after result) (answer_of result) }
     ensures reads { OnlyReadsOn D.state D.may_leave D.left_between disk.old (disk_after result) }
     ensures asked { AsksAtMost D.state 16384 disk.old (disk_after result) }
@@ -46,14 +51,5 @@ pub fn open_update<'d, D: Disk>(
     if form_of(&layout).is_none() {
         return Err((OpenError::Refused(OpenRefusal::NotBuilt), disk));
     }
-    Ok(File {
-        disk,
-        layout,
-        read_place: 0,
-        write_place: 0,
-        automatic: false,
-        written: false,
-        broken: None,
-        mode: PhantomData,
-    })
+    Ok(at_first_frame(disk, layout))
 }

@@ -2,13 +2,30 @@
 
 ghost use Rattle.std.specs.Prelude.{◌+◌, ◌-◌, ◌*◌, ◌<◌, ◌≤◌, ◌^◌, All, IfOk, OnErr, OnOk, drop, length, take};
 ghost use Rattle.snd_disk.specs.Device.{CountsOn};
-ghost use Rattle.snd_pcm.specs.Pcm.{InRange, byte_count};
-ghost use Rattle.snd_modes.specs.Writing.{HasWritten, PutsSamples};
+ghost use Rattle.snd_disk.specs.State.{IsWritten};
+ghost use Rattle.snd_pcm.specs.Pcm.{InRange, byte_count, samples_bytes};
+ghost use Rattle.snd_modes.specs.Putting.{PutsPartly};
+ghost use Rattle.snd_modes.specs.Writing.{HasWritten, HoldsEarly, PutsAt, PutsSamples};
 
 use snd_disk::{Disk, Failed, Step};
+use snd_fields::Order;
 use snd_pcm::{Linear, put_samples};
 
-const BLOCK_BYTES: usize = 16384;
+pub(crate) const BLOCK_BYTES: usize = 16384;
+
+// Writes bytes at a place.
+fn write_bytes<D: Disk>(disk: &mut D, at: u64, bytes: &[u8]) -> Result<(), Step>
+    requires { at + length bytes.now < 2 ^ 63 }
+    ensures done { OnOk result (IsWritten at bytes.now (D.state disk.old) (D.state disk.new)) }
+    ensures puts { PutsAt D.state D.left_between at (length bytes.now) disk.old disk.new }
+    ensures partly { PutsPartly D.Disk at bytes.now disk.old disk.new }
+    ensures faults { CountsOn D.state disk.old disk.new result }
+{
+    match disk.write_at(at, bytes) {
+        Ok(()) => Ok(()),
+        Err(Failed) => Err(Step::Write),
+    }
+}
 
 // Writes samples at a place, at most one block, in which their bytes are made.
 fn write_block<D: Disk>(
@@ -23,14 +40,12 @@ fn write_block<D: Disk>(
     requires in_range { All (InRange form) from.now }
     ensures done { OnOk result (HasWritten D.state form at from.now disk.old disk.new) }
     ensures puts { PutsSamples D.state D.left_between form at (length from.now) disk.old disk.new }
+    ensures partly { PutsPartly D.Disk at (samples_bytes form from.now) disk.old disk.new }
     ensures faults { CountsOn D.state disk.old disk.new result }
 {
     let bytes = &mut block[..form.bytes() * from.len()];
     put_samples(form, from, bytes);
-    match disk.write_at(at, bytes) {
-        Ok(()) => Ok(()),
-        Err(Failed) => Err(Step::Write),
-    }
+    write_bytes(disk, at, bytes)
 }
 
 // Writes on behind the first `done` samples, as far as one block goes. The answer is how many are done
@@ -50,6 +65,7 @@ fn write_next<D: Disk>(
     ensures done { IfOk result (λ n. HasWritten D.state form (at + byte_count form * done) (take (n - done) (drop done from.now)) disk.old disk.new) }
     ensures puts { IfOk result (λ n. PutsSamples D.state D.left_between form (at + byte_count form * done) (n - done) disk.old disk.new) }
     ensures broken { OnErr result (PutsSamples D.state D.left_between form (at + byte_count form * done) (length from.now - done) disk.old disk.new) }
+    ensures partly { PutsPartly D.Disk at (samples_bytes form from.now) disk.old disk.new }
     ensures faults { CountsOn D.state disk.old disk.new result }
 {
     let width = form.bytes();
@@ -67,17 +83,13 @@ fn write_next<D: Disk>(
 
 // Writes samples, each in the range of the form, from a place on, a block at a time. The place is at most
 // the disk's end.
-pub(crate) fn write_run<D: Disk>(
-    disk: &mut D,
-    form: Linear,
-    at: u64,
-    from: &[i32],
-) -> Result<(), Step>
+fn write_blocks<D: Disk>(disk: &mut D, form: Linear, at: u64, from: &[i32]) -> Result<(), Step>
     requires there { at ≤ (D.state disk.old).size }
     requires fits { at + byte_count form * length from.now < 2 ^ 63 }
     requires in_range { All (InRange form) from.now }
     ensures done { OnOk result (HasWritten D.state form at from.now disk.old disk.new) }
     ensures puts { PutsSamples D.state D.left_between form at (length from.now) disk.old disk.new }
+    ensures partly { PutsPartly D.Disk at (samples_bytes form from.now) disk.old disk.new }
     ensures faults { CountsOn D.state disk.old disk.new result }
 {
     // once for all, since it is cleared where it is made
@@ -87,4 +99,29 @@ pub(crate) fn write_run<D: Disk>(
         done = write_next(disk, form, at, from, done, &mut block)?;
     }
     Ok(())
+}
+
+// Writes samples, each in the range of the form, from a place on, which is at most the disk's end. Those
+// that are made early stand at the front of a block.
+pub(crate) fn write_run<D: Disk>(
+    disk: &mut D,
+    form: Linear,
+    at: u64,
+    from: &[i32],
+    block: &[u8],
+) -> Result<(), Step>
+    requires there { at ≤ (D.state disk.old).size }
+    requires fits { at + byte_count form * length from.now < 2 ^ 63 }
+    requires in_range { All (InRange form) from.now }
+    requires held { HoldsEarly form from.now block.now }
+    ensures done { OnOk result (HasWritten D.state form at from.now disk.old disk.new) }
+    ensures puts { PutsSamples D.state D.left_between form at (length from.now) disk.old disk.new }
+    ensures partly { PutsPartly D.Disk at (samples_bytes form from.now) disk.old disk.new }
+    ensures faults { CountsOn D.state disk.old disk.new result }
+{
+    // for no samples the disk is not called
+    if form == Linear::S16(Order::Little) && !from.is_empty() && from.len() <= block.len() / 2 {
+        return write_bytes(disk, at, &block[..2 * from.len()]);
+    }
+    write_blocks(disk, form, at, from)
 }

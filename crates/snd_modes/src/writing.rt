@@ -2,10 +2,11 @@
 
 ghost use Rattle.std.specs.Prelude.{◌≡◌, ◌≤◌, None, Some, false, true, MatchResult, OnOk, length};
 ghost use Rattle.snd_disk.specs.Device.{CountsOn, GoesOnFrom, IsStable, WritesAtMost};
-ghost use Rattle.snd_patch.specs.Sealed.{closed_end};
+ghost use Rattle.snd_container.specs.Images.{closed_end};
 ghost use Rattle.snd_modes.specs.Edits.{automatic_to, moved_write_to, sealed_to, state_after, written_to};
 ghost use Rattle.snd_modes.specs.Handle.{StandsAfter, disk_of, known_of, loan_of};
 ghost use Rattle.snd_modes.specs.Outcomes.{AsksNothing, CountsCall, KeepsBefore, KeepsFrames, StandsOn, TellsOn, WritesFrames, auto_outcome, update_outcome, write_outcome};
+ghost use Rattle.snd_modes.specs.Rest.{ComesToRest, LeavesSafe, SealsSafely, StaysAtRest};
 ghost use Rattle.snd_modes.specs.WriteCalls.{AutoLeaves, SeekWriteLeaves, UpdateLeaves, WriteLeaves, known_sealed};
 
 use crate::error::{AutoError, SeekError, UpdateError, WriteError};
@@ -48,11 +49,17 @@ impl<'d, D: Disk, M: CanWrite> File<'d, D, M> {
     /// `ContainerFull` exactly where the end would move and the head has no room for the data: these
     /// leave all as it was. `DiskFault` where a call of the disk failed now: from then on the file is
     /// broken; what stands before the place, beside the fields of the head, is as it was.
+    ///
+    /// Where updates are automatic and the file is at rest, a crash at any moment of the call leaves a file
+    /// that opens, with as many frames as before or as the call leads to, and with every frame that the
+    /// call does not write. A call that succeeds leaves the file at rest.
     pub fn write_frames(&mut self, from: &[i32]) -> Result<(), WriteError>
         ensures loan { loan_of self.new ≡ loan_of self.old }
         ensures left { WriteLeaves from.now (known_of self.old) (known_of self.new) result }
         ensures stands { StandsOn (write_outcome result) D.state self.old self.new (written_to from.now) }
         ensures stable { OnOk result ((known_of self.old).automatic ≡ true → IsStable D.state D.may_leave (disk_of self.new)) }
+        ensures leaves { (known_of self.old).automatic ≡ true → LeavesSafe D.Disk (write_outcome result) (written_to from.now) self.old self.new }
+        ensures rests { (known_of self.old).automatic ≡ true → StaysAtRest D.Disk (write_outcome result) (written_to from.now) self.old self.new }
 
         ensures beside { KeepsBefore D.state self.old self.new }
         ensures tells { TellsOn D.state self.old self.new }
@@ -65,7 +72,7 @@ impl<'d, D: Disk, M: CanWrite> File<'d, D, M> {
             return Err(WriteError::Broken(step));
         }
         let place = self.write_place;
-        let next = end_of_write(&self.layout, place, from)?;
+        let next = end_of_write(&self.layout, place, from, &mut self.block)?;
         let count = next - place;
         match write_over(
             self.disk,
@@ -73,6 +80,7 @@ impl<'d, D: Disk, M: CanWrite> File<'d, D, M> {
             place,
             count,
             from,
+            &self.block,
             self.automatic,
         ) {
             Ok(()) => {
@@ -94,11 +102,17 @@ impl<'d, D: Disk, M: CanWrite> File<'d, D, M> {
     /// `Broken` where a call of the disk failed before, which leaves all as it was. `DiskFault` where a
     /// call of the disk failed now: from then on the file is broken; what stands before the end of the
     /// data, beside the fields of the head, is as it was.
+    ///
+    /// Where the file is at rest, a crash at any moment of the call is as harmless as in `write_frames`, and
+    /// a call that succeeds leaves the file at rest.
     pub fn update_now(&mut self) -> Result<u64, UpdateError>
         ensures loan { loan_of self.new ≡ loan_of self.old }
         ensures left { UpdateLeaves (known_of self.old) (known_of self.new) result }
         ensures stands { StandsOn (update_outcome result) D.state self.old self.new sealed_to }
         ensures stable { OnOk result (IsStable D.state D.may_leave (disk_of self.new)) }
+
+        ensures leaves { LeavesSafe D.Disk (update_outcome result) sealed_to self.old self.new }
+        ensures rests { StaysAtRest D.Disk (update_outcome result) sealed_to self.old self.new }
 
         ensures beside { KeepsFrames D.state self.old self.new }
         ensures tells { TellsOn D.state self.old self.new }
@@ -120,11 +134,20 @@ impl<'d, D: Disk, M: CanWrite> File<'d, D, M> {
     /// `Broken` where a call of the disk failed before; then `Straddle` exactly where updates are to be
     /// automatic and the field that decides the count does not lie in one sector of 512 bytes: these leave
     /// all as it was. `DiskFault` as in `update_now`.
+    ///
+    /// A file is at rest where a crash leaves its bytes alone, these say what the handle knows, all declared
+    /// data are there, and the field that decides the count lies in one sector. Switched on, this call brings
+    /// a file to rest; where it is so already, a crash at any moment of the call is as harmless as in
+    /// `write_frames`.
     pub fn set_auto(&mut self, on: bool) -> Result<u64, AutoError>
         ensures loan { loan_of self.new ≡ loan_of self.old }
         ensures left { AutoLeaves on (known_of self.old) (known_of self.new) result }
         ensures stands { StandsOn (auto_outcome result) D.state self.old self.new (automatic_to on) }
         ensures stable { OnOk result (IsStable D.state D.may_leave (disk_of self.new)) }
+
+        ensures leaves { LeavesSafe D.Disk (auto_outcome result) (automatic_to on) self.old self.new }
+        ensures rests { StaysAtRest D.Disk (auto_outcome result) (automatic_to on) self.old self.new }
+        ensures begins { OnOk result (on ≡ true → ComesToRest D.Disk (automatic_to on) self.old self.new) }
 
         ensures beside { KeepsFrames D.state self.old self.new }
         ensures tells { TellsOn D.state self.old self.new }
@@ -152,6 +175,8 @@ impl<'d, D: Disk, M: CanWrite> File<'d, D, M> {
         ensures stands { OnOk result (StandsAfter D.state self.old self.new sealed_to) }
         ensures closed { OnOk result ((known_of self.old).shape.trailing ≡ false → closed_end (known_of self.new).shape (known_of self.new).shape.frames ≤ (D.state (disk_of self.new)).size) }
         ensures stable { OnOk result (IsStable D.state D.may_leave (disk_of self.new)) }
+
+        ensures leaves { SealsSafely D.Disk self.old self.new }
 
         ensures beside { KeepsFrames D.state self.old self.new }
         ensures tells { TellsOn D.state self.old self.new }

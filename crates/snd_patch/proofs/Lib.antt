@@ -1,5 +1,11 @@
+pub mod Behind
 pub mod Bytes
+pub mod Images
 pub mod Lists
+pub mod Moments
+pub mod Phases
 pub mod Places
 pub mod Running
+pub mod Slices
 pub mod Updating
+pub mod Wholes

@@ -12,7 +12,8 @@ use Rattle.snd_layout.specs.declared.field.Field.{Field}
 use Rattle.snd_container.specs.Values.{FitsField, closing, inner_value, outer_value, side_value}
 use Rattle.snd_container.proofs.Widths.{inner_value_fits, outer_value_fits, side_value_fits}
 use Rattle.snd_patch.specs.Laws.{GrownKeeps, GrownLength, OrderIsFree, SealedKeeps, SealedLength, ShrunkKeeps, ShrunkLength}
-use Rattle.snd_patch.specs.Sealed.{LieApart, SameBesideFields, closed, closed_end, over_closing, over_field, patched, with_fewer, with_fields, with_inner, with_others}
+use Rattle.snd_patch.specs.Sealed.{LieApart, SameBesideFields, closed, over_closing, over_field, patched, with_fewer, with_fields, with_inner, with_others}
+use Rattle.snd_container.specs.Images.{closed_end}
 use Rattle.snd_patch.specs.Steps.{IsFieldOf}
 use Rattle.snd_patch.proofs.Bytes.{over_beside, take_before}
 use Rattle.snd_patch.proofs.Places.{field_outside, inner_outside, outer_is_field, side_is_field}
@@ -67,7 +68,7 @@ sealed_keeps b h n rule = cond_both h.trailing b (patched (closed b h n) h n) (�
 inner_length : (b : List ℕ) (h : Shape) (n : ℕ) → KeepsRule h → h.start ≤ length b → length (with_inner b h n) ≡ length b
 inner_length b h n rule there = omega (arith, there, rule.inner_end, inner_value_fits h n rule, length-over b h.inner.at (inner_value h n))
 
-field_length : (field : Option Field) (b v : List ℕ) (start : ℕ) → FitsField field v → IfSome field (EndsBy start) → start ≤ length b → length (over_field field b v) ≡ length b
+pub field_length : (field : Option Field) (b v : List ℕ) (start : ℕ) → FitsField field v → IfSome field (EndsBy start) → start ≤ length b → length (over_field field b v) ≡ length b
 field_length None b v start fits by there = refl
 field_length (Some f) b v start fits by there = omega (arith, there, by, fits, length-over b f.at v)
 

@@ -6,7 +6,7 @@ use Rattle.snd_disk.specs.Runs.{IsBeside}
 use Rattle.snd_layout.specs.Shape.{Shape}
 use Rattle.snd_layout.specs.declared.field.Field.{Field}
 use Rattle.snd_container.specs.Values.{FitsField}
-use Rattle.snd_patch.specs.Sealed.{is_in, is_in_fields, is_in_some}
+use Rattle.snd_container.specs.Images.{is_in, is_in_fields, is_in_some}
 use Rattle.snd_patch.specs.Steps.{IsFieldOf, IsOutside}
 
 in_both : (a b : Bool) → a ≡ true → b ≡ true → (a && b) ≡ true
@@ -16,7 +16,7 @@ in_field : (f : Field) (i : ℕ) → f.at ≤ i → i < f.at + f.size → is_in 
 in_field f i after before = in_both (nat_le f.at i) (nat_lt i (f.at + f.size)) (le-leb f.at i after) (lt-ltb i (f.at + f.size) before)
 
 -- a place that is not in a field is beside the bytes that are put into it
-beside_field : (f : Field) (i count : ℕ) → count ≤ f.size → is_in f i ≡ false → IsBeside i f.at count
+pub beside_field : (f : Field) (i count : ℕ) → count ≤ f.size → is_in f i ≡ false → IsBeside i f.at count
 beside_field f i count few out = elim (cases_lt i f.at) [
   | inl lt ↦ inl lt
   | inr after ↦ elim (cases_lt i (f.at + count)) [
@@ -25,7 +25,7 @@ beside_field f i count few out = elim (cases_lt i f.at) [
   ]
 ]
 
-none_of : (a b c : Bool) → (a || b || c) ≡ false → (a ≡ false) × (b ≡ false) × (c ≡ false)
+pub none_of : (a b c : Bool) → (a || b || c) ≡ false → (a ≡ false) × (b ≡ false) × (c ≡ false)
 none_of false false false is = (refl, refl, refl)
 none_of false false true is = absurd cc
 none_of false true c is = absurd cc
@@ -40,6 +40,9 @@ outer_is_field h = field_of h h.outer (λ i out. (none_of (is_in h.inner i) (is_
 
 pub side_is_field : (h : Shape) → IsFieldOf h h.side
 side_is_field h = field_of h h.side (λ i out. (none_of (is_in h.inner i) (is_in_some h.outer i) (is_in_some h.side i) out).2)
+
+pub inner_is_field : (h : Shape) → IsFieldOf h (Some h.inner)
+inner_is_field h = λ i out. (none_of (is_in h.inner i) (is_in_some h.outer i) (is_in_some h.side i) out).0
 
 pub inner_outside : (h : Shape) (n at : ℕ) (v : List ℕ) → h.inner.at ≡ at → length v ≤ h.inner.size → IsOutside h n at (length v)
 inner_outside h n at v is few = subst (λ (a : ℕ). IsOutside h n a (length v)) is (λ i lt out. beside_field h.inner i (length v) few (none_of (is_in h.inner i) (is_in_some h.outer i) (is_in_some h.side i) out).0)

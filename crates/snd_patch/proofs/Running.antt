@@ -1,11 +1,15 @@
 -- Steps of an update as runs of calls.
-use Rattle.std.proofs.Common.{◌≡◌, ℕ, ◌≤◌, List, [], ◌∷◌, ◌++◌, Option, append-nil, inl, inr, ⊎_elim, refl, subst, arith}
+use Rattle.std.proofs.Common.{◌≡◌, ℕ, ◌≤◌, true, List, [], ◌∷◌, ◌++◌, length, Option, None, Some, option_map, append-nil, ap, inl, inr, ⊎_elim, refl, subst, arith}
+use Rattle.std.specs.Prelude.{nat_lt}
 use Rattle.snd_disk.specs.Runs.{Since}
 use Rattle.snd_disk.specs.State.{State}
 use Rattle.snd_disk.proofs.RunsOfCalls.{runs_join}
 use Rattle.snd_disk.proofs.Sources.{made_front}
 use Rattle.snd_layout.specs.declared.field.Field.{Field}
-use Rattle.snd_patch.specs.Sealed.{held_field, over_field}
+use Rattle.snd_layout.specs.Shape.{Shape}
+use Rattle.snd_patch.specs.Images.{held_closing}
+use Rattle.snd_patch.specs.Sealed.{closed, held_field, over_closing, over_field}
+use Rattle.snd_container.specs.Images.{closed_end}
 
 -- the same field with the same bytes
 pub held_same : (b : List ℕ) (o p : Option Field) (v w : List ℕ) → o ≡ p → v ≡ w → held_field o b v ≡ held_field p b w
@@ -46,3 +50,14 @@ module _ {D : Type 0} (state : D → State) (may_leave : D → List ℕ → Type
     same = run.same;
     kept = run.kept;
   }
+
+-- what closes the data is put where it is not all there
+pub held_missing : (b : List ℕ) (h : Shape) (n : ℕ) → nat_lt (length b) (closed_end h n) ≡ true → over_closing b h n ∷ [] ≡ held_closing b h n
+held_missing b h n missing = rw missing refl
+
+pub closed_missing : (b : List ℕ) (h : Shape) (n : ℕ) → nat_lt (length b) (closed_end h n) ≡ true → over_closing b h n ≡ closed b h n
+closed_missing b h n missing = rw missing refl
+
+pub mapped_as : (f g : List ℕ → List ℕ) (o : Option (List ℕ)) → ((b : List ℕ) → o ≡ Some b → f b ≡ g b) → option_map f o ≡ option_map g o
+mapped_as f g None same = refl
+mapped_as f g (Some b) same = ap (λ (l : List ℕ). Some l) (same b refl)

@@ -1,11 +1,12 @@
 -- A file whose fields are brought up to a number of frames. The order of the fields is this library's own rule: so a crash
 -- leaves the old number of frames or the new one.
-use Rattle.std.specs.Prelude.{◌≡◌, ℕ, ◌+◌, ◌<◌, Bool, false, ◌||◌, ◌&&◌, List, [], ◌∷◌, ◌++◌, length, max, take, get_or, Option, None, Some, IfSome, nat_le, nat_lt, if◌then◌else◌}
+use Rattle.std.specs.Prelude.{◌≡◌, ℕ, ◌<◌, false, List, [], ◌∷◌, ◌++◌, length, max, take, get_or, Option, None, Some, IfSome, nat_le, nat_lt, if◌then◌else◌}
 use Rattle.snd_disk.specs.Bytes.{over}
 use Rattle.snd_disk.specs.Runs.{AreApart}
 use Rattle.snd_layout.specs.Params.{data_bytes}
 use Rattle.snd_layout.specs.Shape.{Shape, end}
 use Rattle.snd_layout.specs.declared.field.Field.{Field}
+use Rattle.snd_container.specs.Images.{closed_end, is_in_fields}
 use Rattle.snd_container.specs.Values.{closing, inner_value, outer_value, side_value}
 
 -- b with bytes in a field, where it is there
@@ -36,10 +37,6 @@ with_fields b h n = with_others (with_inner b h n) h n
 
 abbrev pub with_fewer : List ℕ → Shape → ℕ → List ℕ
 with_fewer b h n = with_inner (with_others b h n) h n
-
--- the place behind what closes the data of n frames
-abbrev pub closed_end : Shape → ℕ → ℕ
-closed_end h n = end h n + length (closing h n)
 
 -- b with what closes the data of n frames
 abbrev pub over_closing : List ℕ → Shape → ℕ → List ℕ
@@ -72,17 +69,6 @@ sealed_size size h n = if h.trailing then size else max size (closed_end h n)
 -- what a file says of itself then
 abbrev pub counted : Shape → ℕ → Shape
 counted h n = record h { frames = n; declared = if h.trailing then h.declared else data_bytes h.params n }
-
--- a place is one of so many from another on, and one of the fields
-abbrev pub is_in : Field → ℕ → Bool
-is_in field i = nat_le field.at i && nat_lt i (field.at + field.size)
-
-abbrev pub is_in_some : Option Field → ℕ → Bool
-is_in_some None i = false
-is_in_some (Some field) i = is_in field i
-
-abbrev pub is_in_fields : Shape → ℕ → Bool
-is_in_fields h i = is_in h.inner i || is_in_some h.outer i || is_in_some h.side i
 
 -- before the end of the data of n frames, beside the fields, x has the bytes of b
 abbrev pub SameBesideFields : Shape → ℕ → List ℕ → List ℕ → Type 0

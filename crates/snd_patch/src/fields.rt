@@ -2,10 +2,13 @@
 
 ghost use Rattle.std.specs.Prelude.{◌≡◌, ◌+◌, ◌<◌, ◌≤◌, ◌^◌, [], ◌∷◌, ℕ, IfOk, IfSome, length, max, nat_lt, OnOk};
 ghost use Rattle.snd_disk.specs.Device.{CountsOn, IsStable};
+ghost use Rattle.snd_disk.specs.Runs.{Since};
 ghost use Rattle.snd_disk.specs.State.{Keeps};
 ghost use Rattle.snd_layout.specs.Shape.{EndsBy, Shape, end};
 ghost use Rattle.snd_container.specs.Values.{FitsField};
-ghost use Rattle.snd_patch.specs.Sealed.{closed, closed_end, held_field, held_others, over_closing, over_field, with_fewer, with_fields, with_inner, with_others};
+ghost use Rattle.snd_patch.specs.Images.{LeavesGrowing, LeavesLowered, held_closing};
+ghost use Rattle.snd_patch.specs.Sealed.{closed, held_field, held_others, over_closing, over_field, with_fewer, with_fields, with_inner, with_others};
+ghost use Rattle.snd_container.specs.Images.{closed_end};
 ghost use Rattle.snd_patch.specs.Steps.{Becomes, IsFieldOf, KeepsSize, MayCount, Runs, Updates};
 
 use crate::steps::{put_bytes, settle};
@@ -21,6 +24,20 @@ pub(crate) fn data_end(layout: &Layout, frames: u64) -> u64
     layout.start + data_bytes(layout, frames)
 }
 
+/// Puts the number that decides the count.
+pub(crate) fn write_inner<D: Disk>(disk: &mut D, layout: &Layout, to: u64) -> Result<(), Step>
+    requires { MayCount layout.now to (D.state disk.old).size }
+    ensures contents { OnOk result (Becomes D.state (λ b. with_inner b layout.now to) disk.old disk.new) }
+    ensures size { OnOk result (KeepsSize D.state disk.old disk.new) }
+    ensures run { Runs D.state D.may_leave D.left_between (λ b. with_inner b layout.now to ∷ []) disk.old disk.new }
+    ensures updates { Updates D.state D.left_between layout.now to 32 disk.old disk.new }
+    ensures faults { CountsOn D.state disk.old disk.new result }
+{
+    layout.keeps_rule();
+    let bytes = inner_bytes(layout, to);
+    put_bytes(disk, layout.inner.at, bytes.as_slice())
+}
+
 /// Puts the number that decides the count, and makes it stable.
 pub(crate) fn put_inner<D: Disk>(disk: &mut D, layout: &Layout, to: u64) -> Result<(), Step>
     requires { MayCount layout.now to (D.state disk.old).size }
@@ -31,9 +48,7 @@ pub(crate) fn put_inner<D: Disk>(disk: &mut D, layout: &Layout, to: u64) -> Resu
     ensures updates { Updates D.state D.left_between layout.now to 32 disk.old disk.new }
     ensures faults { CountsOn D.state disk.old disk.new result }
 {
-    layout.keeps_rule();
-    let bytes = inner_bytes(layout, to);
-    put_bytes(disk, layout.inner.at, bytes.as_slice())?;
+    write_inner(disk, layout, to)?;
     settle(disk)
 }
 
@@ -78,9 +93,11 @@ pub(crate) fn raise<D: Disk>(disk: &mut D, layout: &Layout, to: u64) -> Result<(
     ensures contents { OnOk result (Becomes D.state (λ b. with_fields b layout.now to) disk.old disk.new) }
     ensures size { OnOk result (KeepsSize D.state disk.old disk.new) }
     ensures stable { OnOk result (IsStable D.state D.may_leave disk.new) }
+    ensures leaves { LeavesGrowing D.Disk layout.now to disk.old disk.new }
     ensures updates { Updates D.state D.left_between layout.now to 48 disk.old disk.new }
     ensures faults { CountsOn D.state disk.old disk.new result }
 {
+    layout.keeps_rule();
     settle(disk)?;
     put_inner(disk, layout, to)?;
     put_others(disk, layout, to)
@@ -92,9 +109,11 @@ pub(crate) fn lower<D: Disk>(disk: &mut D, layout: &Layout, to: u64) -> Result<(
     ensures contents { OnOk result (Becomes D.state (λ b. with_fewer b layout.now to) disk.old disk.new) }
     ensures size { OnOk result (KeepsSize D.state disk.old disk.new) }
     ensures stable { OnOk result (IsStable D.state D.may_leave disk.new) }
+    ensures leaves { LeavesLowered D.Disk layout.now to disk.old disk.new }
     ensures updates { Updates D.state D.left_between layout.now to 48 disk.old disk.new }
     ensures faults { CountsOn D.state disk.old disk.new result }
 {
+    layout.keeps_rule();
     settle(disk)?;
     put_others(disk, layout, to)?;
     put_inner(disk, layout, to)
@@ -121,6 +140,7 @@ fn lacks_closing<D: Disk>(disk: &mut D, layout: &Layout, to: u64) -> Result<bool
     requires { MayCount layout.now to (D.state disk.old).size }
     ensures answer { IfOk result (λ missing. missing ≡ nat_lt (D.state disk.old).size (closed_end layout.now to)) }
     ensures same { Keeps (D.state disk.old) (D.state disk.new) }
+    ensures run { Since D.state D.may_leave D.left_between disk.old disk.new [] }
     ensures updates { Updates D.state D.left_between layout.now to 0 disk.old disk.new }
     ensures faults { CountsOn D.state disk.old disk.new result }
 {
@@ -137,6 +157,7 @@ pub(crate) fn close_data<D: Disk>(disk: &mut D, layout: &Layout, to: u64) -> Res
     requires { MayCount layout.now to (D.state disk.old).size }
     ensures contents { OnOk result (Becomes D.state (λ b. closed b layout.now to) disk.old disk.new) }
     ensures size { OnOk result ((D.state disk.new).size ≡ max (D.state disk.old).size (closed_end layout.now to)) }
+    ensures run { Runs D.state D.may_leave D.left_between (λ b. held_closing b layout.now to) disk.old disk.new }
     ensures updates { Updates D.state D.left_between layout.now to 8 disk.old disk.new }
     ensures faults { CountsOn D.state disk.old disk.new result }
 {

@@ -4,8 +4,10 @@ ghost use Rattle.std.specs.Prelude.{◌≡◌, ◌+◌, ◌^◌, ◌<◌, ◌≤
 ghost use Rattle.snd_disk.specs.Device.{CountsOn, GoesOnFrom, IsStable, WritesAtMost};
 ghost use Rattle.snd_layout.specs.Shape.{end};
 ghost use Rattle.snd_container.specs.Values.{HasRoomFor};
-ghost use Rattle.snd_patch.specs.Sealed.{closed_end, counted, grown, over_closing, patched, sealed, sealed_size, shrunk};
-ghost use Rattle.snd_patch.specs.Steps.{Becomes, KeepsBeside, KeepsSize, MayCount, StillTells, Updates};
+ghost use Rattle.snd_patch.specs.Images.{LeavesCounting, LeavesCutting, LeavesEach, LeavesGrowing, LeavesSealing, LeavesShrinking, held_cut};
+ghost use Rattle.snd_patch.specs.Sealed.{counted, grown, over_closing, patched, sealed, sealed_size, shrunk};
+ghost use Rattle.snd_container.specs.Images.{closed_end};
+ghost use Rattle.snd_patch.specs.Steps.{Becomes, KeepsBeside, KeepsSize, MayCount, Runs, StillTells, Updates};
 
 use crate::fields::{close_data, lower, put_closing, raise};
 use crate::steps::{cut_to, settle};
@@ -32,6 +34,7 @@ fn patch<D: Disk>(disk: &mut D, layout: &Layout, to: u64) -> Result<(), Step>
     ensures contents { OnOk result (Becomes D.state (λ b. patched b layout.now to) disk.old disk.new) }
     ensures size { OnOk result (KeepsSize D.state disk.old disk.new) }
     ensures stable { OnOk result (IsStable D.state D.may_leave disk.new) }
+    ensures leaves { LeavesCounting D.Disk layout.now to disk.old disk.new }
     ensures updates { Updates D.state D.left_between layout.now to 48 disk.old disk.new }
     ensures faults { CountsOn D.state disk.old disk.new result }
 {
@@ -49,6 +52,8 @@ pub fn cut_behind<D: Disk>(disk: &mut D, layout: &Layout, to: u64) -> Result<(),
     ensures contents { OnOk result (Becomes D.state (λ b. take (closed_end layout.now to) (over_closing b layout.now to)) disk.old disk.new) }
     ensures size { OnOk result ((D.state disk.new).size ≡ closed_end layout.now to) }
     ensures stable { OnOk result (IsStable D.state D.may_leave disk.new) }
+    ensures run { Runs D.state D.may_leave D.left_between (λ b. held_cut b layout.now to) disk.old disk.new }
+    ensures leaves { LeavesCutting D.Disk layout.now to disk.old disk.new }
     ensures updates { Updates D.state D.left_between layout.now to 8 disk.old disk.new }
     ensures faults { CountsOn D.state disk.old disk.new result }
 {
@@ -74,6 +79,9 @@ pub fn grow<D: Disk>(disk: &mut D, layout: &mut Layout, to: u64) -> Result<(), S
     ensures kept { OnErr result (layout.new ≡ layout.old) }
     ensures beside { KeepsBeside D.state layout.old to disk.old disk.new }
     ensures tells { StillTells (D.state disk.old) (D.state disk.new) }
+
+    ensures leaves { LeavesGrowing D.Disk layout.old to disk.old disk.new }
+    ensures still { layout.old.trailing ≡ true → LeavesEach D.Disk disk.old disk.new (D.may_leave disk.old) }
 
     ensures time { GoesOnFrom D.state D.left_between disk.old disk.new }
     ensures faults { CountsOn D.state disk.old disk.new result }
@@ -106,6 +114,8 @@ pub fn shrink<D: Disk>(disk: &mut D, layout: &mut Layout, to: u64) -> Result<(),
     ensures beside { KeepsBeside D.state layout.old to disk.old disk.new }
     ensures tells { StillTells (D.state disk.old) (D.state disk.new) }
 
+    ensures leaves { LeavesShrinking D.Disk layout.old to disk.old disk.new }
+
     ensures time { GoesOnFrom D.state D.left_between disk.old disk.new }
     ensures faults { CountsOn D.state disk.old disk.new result }
     ensures written { WritesAtMost D.state 72 disk.old disk.new }
@@ -133,6 +143,9 @@ pub fn seal<D: Disk>(disk: &mut D, layout: &mut Layout) -> Result<(), Step>
     ensures kept { OnErr result (layout.new ≡ layout.old) }
     ensures beside { KeepsBeside D.state layout.old layout.old.frames disk.old disk.new }
     ensures tells { StillTells (D.state disk.old) (D.state disk.new) }
+
+    ensures leaves { LeavesSealing D.Disk layout.old layout.old.frames disk.old disk.new }
+    ensures still { layout.old.trailing ≡ true → LeavesEach D.Disk disk.old disk.new (D.may_leave disk.old) }
 
     ensures time { GoesOnFrom D.state D.left_between disk.old disk.new }
     ensures faults { CountsOn D.state disk.old disk.new result }

@@ -1,8 +1,9 @@
-use Rattle.std.proofs.Common.{◌+◌, ◌≤◌, length, arith}
+use Rattle.std.proofs.Common.{◌≡◌, ◌∙◌, ap, ◌+◌, ◌≤◌, Some, option_map, length, arith}
 use Rattle.snd_layout.specs.Shape.{end}
 use Rattle.snd_patch.proofs.Updating.{updates_then}
-use Rattle.snd_modes.specs.Edits.{coded}
+use Rattle.snd_modes.specs.Edits.{closed_behind, coded, over_data}
 use Rattle.snd_modes.specs.Writing.{most_fields}
+use Rattle.snd_modes.proofs.FramesPut.{data_partly, fields_under_way, reached_put, shut_partly, under_way}
 use Rattle.snd_modes.proofs.Sealing.{puts_update, still_kept_up, updates_before}
 use Rattle.snd_modes.proofs.updates.put_frames.Goals as goal
 
@@ -24,3 +25,33 @@ returns-clause-updates g c =
     (puts_update state between h place n c.args.disk.now c.write_data.new.disk c.write_data.ensures.puts)
     (updates_before state between h place c.args.to 8 c.write_data.new.disk c.close_behind.new.disk before c.close_behind.ensures.updates))
     (updates_before state between h place c.args.to (most_fields c.args.automatic) c.close_behind.new.disk c.bring_up.new.disk before c.bring_up.ensures.updates)
+
+pub returns-in_err-write_data-clause-leaves : goal.returns-in_err-write_data-clause-leaves
+returns-in_err-write_data-clause-leaves g c = λ apart b told stable.
+    let h = c.args.layout.now in
+    under_way g.D.Disk h c.args.to b (closed_behind (over_data b h c.args.place c.args.from.now) h c.args.to) c.args.disk.now c.write_data.new.disk
+    (data_partly h c.args.place c.args.to c.args.from.now c.requires.within b
+    (reached_put h c.args.place c.args.to c.args.from.now b (g.D.Disk.state c.args.disk.now).size (g.met.D.Disk.size_told c.args.disk.now b told) c.requires.held c.requires.reaches)
+    g.D.Disk c.args.disk.now c.write_data.new.disk told stable c.write_data.ensures.partly)
+
+pub returns-in_err-close_behind-clause-leaves : goal.returns-in_err-close_behind-clause-leaves
+returns-in_err-close_behind-clause-leaves g c = λ apart b told stable.
+    let h = c.args.layout.now in
+    let then : (g.D.Disk.state c.write_data.new.disk).contents ≡ Some (over_data b h c.args.place c.args.from.now) =
+    c.in_ok-write_data.ensures.done.contents ∙ ap (option_map (λ l. over_data l h c.args.place c.args.from.now)) told in
+    under_way g.D.Disk h c.args.to b (closed_behind (over_data b h c.args.place c.args.from.now) h c.args.to) c.args.disk.now c.close_behind.new.disk
+    (shut_partly h c.args.place c.args.to c.args.from.now c.requires.within b
+    (reached_put h c.args.place c.args.to c.args.from.now b (g.D.Disk.state c.args.disk.now).size (g.met.D.Disk.size_told c.args.disk.now b told) c.requires.held c.requires.reaches)
+    g.D.Disk c.args.disk.now c.write_data.new.disk told stable c.write_data.ensures.partly c.close_behind.new.disk then c.close_behind.ensures.partly)
+
+pub returns-clause-leaves : goal.returns-clause-leaves
+returns-clause-leaves g c = λ apart b told stable.
+    let h = c.args.layout.now in
+    let then : (g.D.Disk.state c.write_data.new.disk).contents ≡ Some (over_data b h c.args.place c.args.from.now) =
+    c.in_ok-write_data.ensures.done.contents ∙ ap (option_map (λ l. over_data l h c.args.place c.args.from.now)) told in
+    let shut : (g.D.Disk.state c.close_behind.new.disk).contents ≡ Some (closed_behind (over_data b h c.args.place c.args.from.now) h c.args.to) =
+    c.in_ok-close_behind.ensures.contents ∙ ap (option_map (λ l. closed_behind l h c.args.to)) then in
+    fields_under_way h c.args.place c.args.to c.args.from.now c.requires.within b
+    (reached_put h c.args.place c.args.to c.args.from.now b (g.D.Disk.state c.args.disk.now).size (g.met.D.Disk.size_told c.args.disk.now b told) c.requires.held c.requires.reaches)
+    g.D.Disk c.args.disk.now c.write_data.new.disk told stable c.write_data.ensures.partly c.close_behind.new.disk then c.close_behind.ensures.partly
+    c.bring_up.new.disk apart shut c.bring_up.ensures.leaves

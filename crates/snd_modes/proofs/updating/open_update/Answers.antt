@@ -1,11 +1,10 @@
-use Rattle.std.proofs.Common.{rules, ◌≡◌, ◌∙◌, refl, arith, ◌≤◌, length, true, false}
+use Rattle.std.proofs.Common.{rules, ◌≡◌, ◌∙◌, true, false}
 use Rattle.std.specs.Prelude.{is_none}
 use Rattle.snd_container.specs.Sound.{linear_of}
 use Rattle.snd_layout.specs.Blocks.{is_adpcm}
-use Rattle.snd_layout.specs.Shape.{end}
 use Rattle.snd_modes.specs.Editing.{first_editing}
+use Rattle.snd_modes.proofs.LeftSafe.{opens_at_rest}
 use Rattle.snd_modes.proofs.Opened.{refused_update, update_adpcm, update_law, update_ok, update_open}
-use Rattle.snd_modes.proofs.Opening.{count_opened}
 use Rattle.snd_modes.proofs.updating.open_update.Goals as goal
 
 pub returns-in-Err-clause-opened : goal.returns-in-Err-clause-opened
@@ -33,19 +32,11 @@ pub returns-clause-opened : goal.returns-clause-opened
 returns-clause-opened g c = λ b told.
     let blocks : is_adpcm c.in-Ok.layout.params.codec ≡ false = search rules in
     let closed_end : c.in-Ok.layout.unknown_length ≡ false = search rules in
-    let linear : is_none (linear_of c.in-Ok.layout.params.codec) ≡ false = search rules in
-    let size = g.met.D.Disk.size_told c.args.disk.now b told in
-    let fits : end c.in-Ok.layout c.in-Ok.layout.frames ≤ length b = omega (arith, c.in-Ok.ensures.held, size) in (
+    let linear : is_none (linear_of c.in-Ok.layout.params.codec) ≡ false = search rules in (
       first_editing b c.in-Ok.layout,
       update_ok b c.in-Ok.layout (c.in-Ok.ensures.opened b told) blocks closed_end linear,
-      record {
-        bytes = c.open_layout.ensures.reads.keeps.contents ∙ told;
-        shape = refl;
-        place = refl;
-        write_place = refl;
-        automatic = refl;
-        written = refl;
-        sound = refl;
-        count = count_opened b c.in-Ok.layout linear c.form_of.ensures.params.some_channel fits;
-      },
+      c.at_first_frame.ensures.stands b (c.open_layout.ensures.reads.keeps.contents ∙ told),
     )
+
+pub returns-clause-rests : goal.returns-clause-rests
+returns-clause-rests g c = opens_at_rest g.D.Disk c.args.disk.now _ (returns-clause-opened g c) (search rules)

@@ -1,19 +1,14 @@
-use Rattle.std.proofs.Common.{◌∙◌, ap, length}
-use Rattle.snd_disk.proofs.Chains.{goes_on_passes}
+use Rattle.std.proofs.Common.{◌∙◌, ap, subst, ℕ, List, length}
 use Rattle.snd_pcm.proofs.RoundTrips.{count_of_bytes}
-use Rattle.snd_modes.proofs.PutBlocks.{broken_puts, put_puts}
+use Rattle.snd_modes.specs.Putting.{PutsPartly}
+use Rattle.snd_modes.specs.Writing.{PutsAt}
 use Rattle.snd_modes.proofs.writes.write_block.Goals as goal
 
-pub returns-in-Ok-clause-puts : goal.returns-in-Ok-clause-puts
-returns-in-Ok-clause-puts g c =
-    put_puts g.D.Disk.state g.D.Disk.left_between c.args.disk.now c.write_at.new.self c.args.at _ _
-    (ap length c.put_samples.ensures ∙ (count_of_bytes c.args.form c.args.from.now).0)
-    (goes_on_passes _ _ _ _ _ c.write_at.ensures.time) (record { later = c.write_at.ensures.written.later; most = c.write_at.ensures.written.most }) c.write_at.ensures.asked
-    _ c.in-Ok.ensures.done
+pub returns-clause-puts : goal.returns-clause-puts
+returns-clause-puts g c =
+    subst (λ (m : ℕ). PutsAt g.D.Disk.state g.D.Disk.left_between c.args.at m c.args.disk.now c.write_bytes.new.disk)
+    (ap length c.put_samples.ensures ∙ (count_of_bytes c.args.form c.args.from.now).0) c.write_bytes.ensures.puts
 
-pub returns-in-Err-clause-puts : goal.returns-in-Err-clause-puts
-returns-in-Err-clause-puts g c =
-    broken_puts g.D.Disk.state g.D.Disk.left_between c.args.disk.now c.write_at.new.self c.args.at _ _
-    (ap length c.put_samples.ensures ∙ (count_of_bytes c.args.form c.args.from.now).0)
-    (goes_on_passes _ _ _ _ _ c.write_at.ensures.time) (record { later = c.write_at.ensures.written.later; most = c.write_at.ensures.written.most }) c.write_at.ensures.asked
-    _ c.in-Err.ensures.broken
+pub returns-clause-partly : goal.returns-clause-partly
+returns-clause-partly g c =
+    subst (λ (s : List ℕ). PutsPartly g.D.Disk c.args.at s c.args.disk.now c.write_bytes.new.disk) c.put_samples.ensures c.write_bytes.ensures.partly

@@ -3,9 +3,11 @@ use Rattle.std.specs.Prelude.{is_none}
 use Rattle.std.proofs.lemmas.List.{length-take}
 use Rattle.snd_container.specs.Sound.{linear_of}
 use Rattle.snd_layout.specs.Shape.{KeepsRule, Shape, end}
-use Rattle.snd_patch.specs.Sealed.{closed_end, counted, shrunk}
+use Rattle.snd_patch.specs.Sealed.{counted, shrunk}
+use Rattle.snd_container.specs.Images.{closed_end}
 use Rattle.snd_modes.proofs.CutFrames.{cut_decoded, may_count_fewer}
 use Rattle.snd_modes.proofs.EditedFrames.{closed_counted}
+use Rattle.snd_modes.proofs.LeftSafe.{cutting_is_safe}
 use Rattle.snd_modes.proofs.Sealing.{ends_before}
 use Rattle.snd_modes.proofs.handle.File.cut_file.Goals as goal
 
@@ -49,3 +51,9 @@ invariant_of-self-clause-closed g c = λ auto working free.
     let size = (g.D.Disk.state c.shrink.new.disk).size in
     let ends : closed_end (counted h c.args.to) c.args.to ≤ size = omega (arith, closed_counted h c.args.to, c.in-Ok.ensures.size) in
     subst (λ (s : Shape). closed_end s s.frames ≤ size) (sym c.in-Ok.ensures.layout) ends
+
+pub returns-in-Ok-clause-leaves : goal.returns-in-Ok-clause-leaves
+returns-in-Ok-clause-leaves g c = λ opened e rest. cutting_is_safe g.D.Disk opened c.args.self.now e rest c.shrink.new.disk c.args.to c.requires.fewer c.requires.free c.shrink.ensures.leaves
+
+pub returns-in-Err-clause-leaves : goal.returns-in-Err-clause-leaves
+returns-in-Err-clause-leaves g c = λ opened e rest. cutting_is_safe g.D.Disk opened c.args.self.now e rest c.shrink.new.disk c.args.to c.requires.fewer c.requires.free c.shrink.ensures.leaves

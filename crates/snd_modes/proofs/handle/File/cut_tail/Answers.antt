@@ -1,6 +1,6 @@
 use Rattle.std.proofs.Common.{◌≡◌, ◌∙◌, ap, subst, ℕ, ◌≤◌, List, Some, option_map, length, false, arith}
 use Rattle.snd_layout.specs.Shape.{KeepsRule, Shape, end}
-use Rattle.snd_patch.specs.Sealed.{closed_end}
+use Rattle.snd_container.specs.Images.{closed_end}
 use Rattle.snd_modes.specs.Edits.{cut_off}
 use Rattle.snd_modes.proofs.CutFrames.{off_decoded}
 use Rattle.snd_modes.proofs.handle.File.cut_tail.Goals as goal

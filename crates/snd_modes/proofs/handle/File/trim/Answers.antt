@@ -1,8 +1,13 @@
-use Rattle.std.proofs.Common.{subst, ℕ, List}
+use Rattle.std.proofs.Common.{rules, ◌≡◌, subst, ℕ, true, List}
+use Rattle.snd_layout.specs.Shape.{Shape}
+use Rattle.snd_layout.specs.declared.kind.Kind.TheVariants.{Voc}
 use Rattle.snd_patch.specs.Sealed.{sealed}
-use Rattle.snd_modes.specs.Edits.{sealed_to, without_tail}
-use Rattle.snd_modes.specs.Handle.{Stands}
+use Rattle.snd_modes.specs.Edits.{sealed_to, trimmed_to, without_tail}
+use Rattle.snd_modes.specs.Handle.{Stands, disk_of}
+use Rattle.snd_modes.specs.Laws.{trims}
 use Rattle.snd_modes.proofs.CutFrames.{off_counted}
+use Rattle.snd_modes.proofs.LeftSafe.{rests_after, trimming_is_safe, unchanged}
+use Rattle.snd_modes.proofs.SafeRests.{trimmed_rest}
 use Rattle.snd_modes.proofs.handle.File.trim.Goals as goal
 
 pub returns-clause-stands : goal.returns-clause-stands
@@ -10,3 +15,31 @@ returns-clause-stands g c = λ e stands.
     let n = e.shape.frames in
     subst (λ (l : List ℕ). Stands g.D.Disk.state c.cut_tail.new.self (record (without_tail (sealed_to e)) { bytes = l })) (off_counted (sealed e.bytes e.shape n) e.shape n)
     (c.in_ok-cut_tail.ensures.stands (sealed_to e) (c.in_ok-seal_file.ensures.stands e stands))
+
+pub returns-in-Some-clause-leaves : goal.returns-in-Some-clause-leaves
+returns-in-Some-clause-leaves g c = λ opened e rest. unchanged g.D.Disk opened c.args.self.now e rest g.met.D.Disk.only_now e
+
+pub returns-then-not-is_voc-clause-leaves : goal.returns-then-not-is_voc-clause-leaves
+returns-then-not-is_voc-clause-leaves g c = λ opened e rest. unchanged g.D.Disk opened c.args.self.now e rest g.met.D.Disk.only_now e
+
+pub returns-in_err-seal_file-clause-leaves : goal.returns-in_err-seal_file-clause-leaves
+returns-in_err-seal_file-clause-leaves g c = λ opened e rest. c.seal_file.ensures.leaves opened e _ rest
+
+pub returns-in_err-cut_tail-clause-leaves : goal.returns-in_err-cut_tail-clause-leaves
+returns-in_err-cut_tail-clause-leaves g c = λ opened e rest.
+    let may : c.args.self.now.layout.trailing ≡ true → c.args.self.now.layout.kind ≡ Voc = search rules in
+    trimming_is_safe g.D.Disk opened c.args.self.now e rest c.seal_file.new.self (disk_of c.cut_tail.new.self) _ may (c.seal_file.ensures.leaves opened e _ rest)
+    (c.in_ok-seal_file.ensures.stands e rest.stands) c.in_ok-seal_file.ensures.stable c.cut_tail.ensures.leaves
+
+pub returns-clause-leaves : goal.returns-clause-leaves
+returns-clause-leaves g c = λ opened e rest.
+    let may : c.args.self.now.layout.trailing ≡ true → c.args.self.now.layout.kind ≡ Voc = search rules in
+    trimming_is_safe g.D.Disk opened c.args.self.now e rest c.seal_file.new.self (disk_of c.cut_tail.new.self) (trimmed_to e) may (c.seal_file.ensures.leaves opened e (trimmed_to e) rest)
+    (c.in_ok-seal_file.ensures.stands e rest.stands) c.in_ok-seal_file.ensures.stable c.cut_tail.ensures.leaves
+
+pub returns-clause-rests : goal.returns-clause-rests
+returns-clause-rests g c = λ opened e rest.
+    let may : c.args.self.now.layout.trailing ≡ true → c.args.self.now.layout.kind ≡ Voc = search rules in
+    let may' : e.shape.trailing ≡ true → e.shape.kind ≡ Voc = subst (λ (s : Shape). s.trailing ≡ true → s.kind ≡ Voc) rest.stands.shape may in
+    rests_after g.D.Disk opened c.cut_tail.new.self e (trimmed_to e) rest.edited (trims may') (trimmed_rest opened e rest.edited rest.fit.bytes rest.fit.whole may')
+    (returns-clause-stands g c e rest.stands) c.in_ok-cut_tail.ensures.stable

@@ -3,11 +3,12 @@ use Rattle.std.specs.Prelude.{nat_lt}
 use Rattle.snd_layout.specs.Shape.{Shape, end}
 use Rattle.snd_modes.specs.Edits.{count_written, written_bytes, written_shape}
 use Rattle.snd_modes.specs.Handle.{known_of}
+use Rattle.snd_modes.proofs.AtRest.{still_safe, written_at_rest, written_leaves}
 use Rattle.snd_modes.proofs.EditedFrames.{CanPut, known_is, still_closed, whole_frames, written_count, written_sound}
 use Rattle.snd_modes.proofs.handle.File.write_frames.Goals as goal
 
-pub invariant_of-self-clause-closed : goal.invariant_of-self-clause-closed
-invariant_of-self-clause-closed g c = λ auto working free.
+pub invariant_of-self-in-Ok-clause-closed : goal.invariant_of-self-in-Ok-clause-closed
+invariant_of-self-in-Ok-clause-closed g c = λ auto working free.
     let h = c.args.self.now.layout in
     still_closed c.args.self.now.automatic h c.write_over.new.layout _ _ c.in-Ok.ensures.layout (c.in-Ok.ensures.closed auto) free
 
@@ -65,3 +66,23 @@ pub returns-in-Ok-clause-left : goal.returns-in-Ok-clause-left
 returns-in-Ok-clause-left g c =
     let working : c.args.self.now.broken ≡ None = search rules in
     (working, c.in_ok-next.ensures.ready, known_is c.args.from.now (known_of c.args.self.now) c.write_over.new.layout c.in_ok-next.next c.in_ok-next.ensures.value c.in-Ok.ensures.layout)
+
+pub returns-in-Ok-clause-leaves : goal.returns-in-Ok-clause-leaves
+returns-in-Ok-clause-leaves g c = λ auto opened e rest.
+    written_leaves g.D.Disk c.args.self.now opened e c.args.from.now rest auto c.in_ok-next.ensures.ready
+    (c.in_ok-next.next - c.args.self.now.write_place) c.write_over.new.disk (omega (arith, c.in_ok-next.ensures.value)) c.write_over.ensures.leaves
+
+pub returns-in-Err-clause-leaves : goal.returns-in-Err-clause-leaves
+returns-in-Err-clause-leaves g c = λ auto opened e rest.
+    written_leaves g.D.Disk c.args.self.now opened e c.args.from.now rest auto c.in_ok-next.ensures.ready
+    (c.in_ok-next.next - c.args.self.now.write_place) c.write_over.new.disk (omega (arith, c.in_ok-next.ensures.value)) c.write_over.ensures.leaves
+
+pub returns-in-Some-clause-leaves : goal.returns-in-Some-clause-leaves
+returns-in-Some-clause-leaves g c = λ auto opened e rest. still_safe g.D.Disk c.args.self.now g.met.D.Disk.only_now opened e _ rest
+
+pub returns-in_err-next-clause-leaves : goal.returns-in_err-next-clause-leaves
+returns-in_err-next-clause-leaves g c = λ auto opened e rest. still_safe g.D.Disk c.args.self.now g.met.D.Disk.only_now opened e _ rest
+
+pub returns-in-Ok-clause-rests : goal.returns-in-Ok-clause-rests
+returns-in-Ok-clause-rests g c = λ auto opened e rest.
+    written_at_rest g.D.Disk c.args.self.now opened e c.args.from.now rest auto c.in_ok-next.ensures.ready _ (returns-in-Ok-clause-stands g c e rest.stands) (c.in-Ok.ensures.stable auto)

@@ -1,0 +1,70 @@
+-- What a call leaves of a file at rest.
+use Rattle.std.proofs.Common.{◌≡◌, ◌∙◌, ap, sym, subst, inl, inr, ℕ, ◌/◌, ◌≤◌, ℤ, true, List, length}
+use Rattle.snd_disk.specs.Device.{IsStable}
+use Rattle.snd_disk.specs.declared.disk.Disk.{Ghosts}
+use Rattle.snd_layout.specs.Shape.{Shape}
+use Rattle.snd_patch.proofs.Moments.{leaves_weaker}
+use Rattle.snd_patch.specs.Images.{LeavesEach}
+use Rattle.snd_disk.proofs.RunsOfCalls.{same_some}
+use Rattle.snd_modes.specs.declared.handle.File.{File}
+use Rattle.snd_modes.specs.declared.mode.Mode.{Ghosts as ModeGhosts}
+use Rattle.snd_modes.specs.Editing.{Editing}
+use Rattle.snd_modes.specs.Edits.{count_written, written_to}
+use Rattle.snd_modes.specs.Handle.{Stands, disk_of, known_of}
+use Rattle.snd_modes.specs.Laws.{writes}
+use Rattle.snd_modes.specs.Putting.{IsUnderWay, LeavesWritten}
+use Rattle.snd_modes.specs.Rest.{IsAtRest}
+use Rattle.snd_modes.specs.Safe.{IsSafe}
+use Rattle.snd_modes.specs.SafeLaws.{data_then, frames_then}
+use Rattle.snd_modes.specs.WriteCalls.{MayWrite}
+use Rattle.snd_modes.proofs.EditedSteps.{leads_to_edited}
+use Rattle.snd_modes.proofs.PartlyPut.{leaves_still}
+use Rattle.snd_modes.proofs.SafeImages.{at_rest, wider}
+use Rattle.snd_modes.proofs.SafeRests.{edited_apart, written_rest}
+use Rattle.snd_modes.proofs.SafeWrites.{grown_safe, written_safe}
+
+module _ {D M : Type 0} {mode : ModeGhosts M} (d : Ghosts D) (old : File D M d mode) where
+  -- no call of the disk
+  pub still_safe : ((disk : D) (s t : ℕ) (x : List ℕ) → (d.state disk).clock ≤ s → d.left_between disk s t x → d.may_leave disk x) → (opened : List ℕ) (e e' : Editing) → IsAtRest d opened old e → LeavesEach d (disk_of old) (disk_of old) (IsSafe e e')
+  still_safe only_now opened e e' rest =
+      leaves_weaker d (disk_of old) (disk_of old) (d.may_leave (disk_of old)) (IsSafe e e')
+      (λ x left.
+      let is : e.bytes ≡ x = same_some e.bytes x (sym rest.stands.bytes ∙ rest.stable x left) in
+      wider e e' x (subst (IsSafe e e) is (at_rest opened e rest.edited rest.fit.told)))
+      (leaves_still d only_now (disk_of old))
+
+  -- a write from rest, by what the handle knows
+  module _ (opened : List ℕ) (e : Editing) (xs : List ℤ) (rest : IsAtRest d opened old e) (auto : (known_of old).automatic ≡ true) (ready : MayWrite xs (known_of old).shape (known_of old).write_place) where
+    on : e.automatic ≡ true
+    on = sym rest.stands.automatic ∙ auto
+
+    may : MayWrite xs e.shape e.write_place
+    may = subst (MayWrite xs e.shape) rest.stands.write_place (subst (λ (s : Shape). MayWrite xs s (known_of old).write_place) rest.stands.shape ready)
+
+    safe_under_way : (x : List ℕ) → IsUnderWay e.bytes (data_then xs e) e.shape (frames_then xs e) x → IsSafe e (written_to xs e) x
+    safe_under_way x (inl part) = written_safe opened e rest.edited rest.fit xs may (rest.sized on) x part
+    safe_under_way x (inr growing) = grown_safe opened e rest.edited rest.fit xs may growing.0 (rest.sized on growing.0) x growing.1
+
+    pub written_leaves : (k : ℕ) (last : D) → k ≡ length xs / (known_of old).shape.params.channels
+        → LeavesWritten d (known_of old).shape (known_of old).write_place (count_written (known_of old).shape (known_of old).write_place k) xs (disk_of old) last
+        → LeavesEach d (disk_of old) last (IsSafe e (written_to xs e))
+    written_leaves k last all leaves =
+        let to = disk_of old in
+        let count : k ≡ length xs / e.shape.params.channels = all ∙ ap (λ (s : Shape). length xs / s.params.channels) rest.stands.shape in
+        let mine : LeavesWritten d e.shape e.write_place (frames_then xs e) xs to last =
+        subst (λ (m : ℕ). LeavesWritten d e.shape e.write_place (count_written e.shape e.write_place m) xs to last) count
+        (subst (λ (p : ℕ). LeavesWritten d e.shape p (count_written e.shape p k) xs to last) rest.stands.write_place
+        (subst (λ (s : Shape). LeavesWritten d s (known_of old).write_place (count_written s (known_of old).write_place k) xs to last) rest.stands.shape leaves)) in
+        leaves_weaker d to last (IsUnderWay e.bytes (data_then xs e) e.shape (frames_then xs e)) (IsSafe e (written_to xs e)) safe_under_way
+        (mine (edited_apart opened e rest.edited) e.bytes rest.stands.bytes rest.stable)
+
+    pub written_at_rest : (new : File D M d mode) → Stands d.state new (written_to xs e) → IsStable d.state d.may_leave (disk_of new) → IsAtRest d opened new (written_to xs e)
+    written_at_rest new stands stable =
+        let then = written_rest opened e xs rest.edited rest.fit.bytes rest.fit.whole may on in
+        record {
+          edited = leads_to_edited opened e (written_to xs e) rest.edited (writes xs may);
+          stands = stands;
+          stable = stable;
+          fit = then.0;
+          sized = λ still. then.1;
+        }

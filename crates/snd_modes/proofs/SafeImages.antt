@@ -1,0 +1,165 @@
+-- When an image is safe: what it owes the state before a call and the state to which the call leads.
+use Rattle.std.proofs.Common.{◌≡◌, ◌⊎◌, ◌∙◌, ap, sym, refl, inl, inr, ⊎_elim, ℕ, ◌<◌, ◌≤◌, ℤ, true, List, [], Ok, length, get_or, map, take, arith}
+use Rattle.std.proofs.lemmas.List.{ext_get_or, take_all}
+use Rattle.std.specs.Prelude.{Result}
+use Rattle.snd_container.specs.Sound.{Sound, kept_of, layout_of, sound_of}
+use Rattle.snd_layout.specs.Shape.{Shape, end}
+use Rattle.snd_layout.specs.declared.piece.Piece.{Piece}
+use Rattle.snd_layout.specs.declared.refusal.OpenRefusal.{OpenRefusal}
+use Rattle.snd_modes.specs.Editing.{Editing}
+use Rattle.snd_modes.specs.Laws.{IsEdited}
+use Rattle.snd_container.specs.Images.{KeepsHead}
+use Rattle.snd_modes.specs.Safe.{IsSafe, IsUnwritten, acknowledged, chunks_of, frame_at}
+use Rattle.snd_modes.proofs.EditedFiles.{is_linear, some_channel}
+use Rattle.snd_modes.proofs.EditedSounds.{edited_pieces, image_pieces, sound_by}
+use Rattle.snd_modes.proofs.ImageFrames.{frames_in}
+use Rattle.snd_modes.proofs.Opening.{count_opened}
+use Rattle.snd_modes.proofs.ImageFields.{recounted}
+
+-- what an image says that has the layout of an edited file, but for the frames and the declared length: its head and, where it
+-- goes on behind its data, its tail are that file's
+pub record Says (opened : List ℕ) (e : Editing) (x : List ℕ) (n d : ℕ) : Type 0 where
+  pub edited : IsEdited opened e
+  pub told : layout_of x ≡ Ok (recounted e.shape n d)
+  pub kept : KeepsHead e.shape e.bytes x
+  pub there : end e.shape n ≤ length x
+  pub tail : e.shape.trailing ≡ true → (length x ≡ length e.bytes) × ((i : ℕ) → end e.shape e.shape.frames ≤ i → get_or x i 0 ≡ get_or e.bytes i 0)
+
+module _ (opened : List ℕ) (e : Editing) (x : List ℕ) (n d : ℕ) (says : Says opened e x n d) where
+  abbrev h : Shape
+  h = e.shape
+
+  abbrev ed : IsEdited opened e
+  ed = says.edited
+
+  abbrev frames : List (List ℤ)
+  frames = frames_in h n x
+
+  count_is : length frames ≡ n
+  count_is = sym (count_opened x (recounted h n d) (is_linear opened e ed) (some_channel opened e ed) says.there)
+
+  pieces_are : map (kept_of x) h.pieces ≡ chunks_of e
+  pieces_are =
+      let pieces : h.pieces ≡ ed.head.pieces = ap (λ (s : Shape). s.pieces) ed.shape in
+      let begins : h.start ≤ length x = omega (arith, says.there) in
+      let image : map (kept_of x) ed.head.pieces ≡ map (kept_of opened) ed.head.pieces =
+      image_pieces opened e ed x begins (λ i lt out. says.kept i lt out ∙ ed.kept i lt out)
+      (λ goes_on.
+      let mine = says.tail goes_on in
+      let its = ed.stays goes_on in
+      let ends : end h h.frames ≡ end ed.head ed.head.frames = ap (λ (s : Shape). end s s.frames) its.shape in
+      (mine.0 ∙ its.size, λ i behind. mine.1 i (omega (arith, ends, behind)) ∙ its.behind i behind)) in
+      ap (λ (l : List Piece). map (kept_of x) l) pieces ∙ image ∙ sym (edited_pieces opened e ed) ∙ sym (ap (λ (l : List Piece). map (kept_of e.bytes) l) pieces)
+
+  abbrev sound_is : Sound
+  sound_is = record { kind = h.kind; params = h.params; frames = frames; pieces = map (kept_of x) h.pieces }
+
+  opens_as : sound_of x ≡ Ok sound_is
+  opens_as = sound_by x (recounted h n d) says.told (is_linear opened e ed)
+
+  -- by its frames
+  pub safe_by : (e' : Editing) → (n ≡ acknowledged e) ⊎ (n ≡ acknowledged e') → ((i : ℕ) → i < n → i < acknowledged e → IsUnwritten e e' i → frame_at frames i ≡ frame_at e.frames i)
+      → (acknowledged e < n → frames ≡ take n e'.frames) → IsSafe e e' x
+  safe_by e' either stay risen = record {
+    sound = sound_is;
+    opens = opens_as;
+    params = refl;
+    kind = inl refl;
+    chunks = inl pieces_are;
+    count = ⊎_elim (λ old. inl (count_is ∙ old)) (λ new. inr (count_is ∙ new)) either;
+    unwritten = λ i lt within same. stay i (omega (arith, count_is, lt)) within same;
+    risen = λ more. risen (omega (arith, count_is, more)) ∙ ap (λ (m : ℕ). take m e'.frames) (sym count_is);
+  }
+
+  -- with the frames of the state before the call
+  pub safe_old : (e' : Editing) → frames ≡ e.frames → IsSafe e e' x
+  safe_old e' same =
+      let all : n ≡ acknowledged e = sym count_is ∙ ap (λ (l : List (List ℤ)). length l) same in
+      safe_by e' (inl all) (λ i lt within un. ap (λ (l : List (List ℤ)). frame_at l i) same) (λ more. absurd (omega (arith, all, more)))
+
+  -- with those of the state to which it leads
+  pub safe_new : (e' : Editing) → frames ≡ e'.frames → IsSafe e e' x
+  safe_new e' same =
+      let all : n ≡ acknowledged e' = sym count_is ∙ ap (λ (l : List (List ℤ)). length l) same in
+      safe_by e' (inr all)
+      (λ i lt within un. ⊎_elim (λ gone. absurd (omega (arith, all, lt, gone))) (λ stays. ap (λ (l : List (List ℤ)). frame_at l i) same ∙ stays) un)
+      (λ more. same ∙ sym (take_all n e'.frames (omega (arith, all))))
+
+  -- with as many as before, each of which the call writes or leaves
+  pub safe_mixed : (e' : Editing) → n ≡ acknowledged e → n ≤ acknowledged e' → ((i : ℕ) → i < n → frame_at e'.frames i ≡ frame_at e.frames i → frame_at frames i ≡ frame_at e.frames i) → IsSafe e e' x
+  safe_mixed e' all more stay =
+      safe_by e' (inl all) (λ i lt within un. ⊎_elim (λ gone. absurd (omega (arith, more, lt, gone))) (λ stays. stay i lt stays) un) (λ risen. absurd (omega (arith, all, risen)))
+
+-- ---- what an image is that is safe at rest
+
+-- the sound of a file at rest is that of the state
+frames_at_rest : (e : Editing) (x : List ℕ) (safe : IsSafe e e x) → safe.sound.frames ≡ e.frames
+frames_at_rest e x safe =
+    let count : length safe.sound.frames ≡ length e.frames = ⊎_elim (λ c. c) (λ c. c) safe.count in
+    ext_get_or [] safe.sound.frames e.frames count (λ i lt. safe.unwritten i lt (omega (arith, count, lt)) (inr refl))
+
+pub wider : (e e' : Editing) (x : List ℕ) → IsSafe e e x → IsSafe e e' x
+wider e e' x safe =
+    let frames = frames_at_rest e x safe in
+    let count : length safe.sound.frames ≡ acknowledged e = ap (λ (l : List (List ℤ)). length l) frames in
+    record {
+      sound = safe.sound;
+      opens = safe.opens;
+      params = safe.params;
+      kind = inl (⊎_elim (λ k. k) (λ k. k) safe.kind);
+      chunks = inl (⊎_elim (λ k. k) (λ k. k) safe.chunks);
+      count = inl count;
+      unwritten = λ i lt within same. ap (λ (l : List (List ℤ)). frame_at l i) frames;
+      risen = λ more. absurd (omega (arith, count, more));
+    }
+
+pub from_after : (e e' : Editing) (x : List ℕ) → e'.shape.params ≡ e.shape.params → IsSafe e' e' x → IsSafe e e' x
+from_after e e' x params safe =
+    let frames = frames_at_rest e' x safe in
+    let count : length safe.sound.frames ≡ acknowledged e' = ap (λ (l : List (List ℤ)). length l) frames in
+    record {
+      sound = safe.sound;
+      opens = safe.opens;
+      params = safe.params ∙ params;
+      kind = inr (⊎_elim (λ k. k) (λ k. k) safe.kind);
+      chunks = inr (⊎_elim (λ k. k) (λ k. k) safe.chunks);
+      count = inr count;
+      unwritten = λ i lt within un. ⊎_elim (λ gone. absurd (omega (arith, count, lt, gone))) (λ stays. ap (λ (l : List (List ℤ)). frame_at l i) frames ∙ stays) un;
+      risen = λ more. frames ∙ sym (take_all (length safe.sound.frames) e'.frames (omega (arith, count)));
+    }
+
+-- the states of one file have its parameters, its kind and its further chunks
+chunks_are : (opened : List ℕ) (e : Editing) (ed : IsEdited opened e) → chunks_of e ≡ map (kept_of opened) ed.head.pieces
+chunks_are opened e ed = ap (λ (s : Shape). map (kept_of e.bytes) s.pieces) ed.shape ∙ edited_pieces opened e ed
+
+pub same_file : (opened : List ℕ) (e g : Editing) → IsEdited opened e → IsEdited opened g → (g.shape.params ≡ e.shape.params) × (g.shape.kind ≡ e.shape.kind) × (chunks_of g ≡ chunks_of e)
+same_file opened e g ed of_g =
+    let one : ◌≡◌ {A = Result Shape OpenRefusal} (Ok of_g.head) (Ok ed.head) = sym of_g.opened ∙ ed.opened in
+    let head : of_g.head ≡ ed.head = cc in (
+      ap (λ (s : Shape). s.params) of_g.shape ∙ ap (λ (s : Shape). s.params) head ∙ sym (ap (λ (s : Shape). s.params) ed.shape),
+      ap (λ (s : Shape). s.kind) of_g.shape ∙ ap (λ (s : Shape). s.kind) head ∙ sym (ap (λ (s : Shape). s.kind) ed.shape),
+      chunks_are opened g of_g ∙ ap (λ (s : Shape). map (kept_of opened) s.pieces) head ∙ sym (chunks_are opened e ed),
+    )
+
+-- what is safe at rest in a state of the same file with the same frames
+pub safe_across : (opened : List ℕ) (e g e' : Editing) (x : List ℕ) → IsEdited opened e → IsEdited opened g → g.frames ≡ e.frames → IsSafe g g x → IsSafe e e' x
+safe_across opened e g e' x ed of_g same safe =
+    let file = same_file opened e g ed of_g in
+    let frames : safe.sound.frames ≡ e.frames = frames_at_rest g x safe ∙ same in
+    let count : length safe.sound.frames ≡ acknowledged e = ap (λ (l : List (List ℤ)). length l) frames in
+    record {
+      sound = safe.sound;
+      opens = safe.opens;
+      params = safe.params ∙ file.0;
+      kind = inl (⊎_elim (λ k. k) (λ k. k) safe.kind ∙ file.1);
+      chunks = inl (⊎_elim (λ k. k) (λ k. k) safe.chunks ∙ file.2);
+      count = inl count;
+      unwritten = λ i lt within un. ap (λ (l : List (List ℤ)). frame_at l i) frames;
+      risen = λ more. absurd (omega (arith, count, more));
+    }
+
+-- a file at rest
+pub at_rest : (opened : List ℕ) (e : Editing) → IsEdited opened e → layout_of e.bytes ≡ Ok e.shape → IsSafe e e e.bytes
+at_rest opened e ed told =
+    safe_old opened e e.bytes e.shape.frames e.shape.declared
+    (record { edited = ed; told = told; kept = λ i lt out. refl; there = ed.holds.held; tail = λ goes_on. (refl, λ i behind. refl) }) e (sym ed.holds.sound)

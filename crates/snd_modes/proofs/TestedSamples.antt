@@ -1,0 +1,37 @@
+-- Samples made one after the other, of numbers that are tested at the same time.
+use Rattle.std.proofs.Common.{◌≡◌, ◌∙◌, ap, sym, subst, ℕ, ◌+◌, ◌*◌, ◌<◌, ◌≤◌, ℤ, pos, ◌≤ℤ◌, List, [], ◌∷◌, ◌++◌, All, length, get_or, take, arith}
+use Rattle.std.proofs.lemmas.Int.{int_max_is, int_min_is, ints}
+use Rattle.std.proofs.lemmas.List.{append-nil, places, take_more}
+use Rattle.std.proofs.lemmas.Slice.{take-put_mid}
+use borrow.Rule.Slice.PartMut.{put_mid}
+use Rattle.std.specs.Int.{int_max, int_min}
+use Rattle.snd_pcm.specs.Pcm.{sample_bytes, samples_bytes}
+use Rattle.snd_pcm.specs.declared.linear.Linear.{Linear}
+use Rattle.snd_pcm.proofs.RoundTrips.{bytes_of_joined}
+
+-- the clamp makes no other number of one that is in range
+pub clamped : (low high x : ℤ) → low ≤ℤ x → x ≤ℤ high → int_max low (int_min x high) ≡ x
+clamped low high x above below = omega (arith, ints, above, below, int_min_is x high, int_max_is low (int_min x high))
+
+pub length_kept : (bytes piece : List ℕ) (a k : ℕ) → a + k ≤ length bytes → length piece ≡ k → length (put_mid a k bytes piece) ≡ length bytes
+length_kept bytes piece a k within same = grind (arith, places)
+
+one_coded : (form : Linear) (x : ℤ) → samples_bytes form (x ∷ []) ≡ sample_bytes form x
+unfolding samples_bytes
+one_coded form x = append-nil (sample_bytes form x)
+
+-- the bytes of one sample more, where the numbers so far have a property by which its bytes are those of its number
+pub coded_more : (form : Linear) (P : ℤ → Type 0) (from : List ℤ) (bytes piece : List ℕ) (i k : ℕ) → i < length from → length bytes ≡ 2 * length from → length piece ≡ 2
+    → (All P (take i from) → take (2 * i) bytes ≡ samples_bytes form (take i from))
+    → (P (get_or from i (pos 0)) → piece ≡ sample_bytes form (get_or from i (pos 0)))
+    → All P (take (i + 1) from) → take (2 * (i + 1)) (put_mid (2 * i) k bytes piece) ≡ samples_bytes form (take (i + 1) from)
+coded_more form P from bytes piece i k lt size two so_far is all =
+    let x = get_or from i (pos 0) in
+    let front : All P (take i from) =
+    λ n d less. subst P (let e : get_or (take (i + 1) from) n d ≡ get_or (take i from) n d = grind (arith, places) in e) (all n d (grind (arith, places))) in
+    let here : P x = subst P (let e : get_or (take (i + 1) from) i (pos 0) ≡ x = grind (arith, places) in e) (all i (pos 0) (grind (arith, places))) in
+    take-put_mid (2 * i) k bytes piece (2 * (i + 1)) (omega (arith, two)) (omega (arith, size, lt))
+    ∙ ap (λ l. l ++ piece) (so_far front)
+    ∙ ap (λ l. samples_bytes form (take i from) ++ l) (is here ∙ sym (one_coded form x))
+    ∙ sym (bytes_of_joined form (take i from) (x ∷ []))
+    ∙ ap (samples_bytes form) (sym (take_more from i (pos 0) lt))

@@ -1,0 +1,37 @@
+use Rattle.std.proofs.Common.{rules, ◌≡◌, subst, true}
+use Rattle.snd_layout.specs.Shape.{Shape}
+use Rattle.snd_modes.specs.Edits.{automatic_to}
+use Rattle.snd_modes.specs.Laws.{sets_automatic}
+use Rattle.snd_modes.specs.Safe.{IsSafe}
+use Rattle.snd_modes.specs.WriteCalls.{is_whole_field}
+use Rattle.snd_modes.proofs.LeftSafe.{leaves_same, rests_after, unchanged}
+use Rattle.snd_modes.proofs.SafeRests.{automatic_rest}
+use Rattle.snd_modes.proofs.handle.File.set_auto.Goals as goal
+
+pub returns-in-Some-clause-leaves : goal.returns-in-Some-clause-leaves
+returns-in-Some-clause-leaves g c = λ opened e rest. unchanged g.D.Disk opened c.args.self.now e rest g.met.D.Disk.only_now e
+
+pub returns-in_err-seal_file-clause-leaves : goal.returns-in_err-seal_file-clause-leaves
+returns-in_err-seal_file-clause-leaves g c = λ opened e rest. c.seal_file.ensures.leaves opened e _ rest
+
+pub returns-clause-leaves : goal.returns-clause-leaves
+returns-clause-leaves g c = λ opened e rest.
+    let then = automatic_to c.args.on e in
+    leaves_same g.D.Disk _ _ _ (IsSafe e then) (search rules) (c.seal_file.ensures.leaves opened e then rest)
+
+pub returns-clause-stands : goal.returns-clause-stands
+returns-clause-stands g c = search rules
+
+pub returns-clause-stable : goal.returns-clause-stable
+returns-clause-stable g c = search rules
+
+pub returns-clause-rests : goal.returns-clause-rests
+returns-clause-rests g c = λ opened e rest.
+    let on = c.args.on in
+    rests_after g.D.Disk opened _ e (automatic_to on e) rest.edited (sets_automatic on) (automatic_rest opened e on rest.edited rest.fit.bytes rest.fit.whole) (returns-clause-stands g c e rest.stands) (returns-clause-stable g c)
+
+pub returns-clause-begins : goal.returns-clause-begins
+returns-clause-begins g c = λ is opened e edited bytes stands.
+    let on = c.args.on in
+    let whole : is_whole_field c.args.self.now.layout ≡ true = search rules in
+    rests_after g.D.Disk opened _ e (automatic_to on e) edited (sets_automatic on) (automatic_rest opened e on edited bytes (subst (λ (s : Shape). is_whole_field s ≡ true) stands.shape whole)) (returns-clause-stands g c e stands) (returns-clause-stable g c)

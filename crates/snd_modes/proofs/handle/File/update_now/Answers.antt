@@ -1,0 +1,18 @@
+use Rattle.snd_modes.specs.Edits.{sealed_to}
+use Rattle.snd_modes.specs.Laws.{seals}
+use Rattle.snd_modes.proofs.LeftSafe.{rests_after, unchanged}
+use Rattle.snd_modes.proofs.SafeRests.{sealed_rest}
+use Rattle.snd_modes.proofs.handle.File.update_now.Goals as goal
+
+pub returns-in-Some-clause-leaves : goal.returns-in-Some-clause-leaves
+returns-in-Some-clause-leaves g c = λ opened e rest. unchanged g.D.Disk opened c.args.self.now e rest g.met.D.Disk.only_now e
+
+pub returns-in_err-seal_file-clause-leaves : goal.returns-in_err-seal_file-clause-leaves
+returns-in_err-seal_file-clause-leaves g c = λ opened e rest. c.seal_file.ensures.leaves opened e _ rest
+
+pub returns-clause-leaves : goal.returns-clause-leaves
+returns-clause-leaves g c = λ opened e rest. c.seal_file.ensures.leaves opened e (sealed_to e) rest
+
+pub returns-clause-rests : goal.returns-clause-rests
+returns-clause-rests g c = λ opened e rest.
+    rests_after g.D.Disk opened c.seal_file.new.self e (sealed_to e) rest.edited seals (sealed_rest opened e rest.edited rest.fit.bytes rest.fit.whole) (c.in_ok-seal_file.ensures.stands e rest.stands) c.in_ok-seal_file.ensures.stable

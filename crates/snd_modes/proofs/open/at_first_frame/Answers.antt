@@ -1,0 +1,19 @@
+use Rattle.std.proofs.Common.{refl, arith, ◌≤◌, length}
+use Rattle.snd_layout.specs.Shape.{end}
+use Rattle.snd_modes.proofs.Opening.{count_opened}
+use Rattle.snd_modes.proofs.open.at_first_frame.Goals as goal
+
+pub returns-clause-stands : goal.returns-clause-stands
+returns-clause-stands g c = λ b told.
+    let layout = c.args.layout in
+    let fits : end layout layout.frames ≤ length b = omega (arith, c.requires.held, g.met.D.Disk.size_told c.args.disk.now b told) in
+    record {
+      bytes = told;
+      shape = refl;
+      place = refl;
+      write_place = refl;
+      automatic = refl;
+      written = refl;
+      sound = refl;
+      count = count_opened b layout c.requires.linear c.keeps_rules.ensures.params.some_channel fits;
+    }
