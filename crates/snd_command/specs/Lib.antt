@@ -1,4 +1,3 @@
-pub mod Brief
 pub mod Forms
 pub mod Frames
 pub mod Line

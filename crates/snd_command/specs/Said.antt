@@ -7,6 +7,8 @@ use Rattle.snd_command.specs.declared.tables.CodecWord.{CodecWord}
 use Rattle.snd_command.specs.declared.tables.TapKind.{TapKind}
 use Rattle.snd_command.specs.declared.command.Command.{Command}
 use Rattle.snd_command.specs.declared.command.Command.TheVariants as command
+use Rattle.snd_command.specs.declared.line_command.LineCommand.{LineCommand}
+use Rattle.snd_command.specs.declared.line_command.LineCommand.TheVariants as line
 
 pub data Said : Type 0 where
   open_read : List ℕ → Said
@@ -62,3 +64,31 @@ said_of command.GetBext = get_bext
 said_of command.GetCues = get_cues
 said_of (command.Tap kind) = tap kind
 said_of (command.Untap kind) = untap kind
+
+-- what a line says, with its numbers in a room
+abbrev pub line_said : LineCommand → Said
+line_said (line.OpenRead name) = open_read name.now
+line_said (line.OpenUpdate name) = open_update name.now
+line_said (line.Create kind codec channels rate name) = create kind codec channels rate name.now
+line_said line.Info = info
+line_said line.Close = close
+line_said (line.SeekRead to) = seek_read to
+line_said (line.SeekWrite to) = seek_write to
+line_said (line.SeekBoth to) = seek_both to
+line_said (line.Read count) = read count
+line_said (line.Write samples) = write samples.now.items
+line_said (line.Truncate to) = truncate to
+line_said line.Trim = trim
+line_said line.Update = update
+line_said (line.Auto on) = auto on
+line_said (line.SetChunk id hex) = set_chunk id.0 hex.now
+line_said (line.SetString key text) = set_string key text.now
+line_said (line.SetBext key text) = set_bext key text.now
+line_said (line.SetCue places) = set_cue places.now.items
+line_said (line.GetChunk id) = get_chunk id.0
+line_said line.GetChunks = get_chunks
+line_said line.GetStrings = get_strings
+line_said line.GetBext = get_bext
+line_said line.GetCues = get_cues
+line_said (line.Tap kind) = tap kind
+line_said (line.Untap kind) = untap kind

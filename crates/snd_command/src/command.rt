@@ -1,5 +1,9 @@
 //! The commands of a script.
 
+ghost use Rattle.std.specs.Prelude.{◌≡◌};
+ghost use Rattle.snd_command.specs.Said.{line_said, said_of};
+
+use crate::line_command::LineCommand;
 use crate::tables::{CodecWord, TapKind};
 use arrayvec::ArrayVec;
 use snd_fields::Id4;
@@ -97,4 +101,51 @@ pub enum Command<'a> {
     Tap(TapKind),
     /// `untap T`
     Untap(TapKind),
+}
+
+impl Command<'_> {
+    /// The same in few bytes, with the numbers left where they are.
+    pub fn as_line(&self) -> LineCommand<'_, '_>
+        ensures { line_said result ≡ said_of self.now }
+    {
+        match self {
+            Command::OpenRead { name } => LineCommand::OpenRead { name },
+            Command::OpenUpdate { name } => LineCommand::OpenUpdate { name },
+            Command::Create {
+                kind,
+                codec,
+                channels,
+                rate,
+                name,
+            } => LineCommand::Create {
+                kind: *kind,
+                codec: *codec,
+                channels: *channels,
+                rate: *rate,
+                name,
+            },
+            Command::Info => LineCommand::Info,
+            Command::Close => LineCommand::Close,
+            Command::SeekRead(to) => LineCommand::SeekRead(*to),
+            Command::SeekWrite(to) => LineCommand::SeekWrite(*to),
+            Command::SeekBoth(to) => LineCommand::SeekBoth(*to),
+            Command::Read(count) => LineCommand::Read(*count),
+            Command::Write(samples) => LineCommand::Write(samples),
+            Command::Truncate(to) => LineCommand::Truncate(*to),
+            Command::Trim => LineCommand::Trim,
+            Command::Update => LineCommand::Update,
+            Command::Auto(on) => LineCommand::Auto(*on),
+            Command::SetChunk { id, hex } => LineCommand::SetChunk { id: *id, hex },
+            Command::SetString { key, text } => LineCommand::SetString { key: *key, text },
+            Command::SetBext { key, text } => LineCommand::SetBext { key: *key, text },
+            Command::SetCue(places) => LineCommand::SetCue(places),
+            Command::GetChunk(id) => LineCommand::GetChunk(*id),
+            Command::GetChunks => LineCommand::GetChunks,
+            Command::GetStrings => LineCommand::GetStrings,
+            Command::GetBext => LineCommand::GetBext,
+            Command::GetCues => LineCommand::GetCues,
+            Command::Tap(kind) => LineCommand::Tap(*kind),
+            Command::Untap(kind) => LineCommand::Untap(*kind),
+        }
+    }
 }

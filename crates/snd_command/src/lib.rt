@@ -1,11 +1,11 @@
 //! The commands of a script, each one line of text. Nothing here allocates.
 #![tactic(auto)]
 
-mod brief;
 mod command;
 mod forms;
 mod frames;
 mod line;
+mod line_command;
 mod numbers;
 mod opens;
 mod refusal;
@@ -16,6 +16,8 @@ mod tests;
 mod words;
 
 pub use command::{Command, MOST_CUES, MOST_SAMPLES};
-pub use line::parse_line;
+pub use line::{parse_line, read_line};
+pub use line_command::LineCommand;
+pub use numbers::NumberRoom;
 pub use refusal::ScriptRefusal;
 pub use tables::{CodecWord, TapKind};

@@ -1,15 +1,15 @@
 //! A whole line.
 
 ghost use Rattle.std.specs.Prelude.{◌≡◌, ◌≤◌, length, option_map};
-ghost use Rattle.snd_command.specs.Line.{answer_of, command_of, said};
-ghost use Rattle.snd_command.specs.Said.{said_of};
+ghost use Rattle.snd_command.specs.Line.{answer_of, command_of, line_answer, said};
+ghost use Rattle.snd_command.specs.Said.{line_said};
 ghost use Rattle.snd_command.specs.Set.{text_behind};
 ghost use Rattle.snd_command.specs.Words.{words};
 
-use crate::brief::command_of as command_of_brief;
 use crate::command::Command;
 use crate::frames::{parse_auto, parse_read, parse_seek, parse_tap, parse_truncate, parse_untap};
-use crate::numbers::parse_write;
+use crate::line_command::LineCommand;
+use crate::numbers::{NumberRoom, parse_write};
 use crate::opens::{parse_bare, parse_create, parse_get, parse_open};
 use crate::refusal::ScriptRefusal;
 use crate::sets::parse_set;
@@ -17,48 +17,54 @@ use crate::words::{next_word, trim_end};
 
 const LONGEST_LINE: usize = 4096;
 
-// a command by its first word, and what stands behind that
+// A command by its first word, and what stands behind that. Each arm returns, since the value of an `if`
+// is copied at each `else` around it.
 #[inline(never)]
-fn parse_command<'a>(verb: &'a [u8], args: &'a [u8]) -> Option<Command<'a>>
+fn parse_command<'l, 'n>(
+    verb: &'l [u8],
+    args: &'l [u8],
+    room: &'n mut NumberRoom,
+) -> Option<LineCommand<'l, 'n>>
     requires { length args.now ≤ 4095 }
-    ensures { option_map said_of result ≡ said verb.now (words args.now) (text_behind args.now) }
+    ensures { option_map line_said result ≡ said verb.now (words args.now) (text_behind args.now) }
 {
-    let brief = if verb == b"open".as_slice() {
-        parse_open(args)
+    if verb == b"open".as_slice() {
+        return parse_open(args);
     } else if verb == b"create".as_slice() {
-        parse_create(args)
+        return parse_create(args);
     } else if verb == b"seek".as_slice() {
-        parse_seek(args)
+        return parse_seek(args);
     } else if verb == b"read".as_slice() {
-        parse_read(args)
+        return parse_read(args);
     } else if verb == b"write".as_slice() {
-        return parse_write(args);
+        return parse_write(args, room);
     } else if verb == b"truncate".as_slice() {
-        parse_truncate(args)
+        return parse_truncate(args);
     } else if verb == b"auto".as_slice() {
-        parse_auto(args)
+        return parse_auto(args);
     } else if verb == b"set".as_slice() {
-        return parse_set(args);
+        return parse_set(args, room);
     } else if verb == b"get".as_slice() {
-        parse_get(args)
+        return parse_get(args);
     } else if verb == b"tap".as_slice() {
-        parse_tap(args)
+        return parse_tap(args);
     } else if verb == b"untap".as_slice() {
-        parse_untap(args)
-    } else {
-        parse_bare(verb, args)
-    };
-    Some(command_of_brief(brief?))
+        return parse_untap(args);
+    }
+    parse_bare(verb, args)
 }
 
-/// The command of one line of a script, the line feed at its end left off.
+/// What one line of a script says, the line feed at its end left off. Its numbers are read into the room.
 ///
 /// `None` comes exactly for a line of at most 4096 bytes that says nothing: without the spaces at its
 /// ends it is empty, or begins with `#`. `LineTooLong` comes exactly for a line of more than 4096 bytes,
 /// the spaces at its ends counted, and `BadCommand` exactly for any other line that has the form of no
 /// command. Only the space separates words.
-pub fn parse_line(line: &[u8]) -> Result<Option<Command<'_>>, ScriptRefusal>
-    ensures { answer_of result ≡ command_of line.now }
+pub fn read_line<'l, 'n>(
+    line: &'l [u8],
+    room: &'n mut NumberRoom,
+) -> Result<Option<LineCommand<'l, 'n>>, ScriptRefusal>
+    ensures { line_answer result ≡ command_of line.now }
 {
     if line.len() > LONGEST_LINE {
         return Err(ScriptRefusal::LineTooLong);
@@ -70,8 +76,19 @@ pub fn parse_line(line: &[u8]) -> Result<Option<Command<'_>>, ScriptRefusal>
     if verb[0] == b'#' {
         return Ok(None);
     }
-    match parse_command(verb, args) {
+    match parse_command(verb, args, room) {
         Some(command) => Ok(Some(command)),
         None => Err(ScriptRefusal::BadCommand),
+    }
+}
+
+/// The command of one line of a script, as `read_line` reads it, with numbers of its own.
+pub fn parse_line(line: &[u8]) -> Result<Option<Command<'_>>, ScriptRefusal>
+    ensures { answer_of result ≡ command_of line.now }
+{
+    let mut room = NumberRoom::new();
+    match read_line(line, &mut room)? {
+        Some(said) => Ok(Some(said.to_command())),
+        None => Ok(None),
     }
 }

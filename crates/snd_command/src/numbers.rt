@@ -1,43 +1,76 @@
 //! The commands with a list of numbers.
 
-ghost use Rattle.std.specs.Prelude.{◌≡◌, ◌≤◌, length, option_map};
+ghost use Rattle.std.specs.Prelude.{◌≡◌, ◌≤◌, [], length, option_map};
 ghost use Rattle.snd_command.specs.Forms.{signed};
 ghost use Rattle.snd_command.specs.Numbers.{all_of, place, places, set_cue_said, write_said};
-ghost use Rattle.snd_command.specs.Said.{said_of};
+ghost use Rattle.snd_command.specs.Said.{line_said};
 ghost use Rattle.snd_command.specs.Words.{words};
 
-use crate::command::{Command, MOST_CUES, MOST_SAMPLES};
+use crate::command::{MOST_CUES, MOST_SAMPLES};
 use crate::forms::signed;
+use crate::line_command::LineCommand;
 use crate::words::next_word;
 use arrayvec::ArrayVec;
 use snd_fields::decimal;
 
 const LARGEST_PLACE: u64 = (1 << 32) - 1;
 
-// the numbers of `write`, where each word is one
-fn samples_of(args: &[u8]) -> Option<ArrayVec<i32, MOST_SAMPLES>>
-    requires { length args.now ≤ 4095 }
-    ensures { option_map (λ samples. samples.items) result ≡ all_of signed (words args.now) }
+/// Room for the numbers of one line, which is made once and used again from line to line.
+#[derive(Drop)]
+pub struct NumberRoom {
+    /// Those of the last `write` that was read.
+    pub samples: ArrayVec<i32, MOST_SAMPLES>,
+    /// Those of the last `set cue`.
+    pub places: ArrayVec<u32, MOST_CUES>,
+}
+
+impl NumberRoom {
+    /// Room with no numbers in it.
+    pub fn new() -> NumberRoom
+        ensures samples { result.samples.items ≡ [] }
+        ensures places { result.places.items ≡ [] }
+    {
+        NumberRoom {
+            samples: ArrayVec::new(),
+            places: ArrayVec::new(),
+        }
+    }
+}
+
+/// The same numbers in a vector of their own.
+pub fn copy_of<T: Copy + Default + Drop, const N: usize>(numbers: &ArrayVec<T, N>) -> ArrayVec<T, N>
+    ensures { result.items ≡ numbers.now.items }
 {
-    let mut samples: ArrayVec<i32, MOST_SAMPLES> = ArrayVec::new();
+    let mut copy = ArrayVec::new();
+    copy.try_extend_from_slice(numbers).unwrap();
+    copy
+}
+
+// the numbers of `write`, where each word is one
+fn read_samples(args: &[u8], into: &mut ArrayVec<i32, MOST_SAMPLES>) -> Option<()>
+    requires { length args.now ≤ 4095 }
+    ensures { option_map (λ done. into.new.items) result ≡ all_of signed (words args.now) }
+{
+    into.clear();
     let mut rest = args;
     while let Some((word, behind)) = next_word(rest) {
-        samples.push(signed(word)?);
+        into.push(signed(word)?);
         rest = behind;
     }
-    Some(samples)
+    Some(())
 }
 
 // `write S S ..`
 #[inline(never)]
-pub fn parse_write(args: &[u8]) -> Option<Command<'_>>
+pub fn parse_write<'l, 'n>(args: &'l [u8], room: &'n mut NumberRoom) -> Option<LineCommand<'l, 'n>>
     requires { length args.now ≤ 4095 }
-    ensures { option_map said_of result ≡ write_said (words args.now) }
+    ensures { option_map line_said result ≡ write_said (words args.now) }
 {
     if next_word(args).is_none() {
         return None;
     }
-    Some(Command::Write(samples_of(args)?))
+    read_samples(args, &mut room.samples)?;
+    Some(LineCommand::Write(&room.samples))
 }
 
 // a place of a cue point
@@ -52,28 +85,32 @@ fn place_of(word: &[u8]) -> Option<u32>
 }
 
 // the places of `set cue`, where each word is one and they are not too many
-fn places_of(args: &[u8]) -> Option<ArrayVec<u32, MOST_CUES>>
-    ensures { option_map (λ places. places.items) result ≡ places (words args.now) }
+fn read_places(args: &[u8], into: &mut ArrayVec<u32, MOST_CUES>) -> Option<()>
+    ensures { option_map (λ done. into.new.items) result ≡ places (words args.now) }
 {
-    let mut places: ArrayVec<u32, MOST_CUES> = ArrayVec::new();
+    into.clear();
     let mut rest = args;
     while let Some((word, behind)) = next_word(rest) {
-        if places.is_full() {
+        if into.is_full() {
             return None;
         }
-        places.push(place_of(word)?);
+        into.push(place_of(word)?);
         rest = behind;
     }
-    Some(places)
+    Some(())
 }
 
 // `set cue N N ..`
 #[inline(never)]
-pub fn parse_set_cue(args: &[u8]) -> Option<Command<'_>>
-    ensures { option_map said_of result ≡ set_cue_said (words args.now) }
+pub fn parse_set_cue<'l, 'n>(
+    args: &'l [u8],
+    room: &'n mut NumberRoom,
+) -> Option<LineCommand<'l, 'n>>
+    ensures { option_map line_said result ≡ set_cue_said (words args.now) }
 {
     if next_word(args).is_none() {
         return None;
     }
-    Some(Command::SetCue(places_of(args)?))
+    read_places(args, &mut room.places)?;
+    Some(LineCommand::SetCue(&room.places))
 }

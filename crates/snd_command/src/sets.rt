@@ -1,15 +1,13 @@
 //! The commands that set a chunk of a file that is being made.
 
 ghost use Rattle.std.specs.Prelude.{◌≡◌, drop, option_map};
-ghost use Rattle.snd_command.specs.Brief.{brief_said_of};
-ghost use Rattle.snd_command.specs.Said.{said_of};
+ghost use Rattle.snd_command.specs.Said.{line_said};
 ghost use Rattle.snd_command.specs.Set.{is_bext_text, set_bext_said, set_chunk_said, set_said, set_string_said, text_after, text_behind};
 ghost use Rattle.snd_command.specs.Words.{words};
 
-use crate::brief::{Brief, command_of};
-use crate::command::Command;
 use crate::forms::{hex, ident, is_text};
-use crate::numbers::parse_set_cue;
+use crate::line_command::LineCommand;
+use crate::numbers::{NumberRoom, parse_set_cue};
 use crate::tables::{bext_of, info_of};
 use crate::words::{next_word, two_words};
 use snd_fields::decimal;
@@ -26,18 +24,18 @@ fn behind_space(rest: &[u8]) -> &[u8]
 }
 
 // `set chunk ID HEX`
-fn parse_set_chunk(args: &[u8]) -> Option<Brief<'_>>
-    ensures { option_map brief_said_of result ≡ set_chunk_said (words args.now) }
+fn parse_set_chunk(args: &[u8]) -> Option<LineCommand<'_, 'static>>
+    ensures { option_map line_said result ≡ set_chunk_said (words args.now) }
 {
     let (id, digits) = two_words(args)?;
     let id = ident(id)?;
     let hex = hex(digits)?;
-    Some(Brief::SetChunk { id, hex })
+    Some(LineCommand::SetChunk { id, hex })
 }
 
 // `set string KEY TEXT`
-fn parse_set_string(args: &[u8]) -> Option<Brief<'_>>
-    ensures { option_map brief_said_of result ≡ set_string_said (words args.now) (text_after args.now) }
+fn parse_set_string(args: &[u8]) -> Option<LineCommand<'_, 'static>>
+    ensures { option_map line_said result ≡ set_string_said (words args.now) (text_after args.now) }
 {
     let (key, rest) = next_word(args)?;
     let key = info_of(key)?;
@@ -45,7 +43,7 @@ fn parse_set_string(args: &[u8]) -> Option<Brief<'_>>
     if !is_text(text) {
         return None;
     }
-    Some(Brief::SetString { key, text })
+    Some(LineCommand::SetString { key, text })
 }
 
 fn is_bext_text(key: BextKey, text: &[u8]) -> bool
@@ -58,8 +56,8 @@ fn is_bext_text(key: BextKey, text: &[u8]) -> bool
 }
 
 // `set bext KEY TEXT`
-fn parse_set_bext(args: &[u8]) -> Option<Brief<'_>>
-    ensures { option_map brief_said_of result ≡ set_bext_said (words args.now) (text_after args.now) }
+fn parse_set_bext(args: &[u8]) -> Option<LineCommand<'_, 'static>>
+    ensures { option_map line_said result ≡ set_bext_said (words args.now) (text_after args.now) }
 {
     let (key, rest) = next_word(args)?;
     let key = bext_of(key)?;
@@ -67,25 +65,23 @@ fn parse_set_bext(args: &[u8]) -> Option<Brief<'_>>
     if !is_bext_text(key, text) {
         return None;
     }
-    Some(Brief::SetBext { key, text })
+    Some(LineCommand::SetBext { key, text })
 }
 
 // `set ..`, of what stands behind `set`
-#[inline(never)]
-pub fn parse_set(args: &[u8]) -> Option<Command<'_>>
-    ensures { option_map said_of result ≡ set_said (words args.now) (text_behind args.now) }
+pub fn parse_set<'l, 'n>(args: &'l [u8], room: &'n mut NumberRoom) -> Option<LineCommand<'l, 'n>>
+    ensures { option_map line_said result ≡ set_said (words args.now) (text_behind args.now) }
 {
     let (what, rest) = next_word(args)?;
-    let brief = if what == b"chunk".as_slice() {
+    if what == b"chunk".as_slice() {
         parse_set_chunk(rest)
     } else if what == b"string".as_slice() {
         parse_set_string(rest)
     } else if what == b"bext".as_slice() {
         parse_set_bext(rest)
     } else if what == b"cue".as_slice() {
-        return parse_set_cue(rest);
+        parse_set_cue(rest, room)
     } else {
         None
-    };
-    Some(command_of(brief?))
+    }
 }

@@ -1,7 +1,7 @@
 use Rattle.std.proofs.Common.{◌≡◌, suc, ap, length, arith}
 use Rattle.snd_command.specs.Words.{words}
 use Rattle.snd_command.proofs.Counts.{few}
-use Rattle.snd_command.proofs.numbers.samples_of.Goals as goal
+use Rattle.snd_command.proofs.numbers.read_samples.Goals as goal
 
 pub push-requires : goal.push-requires
 push-requires c =

@@ -2,12 +2,12 @@ use Rattle.std.proofs.Common.{◌≡◌, ◌+◌, ◌++◌, length, option_map}
 use Rattle.snd_command.specs.Forms.{signed}
 use Rattle.snd_command.specs.Numbers.{all_of}
 use Rattle.snd_command.specs.Words.{words}
-use Rattle.snd_command.proofs.numbers.samples_of.Given as goal
+use Rattle.snd_command.proofs.numbers.read_samples.Given as goal
 
 abbrev pub invariant-loop-word : goal.invariant-loop-word
 invariant-loop-word l = record {
-  so_far : option_map (λ xs. l.samples.items ++ xs) (all_of signed (words l.rest)) ≡ all_of signed (words l.args);
-  count : length l.samples.items + length (words l.rest) ≡ length (words l.args);
+  so_far : option_map (λ xs. l.into.items ++ xs) (all_of signed (words l.rest)) ≡ all_of signed (words l.args);
+  count : length l.into.items + length (words l.rest) ≡ length (words l.args);
 }
 
 abbrev pub decreases-loop-word : goal.decreases-loop-word
