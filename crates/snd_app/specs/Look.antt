@@ -1,6 +1,6 @@
 -- How the file of a name is looked at.
 use Rattle.std.specs.Prelude.{◌≡◌, ℕ, ◌≤◌, Result, Ok, Err, IfOk}
-use Rattle.snd_disk.specs.State.{Rises}
+use Rattle.snd_disk.specs.State.{AtMost, Rises}
 use Rattle.snd_disk.specs.Shelf.{Files, ShelfState}
 use Rattle.snd_disk.specs.Shelves.{TellsFiles}
 use Rattle.snd_app.specs.declared.look.Stop.{Stop}
@@ -15,3 +15,8 @@ CountsStop old new (Err Memory) = new ≡ old
 -- what is answered is right by the files, where the shelf tells them
 abbrev pub IfOkFiles : {S T E : Type 0} → (S → ShelfState) → S → Result T E → (Files → T → Type 0) → Type 0
 IfOkFiles state shelf result P = IfOk result (λ value. (files : Files) → TellsFiles state shelf files → P files value)
+
+-- at most 16384 bytes are asked of the disks, and none is written
+pub record OnlyLooks (old new : ShelfState) : Type 0 where
+  pub asked : AtMost old.asked 16384 new.asked
+  pub written : new.written ≡ old.written

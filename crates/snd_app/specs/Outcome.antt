@@ -10,7 +10,8 @@ use Rattle.snd_layout.specs.declared.refusal.OpenRefusal.{OpenRefusal}
 use Rattle.snd_script.specs.declared.refusal.Refusal.TheVariants.{MissingFile, Open}
 use Rattle.snd_script.specs.Desk.{closed_desk}
 use Rattle.snd_script.specs.Edit.{Edited}
-use Rattle.snd_script.specs.Script.{any_refused, is_too_long, last_desk, most_bytes, script_steps, texts}
+use Rattle.snd_script.specs.Pinned.{run_steps, run_too_long}
+use Rattle.snd_script.specs.Script.{any_refused, last_desk, texts}
 use Rattle.snd_app.specs.declared.look.Found.{Found}
 use Rattle.snd_app.specs.declared.look.Found.TheVariants.{Missing, Refused, Sound}
 use Rattle.snd_app.specs.Text.{is_printed, refusal}
@@ -60,31 +61,50 @@ answers all = record { out = texts all; err = []; status = if any_refused all th
 abbrev pub script_outcome : Bool → List Edited → Outcome
 script_outcome longer all = if longer then too_long (answers all) else answers all
 
-abbrev pub outcome_of_script : Files → List ℕ → Outcome
-outcome_of_script files text = script_outcome (is_too_long most_bytes text) (script_steps files text)
+-- a script, behind the opening of the file of a name that is pinned, where there is one
+abbrev pub outcome_of_script : Option (List ℕ) → Files → List ℕ → Outcome
+outcome_of_script name files text = script_outcome (run_too_long name files text) (run_steps name files text)
 
 -- .. and it leaves the files of its last step
-abbrev pub files_of_script : Files → List ℕ → Files
-files_of_script files text = (last_desk (closed_desk files) (script_steps files text)).files
+abbrev pub files_of_script : Option (List ℕ) → Files → List ℕ → Files
+files_of_script name files text = (last_desk (closed_desk files) (run_steps name files text)).files
 
 abbrev pub outcome_of_info : List ℕ → Files → Outcome
 outcome_of_info name files = info name (found_in (files name))
 
--- what the words ask for: `info NAME`, or `script`
+-- what the words ask for: `info NAME`; `script`, or `script --auto NAME`, in which the file of the name is pinned
 pub data Asked : Type 0 where
   info_of : List ℕ → Asked
-  script : Asked
+  script : Option (List ℕ) → Asked
   nothing : Asked
 
 abbrev pub asked : List (List ℕ) → Asked
+asked (command ∷ word ∷ name ∷ []) =
+    if bytes_eq command (codes "script") && bytes_eq word (codes "--auto") && is_name name then Asked.script (Some name) else Asked.nothing
 asked (command ∷ name ∷ []) = if bytes_eq command (codes "info") && is_name name then Asked.info_of name else Asked.nothing
-asked (command ∷ []) = if bytes_eq command (codes "script") then Asked.script else Asked.nothing
+asked (command ∷ []) = if bytes_eq command (codes "script") then Asked.script None else Asked.nothing
 asked words = Asked.nothing
 
 abbrev pub outcome_of : Asked → Files → List ℕ → Outcome
 outcome_of Asked.nothing files text = bad_words
 outcome_of (Asked.info_of name) files text = outcome_of_info name files
-outcome_of Asked.script files text = outcome_of_script files text
+outcome_of (Asked.script name) files text = outcome_of_script name files text
+
+-- whether that is a script; and the name that is pinned in it, where there is one
+abbrev pub is_script : Asked → Bool
+is_script (Asked.script name) = true
+is_script other = false
+
+abbrev pub pinned_by : Asked → Option (List ℕ)
+pinned_by (Asked.script name) = name
+pinned_by other = None
+
+-- .. by the words
+abbrev pub runs_script : List (List ℕ) → Bool
+runs_script words = is_script (asked words)
+
+abbrev pub pinned_for : List (List ℕ) → Option (List ℕ)
+pinned_for words = pinned_by (asked words)
 
 -- the outcome of the words, over these files and with this script to come
 abbrev pub outcome : List (List ℕ) → Files → List ℕ → Outcome
@@ -92,7 +112,7 @@ outcome words files text = outcome_of (asked words) files text
 
 -- the files that are there afterwards: only a script changes any
 abbrev pub files_of : Asked → Files → List ℕ → Files
-files_of Asked.script files text = files_of_script files text
+files_of (Asked.script name) files text = files_of_script name files text
 files_of other files text = files
 
 abbrev pub files_after : List (List ℕ) → Files → List ℕ → Files

@@ -3,15 +3,15 @@
 use Rattle.std.specs.Prelude.{◌≡◌, ◌⊎◌, ℕ, List, ◌++◌, false, Option, Some}
 use Rattle.snd_disk.specs.State.{Rises}
 use Rattle.snd_disk.specs.Shelf.{Files, ShelfState}
-use Rattle.snd_disk.specs.Shelves.{TellsFiles}
+use Rattle.snd_disk.specs.Shelves.{KeepsFileImages, TellsFiles}
 use Rattle.snd_disk.specs.Streams.{AppendsFront}
 use Rattle.snd_disk.specs.declared.shelf.Shelf.{Ghosts as ShelfMeaning}
 use Rattle.snd_disk.specs.declared.streams.Sink.{Ghosts as SinkMeaning}
 use Rattle.snd_disk.specs.declared.streams.Source.{Ghosts as SourceMeaning}
 use Rattle.snd_script.specs.Edit.{Edited}
-use Rattle.snd_script.specs.Script.{script_steps}
+use Rattle.snd_script.specs.Pinned.{run_steps}
 use Rattle.snd_script.specs.Served.{FaultCounts, HasFiles, IsDone, IsFault, StopsAtMemory}
-use Rattle.snd_app.specs.Outcome.{Outcome}
+use Rattle.snd_app.specs.Outcome.{Outcome, files_of_script, outcome_of_script}
 
 -- no name is taken out
 abbrev pub IsAllIn : ShelfState → Type 0
@@ -90,6 +90,11 @@ RunsAs s r o e given after shelf script out err shelf' script' out' err' status 
     IsRun status (given files text) (faults_of s r o e shelf script out err) (faults_of s r o e shelf' script' out' err') (told_by o out out') (told_by e err err')
     (HasFiles s.state shelf' (after files text))
 
+-- .. of a script, in which the file of a name is pinned where there is one
+abbrev pub RunsScript : {S D R O E : Type 0} → ShelfMeaning S D → SourceMeaning R → SinkMeaning O → SinkMeaning E → Option (List ℕ) → S → R → O → E → S → R → O → E → ℕ → Type 0
+RunsScript s r o e name shelf script out err shelf' script' out' err' status =
+    RunsAs s r o e (outcome_of_script name) (files_of_script name) shelf script out err shelf' script' out' err' status
+
 -- a script that ends with 3 was served up to a fault; or it was served, and the message that it is too long did not get out. One
 -- that ends with 4 was served up to want of memory.
 abbrev pub IsScriptStop : {S : Type 0} → (S → ShelfState) → Files → List Edited → ℕ → Faults → Faults → Told → Option (List ℕ) → S → Type 0
@@ -97,10 +102,10 @@ IsScriptStop state files all status old new out more shelf' =
     (status ≡ 3 → IsFault state files all (counts_of old) (counts_of new) out.before out.after more shelf' ⊎ (Rises old.err new.err × IsDone state files all out.before out.after shelf'))
     × (status ≡ 4 → StopsAtMemory state files all out.before out.after shelf')
 
-abbrev pub StopsAs : {S D R O E : Type 0} → ShelfMeaning S D → SourceMeaning R → SinkMeaning O → SinkMeaning E → S → R → O → E → S → R → O → E → ℕ → Type 0
-StopsAs s r o e shelf script out err shelf' script' out' err' status =
+abbrev pub StopsAs : {S D R O E : Type 0} → ShelfMeaning S D → SourceMeaning R → SinkMeaning O → SinkMeaning E → Option (List ℕ) → S → R → O → E → S → R → O → E → ℕ → Type 0
+StopsAs s r o e name shelf script out err shelf' script' out' err' status =
     (files : Files) (text : List ℕ) → TellsFiles s.state shelf files → r.left script ≡ Some text →
-    IsScriptStop s.state files (script_steps files text) status (faults_of s r o e shelf script out err) (faults_of s r o e shelf' script' out' err') (told_by o out out') (r.left script') shelf'
+    IsScriptStop s.state files (run_steps name files text) status (faults_of s r o e shelf script out err) (faults_of s r o e shelf' script' out' err') (told_by o out out') (r.left script') shelf'
 
 -- a count of faults rises
 abbrev pub FaultRises : {S D R O E : Type 0} → ShelfMeaning S D → SourceMeaning R → SinkMeaning O → SinkMeaning E → S → R → O → E → S → R → O → E → Type 0
@@ -122,3 +127,7 @@ IsPut status given text old new sink =
 
 abbrev pub PutsText : {O : Type 0} → SinkMeaning O → ℕ → List ℕ → O → O → ℕ → Type 0
 PutsText o given text old new status = IsPut status given text (o.faults old) (o.faults new) (told_by o old new)
+
+-- what a crash may leave of each file is as it was
+abbrev pub KeepsAllImages : {S D : Type 0} → ShelfMeaning S D → S → S → Type 0
+KeepsAllImages s shelf shelf' = KeepsFileImages s.state s.may_leave s.left_between shelf shelf'

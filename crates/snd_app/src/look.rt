@@ -5,7 +5,7 @@ ghost use Rattle.snd_disk.specs.Device.{AsksAtMost, IfOkTold, OnlyReadsOn};
 ghost use Rattle.snd_disk.specs.Shelf.{KeepsFiles};
 ghost use Rattle.snd_disk.specs.Shelves.{KeepsFileImages};
 ghost use Rattle.snd_container.specs.Sound.{layout_of};
-ghost use Rattle.snd_app.specs.Look.{CountsStop, IfOkFiles};
+ghost use Rattle.snd_app.specs.Look.{CountsStop, IfOkFiles, OnlyLooks};
 ghost use Rattle.snd_app.specs.Outcome.{found_in, found_of};
 
 use snd_container::open_layout;
@@ -64,6 +64,7 @@ pub fn look<S: Shelf>(alloc: Global, shelf: &mut S, name: &str) -> Result<Found,
     ensures back { (n : List ℕ) → (S.state shelf.new).out n ≡ (S.state shelf.old).out n }
     ensures files { KeepsFiles (S.state shelf.old) (S.state shelf.new) }
     ensures images { KeepsFileImages S.state S.may_leave S.left_between shelf.old shelf.new }
+    ensures looks { OnlyLooks (S.state shelf.old) (S.state shelf.new) }
 {
     let mut disk = match shelf.take(name, false) {
         Ok(disk) => disk,

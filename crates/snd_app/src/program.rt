@@ -1,12 +1,14 @@
 //! What the program does with its words.
 
-ghost use Rattle.std.specs.Prelude.{◌≡◌, ◌≤◌, ◌+◌, IfOk};
+ghost use Rattle.std.specs.Prelude.{◌≡◌, ◌≤◌, ◌+◌, [], ◌∷◌, IfOk, false, true};
 ghost use Rattle.std.specs.List.{list_all};
 ghost use Rattle.snd_disk.specs.Shelf.{KeepsFiles};
-ghost use Rattle.snd_disk.specs.Shelves.{KeepsFileImages};
-ghost use Rattle.snd_script.specs.Served.{BoundsScript, KeepsUnnamed, LeavesShelf};
-ghost use Rattle.snd_app.specs.Outcome.{Asked, asked, bad_words, is_name, files_after, files_of_script, outcome, outcome_of_info, outcome_of_script, text_of};
-ghost use Rattle.snd_app.specs.Run.{DescribesAs, DescribingFaultRises, EndsAs, FaultRises, IsAllIn, PutsText, RunsAs, StopsAs};
+ghost use Rattle.snd_script.specs.Served.{BoundsScript, KeepsUnnamed, LeavesScript, LeavesShelf};
+ghost use Rattle.snd_script.specs.PinnedRun.{named};
+ghost use Rattle.snd_script.specs.Trail.{TrailsScript};
+ghost use Rattle.snd_app.specs.Look.{OnlyLooks};
+ghost use Rattle.snd_app.specs.Outcome.{Asked, asked, bad_words, is_name, files_after, outcome, outcome_of_info, pinned_for, runs_script, text_of};
+ghost use Rattle.snd_app.specs.Run.{DescribesAs, DescribingFaultRises, EndsAs, FaultRises, IsAllIn, KeepsAllImages, PutsText, RunsAs, RunsScript, StopsAs};
 ghost use Rattle.snd_app.specs.Text.{is_printed};
 ghost use Rattle.snd_app.specs.Words.{asked_by};
 
@@ -27,8 +29,8 @@ const NO_MEMORY: u8 = 4;
 enum Request<'a> {
     /// To describe the file of a name.
     Info(&'a str),
-    /// To carry out a script.
-    Script,
+    /// To carry out a script, with the file of a name pinned where there is one.
+    Script(Option<&'a str>),
 }
 
 fn are_printed(word: &[u8]) -> bool
@@ -44,17 +46,54 @@ fn has_name_form(word: &[u8]) -> bool
     1 <= word.len() && word.len() <= 255 && are_printed(word) && word[0] != b'-'
 }
 
+/// What one word asks for.
+fn plain_request<'a>(command: &str) -> Option<Request<'a>>
+    ensures { asked_by result ≡ asked (command.now ∷ []) }
+{
+    if command == "script" {
+        Some(Request::Script(None))
+    } else {
+        None
+    }
+}
+
+/// What a word and a name ask for.
+fn info_request<'a>(command: &str, name: &'a str) -> Option<Request<'a>>
+    ensures { asked_by result ≡ asked (command.now ∷ name.entry.now ∷ []) }
+{
+    if command == "info" && has_name_form(name.as_bytes()) {
+        Some(Request::Info(name))
+    } else {
+        None
+    }
+}
+
+/// What two words and a name ask for.
+fn pinned_request<'a>(command: &str, word: &str, name: &'a str) -> Option<Request<'a>>
+    ensures { asked_by result ≡ asked (command.now ∷ word.now ∷ name.entry.now ∷ []) }
+{
+    if command == "script" && word == "--auto" && has_name_form(name.as_bytes()) {
+        Some(Request::Script(Some(name)))
+    } else {
+        None
+    }
+}
+
 /// What the words ask for, or none where they are refused.
 fn request_of(words: &Words) -> Option<Request<'_>>
     ensures { asked_by result ≡ asked words.now }
 {
     let command = words.get(0)?;
-    match words.get(1) {
-        None if command == "script" => Some(Request::Script),
-        Some(name) if words.len() == 2 && command == "info" && has_name_form(name.as_bytes()) => {
-            Some(Request::Info(name))
-        }
-        _ => None,
+    let Some(second) = words.get(1) else {
+        return plain_request(command);
+    };
+    let Some(third) = words.get(2) else {
+        return info_request(command, second);
+    };
+    if words.len() == 3 {
+        pinned_request(command, second, third)
+    } else {
+        None
     }
 }
 
@@ -94,7 +133,8 @@ fn run_info<S: Shelf, O: Sink, E: Sink>(
         DescribingFaultRises S.Shelf O.Sink E.Sink shelf.old out.old err.old shelf.new out.new err.new }
     ensures back { IsAllIn (S.state shelf.new) }
     ensures files { KeepsFiles (S.state shelf.old) (S.state shelf.new) }
-    ensures images { KeepsFileImages S.state S.may_leave S.left_between shelf.old shelf.new }
+    ensures images { KeepsAllImages S.Shelf shelf.old shelf.new }
+    ensures looks { OnlyLooks (S.state shelf.old) (S.state shelf.new) }
 {
     let found = match look(alloc, shelf, name) {
         Ok(found) => found,
@@ -111,27 +151,30 @@ fn run_info<S: Shelf, O: Sink, E: Sink>(
     }
 }
 
-/// Carries out a script, with its replies on `out`.
+/// Carries out a script, with its replies on `out`, and with the file of a name pinned where there is one.
 fn run_script<S: Shelf, R: Source, O: Sink, E: Sink>(
     alloc: Global,
+    pinned: Option<&str>,
     shelf: &mut S,
     script: &mut R,
     out: &mut O,
     err: &mut E,
 ) -> u8
     requires { IsAllIn (S.state shelf.old) }
-    ensures outcome { RunsAs S.Shelf R.Source O.Sink E.Sink outcome_of_script files_of_script
+    ensures outcome { RunsScript S.Shelf R.Source O.Sink E.Sink (named pinned.entry)
         shelf.old script.old out.old err.old shelf.new script.new out.new err.new result }
-    ensures stops { StopsAs S.Shelf R.Source O.Sink E.Sink
+    ensures stops { StopsAs S.Shelf R.Source O.Sink E.Sink (named pinned.entry)
         shelf.old script.old out.old err.old shelf.new script.new out.new err.new result }
     ensures fault { result ≡ 3 → FaultRises S.Shelf R.Source O.Sink E.Sink
         shelf.old script.old out.old err.old shelf.new script.new out.new err.new }
+    ensures unread { LeavesScript S.state (named pinned.entry) shelf.old script.old script.new }
     ensures taken { R.given script.new ≤ R.given script.old + 16777217 }
-    ensures bounds { BoundsScript S.state R.left shelf.old script.old shelf.new }
+    ensures bounds { BoundsScript S.state R.left (named pinned.entry) shelf.old script.old shelf.new }
+    ensures crash { TrailsScript S.Shelf R.Source O.Sink (named pinned.entry) shelf.old script.old out.old shelf.new out.new }
     ensures leaves { LeavesShelf S.state S.left_between shelf.old shelf.new }
-    ensures unnamed { KeepsUnnamed S.state S.may_leave S.left_between R.left shelf.old script.old shelf.new }
+    ensures unnamed { KeepsUnnamed S.state S.may_leave S.left_between R.left (named pinned.entry) shelf.old script.old shelf.new }
 {
-    match serve(alloc, shelf, script, out) {
+    match serve(alloc, shelf, script, out, pinned) {
         ScriptEnd::Done { refused } => u8::from(refused),
         ScriptEnd::TooLong => put_text(err, b"snd: script too long\n", 2),
         ScriptEnd::Fault => FAULT,
@@ -142,7 +185,8 @@ fn run_script<S: Shelf, R: Source, O: Sink, E: Sink>(
 /// Carries out the words of a command line, and answers the status that the program ends with.
 ///
 /// The words `info NAME` describe a file, and `script` carries out the commands that come from
-/// `script`, one a line; any others are refused. Beside the statuses 0, 1 and 2 that the outcome has, 3
+/// `script`, one a line; with `script --auto NAME` the file of the name is open in all of them, and updated
+/// automatically. Any other words are refused. Beside the statuses 0, 1 and 2 that the outcome has, 3
 /// says that the shelf, the script or a sink failed, and 4 that memory ran out.
 pub fn run<S: Shelf, R: Source, O: Sink, E: Sink>(
     alloc: Global,
@@ -159,8 +203,14 @@ pub fn run<S: Shelf, R: Source, O: Sink, E: Sink>(
     ensures headline { RunsAs S.Shelf R.Source O.Sink E.Sink (outcome words.now) (files_after words.now)
         shelf.old script.old out.old err.old shelf.new script.new out.new err.new result }
 
+    // Its other half: over a shelf, a script and `out` that are told, whatever a crash leaves at any moment
+    // of the file that is pinned, where that is synced and fit at the start, opens with its parameters and its
+    // further chunks, with the frames of one of two states of the script that follow each other, and with
+    // every frame that is not written between these; the states come in their order, as far as `out` shows.
+    ensures crash { TrailsScript S.Shelf R.Source O.Sink (pinned_for words.now) shelf.old script.old out.old shelf.new out.new }
+
     // Where a script was not carried out whole: which replies there are, and which files.
-    ensures stops { asked words.now ≡ Asked.script → StopsAs S.Shelf R.Source O.Sink E.Sink
+    ensures stops { runs_script words.now ≡ true → StopsAs S.Shelf R.Source O.Sink E.Sink (pinned_for words.now)
         shelf.old script.old out.old err.old shelf.new script.new out.new err.new result }
 
     // Words that are refused need no file and no script.
@@ -171,23 +221,25 @@ pub fn run<S: Shelf, R: Source, O: Sink, E: Sink>(
     ensures fault { result ≡ 3 → FaultRises S.Shelf R.Source O.Sink E.Sink
         shelf.old script.old out.old err.old shelf.new script.new out.new err.new }
 
-    // A script that never ends is no exception.
+    // A script that never ends is no exception. Nothing is taken of it where the pinned file is refused.
     ensures taken { R.given script.new ≤ R.given script.old + 16777217 }
+    ensures unread { LeavesScript S.state (pinned_for words.now) shelf.old script.old script.new }
 
     // Every file that was taken is given back, none is gone, and time has gone on for each. Without a
-    // script no file changes, nor what a crash may leave of one.
+    // script no file changes, nor what a crash may leave of one, and few bytes are asked of one.
     ensures leaves { LeavesShelf S.state S.left_between shelf.old shelf.new }
-    ensures files { (asked words.now ≡ Asked.script → ⊥) → KeepsFiles (S.state shelf.old) (S.state shelf.new) }
-    ensures images { (asked words.now ≡ Asked.script → ⊥) → KeepsFileImages S.state S.may_leave S.left_between shelf.old shelf.new }
+    ensures files { runs_script words.now ≡ false → KeepsFiles (S.state shelf.old) (S.state shelf.new) }
+    ensures images { runs_script words.now ≡ false → KeepsAllImages S.Shelf shelf.old shelf.new }
+    ensures looks { runs_script words.now ≡ false → OnlyLooks (S.state shelf.old) (S.state shelf.new) }
 
-    // With one, so does a file that no line opens to be written; and no more bytes are asked of the files
-    // and written than the lines may.
-    ensures unnamed { KeepsUnnamed S.state S.may_leave S.left_between R.left shelf.old script.old shelf.new }
-    ensures bounds { asked words.now ≡ Asked.script → BoundsScript S.state R.left shelf.old script.old shelf.new }
+    // With one, so does a file that no line opens to be written, and that is not pinned; and no more bytes
+    // are asked of the files and written than the lines may.
+    ensures unnamed { KeepsUnnamed S.state S.may_leave S.left_between R.left (pinned_for words.now) shelf.old script.old shelf.new }
+    ensures bounds { runs_script words.now ≡ true → BoundsScript S.state R.left (pinned_for words.now) shelf.old script.old shelf.new }
 {
     match request_of(words) {
         Some(Request::Info(name)) => run_info(alloc, name, shelf, out, err),
-        Some(Request::Script) => run_script(alloc, shelf, script, out, err),
+        Some(Request::Script(pinned)) => run_script(alloc, pinned, shelf, script, out, err),
         None => put_text(err, b"snd: bad words\n", 2),
     }
 }

@@ -37,7 +37,7 @@ pub fn printed(
     )
 }
 
-static BAD_WORDS: [&[&str]; 9] = [
+static BAD_WORDS: [&[&str]; 13] = [
     &[],
     &["info"],
     &["info", "a.wav", "a.wav"],
@@ -47,6 +47,10 @@ static BAD_WORDS: [&[&str]; 9] = [
     &["info", ""],
     &["script", "a.wav"],
     &["scripts"],
+    &["script", "--auto"],
+    &["script", "--auto", "-a.wav"],
+    &["script", "--Auto", "a.wav"],
+    &["script", "--auto", "a.wav", "a.wav"],
 ];
 
 #[test]

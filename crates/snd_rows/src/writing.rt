@@ -19,6 +19,10 @@ struct Row {
     after: &'static [u8],
 }
 
+/// A file of two frames, 1 and -1, whose count lies in two sectors.
+const STRADDLING: &[u8] =
+    b"RIFF\xfe\x01\0\0WAVEfmt \x10\0\0\0\x01\0\x01\0@\x1f\0\0\x80>\0\0\x02\0\x10\0abcd\xce\x01\0\0\0\0\0\0\0\0\0\0\0\0\0\0\0\0\0\0\0\0\0\0\0\0\0\0\0\0\0\0\0\0\0\0\0\0\0\0\0\0\0\0\0\0\0\0\0\0\0\0\0\0\0\0\0\0\0\0\0\0\0\0\0\0\0\0\0\0\0\0\0\0\0\0\0\0\0\0\0\0\0\0\0\0\0\0\0\0\0\0\0\0\0\0\0\0\0\0\0\0\0\0\0\0\0\0\0\0\0\0\0\0\0\0\0\0\0\0\0\0\0\0\0\0\0\0\0\0\0\0\0\0\0\0\0\0\0\0\0\0\0\0\0\0\0\0\0\0\0\0\0\0\0\0\0\0\0\0\0\0\0\0\0\0\0\0\0\0\0\0\0\0\0\0\0\0\0\0\0\0\0\0\0\0\0\0\0\0\0\0\0\0\0\0\0\0\0\0\0\0\0\0\0\0\0\0\0\0\0\0\0\0\0\0\0\0\0\0\0\0\0\0\0\0\0\0\0\0\0\0\0\0\0\0\0\0\0\0\0\0\0\0\0\0\0\0\0\0\0\0\0\0\0\0\0\0\0\0\0\0\0\0\0\0\0\0\0\0\0\0\0\0\0\0\0\0\0\0\0\0\0\0\0\0\0\0\0\0\0\0\0\0\0\0\0\0\0\0\0\0\0\0\0\0\0\0\0\0\0\0\0\0\0\0\0\0\0\0\0\0\0\0\0\0\0\0\0\0\0\0\0\0\0\0\0\0\0\0\0\0\0\0\0\0\0\0\0\0\0\0\0\0\0\0\0\0\0\0\0\0\0\0\0\0\0\0\0\0\0\0\0\0\0\0\0\0\0\0\0\0\0\0\0\0\0\0\0\0\0\0\0\0\0\0\0\0\0\0\0\0\0\0\0\0\0\0\0\0\0\0\0\0\0\0\0\0\0\0\0\0\0\0\0\0\0\0\0\0\0\0\0\0\0\0\0\0\0\0\0\0\0\0\0\0\0\0\0\0\0\0\0\0\0\0\0\0\0\0\0\0\0\0\0\0data\x04\0\0\0\x01\0\xff\xff";
+
 static ROWS: [Row; 5] = [
     // trailing chunks forbid growth and allow overwriting
     Row {
@@ -54,13 +58,11 @@ static ROWS: [Row; 5] = [
     // a count field across a sector edge forbids automatic update
     Row {
         name: "g.wav",
-        before: Some(
-            b"RIFF\xfe\x01\0\0WAVEfmt \x10\0\0\0\x01\0\x01\0@\x1f\0\0\x80>\0\0\x02\0\x10\0abcd\xce\x01\0\0\0\0\0\0\0\0\0\0\0\0\0\0\0\0\0\0\0\0\0\0\0\0\0\0\0\0\0\0\0\0\0\0\0\0\0\0\0\0\0\0\0\0\0\0\0\0\0\0\0\0\0\0\0\0\0\0\0\0\0\0\0\0\0\0\0\0\0\0\0\0\0\0\0\0\0\0\0\0\0\0\0\0\0\0\0\0\0\0\0\0\0\0\0\0\0\0\0\0\0\0\0\0\0\0\0\0\0\0\0\0\0\0\0\0\0\0\0\0\0\0\0\0\0\0\0\0\0\0\0\0\0\0\0\0\0\0\0\0\0\0\0\0\0\0\0\0\0\0\0\0\0\0\0\0\0\0\0\0\0\0\0\0\0\0\0\0\0\0\0\0\0\0\0\0\0\0\0\0\0\0\0\0\0\0\0\0\0\0\0\0\0\0\0\0\0\0\0\0\0\0\0\0\0\0\0\0\0\0\0\0\0\0\0\0\0\0\0\0\0\0\0\0\0\0\0\0\0\0\0\0\0\0\0\0\0\0\0\0\0\0\0\0\0\0\0\0\0\0\0\0\0\0\0\0\0\0\0\0\0\0\0\0\0\0\0\0\0\0\0\0\0\0\0\0\0\0\0\0\0\0\0\0\0\0\0\0\0\0\0\0\0\0\0\0\0\0\0\0\0\0\0\0\0\0\0\0\0\0\0\0\0\0\0\0\0\0\0\0\0\0\0\0\0\0\0\0\0\0\0\0\0\0\0\0\0\0\0\0\0\0\0\0\0\0\0\0\0\0\0\0\0\0\0\0\0\0\0\0\0\0\0\0\0\0\0\0\0\0\0\0\0\0\0\0\0\0\0\0\0\0\0\0\0\0\0\0\0\0\0\0\0\0\0\0\0\0\0\0\0\0\0\0\0\0\0\0\0\0\0\0\0\0\0\0\0\0\0\0\0\0\0\0\0\0\0\0\0\0\0\0\0\0\0\0\0\0\0\0\0\0\0\0\0\0\0\0\0\0\0\0\0\0\0\0\0\0\0\0\0\0\0\0data\x04\0\0\0\x01\0\xff\xff",
-        ),
+        before: Some(STRADDLING),
         script: "open u g.wav\nauto on\nupdate\nclose\n",
         answers: "ok 2 1 8000 wave pcm_16_le\nerror 27 Straddle\nok 2\nok 2\n",
         status: 1,
-        after: b"RIFF\xfe\x01\0\0WAVEfmt \x10\0\0\0\x01\0\x01\0@\x1f\0\0\x80>\0\0\x02\0\x10\0abcd\xce\x01\0\0\0\0\0\0\0\0\0\0\0\0\0\0\0\0\0\0\0\0\0\0\0\0\0\0\0\0\0\0\0\0\0\0\0\0\0\0\0\0\0\0\0\0\0\0\0\0\0\0\0\0\0\0\0\0\0\0\0\0\0\0\0\0\0\0\0\0\0\0\0\0\0\0\0\0\0\0\0\0\0\0\0\0\0\0\0\0\0\0\0\0\0\0\0\0\0\0\0\0\0\0\0\0\0\0\0\0\0\0\0\0\0\0\0\0\0\0\0\0\0\0\0\0\0\0\0\0\0\0\0\0\0\0\0\0\0\0\0\0\0\0\0\0\0\0\0\0\0\0\0\0\0\0\0\0\0\0\0\0\0\0\0\0\0\0\0\0\0\0\0\0\0\0\0\0\0\0\0\0\0\0\0\0\0\0\0\0\0\0\0\0\0\0\0\0\0\0\0\0\0\0\0\0\0\0\0\0\0\0\0\0\0\0\0\0\0\0\0\0\0\0\0\0\0\0\0\0\0\0\0\0\0\0\0\0\0\0\0\0\0\0\0\0\0\0\0\0\0\0\0\0\0\0\0\0\0\0\0\0\0\0\0\0\0\0\0\0\0\0\0\0\0\0\0\0\0\0\0\0\0\0\0\0\0\0\0\0\0\0\0\0\0\0\0\0\0\0\0\0\0\0\0\0\0\0\0\0\0\0\0\0\0\0\0\0\0\0\0\0\0\0\0\0\0\0\0\0\0\0\0\0\0\0\0\0\0\0\0\0\0\0\0\0\0\0\0\0\0\0\0\0\0\0\0\0\0\0\0\0\0\0\0\0\0\0\0\0\0\0\0\0\0\0\0\0\0\0\0\0\0\0\0\0\0\0\0\0\0\0\0\0\0\0\0\0\0\0\0\0\0\0\0\0\0\0\0\0\0\0\0\0\0\0\0\0\0\0\0\0\0\0\0\0\0\0\0\0\0\0\0\0\0\0\0\0\0\0\0\0\0\0\0\0\0\0\0\0\0\0\0\0\0\0\0\0\0\0\0\0\0\0\0\0data\x04\0\0\0\x01\0\xff\xff",
+        after: STRADDLING,
     },
     // automatic growth and truncation leave a padded file
     Row {
@@ -70,6 +72,37 @@ static ROWS: [Row; 5] = [
         answers: "ok 0 1 8000 wave pcm_u8\nok 1\nok 1\nok 2\nok 1\nok 1\n",
         status: 0,
         after: b"RIFF&\0\0\0WAVEfmt \x10\0\0\0\x01\0\x01\0@\x1f\0\0@\x1f\0\0\x01\0\x08\0data\x01\0\0\0\x80\0",
+    },
+];
+
+/// Scripts over a file that is pinned.
+static PINNED: [Row; 3] = [
+    // a pinned script may not close
+    Row {
+        name: "a.wav",
+        before: Some(PLAIN),
+        script: "write 5\nclose\n",
+        answers: "ok 2 1 8000 wave pcm_16_le\nok 2\nok 1\nerror 65 Pinned\n",
+        status: 1,
+        after: CHANGED,
+    },
+    // what is refused in it, and in which order
+    Row {
+        name: "a.wav",
+        before: Some(PLAIN),
+        script: "create wave ulaw 1 8000 b.wav\ncreate wave pcm_u8 1 8000 b.wav\nopen r b.wav\nopen u a.wav\nauto off\nauto on\nclosed\nseek w 2\nwrite 7\nseek w 0\nwrite 5\nread 1\n",
+        answers: "ok 2 1 8000 wave pcm_16_le\nok 2\nerror 99 NotBuilt\nerror 65 Pinned\nerror 65 Pinned\nerror 65 Pinned\nerror 65 Pinned\nerror 65 Pinned\nerror 40 BadCommand\nok 2\nok 1\nok 0\nok 1\nok 1\n5\n",
+        status: 1,
+        after: GROWN,
+    },
+    // a pinned file with a straddling field ends the run
+    Row {
+        name: "g.wav",
+        before: Some(STRADDLING),
+        script: "write 5\ninfo\n",
+        answers: "ok 2 1 8000 wave pcm_16_le\nerror 27 Straddle\n",
+        status: 1,
+        after: STRADDLING,
     },
 ];
 
@@ -101,6 +134,7 @@ const PIECE: usize = 8;
 /// Runs a script over a shelf, where a call of the script or of the output fails: the status, and what was printed.
 fn run_over<S: Shelf>(
     alloc: Global,
+    words: &[&str],
     shelf: &mut S,
     script: &[u8],
     failing: Failing,
@@ -108,7 +142,7 @@ fn run_over<S: Shelf>(
     requires { (n : List ℕ) → (S.state shelf.old).out n ≡ false }
     ensures { (n : List ℕ) → (S.state shelf.new).out n ≡ false }
 {
-    let words = words_of(alloc, &["script"])?;
+    let words = words_of(alloc, words)?;
     let mut calls = Vec::new(alloc);
     calls.push(failing.script)?;
     let mut script = MemorySource::new(script.to_vec(alloc)?, PIECE, calls);
@@ -126,6 +160,7 @@ fn run_over<S: Shelf>(
 /// Runs a script over one file, or over another one alone, where a call fails.
 fn run_script(
     alloc: Global,
+    words: &[&str],
     name: &str,
     before: Option<&[u8]>,
     script: &[u8],
@@ -140,7 +175,7 @@ fn run_script(
     let bytes = before.unwrap_or(b"").to_vec(alloc)?;
     let mut shelf = MemoryShelf::new(alloc);
     shelf.put(there, MemoryDisk::new(alloc, bytes, calls)?)?;
-    let (status, out) = run_over(alloc, &mut shelf, script, failing)?;
+    let (status, out) = run_over(alloc, words, &mut shelf, script, failing)?;
     let file = match shelf.take(name, false) {
         Ok(disk) => Some(disk.bytes().to_vec(alloc)?),
         Err(_) => None,
@@ -160,6 +195,7 @@ fn worked_scripts_leave_their_files(rt: HostRuntime) -> Result<(), Fail> {
     for row in ROWS.iter() {
         let left = run_script(
             rt.alloc(),
+            &["script"],
             row.name,
             row.before,
             row.script.as_bytes(),
@@ -169,6 +205,32 @@ fn worked_scripts_leave_their_files(rt: HostRuntime) -> Result<(), Fail> {
         assert_eq!(rt; left.status, row.status);
         has(&rt, &left, row.after);
     }
+    Ok(())
+}
+
+#[test]
+fn pinned_scripts_leave_their_files(rt: HostRuntime) -> Result<(), Fail> {
+    for row in PINNED.iter() {
+        let words = ["script", "--auto", row.name];
+        let script = row.script.as_bytes();
+        let left = run_script(rt.alloc(), &words, row.name, row.before, script, NONE)?;
+        assert_eq!(rt; left.out.as_slice(), row.answers.as_bytes());
+        assert_eq!(rt; left.status, row.status);
+        has(&rt, &left, row.after);
+    }
+    Ok(())
+}
+
+#[test]
+fn a_refused_pin_takes_nothing_of_the_script(rt: HostRuntime) -> Result<(), Fail> {
+    let alloc = rt.alloc();
+    let words = ["script", "--auto", "g.wav"];
+    let failing = Failing { script: 1, ..NONE };
+    let left = run_script(alloc, &words, "g.wav", Some(STRADDLING), b"info\n", failing)?;
+    assert_eq!(rt; left.status, 1);
+    let left = run_script(alloc, &words, "g.wav", None, b"info\n", failing)?;
+    assert_eq!(rt; left.out.as_slice(), b"error 56 MissingFile\n".as_slice());
+    assert_eq!(rt; left.status, 1);
     Ok(())
 }
 
@@ -223,7 +285,7 @@ fn a_script_that_fails_leaves_what_came_before(rt: HostRuntime) -> Result<(), Fa
             script: call,
             ..NONE
         };
-        let left = run_script(alloc, "a.wav", Some(PLAIN), SCRIPT, failing)?;
+        let left = run_script(alloc, &["script"], "a.wav", Some(PLAIN), SCRIPT, failing)?;
         let came = SCRIPT.len().min((call as usize - 1) * PIECE);
         let lines = SCRIPT[..came].iter().filter(|c| **c == b'\n').count();
         if left.status == 0 {
@@ -248,7 +310,7 @@ fn a_reply_that_fails_leaves_its_command_done(rt: HostRuntime) -> Result<(), Fai
             put: put as u64,
             ..NONE
         };
-        let left = run_script(alloc, "a.wav", Some(PLAIN), SCRIPT, failing)?;
+        let left = run_script(alloc, &["script"], "a.wav", Some(PLAIN), SCRIPT, failing)?;
         assert_eq!(rt; left.status, 3);
         assert_eq!(rt;
             left.out.as_slice(),
@@ -265,7 +327,7 @@ fn a_disk_that_fails_ends_the_run(rt: HostRuntime) -> Result<(), Fail> {
     let all = answers(alloc, STEPS.len(), false)?;
     for call in 1..100u64 {
         let failing = Failing { disk: call, ..NONE };
-        let left = run_script(alloc, "a.wav", Some(PLAIN), SCRIPT, failing)?;
+        let left = run_script(alloc, &["script"], "a.wav", Some(PLAIN), SCRIPT, failing)?;
         if left.status == 0 {
             assert!(rt; call > 5);
             assert_eq!(rt; left.out.as_slice(), all.as_slice());

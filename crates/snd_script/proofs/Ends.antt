@@ -1,27 +1,21 @@
 -- How a run that stops has served its script.
-use Rattle.std.proofs.Common.{◌≡◌, ◌⊎◌, inl, inr, ⊎_elim, ℕ, List, [], ◌∷◌, ◌++◌, Bool, false, ◌||◌, Option, None, Some, refl, sym, ◌∙◌, ap, subst}
+use Rattle.std.proofs.Common.{◌≡◌, inl, inr, ℕ, List, [], ◌∷◌, ◌++◌, Bool, false, ◌||◌, Option, None, Some, refl, sym, ◌∙◌, ap, subst}
 use Rattle.std.proofs.lemmas.List.{append-nil}
 use Rattle.snd_disk.specs.Shelf.{Files, ShelfState}
 use Rattle.snd_script.specs.Desk.{Desk, OpenFile, closed_desk, files_closed, files_with}
 use Rattle.snd_script.specs.Edit.{Edited}
 use Rattle.snd_script.specs.Lines.{Reading}
+use Rattle.snd_script.specs.Pinned.{auto_steps, auto_too_long, pinned_opening, pinned_steps, run_steps, run_too_long}
+use Rattle.snd_script.specs.PinnedRun.{run_left, run_longer}
 use Rattle.snd_script.specs.Replies.{text_of}
 use Rattle.snd_script.specs.Script.{any_refused, ending, ending_of, is_too_long, last_desk, lines_within, most_bytes, script_steps, steps, texts}
-use Rattle.snd_script.specs.Served.{Appends, AppendsPart, FaultCounts, HasFiles, IsDone, IsServed, Takes, TakesPart, first_text, none_lost}
+use Rattle.snd_script.specs.Served.{AnyCountRises, Appends, AppendsPart, FaultCounts, HasFiles, IsDone, IsServed, Takes, TakesPart, end_at, first_text, none_lost}
 use Rattle.snd_script.specs.Serving.{CountsAt, IsStopped, Moment, Serves, ServesPart, ShelfStands, is_longer, moment, steps_left}
 use Rattle.snd_script.specs.declared.serving.ScriptEnd.{ScriptEnd}
 use Rattle.snd_script.specs.declared.serving.ScriptEnd.TheVariants as ends
 use Rattle.snd_script.specs.declared.stop.Stop.{Stop}
 use Rattle.snd_script.specs.declared.stop.Stop.TheVariants.{Ended, TooLong, Script, Sink, File, Memory}
 use Rattle.snd_script.proofs.Chains.{all_of_part, last_append, or_none, refused_append, texts_append}
-
-abbrev pub end_at : Bool → Stop → ScriptEnd
-end_at refused Ended = ends.Done refused
-end_at refused TooLong = ends.TooLong
-end_at refused Script = ends.Fault
-end_at refused Sink = ends.Fault
-end_at refused File = ends.Fault
-end_at refused Memory = ends.Memory
 
 -- the ending says nothing, refuses nothing, and closes what is open
 ending_says : (files : Files) (file : Option OpenFile) → texts (ending_of files file) ≡ []
@@ -76,16 +70,42 @@ module _ {S : Type 0} (state : S → ShelfState) (shelf : S) (files : Files) (lo
   served_until File fresh (inr (step, left, at, part, here)) counts = inr (inr (counts, inr (step, left, at, taken_part (step ∷ left) at (text_of step.answer) refl part, here)))
   served_until Memory fresh (left, at, part, here) counts = (counts, (left, at, taken left at part, here))
 
-pub script_served : {S : Type 0} (state : S → ShelfState) (shelf : S) (files : Files) (stop : Stop) (s : List ℕ) (reading : Reading) (left t : Option (List ℕ)) (m' : Moment) (old new : FaultCounts)
-    → reading ≡ record { rest = []; room = most_bytes }
-    → IsStopped stop (is_longer (moment reading left false t) s) (steps_left (closed_desk files) (moment reading left false t) s) (closed_desk files) (moment reading left false t) m' (ShelfStands state shelf) → CountsAt stop old new
-    → IsServed state files (is_too_long most_bytes s) (script_steps files s) (end_at m'.refused stop) old new t m'.told m'.left shelf
-unfolding script_steps
-script_served state shelf files stop s reading left t m' old new is stopped counts =
-    served_until state shelf files (is_too_long most_bytes s) (steps (closed_desk files) (lines_within most_bytes s)) (moment (record { rest = []; room = most_bytes }) left false t) m' old new stop refl
-    (subst (λ (x : Reading). IsStopped stop (is_longer (moment x left false t) s) (steps_left (closed_desk files) (moment x left false t) s) (closed_desk files) (moment x left false t) m' (ShelfStands state shelf)) is stopped) counts
+-- a run over a whole script
+module _ {S : Type 0} (state : S → ShelfState) (shelf : S) (files : Files) (stop : Stop) (s : List ℕ) (left t : Option (List ℕ)) (m' : Moment) (old new : FaultCounts) (counts : CountsAt stop old new) where
+  abbrev first : Reading → Moment
+  first reading = moment reading left false t
 
-pub script_faults : {S : Type 0} (state : S → ShelfState) (shelf : S) (files : Files) (stop : Stop) (s : List ℕ) (old new : FaultCounts) (refused : Bool) (t t' left : Option (List ℕ)) → (stop ≡ Script) ⊎ ((stop ≡ Sink) ⊎ (stop ≡ File))
-    → IsServed state files (is_too_long most_bytes s) (script_steps files s) (end_at refused stop) old new t t' left shelf → IsServed state files (is_too_long most_bytes s) (script_steps files s) ends.Fault old new t t' left shelf
-script_faults state shelf files stop s old new refused t t' left is served =
-    subst (λ (e : ScriptEnd). IsServed state files (is_too_long most_bytes s) (script_steps files s) e old new t t' left shelf) (⊎_elim (ap (end_at refused)) (⊎_elim (ap (end_at refused)) (ap (end_at refused))) is) served
+  abbrev fresh : Reading
+  fresh = record { rest = []; room = most_bytes }
+
+  plain_served : IsStopped stop (is_longer (first fresh) s) (steps_left (closed_desk files) (first fresh) s) (closed_desk files) (first fresh) m' (ShelfStands state shelf)
+      → IsServed state files (is_too_long most_bytes s) (script_steps files s) (end_at m'.refused stop) old new t m'.told m'.left shelf
+  unfolding script_steps
+  plain_served stopped = served_until state shelf files (is_too_long most_bytes s) (steps (closed_desk files) (lines_within most_bytes s)) (first fresh) m' old new stop refl stopped counts
+
+  pinned_served : (name : List ℕ) → IsStopped stop (run_longer (Some name) files (first fresh) s) (run_left (Some name) files (first fresh) s) (closed_desk files) (first fresh) m' (ShelfStands state shelf)
+      → IsServed state files (auto_too_long files name s) (auto_steps files name s) (end_at m'.refused stop) old new t m'.told m'.left shelf
+  unfolding auto_steps
+  pinned_served name stopped =
+      served_until state shelf files (auto_too_long files name s) (pinned_steps (pinned_opening files name) (lines_within most_bytes s)) (first fresh) m' old new stop refl stopped counts
+
+  served_in : (name : Option (List ℕ)) → IsStopped stop (run_longer name files (first fresh) s) (run_left name files (first fresh) s) (closed_desk files) (first fresh) m' (ShelfStands state shelf)
+      → IsServed state files (run_too_long name files s) (run_steps name files s) (end_at m'.refused stop) old new t m'.told m'.left shelf
+  served_in None stopped = plain_served stopped
+  served_in (Some name) stopped = pinned_served name stopped
+
+  pub script_served : (name : Option (List ℕ)) (reading : Reading) (ended : ScriptEnd) → reading ≡ fresh → ended ≡ end_at m'.refused stop
+      → IsStopped stop (run_longer name files (first reading) s) (run_left name files (first reading) s) (closed_desk files) (first reading) m' (ShelfStands state shelf)
+      → IsServed state files (run_too_long name files s) (run_steps name files s) ended old new t m'.told m'.left shelf
+  script_served name reading ended is ends stopped =
+      subst (λ (e : ScriptEnd). IsServed state files (run_too_long name files s) (run_steps name files s) e old new t m'.told m'.left shelf) (sym ends)
+      (served_in name (subst (λ (x : Reading). IsStopped stop (run_longer name files (first x) s) (run_left name files (first x) s) (closed_desk files) (first x) m' (ShelfStands state shelf)) is stopped))
+
+-- it ends with a fault only where a count rose
+pub fault_rises : (stop : Stop) (refused : Bool) (old new : FaultCounts) → end_at refused stop ≡ ends.Fault → CountsAt stop old new → AnyCountRises old new
+fault_rises Ended refused old new is counts = absurd cc
+fault_rises TooLong refused old new is counts = absurd cc
+fault_rises Script refused old new is counts = inr (inl counts.1)
+fault_rises Sink refused old new is counts = inr (inr counts.2)
+fault_rises File refused old new is counts = inl counts
+fault_rises Memory refused old new is counts = absurd cc

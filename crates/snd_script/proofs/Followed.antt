@@ -1,19 +1,23 @@
 -- A rule is followed on an open file, by what became of the call and of its reply.
 use Rattle.std.proofs.Common.{◌≡◌, ℕ, List, Bool, true, false, ◌&&◌, Option, None, Some, Result, Ok, Err, refl, sym, ap, ◌∙◌, subst, arith, rules}
 use Rattle.std.specs.Prelude.{IfErr, IsErrOf, is_none, is_some}
+use Rattle.std.proofs.lemmas.Bool.{and_parts}
 use Rattle.snd_disk.specs.Device.{AsksAtMost, GoesOnFrom, OnlyReadsOn, WritesAtMost}
 use Rattle.snd_disk.specs.declared.disk.Disk.{Ghosts}
 use Rattle.snd_disk.specs.declared.disk.Step.{Step}
 use Rattle.snd_disk.specs.declared.streams.Sink.{Ghosts as SinkMeaning}
 use Rattle.snd_modes.specs.Editing.{Editing}
-use Rattle.snd_modes.specs.Handle.{Known, Stands, disk_of, known_of}
+use Rattle.snd_modes.specs.Handle.{Known, Stands, disk_of, known_of, loan_of}
+use Rattle.snd_modes.specs.Rest.{IsAtRest}
+use Rattle.snd_modes.specs.Safe.{IsSafe}
 use Rattle.snd_modes.specs.declared.handle.File.{File}
 use Rattle.snd_modes.specs.declared.mode.Mode.{Ghosts as ModeGhosts}
+use Rattle.snd_patch.specs.Images.{LeavesEach}
 use Rattle.snd_patch.specs.Steps.{StillTells}
 use Rattle.snd_script.specs.Edit.{edit_by, edit_unless}
 use Rattle.snd_script.specs.Rules.{FileEdited, Rule}
 use Rattle.snd_script.specs.Replies.{Answer, says, refuses}
-use Rattle.snd_script.specs.Stepped.{IsSaid, IsSilent, IsStepCause, Knows, LeavesFile, IsBrokenAt, Rose, changes_by, known_unless, refusal_by, reply_of, reply_unless}
+use Rattle.snd_script.specs.Stepped.{IsAutomatic, IsSaid, IsSilent, IsStepCause, Knows, LeavesFile, IsBrokenAt, Rose, changes_by, known_unless, refusal_by, reply_of, reply_unless}
 use Rattle.snd_script.specs.Work.{Follows, IsSent}
 use Rattle.snd_script.specs.declared.handle.Reply.{Reply}
 use Rattle.snd_script.specs.declared.handle.StepFault.{StepFault}
@@ -63,14 +67,23 @@ module _ {D M O : Type 0} {mode : ModeGhosts M} (d : Ghosts D) (o : SinkMeaning 
   edited_on : (refusal : Option Refusal) → refusal_by rule (known_of old) ≡ refusal → (e : Editing) → Stands d.state old e → edit_unless refusal (rule.done e) e ≡ edit_by rule e
   edited_on refusal why e stands = ap (λ x. edit_unless x (rule.done e) e) (sym (refusal_on e stands ∙ why))
 
+  -- from rest, what it leaves at any moment is safe where it is carried out, and the file is at rest then
+  abbrev pub LeavesDone : Type 0
+  LeavesDone = IsAutomatic rule (known_of old) → (opened : List ℕ) (e : Editing) → IsAtRest d opened old e → LeavesEach d (disk_of old) (disk_of new) (IsSafe e (rule.done e).editing)
+
+  abbrev pub RestsDone : Type 0
+  RestsDone = IsAutomatic rule (known_of old) → (opened : List ℕ) (e : Editing) → IsAtRest d opened old e → IsAtRest d opened new (rule.done e).editing
+
   -- a command that was carried out, and that says a text
-  pub carried_out : (text : List ℕ) → refusal_by rule (known_of old) ≡ None → IsSent r (o.faults out) (o.faults out') → IsSaid r (says text) (o.told out) (o.told out')
+  pub carried_out : (text : List ℕ) → loan_of new ≡ loan_of old → refusal_by rule (known_of old) ≡ None → IsSent r (o.faults out) (o.faults out') → IsSaid r (says text) (o.told out) (o.told out')
       → ((e : Editing) → Stands d.state old e → (rule.done e).answer ≡ says text) → ((e : Editing) → Stands d.state old e → Stands d.state new (rule.done e).editing)
       → known_of new ≡ rule.known (known_of old) → (d.state (disk_of new)).faults ≡ (d.state (disk_of old)).faults
       → StillTells (d.state (disk_of old)) (d.state (disk_of new)) → GoesOnFrom d.state d.left_between (disk_of old) (disk_of new)
       → (rule.changes ≡ false → OnlyReadsOn d.state d.may_leave d.left_between (disk_of old) (disk_of new))
+      → (rule.changes ≡ true → LeavesDone) → (rule.changes ≡ true → RestsDone)
       → AsksAtMost d.state rule.asked (disk_of old) (disk_of new) → WritesAtMost d.state rule.written (disk_of old) (disk_of new) → Follows d o rule r old out new out'
-  carried_out text free sent said answer stands known calm tells time reads asked written = record {
+  carried_out text loan free sent said answer stands known calm tells time reads leaves rests asked written = record {
+    loan = loan;
     stands = λ e here. subst (λ (x : FileEdited). LeavesFile r x e (Stands d.state new)) (edited_on None free e here) (sent_stands r _ _ (rule.done e) e _ sent (stands e here));
     said = λ e here. subst (λ (x : FileEdited). IsSaid r x.answer (o.told out) (o.told out')) (edited_on None free e here) (subst (λ (a : Answer). IsSaid r a (o.told out) (o.told out')) (sym (answer e here)) said);
     silent = sent_silent r _ _ _ _ sent;
@@ -80,6 +93,10 @@ module _ {D M O : Type 0} {mode : ModeGhosts M} (d : Ghosts D) (o : SinkMeaning 
     tells = tells;
     time = time;
     reads = λ same. reads (unchanging rule.changes (sym (ap (λ x. rule.changes && is_none x) free) ∙ same));
+    leaves = λ changes on opened e rest. subst (λ (x : FileEdited). LeavesEach d (disk_of old) (disk_of new) (IsSafe e x.editing)) (edited_on None free e rest.stands)
+        (leaves (and_parts rule.changes _ changes).0 on opened e rest);
+    rests = λ changes on opened e rest. subst (λ (x : FileEdited). LeavesFile r x e (IsAtRest d opened new)) (edited_on None free e rest.stands)
+        (sent_stands r _ _ (rule.done e) e _ sent (rests (and_parts rule.changes _ changes).0 on opened e rest));
     asked = asked;
     written = written;
   }
@@ -89,9 +106,10 @@ module _ {D M O : Type 0} {mode : ModeGhosts M} (d : Ghosts D) (o : SinkMeaning 
       unchanging false is = is
 
   -- one that was refused, and that left what the handle knows, and the disk
-  pub refused_on : (refusal : Refusal) → refusal_by rule (known_of old) ≡ Some refusal → IsSent r (o.faults out) (o.faults out') → IsSaid r (refuses refusal) (o.told out) (o.told out')
+  pub refused_on : (refusal : Refusal) → loan_of new ≡ loan_of old → refusal_by rule (known_of old) ≡ Some refusal → IsSent r (o.faults out) (o.faults out') → IsSaid r (refuses refusal) (o.told out) (o.told out')
       → known_of new ≡ known_of old → disk_of new ≡ disk_of old → Follows d o rule r old out new out'
-  refused_on refusal why sent said known disk = record {
+  refused_on refusal loan why sent said known disk = record {
+    loan = loan;
     stands = λ e here. subst (λ (x : FileEdited). LeavesFile r x e (Stands d.state new)) (edited_on (Some refusal) why e here) (sent_stands r _ _ _ e _ sent (same_stands e here));
     said = λ e here. subst (λ (x : FileEdited). IsSaid r x.answer (o.told out) (o.told out')) (edited_on (Some refusal) why e here) said;
     silent = sent_silent r _ _ _ _ sent;
@@ -101,10 +119,19 @@ module _ {D M O : Type 0} {mode : ModeGhosts M} (d : Ghosts D) (o : SinkMeaning 
     tells = record { told = ap (λ x. is_some (d.state x).contents) disk; name = ap (λ x. (d.state x).name) disk };
     time = subst (λ (x : D). GoesOnFrom d.state d.left_between (disk_of old) x) (sym disk) (record { later = omega arith; same = λ s t x le left. left; kept = λ s t x left. left });
     reads = λ same. subst (λ (x : D). OnlyReadsOn d.state d.may_leave d.left_between (disk_of old) x) (sym disk) (search rules);
+    leaves = λ changes. absurd (let none = unchanged in cc);
+    rests = λ changes. absurd (let none = unchanged in cc);
     asked = subst (λ (x : D). AsksAtMost d.state rule.asked (disk_of old) x) (sym disk) (record { later = omega arith; most = omega arith });
     written = subst (λ (x : D). WritesAtMost d.state rule.written (disk_of old) x) (sym disk) (record { later = omega arith; most = omega arith });
   }
     where
+      and_none : (b : Bool) → (b && false) ≡ false
+      and_none true = refl
+      and_none false = refl
+
+      unchanged : changes_by rule (known_of old) ≡ false
+      unchanged = ap (λ x. rule.changes && is_none x) why ∙ and_none rule.changes
+
       same_stands : (e : Editing) → Stands d.state old e → Stands d.state new e
       same_stands e here = record {
         bytes = ap (λ x. (d.state x).contents) disk ∙ here.bytes;
@@ -119,11 +146,13 @@ module _ {D M O : Type 0} {mode : ModeGhosts M} (d : Ghosts D) (o : SinkMeaning 
 
 -- the disk failed at a command that changes the file and was not refused
 pub failed : {D M O : Type 0} {mode : ModeGhosts M} (d : Ghosts D) (o : SinkMeaning O) (rule : Rule) (old : File D M d mode) (out : O) (new : File D M d mode)
-    → refusal_by rule (known_of old) ≡ None → rule.changes ≡ true → Rose (d.state (disk_of old)).faults (d.state (disk_of new)).faults
+    → loan_of new ≡ loan_of old → refusal_by rule (known_of old) ≡ None → rule.changes ≡ true → Rose (d.state (disk_of old)).faults (d.state (disk_of new)).faults
     → ((step : Step) × IsBrokenAt rule.seals_first step (known_of old) (known_of new))
     → StillTells (d.state (disk_of old)) (d.state (disk_of new)) → GoesOnFrom d.state d.left_between (disk_of old) (disk_of new)
+    → LeavesDone d o rule (Err Disk) old out new out
     → AsksAtMost d.state rule.asked (disk_of old) (disk_of new) → WritesAtMost d.state rule.written (disk_of old) (disk_of new) → Follows d o rule (Err Disk) old out new out
-failed d o rule old out new free changes rose broken tells time asked written = record {
+failed d o rule old out new loan free changes rose broken tells time leaves asked written = record {
+  loan = loan;
   stands = λ e here. tt;
   said = λ e here. refl;
   silent = refl;
@@ -133,6 +162,8 @@ failed d o rule old out new free changes rose broken tells time asked written = 
   tells = tells;
   time = time;
   reads = λ same. absurd (let all : changes_by rule (known_of old) ≡ true = simp (changes, free) in cc);
+  leaves = λ changes on opened e rest. subst (λ (x : FileEdited). LeavesEach d (disk_of old) (disk_of new) (IsSafe e x.editing)) (edited_on d o rule (Err Disk) old out new out None free e rest.stands) (leaves on opened e rest);
+  rests = λ changes on opened e rest. tt;
   asked = asked;
   written = written;
 }

@@ -1,56 +1,26 @@
 -- The lines of a script while a file is open.
-use Rattle.std.proofs.Common.{◌≡◌, ℕ, List, ◌++◌, Bool, false, ◌||◌, Option, Some, Ok, Err, refl, sym, ◌∙◌, ap, subst}
+use Rattle.std.proofs.Common.{◌≡◌, ℕ, List, ◌++◌, Bool, ◌||◌, Option, Some, Ok, Err, sym, ◌∙◌, ap, subst}
 use Rattle.snd_command.specs.Said.{Said}
 use Rattle.snd_disk.specs.Shelf.{Files}
 use Rattle.snd_script.specs.Desk.{Desk, OpenFile, open_desk}
-use Rattle.snd_script.specs.Edit.{Edited, edit_file, edit_line, edit_open, keep_open, refused}
+use Rattle.snd_script.specs.Edit.{Edited, edit_line, edit_open, refused}
 use Rattle.snd_script.specs.Lines.{Reading}
 use Rattle.snd_script.specs.Replies.{is_refusal, refuses, text_of}
 use Rattle.snd_script.specs.Serving.{Brings, IsAnswered, IsLineServed, IsStepAnswered, IsStopped, Moment, Serves, StopsLine, is_longer, moment, steps_from, steps_left}
 use Rattle.snd_script.specs.Served.{none_lost}
-use Rattle.snd_script.specs.Stepped.{is_close}
 use Rattle.snd_script.specs.declared.refusal.Refusal.{Refusal}
 use Rattle.snd_script.specs.declared.stop.Next.TheVariants as next
 use Rattle.snd_script.specs.declared.stop.Stop.{Stop}
 use Rattle.snd_script.specs.declared.stop.Stop.TheVariants.{Ended, TooLong, Script, Sink, File, Memory}
 use Rattle.snd_script.proofs.Chains.{brought_then, line_stops, serves_none, serves_one, serves_then, stopped_then}
 
--- a command that does not close the file
-pub stays_open : (files : Files) (file : OpenFile) (said : Said) → is_close said ≡ false → edit_open files file said ≡ keep_open files file (edit_file file.mode said file.editing)
-stays_open files file (Said.open_read n) stays = refl
-stays_open files file (Said.open_update n) stays = refl
-stays_open files file (Said.create kind codec channels rate n) stays = refl
-stays_open files file Said.info stays = refl
-stays_open files file Said.close stays = absurd cc
-stays_open files file (Said.seek_read n) stays = refl
-stays_open files file (Said.seek_write n) stays = refl
-stays_open files file (Said.seek_both n) stays = refl
-stays_open files file (Said.read n) stays = refl
-stays_open files file (Said.write xs) stays = refl
-stays_open files file (Said.truncate n) stays = refl
-stays_open files file Said.trim stays = refl
-stays_open files file Said.update stays = refl
-stays_open files file (Said.auto on) stays = refl
-stays_open files file (Said.set_chunk id hex) stays = refl
-stays_open files file (Said.set_string key text) stays = refl
-stays_open files file (Said.set_bext key text) stays = refl
-stays_open files file (Said.set_cue places) stays = refl
-stays_open files file (Said.get_chunk id) stays = refl
-stays_open files file Said.get_chunks stays = refl
-stays_open files file Said.get_strings stays = refl
-stays_open files file Said.get_bext stays = refl
-stays_open files file Said.get_cues stays = refl
-stays_open files file (Said.tap kind) stays = refl
-stays_open files file (Said.untap kind) stays = refl
+-- what is said is answered so
+module _ (files : Files) (file : OpenFile) (said : Said) (edited : Edited) (r r' : Bool) (before after : Option (List ℕ)) (stands : (List ℕ → Bool) → Desk → Type 0) (is : edit_open files file said ≡ edited) where
+  pub step_served : (x : Unit {0}) → IsStepAnswered (Ok x) edited (open_desk files file) r r' before after stands → IsLineServed (Ok next.Open) (edit_open files file said) files file r r' before after stands
+  step_served x answered = subst (λ (d : Edited). IsLineServed (Ok next.Open) d files file r r' before after stands) (sym is) answered
 
-module _ (files : Files) (file : OpenFile) (said : Said) (r r' : Bool) (before after : Option (List ℕ)) (stands : (List ℕ → Bool) → Desk → Type 0) (stays : is_close said ≡ false) where
-  pub step_served : (x : Unit {0}) → IsStepAnswered (Ok x) (keep_open files file (edit_file file.mode said file.editing)) (open_desk files file) r r' before after stands
-      → IsLineServed (Ok next.Open) (edit_open files file said) files file r r' before after stands
-  step_served x answered = subst (λ (d : Edited). IsLineServed (Ok next.Open) d files file r r' before after stands) (sym (stays_open files file said stays)) answered
-
-  pub step_stops : (stop : Stop) → StopsLine stop (keep_open files file (edit_file file.mode said file.editing)) (open_desk files file) before after stands
-      → StopsLine stop (edit_open files file said) (open_desk files file) before after stands
-  step_stops stop stops = subst (λ (d : Edited). StopsLine stop d (open_desk files file) before after stands) (sym (stays_open files file said stays)) stops
+  pub step_stops : (stop : Stop) → StopsLine stop edited (open_desk files file) before after stands → StopsLine stop (edit_open files file said) (open_desk files file) before after stands
+  step_stops stop stops = subst (λ (d : Edited). StopsLine stop d (open_desk files file) before after stands) (sym is) stops
 
 -- a refusal that does not get out
 pub refused_stops : (stop : Stop) (edited : Edited) (refusal : Refusal) (d : Desk) (r r' : Bool) (before after : Option (List ℕ)) (stands : (List ℕ → Bool) → Desk → Type 0)

@@ -12,7 +12,7 @@ use Rattle.snd_layout.specs.Shape.{Shape}
 use Rattle.snd_modes.specs.Editing.{Editing}
 use Rattle.snd_script.specs.Desk.{Desk, OpenFile, closed_as, closed_bytes, closed_desk, files_closed, open_desk, writes}
 use Rattle.snd_script.specs.Edit.{Edited, close_edit, opened_edit}
-use Rattle.snd_script.specs.Handled.{FinishesAs, HandleStands, handle_disk, handle_known, mode_of}
+use Rattle.snd_script.specs.Handled.{FinishesAs, HandleStands, handle_disk, handle_known, mode_of, open_as}
 use Rattle.snd_script.specs.Lines.{Reading}
 use Rattle.snd_script.specs.Replies.{Answer, file_line, ok_line, says}
 use Rattle.snd_script.specs.Script.{ending}
@@ -70,23 +70,23 @@ file_said left reading r t t' s files file shape is said =
 
 -- ---- it is closed
 
-module _ {D : Type 0} {ghosts : Ghosts D} (state : D → State) (files : Files) (name : List ℕ) (handle : Handle D ghosts) (disk : D) where
-  others : (editing : Editing) (desk : Desk) → desk ≡ held_desk files name handle editing → (n : List ℕ) → bytes_eq n name ≡ false → files_closed desk n ≡ files n
-  others editing desk is n other = ap (λ d. files_closed d n) is ∙ ap (λ b. cond b (Some (closed_bytes (record { name = name; mode = mode_of handle; editing = editing }))) (files n)) other
+module _ {D : Type 0} {ghosts : Ghosts D} (state : D → State) (files : Files) (name : List ℕ) (stays : Bool) (handle : Handle D ghosts) (disk : D) where
+  others : (editing : Editing) (desk : Desk) → desk ≡ held_desk files name stays handle editing → (n : List ℕ) → bytes_eq n name ≡ false → files_closed desk n ≡ files n
+  others editing desk is n other = ap (λ d. files_closed d n) is ∙ ap (λ b. cond b (Some (closed_bytes (record { name = name; mode = open_as stays (mode_of handle); editing = editing }))) (files n)) other
 
-  own : (editing : Editing) (desk : Desk) → desk ≡ held_desk files name handle editing → files_closed desk name ≡ Some (closed_as (writes (mode_of handle)) editing).bytes
-  own editing desk is = ap (λ d. files_closed d name) is ∙ ap (λ b. cond b (Some (closed_as (writes (mode_of handle)) editing).bytes) (files name)) (same_bytes name)
+  own : (editing : Editing) (desk : Desk) → desk ≡ held_desk files name stays handle editing → files_closed desk name ≡ Some (closed_as (writes (open_as stays (mode_of handle))) editing).bytes
+  own editing desk is = ap (λ d. files_closed d name) is ∙ ap (λ b. cond b (Some (closed_as (writes (open_as stays (mode_of handle))) editing).bytes) (files name)) (same_bytes name)
 
   -- the disk that came back holds the file
-  pub disk_stands : (lost : List ℕ → Bool) (desk : Desk) → ((e : Editing) → HandleStands state handle e → Tells state disk (closed_as (writes (mode_of handle)) e).bytes)
-      → OpenStands state files name handle lost desk → DiskStands state files name disk lost desk
+  pub disk_stands : (lost : List ℕ → Bool) (desk : Desk) → ((e : Editing) → HandleStands state handle e → Tells state disk (closed_as (writes (open_as stays (mode_of handle))) e).bytes)
+      → OpenStands state files name stays handle lost desk → DiskStands state files name disk lost desk
   disk_stands lost desk closes here = record {
     others = others here.editing desk here.is;
-    holds = λ kept. ((closed_as (writes (mode_of handle)) here.editing).bytes, closes here.editing (here.stands kept), own here.editing desk here.is);
+    holds = λ kept. ((closed_as (writes (open_as stays (mode_of handle))) here.editing).bytes, closes here.editing (here.stands kept), own here.editing desk here.is);
   }
 
   -- .. or it failed
-  pub disk_lost : (lost : List ℕ → Bool) (left : List Edited) (desk : Desk) → OpenStands state files name handle lost desk → DiskStands state files name disk (lost_at desk left) desk
+  pub disk_lost : (lost : List ℕ → Bool) (left : List Edited) (desk : Desk) → OpenStands state files name stays handle lost desk → DiskStands state files name disk (lost_at desk left) desk
   disk_lost lost left desk here = record {
     others = others here.editing desk here.is;
     holds = λ kept. absurd (lost_not name _ (sym (ap (λ d. lost_at d left name) here.is) ∙ kept));
@@ -102,7 +102,7 @@ module _ {D : Type 0} {ghosts : Ghosts D} (state : D → State) (files : Files) 
   finished_tells false may_leave r back is e stands = subst (λ (d : D). Tells state d e.bytes) (sym back ∙ is) (bytes_stand state handle e stands)
 
 -- its frames are those that the handle counts
-pub frames_open : {D : Type 0} {ghosts : Ghosts D} (state : D → State) (files : Files) (name : List ℕ) (handle : Handle D ghosts) (file : OpenFile) → OpenStands state files name handle none_lost (open_desk files file)
+pub frames_open : {D : Type 0} {ghosts : Ghosts D} (state : D → State) (files : Files) (name : List ℕ) (handle : Handle D ghosts) (file : OpenFile) → OpenStands state files name false handle none_lost (open_desk files file)
     → (handle_known handle).shape.frames ≡ file.editing.shape.frames
 frames_open state files name handle file here =
     frames_stand state handle here.editing (here.stands refl) ∙ sym (ap (λ (d : Desk). (unwrap_or d.open_file file).editing.shape.frames) here.is)

@@ -10,12 +10,12 @@ use Rattle.snd_layout.specs.Shape.{Shape, room}
 use Rattle.snd_layout.specs.declared.codec.Codec.{Codec}
 use Rattle.snd_modes.specs.Handle.{Known}
 use Rattle.snd_modes.specs.Reading.{FitCodec}
-use Rattle.snd_modes.specs.WriteCalls.{AreFrames, MayCut, MayWrite, end_written}
+use Rattle.snd_modes.specs.WriteCalls.{AreFrames, MayCut, MayTrim, MayWrite, end_written, is_whole_field}
 use Rattle.snd_pcm.specs.Pcm.{InRange, high, low}
 use Rattle.snd_pcm.specs.declared.linear.Linear.{Linear}
-use Rattle.snd_script.specs.Rules.{are_between, growth_refusal, is_between, refused_if, truncate_refusal, write_refusal}
+use Rattle.snd_script.specs.Rules.{are_between, auto_refusal, growth_refusal, is_between, is_voc, refused_if, trim_refusal, truncate_refusal, write_refusal}
 use Rattle.snd_script.specs.declared.refusal.Refusal.{Refusal}
-use Rattle.snd_script.specs.declared.refusal.Refusal.TheVariants.{PartFrame, SampleRange, SeekRange, TrailingData, ContainerFull}
+use Rattle.snd_script.specs.declared.refusal.Refusal.TheVariants.{PartFrame, SampleRange, SeekRange, TrailingData, ContainerFull, Straddle}
 
 -- ---- tests
 
@@ -122,3 +122,15 @@ growth_free to h free fits = elim (cases_lt h.frames to) [
 
 pub write_free : (xs : List ℤ) (h : Shape) (place : ℕ) → MayWrite xs h place → write_refusal xs place h ≡ None
 write_free xs h place may = write_frames xs h place may.frames ∙ growth_free _ h may.free may.in_room
+
+-- ---- updates, and what stands behind the data
+
+pub auto_free : (on : Bool) (h : Shape) → (on ≡ true → is_whole_field h ≡ true) → auto_refusal on h ≡ None
+auto_free true h whole = ap (λ b. refused_if (not b) Straddle None) (whole refl)
+auto_free false h whole = refl
+
+pub trim_free : (k : Known) → MayTrim k → trim_refusal k.shape ≡ None
+trim_free k may = elim (cases_Bool k.shape.trailing) [
+  | inl on ↦ not_refused _ TrailingData None (ap (λ b. b && not (is_voc k.shape.kind)) on ∙ ap (λ kind. not (is_voc kind)) (may.free on))
+  | inr off ↦ not_refused _ TrailingData None (ap (λ b. b && not (is_voc k.shape.kind)) off)
+]

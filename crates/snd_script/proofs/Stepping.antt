@@ -9,7 +9,7 @@ use Rattle.snd_disk.specs.declared.disk.Disk.{Ghosts}
 use Rattle.snd_modes.specs.Editing.{Editing}
 use Rattle.snd_script.specs.Desk.{Desk, open_desk, writes}
 use Rattle.snd_script.specs.Edit.{Edited}
-use Rattle.snd_script.specs.Handled.{HandleStands, LeavesHandle, handle_disk, mode_of}
+use Rattle.snd_script.specs.Handled.{HandleStands, LeavesHandle, handle_disk, mode_of, open_as}
 use Rattle.snd_script.specs.Replies.{Answer, nothing, says, refuses, is_refusal}
 use Rattle.snd_script.specs.Served.{lost_at}
 use Rattle.snd_script.specs.Serving.{OpenStands}
@@ -35,25 +35,25 @@ pub lost_not : (name : List ℕ) (b : Bool) → (bytes_eq name name || b) ≡ fa
 lost_not name b kept = let is : (true || b) ≡ false = ap (λ x. x || b) (sym (same_bytes name)) ∙ kept in cc
 
 -- the desk with the file of a handle open
-abbrev pub held_desk : {D : Type 0} {ghosts : Ghosts D} → Files → List ℕ → Handle D ghosts → Editing → Desk
-held_desk files name handle e = open_desk files (record { name = name; mode = mode_of handle; editing = e })
+abbrev pub held_desk : {D : Type 0} {ghosts : Ghosts D} → Files → List ℕ → Bool → Handle D ghosts → Editing → Desk
+held_desk files name stays handle e = open_desk files (record { name = name; mode = open_as stays (mode_of handle); editing = e })
 
-module _ {D : Type 0} {ghosts : Ghosts D} (state : D → State) (files : Files) (name : List ℕ) where
+module _ {D : Type 0} {ghosts : Ghosts D} (state : D → State) (files : Files) (name : List ℕ) (stays : Bool) where
   -- the handle stands for a file, in the mode that it had
   pub stands_open : (old new : Handle D ghosts) (e : Editing) (lost : List ℕ → Bool) → mode_of new ≡ mode_of old → HandleStands state new e
-      → OpenStands state files name new lost (held_desk files name old e)
+      → OpenStands state files name stays new lost (held_desk files name stays old e)
   stands_open old new e lost mode here = record {
     editing = e;
-    is = ap (λ m. open_desk files (record { name = name; mode = m; editing = e })) (sym mode);
+    is = ap (λ m. open_desk files (record { name = name; mode = open_as stays m; editing = e })) (sym mode);
     stands = λ kept. here;
   }
 
   -- .. or its file failed
   pub stands_lost : (old new : Handle D ghosts) (e : Editing) (left : List Edited) → mode_of new ≡ mode_of old
-      → OpenStands state files name new (lost_at (held_desk files name old e) left) (held_desk files name old e)
+      → OpenStands state files name stays new (lost_at (held_desk files name stays old e) left) (held_desk files name stays old e)
   stands_lost old new e left mode = record {
     editing = e;
-    is = ap (λ m. open_desk files (record { name = name; mode = m; editing = e })) (sym mode);
+    is = ap (λ m. open_desk files (record { name = name; mode = open_as stays m; editing = e })) (sym mode);
     stands = λ kept. absurd (lost_not name _ kept);
   }
 

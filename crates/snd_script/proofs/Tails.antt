@@ -7,9 +7,11 @@ use Rattle.snd_disk.proofs.Returned.{others_then, returned_images, stayed_images
 use Rattle.snd_disk.specs.Shelf.{ShelfState}
 use Rattle.snd_disk.specs.Shelves.{HandsOut, HandsOutNone, KeepsImagesOf, KeepsOthers, TakesBack}
 use Rattle.snd_disk.specs.declared.disk.Disk.{Ghosts}
+use Rattle.snd_disk.specs.declared.shelf.Shelf.{Ghosts as ShelfMeaning}
 use Rattle.snd_script.specs.Kept.{IsTail, KeepsUnless, LeavesTail, how_writes, lines_to_serve}
 use Rattle.snd_script.specs.Lines.{Reading}
 use Rattle.snd_script.specs.Opened.{OnlyServes}
+use Rattle.snd_script.specs.Pinned.{run_writes}
 use Rattle.snd_script.specs.Script.{any_writes, by_writing, lines_within, most_bytes}
 use Rattle.snd_script.specs.Served.{LeavesShelf}
 use Rattle.snd_script.specs.Serving.{Brings}
@@ -63,16 +65,16 @@ or_right : (a b : Bool) → (a || b) ≡ false → b ≡ false
 or_right true b is = absurd (cc)
 or_right false b is = is
 
-pub unwritten_tail : (n : List ℕ) (done left : List (List ℕ)) → any_writes n (done ++ left) ≡ false → any_writes n left ≡ false
+pub unwritten_tail : (n : List ℕ) (done left : List (List ℕ)) → any_writes (done ++ left) n ≡ false → any_writes left n ≡ false
 unwritten_tail n [] left none = none
-unwritten_tail n (line ∷ done) left none = unwritten_tail n done left (or_right (by_writing n (command_of line)) (any_writes n (done ++ left)) none)
+unwritten_tail n (line ∷ done) left none = unwritten_tail n done left (or_right (by_writing (command_of line) n) (any_writes (done ++ left) n) none)
 
-unwritten_in : (n : List ℕ) (all left : List (List ℕ)) → IsTail all left → any_writes n all ≡ false → any_writes n left ≡ false
-unwritten_in n all left tail none = unwritten_tail n tail.0 left (sym (ap (any_writes n) tail.1) ∙ none)
+unwritten_in : (n : List ℕ) (all left : List (List ℕ)) → IsTail all left → any_writes all n ≡ false → any_writes left n ≡ false
+unwritten_in n all left tail none = unwritten_tail n tail.0 left (sym (ap (λ l. any_writes l n) tail.1) ∙ none)
 
 -- a whole script
-pub unwritten_from : (reading : Reading) (s n : List ℕ) → reading ≡ record { rest = []; room = most_bytes } → any_writes n (lines_within most_bytes s) ≡ false → any_writes n (lines_to_serve reading s) ≡ false
-unwritten_from reading s n is none = subst (λ (r : Reading). any_writes n (lines_to_serve r s) ≡ false) (sym is) none
+pub unwritten_from : (name : Option (List ℕ)) (reading : Reading) (s n : List ℕ) → reading ≡ record { rest = []; room = most_bytes } → run_writes name (lines_within most_bytes s) n ≡ false → run_writes name (lines_to_serve reading s) n ≡ false
+unwritten_from name reading s n is none = subst (λ (r : Reading). run_writes name (lines_to_serve r s) n ≡ false) (sym is) none
 
 module _ {S : Type 0} (state : S → ShelfState) (may_leave : S → List ℕ → List ℕ → Type 0) (left_between : S → List ℕ → ℕ → ℕ → List ℕ → Type 0) where
   pub keeps_same : (n : List ℕ) (a : S) → KeepsImagesOf state may_leave left_between n a a
@@ -87,38 +89,38 @@ module _ {S : Type 0} (state : S → ShelfState) (may_leave : S → List ℕ →
   keeps_then n a b c first second =
       keeps_images_then ((state a).clock n) ((state b).clock n) ((state c).clock n) (may_leave a n) (may_leave b n) (may_leave c n) (left_between a n) (left_between b n) (left_between c n) first second
 
+module _ {S D : Type 0} (s : ShelfMeaning S D) where
   -- nothing was handed out
-  pub stayed_unless : (name : List ℕ) (writes : List ℕ → Bool) (old new : S) → HandsOutNone state may_leave left_between name old new → KeepsOthers state may_leave left_between name old new
-      → KeepsUnless state may_leave left_between writes old new
+  pub stayed_unless : (name : List ℕ) (writes : List ℕ → Bool) (old new : S) → HandsOutNone s.state s.may_leave s.left_between name old new → KeepsOthers s.state s.may_leave s.left_between name old new
+      → KeepsUnless s writes old new
   stayed_unless name writes old new handed others f n told there unless =
       let is = some_of (f n) there in
-      stayed_images state may_leave left_between name old new handed others f n is.0 told is.1
+      stayed_images s.state s.may_leave s.left_between name old new handed others f n is.0 told is.1
 
   -- a line came that does not write the file, and was served
-  pub keeps_for_line : (before came : Reading) (kept s s' : List ℕ) (old new : S) → Brings before.room (before.rest ++ s) kept came.room (came.rest ++ s')
-      → KeepsUnless state may_leave left_between (λ n. by_writing n (command_of kept)) old new → KeepsUnless state may_leave left_between (λ n. any_writes n (lines_to_serve before s)) old new
-  keeps_for_line before came kept s s' old new comes keeps f n told there none =
-      let first : any_writes n (comes.line ∷ lines_to_serve came s') ≡ false = sym (ap (any_writes n) comes.lines) ∙ none in
-      keeps f n told there (ap (by_writing n) comes.same ∙ or_left (by_writing n (command_of comes.line)) (any_writes n (lines_to_serve came s')) first)
+  pub keeps_for_line : (before came : Reading) (kept b b' : List ℕ) (old new : S) → Brings before.room (before.rest ++ b) kept came.room (came.rest ++ b')
+      → KeepsUnless s (by_writing (command_of kept)) old new → KeepsUnless s (any_writes (lines_to_serve before b)) old new
+  keeps_for_line before came kept b b' old new comes keeps f n told there none =
+      let first : any_writes (comes.line ∷ lines_to_serve came b') n ≡ false = sym (ap (λ l. any_writes l n) comes.lines) ∙ none in
+      keeps f n told there (ap (λ c. by_writing c n) comes.same ∙ or_left (by_writing (command_of comes.line) n) (any_writes (lines_to_serve came b') n) first)
 
   -- lines behind those that came
-  pub keeps_on : (all : List (List ℕ)) (at : Reading) (left : Option (List ℕ)) (so_far : TailSoFar all at left) (old mid new : S) → LeavesShelf state left_between old mid
-      → KeepsUnless state may_leave left_between (λ n. any_writes n all) old mid → KeepsUnless state may_leave left_between (λ n. any_writes n (lines_to_serve at so_far.0)) mid new
-      → KeepsUnless state may_leave left_between (λ n. any_writes n all) old new
+  pub keeps_on : (all : List (List ℕ)) (at : Reading) (left : Option (List ℕ)) (so_far : TailSoFar all at left) (old mid new : S) → LeavesShelf s.state s.left_between old mid
+      → KeepsUnless s (any_writes all) old mid → KeepsUnless s (any_writes (lines_to_serve at so_far.0)) mid new → KeepsUnless s (any_writes all) old new
   keeps_on all at left so_far old mid new leaves first second f n told there none =
       let is = leaves.files f told in
-      keeps_then n old mid new (first f n told there none) (second is.0 n is.1 (is.2 n there) (unwritten_in n all _ so_far.2 none))
+      keeps_then s.state s.may_leave s.left_between n old mid new (first f n told there none) (second is.0 n is.1 (is.2 n there) (unwritten_in n all _ so_far.2 none))
 
   -- a file was handed out, and came back
-  module _ {D : Type 0} (d : Ghosts D) (name : List ℕ) (old mid new : S) (taken given : D)
-      (handed : HandsOut state may_leave left_between d.state d.may_leave d.left_between name old taken) (back : TakesBack state may_leave left_between d.state d.may_leave d.left_between name new given)
-      (others : KeepsOthers state may_leave left_between name old mid) (others' : KeepsOthers state may_leave left_between name mid new) where
-    other_file : (n : List ℕ) → bytes_eq n name ≡ false → KeepsImagesOf state may_leave left_between n old new
-    other_file n other = others_then state may_leave left_between name old mid new others others' n other
+  module _ (d : Ghosts D) (name : List ℕ) (old mid new : S) (taken given : D)
+      (handed : HandsOut s.state s.may_leave s.left_between d.state d.may_leave d.left_between name old taken) (back : TakesBack s.state s.may_leave s.left_between d.state d.may_leave d.left_between name new given)
+      (others : KeepsOthers s.state s.may_leave s.left_between name old mid) (others' : KeepsOthers s.state s.may_leave s.left_between name mid new) where
+    other_file : (n : List ℕ) → bytes_eq n name ≡ false → KeepsImagesOf s.state s.may_leave s.left_between n old new
+    other_file n other = others_then s.state s.may_leave s.left_between name old mid new others others' n other
 
-    pub returned_unless : (opening : OpenAs) → OnlyServes d opening taken given → KeepsUnless state may_leave left_between (λ n. how_writes n opening name) old new
+    pub returned_unless : (opening : OpenAs) → OnlyServes d opening taken given → KeepsUnless s (how_writes opening name) old new
     returned_unless how.Read only f n told there unless =
         let is = some_of (f n) there in
-        returned_images state may_leave left_between name d.state d.may_leave d.left_between old mid new taken given handed back others others' only.images f n is.0 told is.1
+        returned_images s.state s.may_leave s.left_between name d.state d.may_leave d.left_between old mid new taken given handed back others others' only.images f n is.0 told is.1
     returned_unless how.Update only f n told there unless = other_file n unless
     returned_unless (how.Make kind params) only f n told there unless = other_file n unless

@@ -3,7 +3,8 @@ use Rattle.std.proofs.Common.{◌≡◌, ℕ, ◌+◌, ◌≤◌, List, [], ◌+
 use Rattle.snd_command.specs.Line.{command_of}
 use Rattle.snd_command.specs.Said.{Said}
 use Rattle.snd_command.specs.declared.refusal.ScriptRefusal.{ScriptRefusal}
-use Rattle.snd_disk.specs.State.{Adds, AtMost}
+use Rattle.snd_disk.specs.State.{AtMost}
+use Rattle.snd_script.specs.Kept.{lines_to_serve}
 use Rattle.snd_script.specs.Lines.{Reading}
 use Rattle.snd_script.specs.Script.{by_command, by_lines, lines_within, most_bytes}
 use Rattle.snd_script.specs.Serving.{Brings}
@@ -73,18 +74,7 @@ module _ (most : Said → ℕ) (before at : Reading) (s kept : List ℕ) (left :
       let total = line_within came came s' 0 comes refl (omega (arith, uses.within)) in
       record { later = omega (arith, so_far.0, uses.later); within = omega (arith, total) }
 
--- the open file is closed, whatever then comes of it
-pub closed_behind : {T U : Type 0} (x : T) (r : Result U Stop) (most : Said → ℕ) (close : ℕ) (before : Reading) (s : List ℕ) (after : Reading) (left : Option (List ℕ)) (old mid new : ℕ)
-    → Uses {T = T} (Ok x) most 0 close 0 before s after left old mid → mid ≤ new → new ≤ mid + close → Uses r most 0 0 close before s after left old new
-closed_behind x (Ok y) most close before s after left old mid new uses later within = record {
-  later = omega (arith, uses.later, later);
-  within = (uses.within.0, uses.within.1, omega (arith, uses.within.2, within));
-}
-closed_behind x (Err stop) most close before s after left old mid new uses later within = record {
-  later = omega (arith, uses.later, later);
-  within = omega (arith, uses.within.2, within);
-}
-
+-- the open file is closed where a run stops, whatever then comes of it
 pub closed_where_stopped : {T U : Type 0} (stop stop' : Stop) (most : Said → ℕ) (close : ℕ) (before : Reading) (s : List ℕ) (after : Reading) (left : Option (List ℕ)) (old mid new : ℕ)
     → Uses {T = T} (Err stop) most 0 close 0 before s after left old mid → mid ≤ new → new ≤ mid + close → Uses {T = U} (Err stop') most 0 0 close before s after left old new
 closed_where_stopped stop stop' most close before s after left old mid new uses later within = record {
@@ -113,15 +103,6 @@ pub uses_said : {T : Type 0} (r : Result T Stop) (most : Said → ℕ) (said : S
     → Ok (Some said) ≡ command → Uses r most (most said) 0 over before s after left old new → Uses r most (by_command most command) 0 over before s after left old new
 uses_said r most said command over before s after left old new is uses = subst (λ (c : Result (Option Said) ScriptRefusal). Uses r most (by_command most c) 0 over before s after left old new) is uses
 
--- what the disk of a file used is added to what its shelf did
-pub uses_of_shelf : {T : Type 0} (r : Result T Stop) (most : Said → ℕ) (hand over : ℕ) (before : Reading) (s : List ℕ) (after : Reading) (left : Option (List ℕ)) (old mid new start used : ℕ)
-    → mid ≡ old → start ≡ 0 → Adds mid used new → Uses r most hand 0 over before s after left start used → Uses r most hand 0 over before s after left old new
-uses_of_shelf r most hand over before s after left old mid new start used same fresh adds uses = record { later = omega (arith, same, adds.later); within = added r uses.within }
-  where
-    added : {T : Type 0} (r : Result T Stop) → IsWithin r most 0 over (start + hand + use_left most before s) after left used → IsWithin r most 0 over (old + hand + use_left most before s) after left new
-    added (Ok x) (s', is, within) = (s', is, omega (arith, same, fresh, adds.most, within))
-    added (Err stop) within = omega (arith, same, fresh, adds.most, within)
-
 -- a line came, and was served
 pub uses_for_line : {T : Type 0} (r : Result T Stop) (most : Said → ℕ) (over : ℕ) (before came : Reading) (kept s s' : List ℕ) (after : Reading) (left : Option (List ℕ)) (old new : ℕ)
     → Brings before.room (before.rest ++ s) kept came.room (came.rest ++ s') → Uses r most (by_command most (command_of kept)) 0 over came s' after left old new → Uses r most 0 0 over before s after left old new
@@ -137,16 +118,14 @@ uses_on x most over before s at left after left' old mid new so_far uses =
     (omega (arith, so_far.0, uses.later), (uses.within.0, uses.within.1, omega (arith, so_far.1.2, uses.within.2)))
 
 pub used_in_all : {T : Type 0} (stop : Stop) (most : Said → ℕ) (over : ℕ) (before : Reading) (s : List ℕ) (at : Reading) (left : Option (List ℕ)) (after : Reading) (left' : Option (List ℕ)) (old mid new : ℕ) (so_far : UsesSoFar most before s at left old mid)
-    → Uses {T = T} (Err stop) most 0 0 over at so_far.1.0 after left' mid new → (old ≤ new) × (new ≤ old + use_left most before s + over)
+    → Uses {T = T} (Err stop) most 0 0 over at so_far.1.0 after left' mid new → AtMost old (use_left most before s + over) new
 used_in_all stop most over before s at left after left' old mid new so_far uses =
-    (omega (arith, so_far.0, uses.later), omega (arith, so_far.1.2, uses.within))
+    record { later = omega (arith, so_far.0, uses.later); most = omega (arith, so_far.1.2, uses.within) }
 
 -- a whole script
-pub used_by_script : (most : Said → ℕ) (close : ℕ) (reading : Reading) (s : List ℕ) (old new : ℕ) → reading ≡ record { rest = []; room = most_bytes } → (old ≤ new) × (new ≤ old + use_left most reading s + close)
-    → AtMost old (by_lines most (lines_within most_bytes s) + close) new
-used_by_script most close reading s old new is uses =
-    let whole : new ≤ old + by_lines most (lines_within most_bytes s) + close = subst (λ (r : Reading). new ≤ old + use_left most r s + close) is uses.1 in
-    record { later = uses.0; most = omega (arith, whole) }
+pub used_by_script : (bound : List (List ℕ) → ℕ) (reading : Reading) (s : List ℕ) (old new : ℕ) → reading ≡ record { rest = []; room = most_bytes } → AtMost old (bound (lines_to_serve reading s)) new
+    → AtMost old (bound (lines_within most_bytes s)) new
+used_by_script bound reading s old new is uses = subst (λ (r : Reading). AtMost old (bound (lines_to_serve r s)) new) is uses
 
 pub without_close : (old n new : ℕ) → AtMost old (n + 0) new → AtMost old n new
 without_close old n new uses = record { later = uses.later; most = omega (arith, uses.most) }

@@ -4,11 +4,11 @@ use Rattle.std.proofs.Common.{◌≡◌, ℕ, Bool, true, false, Option, None, S
 use Rattle.snd_command.specs.Said.{Said}
 use Rattle.snd_disk.specs.declared.disk.Step.{Step}
 use Rattle.snd_modes.specs.Handle.{Known}
-use Rattle.snd_script.specs.Desk.{Mode, reading, reads, updating, writes, writing}
-use Rattle.snd_script.specs.Rules.{Rule, auto_rule, built_rule, in_mode, is_built, read_rule, refused_rule, rule_of, seek_read_rule, seek_rule, seek_write_rule, trim_rule, truncate_rule, update_rule, write_rule}
+use Rattle.snd_script.specs.Desk.{Mode, is_pinned, pinned, reading, reads, updating, writes, writing}
+use Rattle.snd_script.specs.Rules.{Rule, auto_rule, built_rule, in_mode, is_built, is_held, read_rule, refused_rule, rule_of, seek_read_rule, seek_rule, seek_write_rule, trim_rule, truncate_rule, unless_pinned, update_rule, write_rule}
 use Rattle.snd_script.specs.Stepped.{IsBrokenAt, known_by, known_unless}
 use Rattle.snd_script.specs.declared.refusal.Refusal.{Refusal}
-use Rattle.snd_script.specs.declared.refusal.Refusal.TheVariants.{NotBuilt}
+use Rattle.snd_script.specs.declared.refusal.Refusal.TheVariants.{NotBuilt, Pinned}
 
 pub record KeepsBroken (rule : Rule) : Type 0 where
   pub same : (k : Known) → (rule.known k).broken ≡ k.broken
@@ -21,6 +21,7 @@ keeps_seek : (mode : Mode) (n : ℕ) → KeepsBroken (seek_rule mode n)
 keeps_seek reading n = record { same = λ k. refl }
 keeps_seek writing n = record { same = λ k. refl }
 keeps_seek updating n = record { same = λ k. refl }
+keeps_seek pinned n = record { same = λ k. refl }
 
 keeps_built : (mode : Mode) (said : Said) → KeepsBroken (built_rule mode said)
 keeps_built mode (Said.open_read name) = record { same = λ k. refl }
@@ -53,13 +54,21 @@ keeps_if : (built : Bool) (rule : Rule) → KeepsBroken rule → KeepsBroken (if
 keeps_if true rule keeps = keeps
 keeps_if false rule keeps = record { same = λ k. refl }
 
+keeps_held : (held : Bool) (mode : Mode) (rule : Rule) → KeepsBroken rule → KeepsBroken (unless_pinned held mode rule)
+keeps_held true mode rule keeps = keeps_pinned (is_pinned mode) rule keeps
+  where
+    keeps_pinned : (pins : Bool) (rule : Rule) → KeepsBroken rule → KeepsBroken (if pins then refused_rule Pinned else rule)
+    keeps_pinned true rule keeps = record { same = λ k. refl }
+    keeps_pinned false rule keeps = keeps
+keeps_held false mode rule keeps = keeps
+
 keeps_unless : (refusal : Option Refusal) (done k : Known) → done.broken ≡ k.broken → (known_unless refusal done k).broken ≡ k.broken
 keeps_unless (Some refusal) done k same = refl
 keeps_unless None done k same = same
 
 pub whole_after : (mode : Mode) (said : Said) (k k' : Known) → k.broken ≡ None → k' ≡ known_by (rule_of mode said) k → k'.broken ≡ None
 whole_after mode said k k' whole is =
-    ap (λ (x : Known). x.broken) is ∙ keeps_unless _ ((rule_of mode said).known k) k ((keeps_if (is_built said) (built_rule mode said) (keeps_built mode said)).same k) ∙ whole
+    ap (λ (x : Known). x.broken) is ∙ keeps_unless _ ((rule_of mode said).known k) k ((keeps_if (is_built said) _ (keeps_held (is_held said) mode (built_rule mode said) (keeps_built mode said))).same k) ∙ whole
 
 -- .. and a fault of its disk breaks it
 pub broken_after : (first : Bool) (step : Step) (k k' : Known) → IsBrokenAt first step k k' → is_none k'.broken ≡ false

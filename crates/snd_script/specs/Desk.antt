@@ -10,17 +10,26 @@ pub data Mode : Type 0 where
   reading : Mode
   writing : Mode
   updating : Mode
+  -- updated automatically from the start, and open to the end
+  pinned : Mode
 
 -- frames are read, and are written, in these modes
 abbrev pub reads : Mode → Bool
 reads reading = true
 reads writing = false
 reads updating = true
+reads pinned = true
 
 abbrev pub writes : Mode → Bool
 writes reading = false
 writes writing = true
 writes updating = true
+writes pinned = true
+
+-- it stays open
+abbrev pub is_pinned : Mode → Bool
+is_pinned pinned = true
+is_pinned mode = false
 
 -- the file was made
 abbrev pub makes : Mode → Bool

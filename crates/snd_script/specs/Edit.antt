@@ -1,5 +1,5 @@
 -- One command: what is answered, and the state of the run afterwards. A refused command leaves all as it was.
-use Rattle.std.specs.Prelude.{◌≡◌, ℕ, List, Option, None, Some, Result, Ok, Err, if◌then◌else◌}
+use Rattle.std.specs.Prelude.{◌≡◌, ◌&&◌, ℕ, List, not, Option, None, Some, Result, Ok, Err, if◌then◌else◌}
 use Rattle.snd_command.specs.Line.{command_of}
 use Rattle.snd_command.specs.Said.{Said}
 use Rattle.snd_command.specs.declared.refusal.ScriptRefusal.{ScriptRefusal}
@@ -14,8 +14,8 @@ use Rattle.snd_layout.specs.declared.refusal.OpenRefusal.{OpenRefusal}
 use Rattle.snd_modes.specs.Editing.{Editing, opening_of}
 use Rattle.snd_modes.specs.Making.{making_of}
 use Rattle.snd_modes.specs.Updating.{updating_of}
-use Rattle.snd_script.specs.Desk.{Desk, Mode, OpenFile, reading, updating, writing, closed_desk, files_closed, open_desk}
-use Rattle.snd_script.specs.Rules.{FileEdited, Rule, is_built, linear_word, rule_of}
+use Rattle.snd_script.specs.Desk.{Desk, Mode, OpenFile, is_pinned, pinned, reading, updating, writing, closed_desk, files_closed, open_desk}
+use Rattle.snd_script.specs.Rules.{FileEdited, Rule, is_built, is_close, linear_word, rule_of}
 use Rattle.snd_script.specs.Replies.{Answer, nothing, says, refuses, file_line, ok_line}
 use Rattle.snd_script.specs.declared.refusal.Refusal.{Refusal}
 use Rattle.snd_script.specs.declared.refusal.Refusal.TheVariants.{Open, AdpcmUpdate, UnknownLength, BadCommand, LineTooLong, NotOpen, MissingFile, NotBuilt}
@@ -30,15 +30,17 @@ refused refusal desk = record { answer = refuses refusal; desk = desk }
 
 -- ---- a file is opened
 
--- how: to be read, to be updated, or made anew with these parameters
+-- how: to be read, to be updated, to be pinned, or made anew with these parameters
 pub data Opening : Type 0 where
   for_reading : Opening
   for_updating : Opening
+  for_pinning : Opening
   for_making : Kind → Parameters → Opening
 
 abbrev pub mode_for : Opening → Mode
 mode_for Opening.for_reading = reading
 mode_for Opening.for_updating = updating
+mode_for Opening.for_pinning = pinned
 mode_for (Opening.for_making kind p) = writing
 
 abbrev pub as_opened : Result Editing OpenRefusal → Result Editing OpenError
@@ -49,6 +51,7 @@ as_opened (Err refusal) = Err (error.Refused refusal)
 abbrev pub opened_as : Opening → List ℕ → Result Editing OpenError
 opened_as Opening.for_reading b = as_opened (opening_of b)
 opened_as Opening.for_updating b = updating_of b
+opened_as Opening.for_pinning b = updating_of b
 opened_as (Opening.for_making kind p) b = as_opened (making_of kind p)
 
 -- .. in a script's words; what is not a refusal does not come of bytes
@@ -113,9 +116,10 @@ keep_open files file edited = record { answer = edited.answer; desk = open_desk 
 abbrev pub close_edit : Files → OpenFile → Edited
 close_edit files file = record { answer = says (ok_line file.editing.shape.frames); desk = closed_desk (files_closed (open_desk files file)) }
 
+-- a file that is pinned is not closed
 abbrev pub edit_open : Files → OpenFile → Said → Edited
-edit_open files file Said.close = close_edit files file
-edit_open files file said = keep_open files file (edit_file file.mode said file.editing)
+edit_open files file said =
+    if is_close said && not (is_pinned file.mode) then close_edit files file else keep_open files file (edit_file file.mode said file.editing)
 
 -- ---- any command
 

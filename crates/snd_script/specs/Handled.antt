@@ -1,28 +1,37 @@
 -- What is seen of an open file in whichever mode.
-use Rattle.std.specs.Prelude.{◌≡◌, ◌⊎◌, ◌≤◌, ℕ, List, Bool, true, false, Option, None, Some, Result, Ok, Err}
+use Rattle.std.specs.Prelude.{◌≡◌, ◌⊎◌, ℕ, List, Bool, true, false, Option, None, Some, Result, Ok, Err, IfErr, IsErrOf}
 use Rattle.std.specs.Borrow.{GName, MutBor}
 use Rattle.snd_command.specs.Said.{Said}
 use Rattle.snd_disk.specs.Device.{AsksAtMost, GoesOnFrom, IsStable, OnlyReadsOn, Tells, WritesAtMost}
 use Rattle.snd_disk.specs.declared.disk.Disk.{Ghosts}
 use Rattle.snd_disk.specs.declared.disk.Step.{Step}
+use Rattle.snd_disk.specs.declared.streams.Sink.{Ghosts as SinkMeaning}
 use Rattle.snd_disk.specs.State.{State}
 use Rattle.snd_modes.specs.Editing.{Editing}
 use Rattle.snd_modes.specs.Handle.{Known, Stands, disk_of, known_of, loan_of}
-use Rattle.snd_modes.specs.Loans.{disk_back}
+use Rattle.snd_modes.specs.Rest.{IsAtRest}
+use Rattle.snd_modes.specs.Safe.{IsSafe}
+use Rattle.snd_patch.specs.Images.{LeavesEach}
 use Rattle.snd_patch.specs.Steps.{StillTells}
-use Rattle.snd_script.specs.Desk.{Mode, closed_as, reading, updating, writes, writing}
+use Rattle.snd_script.specs.Desk.{Mode, closed_as, pinned, reading, updating, writes, writing}
 use Rattle.snd_script.specs.Edit.{edit_file}
 use Rattle.snd_script.specs.Rules.{Rule, rule_of}
-use Rattle.snd_script.specs.Stepped.{IsSaid, IsStepCause, Knows, LeavesFile, Rose, changes_by}
+use Rattle.snd_script.specs.Stepped.{IsAutomatic, IsSaid, IsSilent, IsStepCause, Knows, LeavesFile, Rose, changes_by}
 use Rattle.snd_script.specs.declared.handle.Handle.{Handle}
 use Rattle.snd_script.specs.declared.handle.Handle.TheVariants.{R, W, U}
 use Rattle.snd_script.specs.declared.handle.Reply.{Reply}
 use Rattle.snd_script.specs.declared.handle.StepFault.{StepFault}
+use Rattle.snd_script.specs.declared.handle.StepFault.TheVariants.{Memory}
 
 abbrev pub mode_of : {D : Type 0} {ghosts : Ghosts D} → Handle D ghosts → Mode
 mode_of (R file) = reading
 mode_of (W file) = writing
 mode_of (U file) = updating
+
+-- .. or pinned, where it is to stay open
+abbrev pub open_as : Bool → Mode → Mode
+open_as true mode = pinned
+open_as false mode = mode
 
 -- the rule of a command on it
 abbrev pub rule_for : {D : Type 0} {ghosts : Ghosts D} → Handle D ghosts → Said → Rule
@@ -51,6 +60,12 @@ HandleStands state (R file) e = Stands state file e
 HandleStands state (W file) e = Stands state file e
 HandleStands state (U file) e = Stands state file e
 
+-- .. and is at rest in it
+abbrev pub HandleAtRest : {D : Type 0} (d : Ghosts D) → List ℕ → Handle D d → Editing → Type 0
+HandleAtRest d opened (R file) e = IsAtRest d opened file e
+HandleAtRest d opened (W file) e = IsAtRest d opened file e
+HandleAtRest d opened (U file) e = IsAtRest d opened file e
+
 -- Commands leave it in its mode, with the same disk by the same loan: the disk has its name, tells what it told, and time has
 -- gone on for it. In a mode that does not write it was only read.
 pub record LeavesHandle {D : Type 0} {ghosts : Ghosts D} (state : D → State) (may_leave : D → List ℕ → Type 0) (left_between : D → ℕ → ℕ → List ℕ → Type 0) (old new : Handle D ghosts) : Type 0 where
@@ -61,9 +76,9 @@ pub record LeavesHandle {D : Type 0} {ghosts : Ghosts D} (state : D → State) (
   pub reads : writes (mode_of old) ≡ false → OnlyReadsOn state may_leave left_between (handle_disk old) (handle_disk new)
 
 -- a command that changes no file only reads the disk
-abbrev pub OnlyChanges : {D : Type 0} {ghosts : Ghosts D} → (D → State) → (D → List ℕ → Type 0) → (D → ℕ → ℕ → List ℕ → Type 0) → Said → Handle D ghosts → Handle D ghosts → Type 0
-OnlyChanges state may_leave left_between said old new =
-    changes_by (rule_for old said) (handle_known old) ≡ false → OnlyReadsOn state may_leave left_between (handle_disk old) (handle_disk new)
+abbrev pub OnlyChanges : {D : Type 0} (d : Ghosts D) → Said → Handle D d → Handle D d → Type 0
+OnlyChanges d said old new =
+    changes_by (rule_for old said) (handle_known old) ≡ false → OnlyReadsOn d.state d.may_leave d.left_between (handle_disk old) (handle_disk new)
 
 -- at most so many bytes are asked of its disk, and written
 abbrev pub HandleAsks : {D : Type 0} {ghosts : Ghosts D} → (D → State) → ℕ → Handle D ghosts → Handle D ghosts → Type 0
@@ -71,6 +86,17 @@ HandleAsks state n old new = AsksAtMost state n (handle_disk old) (handle_disk n
 
 abbrev pub HandleWrites : {D : Type 0} {ghosts : Ghosts D} → (D → State) → ℕ → Handle D ghosts → Handle D ghosts → Type 0
 HandleWrites state n old new = WritesAtMost state n (handle_disk old) (handle_disk new)
+
+-- .. as many as the rule of a command says
+abbrev pub AsksByRule : {D : Type 0} (d : Ghosts D) → Said → Handle D d → Handle D d → Type 0
+AsksByRule d said old new = HandleAsks d.state (rule_for old said).asked old new
+
+abbrev pub WritesByRule : {D : Type 0} (d : Ghosts D) → Said → Handle D d → Handle D d → Type 0
+WritesByRule d said old new = HandleWrites d.state (rule_for old said).written old new
+
+-- there is no memory only for a command that takes some
+abbrev pub LacksMemory : {D : Type 0} {ghosts : Ghosts D} → Result Reply StepFault → Said → Handle D ghosts → Type 0
+LacksMemory result said handle = IsErrOf result Memory → (rule_for handle said).takes_memory ≡ true
 
 -- One command on it: the reply and what it knows afterwards, over every disk
 abbrev pub KnowsAfter : {D : Type 0} {ghosts : Ghosts D} → Result Reply StepFault → Said → Handle D ghosts → Handle D ghosts → Type 0
@@ -89,6 +115,31 @@ SaysReply state told result said handle out out' =
 abbrev pub CountsStep : {D O : Type 0} {ghosts : Ghosts D} → (D → State) → (O → ℕ) → Result Reply StepFault → Handle D ghosts → O → Handle D ghosts → O → Type 0
 CountsStep state faults result old out new out' =
     IsStepCause result (state (handle_disk old)).faults (state (handle_disk new)).faults (faults out) (faults out')
+
+-- .. and from rest, where updates are automatic before the command or once it is carried out: what it leaves at any moment is safe
+-- between the state before the command and the one to which that leads; and unless the disk fails, it is at rest then
+abbrev pub StepsSafely : {D : Type 0} (d : Ghosts D) → Said → Handle D d → Handle D d → Type 0
+StepsSafely d said old new = IsAutomatic (rule_for old said) (handle_known old) → (opened : List ℕ) (e : Editing) → HandleAtRest d opened old e
+    → LeavesEach d (handle_disk old) (handle_disk new) (IsSafe e (edit_file (mode_of old) said e).editing)
+
+abbrev pub StepsToRest : {D : Type 0} (d : Ghosts D) → Result Reply StepFault → Said → Handle D d → Handle D d → Type 0
+StepsToRest d result said old new = IsAutomatic (rule_for old said) (handle_known old) → (opened : List ℕ) (e : Editing) → HandleAtRest d opened old e
+    → LeavesFile result (edit_file (mode_of old) said e) e (HandleAtRest d opened new)
+
+-- .. all of that, by the meanings of the disk and of the sink
+pub record Steps {D O : Type 0} (d : Ghosts D) (o : SinkMeaning O) (command : Said) (result : Result Reply StepFault) (old : Handle D d) (out : O) (new : Handle D d) (out' : O) : Type 0 where
+  pub stands : LeavesOpen d.state result command old new
+  pub said : SaysReply d.state o.told result command old out out'
+  pub silent : IfErr result (λ fault. IsSilent fault (o.told out) (o.told out'))
+  pub cause : CountsStep d.state o.faults result old out new out'
+  pub memory : LacksMemory result command old
+  pub knows : KnowsAfter result command old new
+  pub leaves : LeavesHandle d.state d.may_leave d.left_between old new
+  pub reads : OnlyChanges d command old new
+  pub safe : StepsSafely d command old new
+  pub rests : StepsToRest d result command old new
+  pub asked : AsksByRule d command old new
+  pub written : WritesByRule d command old new
 
 -- ---- a handle that is closed
 
@@ -118,3 +169,7 @@ pub record LeavesDisk {D : Type 0} {ghosts : Ghosts D} (state : D → State) (ma
   pub tells : StillTells (state (handle_disk handle)) (state disk)
   pub time : GoesOnFrom state left_between (handle_disk handle) disk
   pub reads : writes (mode_of handle) ≡ false → OnlyReadsOn state may_leave left_between (handle_disk handle) disk
+
+-- .. and from rest, what closing it leaves at any moment is safe in its state
+abbrev pub FinishesSafely : {D : Type 0} (d : Ghosts D) → Handle D d → D → Type 0
+FinishesSafely d handle disk = (opened : List ℕ) (e : Editing) → HandleAtRest d opened handle e → LeavesEach d (handle_disk handle) disk (IsSafe e e)

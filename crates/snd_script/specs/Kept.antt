@@ -1,8 +1,10 @@
 -- Which lines are left as a run goes on, and which files keep their images.
 use Rattle.std.specs.Prelude.{◌≡◌, ℕ, List, ◌++◌, Bool, false, Option, Some, Result, Ok, Err, is_none}
 use Rattle.std.specs.Str.{bytes_eq}
-use Rattle.snd_disk.specs.Shelf.{ShelfState, Files}
+use Rattle.snd_disk.specs.Shelf.{Files}
 use Rattle.snd_disk.specs.Shelves.{KeepsImagesOf, TellsFiles}
+use Rattle.snd_disk.specs.declared.shelf.Shelf.{Ghosts as ShelfMeaning}
+use Rattle.snd_disk.specs.declared.streams.Source.{Ghosts as SourceMeaning}
 use Rattle.snd_script.specs.Lines.{Reading}
 use Rattle.snd_script.specs.Script.{any_writes, lines_within}
 use Rattle.snd_script.specs.declared.open.OpenAs.{OpenAs}
@@ -13,14 +15,14 @@ use Rattle.snd_script.specs.declared.work.Work.{Work}
 use Rattle.snd_script.specs.declared.work.Work.TheVariants as work
 
 -- the file of this name is opened to be written, or made
-abbrev pub how_writes : List ℕ → OpenAs → List ℕ → Bool
-how_writes n how.Read name = false
-how_writes n opening name = bytes_eq n name
+abbrev pub how_writes : OpenAs → List ℕ → List ℕ → Bool
+how_writes how.Read name n = false
+how_writes opening name n = bytes_eq n name
 
-abbrev pub work_writes : List ℕ → Work → Bool
-work_writes n (work.Update name) = bytes_eq n name.now
-work_writes n (work.Make kind codec channels rate name) = bytes_eq n name.now
-work_writes n other = false
+abbrev pub work_writes : Work → List ℕ → Bool
+work_writes (work.Update name) n = bytes_eq n name.now
+work_writes (work.Make kind codec channels rate name) n = bytes_eq n name.now
+work_writes other n = false
 
 -- the lines that are left, where the source has the bytes s left
 abbrev pub lines_to_serve : Reading → List ℕ → List (List ℕ)
@@ -42,11 +44,11 @@ LeavesLines left result run script run' script' =
     (s : List ℕ) → left script ≡ Some s → LeavesTail result (lines_to_serve run.lines s) run'.lines (left script')
 
 -- a file that is there and is not opened to be written keeps its images
-abbrev pub KeepsUnless : {S : Type 0} → (S → ShelfState) → (S → List ℕ → List ℕ → Type 0) → (S → List ℕ → ℕ → ℕ → List ℕ → Type 0) → (List ℕ → Bool) → S → S → Type 0
-KeepsUnless state may_leave left_between writes shelf shelf' =
-    (f : Files) (n : List ℕ) → TellsFiles state shelf f → is_none (f n) ≡ false → writes n ≡ false → KeepsImagesOf state may_leave left_between n shelf shelf'
+abbrev pub KeepsUnless : {S D : Type 0} → ShelfMeaning S D → (List ℕ → Bool) → S → S → Type 0
+KeepsUnless s writes shelf shelf' =
+    (f : Files) (n : List ℕ) → TellsFiles s.state shelf f → is_none (f n) ≡ false → writes n ≡ false → KeepsImagesOf s.state s.may_leave s.left_between n shelf shelf'
 
 -- .. by the lines that are left
-abbrev pub KeepsByLines : {S R : Type 0} → (S → ShelfState) → (S → List ℕ → List ℕ → Type 0) → (S → List ℕ → ℕ → ℕ → List ℕ → Type 0) → (R → Option (List ℕ)) → S → Run → R → S → Type 0
-KeepsByLines state may_leave left_between left shelf run script shelf' =
-    (s : List ℕ) → left script ≡ Some s → KeepsUnless state may_leave left_between (λ n. any_writes n (lines_to_serve run.lines s)) shelf shelf'
+abbrev pub KeepsByLines : {S D R : Type 0} → ShelfMeaning S D → SourceMeaning R → S → Run → R → S → Type 0
+KeepsByLines s r shelf run script shelf' =
+    (b : List ℕ) → r.left script ≡ Some b → KeepsUnless s (any_writes (lines_to_serve run.lines b)) shelf shelf'

@@ -4,11 +4,14 @@ pub mod Handled
 pub mod Kept
 pub mod Lines
 pub mod Opened
+pub mod Pinned
+pub mod PinnedRun
 pub mod Replies
 pub mod Rules
 pub mod Script
 pub mod Served
 pub mod Serving
 pub mod Stepped
+pub mod Trail
 pub mod Used
 pub mod Work

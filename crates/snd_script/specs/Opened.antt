@@ -1,7 +1,7 @@
 -- A file on a disk that is opened, in whichever mode.
 use Rattle.std.specs.Prelude.{◌≡◌, ◌≤◌, ℕ, List, Bool, true, false, Result, Ok, Err}
 use Rattle.std.specs.Borrow.{GName, MutBor}
-use Rattle.snd_disk.specs.Device.{OnlyReadsOn, Tells}
+use Rattle.snd_disk.specs.Device.{IsStable, OnlyReadsOn, Tells}
 use Rattle.snd_disk.specs.State.{Rises, State}
 use Rattle.snd_disk.specs.Shelf.{Files}
 use Rattle.snd_disk.specs.declared.disk.Disk.{Ghosts}
@@ -14,8 +14,10 @@ use Rattle.snd_layout.specs.declared.error.OpenError.TheVariants.{DiskFault, Mem
 use Rattle.snd_modes.specs.Editing.{Editing}
 use Rattle.snd_modes.specs.Making.{making_of}
 use Rattle.snd_script.specs.Desk.{closed_desk}
-use Rattle.snd_script.specs.Edit.{Edited, Opening, make_edit, open_edit, opened_as, refused}
-use Rattle.snd_script.specs.Handled.{HandleStands, handle_disk, handle_loan}
+use Rattle.snd_script.specs.Edit.{Edited, Opening, make_edit, open_edit, open_edit_of, opened_as, refused}
+use Rattle.snd_modes.specs.Safe.{IsFit}
+use Rattle.snd_modes.specs.Updating.{updating_of}
+use Rattle.snd_script.specs.Handled.{HandleAtRest, HandleStands, handle_disk, handle_loan}
 use Rattle.snd_script.specs.declared.handle.Handle.{Handle}
 use Rattle.snd_script.specs.declared.open.OpenAs.{OpenAs}
 use Rattle.snd_script.specs.declared.open.OpenAs.TheVariants.{Read, Update, Make}
@@ -69,12 +71,21 @@ abbrev pub OnlyOpens : {D : Type 0} (d : Ghosts D) → OpenAs → D → D → Ty
 OnlyOpens d (Make kind params) old new = Unit {0}
 OnlyOpens d how old new = OnlyReadsOn d.state d.may_leave d.left_between old new
 
+-- A file that is opened to be updated is at rest where a crash leaves its bytes alone and these are fit.
+abbrev pub OpensToRest : {D : Type 0} (d : Ghosts D) → OpenAs → D → Handle D d → Type 0
+OpensToRest d Update disk handle = (b : List ℕ) (e : Editing) → Tells d.state disk b → IsStable d.state d.may_leave disk → updating_of b ≡ Ok e → IsFit e → HandleAtRest d b handle e
+OpensToRest d how disk handle = Unit {0}
+
 -- .. and served: one that is read is only read
 abbrev pub OnlyServes : {D : Type 0} (d : Ghosts D) → OpenAs → D → D → Type 0
 OnlyServes d Read old new = OnlyReadsOn d.state d.may_leave d.left_between old new
 OnlyServes d how old new = Unit {0}
 
 -- ---- under a name
+
+-- these bytes of the file of a name are opened so
+abbrev pub opens_bytes : OpenAs → List ℕ → Files → List ℕ → Edited
+opens_bytes how name files b = open_edit_of files name (opening_by how) (opened_as (opening_by how) b)
 
 -- the file of a name is opened so, from these files
 abbrev pub opens_edit : Files → List ℕ → OpenAs → Edited

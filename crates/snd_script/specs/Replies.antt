@@ -9,7 +9,7 @@ use Rattle.snd_layout.specs.Shape.{Shape}
 use Rattle.snd_pcm.specs.Groups.{first_groups}
 use Rattle.snd_layout.specs.declared.kind.Kind.{Kind}
 use Rattle.snd_script.specs.declared.refusal.Refusal.{Refusal}
-use Rattle.snd_script.specs.declared.refusal.Refusal.TheVariants.{Open, AdpcmUpdate, UnknownLength, PartFrame, SampleRange, SeekRange, TrailingData, ContainerFull, Straddle, BadCommand, LineTooLong, NotOpen, AlreadyOpen, WrongMode, MissingFile, NotBuilt}
+use Rattle.snd_script.specs.declared.refusal.Refusal.TheVariants.{Open, AdpcmUpdate, UnknownLength, PartFrame, SampleRange, SeekRange, TrailingData, ContainerFull, Straddle, BadCommand, LineTooLong, NotOpen, AlreadyOpen, WrongMode, MissingFile, Pinned, NotBuilt}
 
 abbrev pub refusal_number : Refusal → ℕ
 refusal_number (Open refusal) = open_number refusal
@@ -27,6 +27,7 @@ refusal_number NotOpen = 42
 refusal_number AlreadyOpen = 43
 refusal_number WrongMode = 44
 refusal_number MissingFile = 56
+refusal_number Pinned = 65
 refusal_number NotBuilt = 99
 
 abbrev pub refusal_name : Refusal → List ℕ
@@ -45,6 +46,7 @@ refusal_name NotOpen = codes "NotOpen"
 refusal_name AlreadyOpen = codes "AlreadyOpen"
 refusal_name WrongMode = codes "WrongMode"
 refusal_name MissingFile = codes "MissingFile"
+refusal_name Pinned = codes "Pinned"
 refusal_name NotBuilt = codes "NotBuilt"
 
 -- what a line is answered: a text of whole lines, or a refusal; or nothing at all

@@ -1,5 +1,5 @@
 -- What each command does on an open file: why it is refused, and what it does where it is not.
-use Rattle.std.specs.Prelude.{ℕ, ℤ, ◌+◌, ◌-◌, ◌*◌, ◌/◌, ◌%◌, Bool, true, false, not, ◌&&◌, List, Option, None, Some, is_some, length, min, int_le, nat_le, nat_lt, if◌then◌else◌}
+use Rattle.std.specs.Prelude.{ℕ, ℤ, ◌+◌, ◌-◌, ◌*◌, ◌/◌, ◌%◌, Bool, true, false, not, ◌&&◌, List, Option, None, Some, is_some, length, min, int_le, nat_lt, if◌then◌else◌}
 use Rattle.std.specs.List.{list_all}
 use Rattle.snd_command.specs.Said.{Said}
 use Rattle.snd_command.specs.declared.tables.CodecWord.{CodecWord}
@@ -17,10 +17,10 @@ use Rattle.snd_modes.specs.Handle.{Known}
 use Rattle.snd_modes.specs.WriteCalls.{end_written, is_whole_field, known_cut, known_sealed, known_trimmed, known_written}
 use Rattle.snd_pcm.specs.Pcm.{high, low}
 use Rattle.snd_pcm.specs.declared.linear.Linear.{Linear}
-use Rattle.snd_script.specs.Desk.{Mode, reading, reads, updating, writes, writing}
-use Rattle.snd_script.specs.Replies.{Answer, nothing, says, refuses, file_line, ok_line, frames_text}
+use Rattle.snd_script.specs.Desk.{Mode, is_pinned, pinned, reading, reads, updating, writes, writing}
+use Rattle.snd_script.specs.Replies.{Answer, nothing, says, file_line, ok_line, frames_text}
 use Rattle.snd_script.specs.declared.refusal.Refusal.{Refusal}
-use Rattle.snd_script.specs.declared.refusal.Refusal.TheVariants.{PartFrame, SampleRange, SeekRange, TrailingData, ContainerFull, Straddle, AlreadyOpen, WrongMode, NotBuilt}
+use Rattle.snd_script.specs.declared.refusal.Refusal.TheVariants.{PartFrame, SampleRange, SeekRange, TrailingData, ContainerFull, Straddle, AlreadyOpen, WrongMode, Pinned, NotBuilt}
 
 -- ---- why a command is refused, by what the file says of itself
 
@@ -189,11 +189,26 @@ is_built (Said.tap kind) = false
 is_built (Said.untap kind) = false
 is_built said = true
 
+-- the command that closes a file
+abbrev pub is_close : Said → Bool
+is_close Said.close = true
+is_close said = false
+
+-- commands that open or close a file, or say whether it is updated automatically: one that is pinned refuses them
+abbrev pub is_held : Said → Bool
+is_held (Said.open_read name) = true
+is_held (Said.open_update name) = true
+is_held (Said.create kind codec channels rate name) = true
+is_held Said.close = true
+is_held (Said.auto on) = true
+is_held said = false
+
 -- the places that the mode has
 abbrev pub seek_rule : Mode → ℕ → Rule
 seek_rule reading n = seek_read_rule n
 seek_rule writing n = seek_write_rule n
 seek_rule updating n = seek_both_rule n
+seek_rule pinned n = seek_both_rule n
 
 -- any built command but `close`; no file is opened while one is open
 abbrev pub built_rule : Mode → Said → Rule
@@ -209,5 +224,9 @@ built_rule mode Said.update = in_mode (writes mode) update_rule
 built_rule mode (Said.auto on) = in_mode (writes mode) (auto_rule on)
 built_rule mode said = refused_rule AlreadyOpen
 
+-- .. of which one that is pinned refuses some
+abbrev pub unless_pinned : Bool → Mode → Rule → Rule
+unless_pinned held mode rule = if held && is_pinned mode then refused_rule Pinned else rule
+
 abbrev pub rule_of : Mode → Said → Rule
-rule_of mode said = if is_built said then built_rule mode said else refused_rule NotBuilt
+rule_of mode said = if is_built said then unless_pinned (is_held said) mode (built_rule mode said) else refused_rule NotBuilt

@@ -9,6 +9,7 @@ use Rattle.snd_disk.specs.Shelf.{Files}
 use Rattle.snd_script.specs.Desk.{Desk, OpenFile, closed_desk, files_closed, open_desk}
 use Rattle.snd_script.specs.Edit.{Edited, edit_line}
 use Rattle.snd_script.specs.Replies.{nothing, text_of, is_refusal}
+use Rattle.snd_script.specs.Rules.{is_held}
 
 -- a script has at most this many bytes
 abbrev pub most_bytes : ℕ
@@ -90,6 +91,11 @@ written_by (Said.auto on) = 72
 written_by Said.close = 72
 written_by said = 0
 
+-- in a pinned run the commands that it refuses use nothing
+abbrev pub most_in : Bool → (Said → ℕ) → Said → ℕ
+most_in true most = λ said. if is_held said then 0 else most said
+most_in false most = most
+
 abbrev pub by_command : (Said → ℕ) → Result (Option Said) ScriptRefusal → ℕ
 by_command most (Ok (Some said)) = most said
 by_command most other = 0
@@ -101,15 +107,15 @@ by_lines most (line ∷ lines) = by_command most (command_of line) + by_lines mo
 -- ---- which files they write
 
 -- a command opens the file of a name to be written
-abbrev pub writes_name : List ℕ → Said → Bool
-writes_name n (Said.open_update name) = bytes_eq n name
-writes_name n (Said.create kind codec channels rate name) = bytes_eq n name
-writes_name n said = false
+abbrev pub writes_name : Said → List ℕ → Bool
+writes_name (Said.open_update name) n = bytes_eq n name
+writes_name (Said.create kind codec channels rate name) n = bytes_eq n name
+writes_name said n = false
 
-abbrev pub by_writing : List ℕ → Result (Option Said) ScriptRefusal → Bool
-by_writing n (Ok (Some said)) = writes_name n said
-by_writing n other = false
+abbrev pub by_writing : Result (Option Said) ScriptRefusal → List ℕ → Bool
+by_writing (Ok (Some said)) n = writes_name said n
+by_writing other n = false
 
-abbrev pub any_writes : List ℕ → List (List ℕ) → Bool
-any_writes n [] = false
-any_writes n (line ∷ lines) = by_writing n (command_of line) || any_writes n lines
+abbrev pub any_writes : List (List ℕ) → List ℕ → Bool
+any_writes [] n = false
+any_writes (line ∷ lines) n = by_writing (command_of line) n || any_writes lines n

@@ -1,15 +1,18 @@
 -- How a script is served.
-use Rattle.std.specs.Prelude.{◌≡◌, ◌⊎◌, ◌≤◌, ◌+◌, ℕ, List, [], ◌∷◌, ◌++◌, Bool, true, false, ◌&&◌, ◌||◌, Option, Some, is_none, length, take}
+use Rattle.std.specs.Prelude.{◌≡◌, ◌⊎◌, ◌≤◌, ℕ, List, [], ◌∷◌, ◌++◌, Bool, true, false, ◌&&◌, ◌||◌, Option, Some, is_none, length, take}
 use Rattle.snd_disk.specs.Shelf.{Files, ShelfState}
 use Rattle.snd_disk.specs.Shelves.{KeepsImagesOf, TellsFiles}
 use Rattle.snd_disk.specs.State.{AtMost, GoesOn, Rises}
 use Rattle.snd_script.specs.Desk.{Desk, closed_desk, files_closed, has_name, makes_name}
 use Rattle.snd_script.specs.Edit.{Edited}
 use Rattle.snd_script.specs.Lines.{HasNoFeed}
+use Rattle.snd_script.specs.Pinned.{pinned_opening, pins, run_asks, run_puts, run_steps, run_too_long, run_writes}
 use Rattle.snd_script.specs.Replies.{text_of}
-use Rattle.snd_script.specs.Script.{any_refused, any_writes, asked_by, by_lines, is_too_long, last_desk, lines_within, most_bytes, script_steps, steps, texts, written_by}
+use Rattle.snd_script.specs.Script.{any_refused, last_desk, lines_within, most_bytes, steps, texts}
 use Rattle.snd_script.specs.declared.serving.ScriptEnd.{ScriptEnd}
 use Rattle.snd_script.specs.declared.serving.ScriptEnd.TheVariants.{Done, TooLong, Fault, Memory}
+use Rattle.snd_script.specs.declared.stop.Stop.{Stop}
+use Rattle.snd_script.specs.declared.stop.Stop.TheVariants as stop
 
 -- ---- the counts of faults of the shelf, the script and the sink
 
@@ -128,17 +131,32 @@ IsServed state start too_long all TooLong old new before after more shelf =
 IsServed state start too_long all Fault old new before after more shelf = IsFault state start all old new before after more shelf
 IsServed state start too_long all Memory old new before after more shelf = SameCounts old new × StopsAtMemory state start all before after shelf
 
--- the script that the source has is served so, from the files that the shelf tells
-abbrev pub ServesScript : {S R O : Type 0} → (S → ShelfState) → (R → Option (List ℕ)) → (R → ℕ) → (O → Option (List ℕ)) → (O → ℕ) → ScriptEnd → S → R → O → S → R → O → Type 0
-ServesScript state left script_faults told out_faults ended shelf script out shelf' script' out' =
+-- how it ends where its run stops so
+abbrev pub end_at : Bool → Stop → ScriptEnd
+end_at refused stop.Ended = Done refused
+end_at refused stop.TooLong = TooLong
+end_at refused stop.Script = Fault
+end_at refused stop.Sink = Fault
+end_at refused stop.File = Fault
+end_at refused stop.Memory = Memory
+
+-- the script that the source has is served so, from the files that the shelf tells; behind the opening of the file of a name,
+-- where there is one
+abbrev pub ServesScript : {S R O : Type 0} → (S → ShelfState) → (R → Option (List ℕ)) → (R → ℕ) → (O → Option (List ℕ)) → (O → ℕ) → Option (List ℕ) → ScriptEnd → S → R → O → S → R → O → Type 0
+ServesScript state left script_faults told out_faults name ended shelf script out shelf' script' out' =
     (files : Files) (s : List ℕ) → TellsFiles state shelf files → left script ≡ Some s →
-    IsServed state files (is_too_long most_bytes s) (script_steps files s) ended
+    IsServed state files (run_too_long name files s) (run_steps name files s) ended
     (faults_of state script_faults out_faults shelf script out) (faults_of state script_faults out_faults shelf' script' out') (told out) (told out') (left script') shelf'
 
 -- a fault is answered only where a count rose
 abbrev pub RisesAtFault : {S R O : Type 0} → (S → ShelfState) → (R → ℕ) → (O → ℕ) → ScriptEnd → S → R → O → S → R → O → Type 0
 RisesAtFault state script_faults out_faults ended shelf script out shelf' script' out' =
     ended ≡ Fault → AnyCountRises (faults_of state script_faults out_faults shelf script out) (faults_of state script_faults out_faults shelf' script' out')
+
+-- nothing is taken of the script where the opening is refused, or `auto on`
+abbrev pub LeavesScript : {S R : Type 0} → (S → ShelfState) → Option (List ℕ) → S → R → R → Type 0
+LeavesScript state name shelf script script' =
+    (files : Files) (n : List ℕ) → TellsFiles state shelf files → name ≡ Some n → pins (pinned_opening files n) ≡ false → script' ≡ script
 
 -- ---- how it leaves the shelf
 
@@ -148,15 +166,15 @@ pub record LeavesShelf {S : Type 0} (state : S → ShelfState) (left_between : S
   pub files : (f : Files) → TellsFiles state old f → (f' : Files) × TellsFiles state new f' × ((n : List ℕ) → is_none (f n) ≡ false → is_none (f' n) ≡ false)
   pub time : (f : Files) (n : List ℕ) → TellsFiles state old f → is_none (f n) ≡ false → GoesOn ((state old).clock n) ((state new).clock n) (left_between old n) (left_between new n)
 
--- a file that no line opens to be written keeps its images
-abbrev pub KeepsUnnamed : {S R : Type 0} → (S → ShelfState) → (S → List ℕ → List ℕ → Type 0) → (S → List ℕ → ℕ → ℕ → List ℕ → Type 0) → (R → Option (List ℕ)) → S → R → S → Type 0
-KeepsUnnamed state may_leave left_between left shelf script shelf' =
+-- a file that no line opens to be written keeps its images, but for the pinned one
+abbrev pub KeepsUnnamed : {S R : Type 0} → (S → ShelfState) → (S → List ℕ → List ℕ → Type 0) → (S → List ℕ → ℕ → ℕ → List ℕ → Type 0) → (R → Option (List ℕ)) → Option (List ℕ) → S → R → S → Type 0
+KeepsUnnamed state may_leave left_between left name shelf script shelf' =
     (f : Files) (s n : List ℕ) → TellsFiles state shelf f → left script ≡ Some s → is_none (f n) ≡ false →
-    any_writes n (lines_within most_bytes s) ≡ false → KeepsImagesOf state may_leave left_between n shelf shelf'
+    run_writes name (lines_within most_bytes s) n ≡ false → KeepsImagesOf state may_leave left_between n shelf shelf'
 
 -- the bytes that are asked of its disks, and written, have a bound for each line
-abbrev pub BoundsScript : {S R : Type 0} → (S → ShelfState) → (R → Option (List ℕ)) → S → R → S → Type 0
-BoundsScript state left shelf script shelf' =
+abbrev pub BoundsScript : {S R : Type 0} → (S → ShelfState) → (R → Option (List ℕ)) → Option (List ℕ) → S → R → S → Type 0
+BoundsScript state left name shelf script shelf' =
     (s : List ℕ) → left script ≡ Some s →
-    AtMost (state shelf).asked (by_lines asked_by (lines_within most_bytes s)) (state shelf').asked
-    × AtMost (state shelf).written (by_lines written_by (lines_within most_bytes s) + 72) (state shelf').written
+    AtMost (state shelf).asked (run_asks name (lines_within most_bytes s)) (state shelf').asked
+    × AtMost (state shelf).written (run_puts name (lines_within most_bytes s)) (state shelf').written

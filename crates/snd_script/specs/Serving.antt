@@ -1,5 +1,5 @@
 -- How a run goes on from one moment to a later one.
-use Rattle.std.specs.Prelude.{◌≡◌, ◌⊎◌, ℕ, ◌+◌, ◌≤◌, List, [], ◌∷◌, ◌++◌, Bool, true, false, ◌||◌, Option, None, Some, Result, Ok, Err, is_none, unwrap_or}
+use Rattle.std.specs.Prelude.{◌≡◌, ◌⊎◌, ℕ, List, [], ◌∷◌, ◌++◌, Bool, true, false, ◌||◌, Option, None, Some, Result, Ok, Err, is_none}
 use Rattle.std.specs.Str.{bytes_eq}
 use Rattle.snd_command.specs.Line.{command_of}
 use Rattle.snd_command.specs.Said.{Said}
@@ -13,14 +13,16 @@ use Rattle.snd_layout.specs.declared.error.OpenError.{OpenError}
 use Rattle.snd_layout.specs.declared.error.OpenError.TheVariants as cause
 use Rattle.snd_layout.specs.Shape.{Shape}
 use Rattle.snd_modes.specs.Editing.{Editing}
-use Rattle.snd_script.specs.Desk.{Desk, OpenFile, closed_bytes, closed_desk, files_closed, open_desk}
+use Rattle.snd_script.specs.Desk.{Desk, OpenFile, closed_desk, files_closed, open_desk}
 use Rattle.snd_script.specs.Edit.{Edited, close_edit, edit_file, edit_line, keep_open, open_refusal, opened_edit}
-use Rattle.snd_script.specs.Handled.{HandleStands, handle_disk, handle_known, mode_of}
+use Rattle.snd_script.specs.Handled.{HandleStands, handle_disk, mode_of, open_as}
 use Rattle.snd_script.specs.Lines.{CutsOff, Reading, TakesUp}
+use Rattle.snd_script.specs.Opened.{is_making, opens_bytes}
 use Rattle.snd_script.specs.Replies.{Answer, file_line, ok_line, refuses, says, text_of, is_refusal}
-use Rattle.snd_script.specs.Script.{any_refused, any_writes, asked_by, by_lines, ending, is_too_long, last_desk, lines_within, steps, texts, written_by}
-use Rattle.snd_script.specs.Served.{AnyCountRises, Appends, AppendsPart, FaultCounts, HasFiles, HasFilesBut, IsCutOff, SameCounts, faults_of, first_text, lost_at, made_next, none_lost}
+use Rattle.snd_script.specs.Script.{any_refused, ending, is_too_long, last_desk, lines_within, steps, texts}
+use Rattle.snd_script.specs.Served.{Appends, AppendsPart, FaultCounts, HasFiles, HasFilesBut, IsCutOff, SameCounts, faults_of, first_text, lost_at, made_next, none_lost}
 use Rattle.snd_script.specs.declared.handle.Handle.{Handle}
+use Rattle.snd_script.specs.declared.open.OpenAs.{OpenAs}
 use Rattle.snd_script.specs.declared.run.Run.{Run}
 use Rattle.snd_script.specs.declared.stop.Next.{Next}
 use Rattle.snd_script.specs.declared.stop.Next.TheVariants as next
@@ -109,10 +111,10 @@ pub record DiskStands {D : Type 0} (state : D → State) (files : Files) (name :
   pub others : (n : List ℕ) → bytes_eq n name ≡ false → files_closed desk n ≡ files n
   pub holds : lost name ≡ false → (b : List ℕ) × Tells state disk b × (files_closed desk name ≡ Some b)
 
--- while it is open: the handle stands for it
-pub record OpenStands {D : Type 0} {ghosts : Ghosts D} (state : D → State) (files : Files) (name : List ℕ) (handle : Handle D ghosts) (lost : List ℕ → Bool) (desk : Desk) : Type 0 where
+-- while it is open: the handle stands for it. The flag is whether it is to stay open.
+pub record OpenStands {D : Type 0} {ghosts : Ghosts D} (state : D → State) (files : Files) (name : List ℕ) (stays : Bool) (handle : Handle D ghosts) (lost : List ℕ → Bool) (desk : Desk) : Type 0 where
   pub editing : Editing
-  pub is : desk ≡ open_desk files (record { name = name; mode = mode_of handle; editing = editing })
+  pub is : desk ≡ open_desk files (record { name = name; mode = open_as stays (mode_of handle); editing = editing })
   pub stands : lost name ≡ false → HandleStands state handle editing
 
 -- ---- counts of faults
@@ -223,11 +225,11 @@ ServesLine state left told edited result shelf run script out shelf' run' script
     IsServedOn result (is_longer m s) (steps_from (edited files) m s) (closed_desk files) m (moment_of left told run' script' out') (ShelfStands state shelf')
 
 -- .. of the file of a name, that is taken out, behind its opening. A file that is not made is there.
-abbrev pub ServesDisk : {D R O T : Type 0} → (D → State) → (R → Option (List ℕ)) → (O → Option (List ℕ)) → (Files → List ℕ → Edited) → Bool → List ℕ → Result T Stop → D → Run → R → O → D → Run → R → O → Type 0
-ServesDisk state left told edited made name result disk run script out disk' run' script' out' =
-    (files : Files) (b s : List ℕ) → Tells state disk b → (made ≡ false → files name ≡ Some b) → left script ≡ Some s →
+abbrev pub ServesDisk : {D R O T : Type 0} → (D → State) → (R → Option (List ℕ)) → (O → Option (List ℕ)) → OpenAs → List ℕ → Result T Stop → D → Run → R → O → D → Run → R → O → Type 0
+ServesDisk state left told how name result disk run script out disk' run' script' out' =
+    (files : Files) (b s : List ℕ) → Tells state disk b → (is_making how ≡ false → files name ≡ Some b) → left script ≡ Some s →
     let m = moment_of left told run script out in
-    IsServedOn result (is_longer m s) (steps_from (edited files b) m s) (closed_desk files) m (moment_of left told run' script' out') (DiskStands state files name disk')
+    IsServedOn result (is_longer m s) (steps_from (opens_bytes how name files b) m s) (closed_desk files) m (moment_of left told run' script' out') (DiskStands state files name disk')
 
 -- .. with it open, behind the answer of its opening, up to its close
 abbrev pub ServesHandle : {D R O T : Type 0} {ghosts : Ghosts D} → (D → State) → (R → Option (List ℕ)) → (O → Option (List ℕ)) → List ℕ → Result T Stop → Handle D ghosts → Run → R → O → D → Run → R → O → Type 0
@@ -243,22 +245,22 @@ ServesToClose state left told name result handle run script out handle' run' scr
     (files : Files) (e : Editing) (s : List ℕ) → HandleStands state handle e → left script ≡ Some s →
     let m = moment_of left told run script out in
     let opened = opened_edit files (record { name = name; mode = mode_of handle; editing = e }) in
-    IsServedOpen result (is_longer m s) (steps_from opened m s) files (closed_desk files) m (moment_of left told run' script' out') (OpenStands state files name handle')
+    IsServedOpen result (is_longer m s) (steps_from opened m s) files (closed_desk files) m (moment_of left told run' script' out') (OpenStands state files name false handle')
 
--- .. and behind no line
-abbrev pub ServesOpen : {D R O T : Type 0} {ghosts : Ghosts D} → (D → State) → (R → Option (List ℕ)) → (O → Option (List ℕ)) → List ℕ → Result T Stop → Handle D ghosts → Run → R → O → Handle D ghosts → Run → R → O → Type 0
-ServesOpen state left told name result handle run script out handle' run' script' out' =
+-- .. and behind no line; the flag is whether it is to stay open
+abbrev pub ServesOpen : {D R O T : Type 0} {ghosts : Ghosts D} → (D → State) → (R → Option (List ℕ)) → (O → Option (List ℕ)) → List ℕ → Bool → Result T Stop → Handle D ghosts → Run → R → O → Handle D ghosts → Run → R → O → Type 0
+ServesOpen state left told name stays result handle run script out handle' run' script' out' =
     (files : Files) (e : Editing) (s : List ℕ) → HandleStands state handle e → left script ≡ Some s →
     let m = moment_of left told run script out in
-    let desk = open_desk files (record { name = name; mode = mode_of handle; editing = e }) in
-    IsServedOpen result (is_longer m s) (steps_left desk m s) files desk m (moment_of left told run' script' out') (OpenStands state files name handle')
+    let desk = open_desk files (record { name = name; mode = open_as stays (mode_of handle); editing = e }) in
+    IsServedOpen result (is_longer m s) (steps_left desk m s) files desk m (moment_of left told run' script' out') (OpenStands state files name stays handle')
 
 -- one line on an open file is served, by what it says of it
-abbrev pub AnswersOpen : {D O : Type 0} {ghosts : Ghosts D} → (D → State) → (O → Option (List ℕ)) → List ℕ → (Files → OpenFile → Edited) → Result Next Stop → Handle D ghosts → Run → O → Handle D ghosts → Run → O → Type 0
-AnswersOpen state told name edited result handle run out handle' run' out' =
+abbrev pub AnswersOpen : {D O : Type 0} {ghosts : Ghosts D} → (D → State) → (O → Option (List ℕ)) → List ℕ → Bool → (Files → OpenFile → Edited) → Result Next Stop → Handle D ghosts → Run → O → Handle D ghosts → Run → O → Type 0
+AnswersOpen state told name stays edited result handle run out handle' run' out' =
     (files : Files) (e : Editing) → HandleStands state handle e →
-    let file : OpenFile = record { name = name; mode = mode_of handle; editing = e } in
-    IsLineServed result (edited files file) files file run.refused run'.refused (told out) (told out') (OpenStands state files name handle')
+    let file : OpenFile = record { name = name; mode = open_as stays (mode_of handle); editing = e } in
+    IsLineServed result (edited files file) files file run.refused run'.refused (told out) (told out') (OpenStands state files name stays handle')
 
 abbrev pub edit_open_line : List ℕ → Files → OpenFile → Edited
 edit_open_line line files file = edit_line (open_desk files file) line
@@ -273,11 +275,11 @@ IsStepAnswered (Ok x) edited desk refused refused' before after stands =
     (refused' ≡ (refused || is_refusal edited.answer)) × Appends before after (text_of edited.answer) × stands none_lost edited.desk
 IsStepAnswered (Err stop) edited desk refused refused' before after stands = StopsLine stop edited desk before after stands
 
-abbrev pub AnswersStep : {D O T : Type 0} {ghosts : Ghosts D} → (D → State) → (O → Option (List ℕ)) → List ℕ → Said → Result T Stop → Handle D ghosts → Run → O → Handle D ghosts → Run → O → Type 0
-AnswersStep state told name said result handle run out handle' run' out' =
+abbrev pub AnswersStep : {D O T : Type 0} {ghosts : Ghosts D} → (D → State) → (O → Option (List ℕ)) → List ℕ → Bool → Said → Result T Stop → Handle D ghosts → Run → O → Handle D ghosts → Run → O → Type 0
+AnswersStep state told name stays said result handle run out handle' run' out' =
     (files : Files) (e : Editing) → HandleStands state handle e →
-    let file : OpenFile = record { name = name; mode = mode_of handle; editing = e } in
-    IsStepAnswered result (keep_open files file (edit_file (mode_of handle) said e)) (open_desk files file) run.refused run'.refused (told out) (told out') (OpenStands state files name handle')
+    let file : OpenFile = record { name = name; mode = open_as stays (mode_of handle); editing = e } in
+    IsStepAnswered result (keep_open files file (edit_file (mode_of handle) said e)) (open_desk files file) run.refused run'.refused (told out) (told out') (OpenStands state files name stays handle')
 
 -- the counts of faults, by how the run goes on
 abbrev pub CountsRun : {S R O T : Type 0} → (S → ShelfState) → (R → ℕ) → (O → ℕ) → Result T Stop → S → R → O → S → R → O → Type 0

@@ -1,6 +1,5 @@
 -- One command on an open file: how it ends, and what the handle knows then, by what it knew alone.
 use Rattle.std.specs.Prelude.{◌≡◌, ◌⊎◌, ◌≤◌, ℕ, List, ◌++◌, Bool, true, false, ◌&&◌, Option, None, Some, Result, Ok, Err, is_none}
-use Rattle.snd_command.specs.Said.{Said}
 use Rattle.snd_disk.specs.State.{Rises}
 use Rattle.snd_disk.specs.Streams.{AppendsFront}
 use Rattle.snd_disk.specs.declared.disk.Step.{Step}
@@ -14,11 +13,6 @@ use Rattle.snd_script.specs.declared.handle.Reply.TheVariants as reply
 use Rattle.snd_script.specs.declared.handle.StepFault.{StepFault}
 use Rattle.snd_script.specs.declared.handle.StepFault.TheVariants.{Disk, Out, Memory}
 use Rattle.snd_script.specs.declared.refusal.Refusal.{Refusal}
-
--- the command that closes a file
-abbrev pub is_close : Said → Bool
-is_close Said.close = true
-is_close said = false
 
 -- the reply of an answer
 abbrev pub reply_of : Answer → Reply
@@ -97,3 +91,7 @@ Knows (Err Memory) rule old new = new ≡ old
 -- a command changes the file, where it is not refused
 abbrev pub changes_by : Rule → Known → Bool
 changes_by rule h = rule.changes && is_none (refusal_by rule h)
+
+-- updates are automatic before it, or once it is carried out
+abbrev pub IsAutomatic : Rule → Known → Type 0
+IsAutomatic rule h = (h.automatic ≡ true) ⊎ ((rule.known h).automatic ≡ true)

@@ -1,10 +1,14 @@
 -- How many bytes a run uses of the disks: asks of them, or writes on them.
-use Rattle.std.specs.Prelude.{◌≡◌, ℕ, ◌+◌, ◌≤◌, List, ◌++◌, Option, Some, Result, Ok, Err}
+use Rattle.std.specs.Prelude.{◌≡◌, ℕ, ◌+◌, ◌≤◌, List, ◌++◌, Bool, Option, Some, Result, Ok, Err}
 use Rattle.snd_command.specs.Said.{Said}
+use Rattle.snd_command.specs.declared.refusal.ScriptRefusal.{ScriptRefusal}
+use Rattle.snd_disk.specs.State.{AtMost}
 use Rattle.snd_disk.specs.declared.disk.Disk.{Ghosts}
+use Rattle.snd_disk.specs.declared.shelf.Shelf.{Ghosts as ShelfMeaning}
+use Rattle.snd_disk.specs.declared.streams.Source.{Ghosts as SourceMeaning}
 use Rattle.snd_script.specs.Handled.{handle_disk}
 use Rattle.snd_script.specs.Lines.{Reading}
-use Rattle.snd_script.specs.Script.{by_lines, lines_within}
+use Rattle.snd_script.specs.Script.{asked_by, by_command, by_lines, lines_within, most_in, written_by}
 use Rattle.snd_script.specs.declared.handle.Handle.{Handle}
 use Rattle.snd_script.specs.declared.open.OpenAs.{OpenAs}
 use Rattle.snd_script.specs.declared.open.OpenAs.TheVariants as how
@@ -53,7 +57,8 @@ pub record LineUses (result : Result Next Stop) (owed hand old new : ℕ) : Type
   pub later : old ≤ new
   pub within : IsLineWithin result owed (old + hand) new
 
--- ---- WHOLE OBJECTS. The first argument is what is counted of a shelf or a disk, and the second what a source has left.
+-- ---- WHOLE OBJECTS. The first argument is what is counted of a shelf or a disk, and the second what a source has left; or
+-- these are their meanings.
 
 -- lines are served with no file open, behind one for which so much is in hand; the open file is closed where the run stops
 abbrev pub UsesOn : {X R T : Type 0} → (X → ℕ) → (R → Option (List ℕ)) → Result T Stop → (Said → ℕ) → ℕ → X → Run → R → X → Run → R → Type 0
@@ -73,7 +78,23 @@ UsesOpen count left result most handle run script handle' run' script' =
 abbrev pub HandleUses : {D : Type 0} {ghosts : Ghosts D} → (D → ℕ) → Result Next Stop → (Said → ℕ) → ℕ → Handle D ghosts → Handle D ghosts → Type 0
 HandleUses count result most hand handle handle' = LineUses result (most Said.close) hand (count (handle_disk handle)) (count (handle_disk handle'))
 
--- .. up to where the run stops
-abbrev pub UsesAll : {X R : Type 0} → (X → ℕ) → (R → Option (List ℕ)) → (Said → ℕ) → X → Run → R → X → Type 0
-UsesAll count left most x run script x' =
-    (s : List ℕ) → left script ≡ Some s → (count x ≤ count x') × (count x' ≤ count x + use_left most run.lines s + most Said.close)
+-- .. which says this command; the flag is whether the file is to stay open
+abbrev pub CommandAsks : {D : Type 0} (d : Ghosts D) → Bool → Result Next Stop → Said → Handle D d → Handle D d → Type 0
+CommandAsks d stays result said handle handle' = HandleUses (λ x. (d.state x).asked) result (most_in stays asked_by) (most_in stays asked_by said) handle handle'
+
+abbrev pub CommandWrites : {D : Type 0} (d : Ghosts D) → Bool → Result Next Stop → Said → Handle D d → Handle D d → Type 0
+CommandWrites d stays result said handle handle' = HandleUses (λ x. (d.state x).written) result (most_in stays written_by) (most_in stays written_by said) handle handle'
+
+-- .. or is answered so
+abbrev pub LineAsks : {D : Type 0} (d : Ghosts D) → Bool → Result Next Stop → Result (Option Said) ScriptRefusal → Handle D d → Handle D d → Type 0
+LineAsks d stays result answer handle handle' = HandleUses (λ x. (d.state x).asked) result (most_in stays asked_by) (by_command (most_in stays asked_by) answer) handle handle'
+
+abbrev pub LineWrites : {D : Type 0} (d : Ghosts D) → Bool → Result Next Stop → Result (Option Said) ScriptRefusal → Handle D d → Handle D d → Type 0
+LineWrites d stays result answer handle handle' = HandleUses (λ x. (d.state x).written) result (most_in stays written_by) (by_command (most_in stays written_by) answer) handle handle'
+
+-- .. up to where the run stops: the bytes that are asked of the disks, and written, have a bound for each line that is left
+abbrev pub BoundsLines : {S D R : Type 0} → ShelfMeaning S D → SourceMeaning R → S → Run → R → S → Type 0
+BoundsLines s r shelf run script shelf' =
+    (b : List ℕ) → r.left script ≡ Some b →
+    AtMost (s.state shelf).asked (use_left asked_by run.lines b) (s.state shelf').asked
+    × AtMost (s.state shelf).written (use_left written_by run.lines b + 72) (s.state shelf').written

@@ -1,9 +1,7 @@
 -- What is done for a command, and how that leaves a file.
-use Rattle.std.specs.Prelude.{◌≡◌, ◌⊎◌, ◌≤◌, ◌*◌, ℕ, ℤ, List, Bool, true, false, Option, None, Some, Result, Ok, Err, IfErr, IfOk, IsErrOf, MatchResult, is_none, length}
+use Rattle.std.specs.Prelude.{◌≡◌, ◌⊎◌, ◌≤◌, ℕ, ℤ, List, Bool, true, false, Option, None, Some, Result, Ok, Err, IfErr, IfOk, IsErrOf, MatchResult, is_none}
 use Rattle.std.specs.Borrow.{MutBor}
-use Rattle.std.specs.Str.{bytes_eq}
 use Rattle.snd_command.specs.Said.{Said}
-use Rattle.snd_command.specs.declared.tables.CodecWord.{CodecWord}
 use Rattle.snd_container.specs.Sound.{linear_of}
 use Rattle.snd_disk.specs.Shelf.{Files}
 use Rattle.snd_disk.specs.Device.{AsksAtMost, GoesOnFrom, IsStable, OnlyReadsOn, Tells, WritesAtMost}
@@ -12,22 +10,25 @@ use Rattle.snd_disk.specs.declared.disk.Disk.{Ghosts}
 use Rattle.snd_disk.specs.declared.disk.Step.{Step}
 use Rattle.snd_disk.specs.declared.streams.Sink.{Ghosts as SinkMeaning}
 use Rattle.snd_layout.specs.Params.{params_of}
-use Rattle.snd_layout.specs.declared.kind.Kind.{Kind}
 use Rattle.snd_layout.specs.declared.kind.Kind.TheVariants.{Wave}
 use Rattle.snd_modes.specs.Editing.{Editing, frames_left, frames_read, moved_by}
 use Rattle.snd_modes.specs.Edits.{sealed_to}
-use Rattle.snd_modes.specs.Handle.{Known, Stands, channels_of, disk_of, known_of}
+use Rattle.snd_modes.specs.Handle.{Known, Stands, channels_of, disk_of, known_of, loan_of}
 use Rattle.snd_modes.specs.declared.handle.File.{File}
 use Rattle.snd_modes.specs.declared.mode.Mode.{Ghosts as ModeGhosts}
+use Rattle.snd_modes.specs.Rest.{IsAtRest}
+use Rattle.snd_modes.specs.Safe.{IsSafe}
+use Rattle.snd_patch.specs.Images.{LeavesEach}
 use Rattle.snd_patch.specs.Steps.{StillTells}
 use Rattle.snd_pcm.specs.Groups.{first_groups}
 use Rattle.snd_script.specs.Desk.{Mode, closed_desk, reads, writes}
 use Rattle.snd_script.specs.Edit.{Edited, Opening, edit_by, edit_closed, make_edit, open_edit, refused}
-use Rattle.snd_script.specs.Rules.{Rule, auto_rule, in_mode, read_rule, refused_rule, rule_of, seek_read_rule, seek_rule, seek_write_rule, tell_rule, trim_rule, truncate_rule, update_rule, write_rule}
+use Rattle.snd_script.specs.Rules.{Rule, auto_rule, in_mode, is_close, read_rule, refused_rule, rule_of, seek_read_rule, seek_rule, seek_write_rule, tell_rule, trim_rule, truncate_rule, unless_pinned, update_rule, write_rule}
 use Rattle.snd_script.specs.Handled.{back_of}
 use Rattle.snd_script.specs.Kept.{work_writes}
 use Rattle.snd_script.specs.Used.{work_asks, work_makes}
-use Rattle.snd_script.specs.Stepped.{IsSaid, IsSilent, IsStepCause, Knows, LeavesFile, Rose, changes_by}
+use Rattle.snd_script.specs.Script.{asked_by, writes_name, written_by}
+use Rattle.snd_script.specs.Stepped.{IsAutomatic, IsSaid, IsSilent, IsStepCause, Knows, LeavesFile, Rose, changes_by}
 use Rattle.snd_script.specs.declared.handle.Reply.{Reply}
 use Rattle.snd_script.specs.declared.handle.StepFault.{StepFault}
 use Rattle.snd_script.specs.declared.handle.StepFault.TheVariants.{Disk, Out, Memory}
@@ -46,9 +47,9 @@ work_rule mode (Write xs) = in_mode (writes mode) (write_rule xs.now)
 work_rule mode (Truncate n) = in_mode (writes mode) (truncate_rule n)
 work_rule mode Trim = in_mode (writes mode) trim_rule
 work_rule mode BringUp = in_mode (writes mode) update_rule
-work_rule mode (Auto on) = in_mode (writes mode) (auto_rule on)
+work_rule mode (Auto on) = unless_pinned true mode (in_mode (writes mode) (auto_rule on))
 work_rule mode NotBuilt = refused_rule refusal.NotBuilt
-work_rule mode work = refused_rule refusal.AlreadyOpen
+work_rule mode work = unless_pinned true mode (refused_rule refusal.AlreadyOpen)
 
 -- with none open
 abbrev pub work_closed : Work → Files → Edited
@@ -80,16 +81,16 @@ abbrev pub IsBuiltWork : Work → Type 0
 IsBuiltWork (Make kind codec channels rate name) = (kind ≡ Wave) × (is_none (linear_of codec) ≡ false)
 IsBuiltWork work = Unit {0}
 
--- a file is made where its kind and its codec are built
-pub record MakesFor (work : Work) (kind : Kind) (word : CodecWord) (channels rate : ℕ) (name : List ℕ) : Type 0 where
-  pub closed : (files : Files) → edit_closed files (Said.create kind word channels rate name) ≡ work_closed work files
-  pub rule : (mode : Mode) → rule_of mode (Said.create kind word channels rate name) ≡ work_rule mode work
-  pub named : (n : List ℕ) → work_name work ≡ Some n → n ≡ name
-  pub stays : work_closes work ≡ false
+-- this is done for what is said
+pub record WorksFor (said : Said) (work : Work) : Type 0 where
+  pub rule : (mode : Mode) → is_close said ≡ false → rule_of mode said ≡ work_rule mode work
+  pub closed : (files : Files) → edit_closed files said ≡ work_closed work files
+  pub named : (n : List ℕ) → work_name work ≡ Some n → name_of said ≡ Some n
+  pub closes : is_close said ≡ work_closes work
   pub built : IsBuiltWork work
-  pub asked : work_asks work ≡ 0
-  pub made : work_makes work ≤ 2048
-  pub writes : (n : List ℕ) → bytes_eq n name ≡ false → work_writes n work ≡ false
+  pub asked : work_asks work ≤ asked_by said
+  pub made : work_makes work ≤ written_by said
+  pub writes : (n : List ℕ) → writes_name said n ≡ false → work_writes work n ≡ false
 
 -- these numbers are written
 abbrev pub WritesFor : Work → List ℤ → Type 0
@@ -98,9 +99,22 @@ WritesFor work xs = ⊥
 
 -- ---- WHOLE FILES. The first arguments are the meanings of the disk and of the sink.
 
--- A rule is followed on a file: what it stands for afterwards, what is said, and which counts rise; what the handle knows over
--- every disk; and what the disk is asked for.
+-- From rest, where updates are automatic before a command or once it is carried out: what one that changes the file leaves at any
+-- moment is safe between the state before it and the one to which it leads; and unless the disk fails, the file is at rest then.
+abbrev pub ChangesSafely : {D M : Type 0} {mode : ModeGhosts M} (d : Ghosts D) → Rule → File D M d mode → File D M d mode → Type 0
+ChangesSafely d rule old new =
+    changes_by rule (known_of old) ≡ true → IsAutomatic rule (known_of old) → (opened : List ℕ) (e : Editing) → IsAtRest d opened old e
+    → LeavesEach d (disk_of old) (disk_of new) (IsSafe e (edit_by rule e).editing)
+
+abbrev pub ChangesToRest : {D M : Type 0} {mode : ModeGhosts M} (d : Ghosts D) → Rule → Result Reply StepFault → File D M d mode → File D M d mode → Type 0
+ChangesToRest d rule result old new =
+    changes_by rule (known_of old) ≡ true → IsAutomatic rule (known_of old) → (opened : List ℕ) (e : Editing) → IsAtRest d opened old e
+    → LeavesFile result (edit_by rule e) e (IsAtRest d opened new)
+
+-- A rule is followed on a file, which keeps its loan: what it stands for afterwards, what is said, and which counts rise; what
+-- the handle knows over every disk; and what the disk is asked for.
 pub record Follows {D M O : Type 0} {mode : ModeGhosts M} (d : Ghosts D) (o : SinkMeaning O) (rule : Rule) (result : Result Reply StepFault) (old : File D M d mode) (out : O) (new : File D M d mode) (out' : O) : Type 0 where
+  pub loan : loan_of new ≡ loan_of old
   pub stands : (e : Editing) → Stands d.state old e → LeavesFile result (edit_by rule e) e (Stands d.state new)
   pub said : (e : Editing) → Stands d.state old e → IsSaid result (edit_by rule e).answer (o.told out) (o.told out')
   pub silent : IfErr result (λ fault. IsSilent fault (o.told out) (o.told out'))
@@ -110,8 +124,14 @@ pub record Follows {D M O : Type 0} {mode : ModeGhosts M} (d : Ghosts D) (o : Si
   pub tells : StillTells (d.state (disk_of old)) (d.state (disk_of new))
   pub time : GoesOnFrom d.state d.left_between (disk_of old) (disk_of new)
   pub reads : changes_by rule (known_of old) ≡ false → OnlyReadsOn d.state d.may_leave d.left_between (disk_of old) (disk_of new)
+  pub leaves : ChangesSafely d rule old new
+  pub rests : ChangesToRest d rule result old new
   pub asked : AsksAtMost d.state rule.asked (disk_of old) (disk_of new)
   pub written : WritesAtMost d.state rule.written (disk_of old) (disk_of new)
+
+-- .. the rule of what is done
+abbrev pub FollowsWork : {D M O : Type 0} {mode : ModeGhosts M} (d : Ghosts D) → SinkMeaning O → Mode → Work → Result Reply StepFault → File D M d mode → O → File D M d mode → O → Type 0
+FollowsWork d o open_as work result old out new out' = Follows d o (work_rule open_as work) result old out new out'
 
 -- The sink's count has risen where the reply did not get out, and is as before where it did. Nothing else goes wrong.
 abbrev pub IsSent : Result Reply StepFault → ℕ → ℕ → Type 0
@@ -159,5 +179,6 @@ pub record ClosesAs {D M : Type 0} {mode : ModeGhosts M} (d : Ghosts D) (writing
       ⊎ (((known_of file).broken ≡ None) × (writing ≡ true) × Rose (d.state (disk_of file)).faults (d.state e.1.now).faults))
   pub tells : StillTells (d.state (disk_of file)) (d.state (back_of result).now)
   pub time : GoesOnFrom d.state d.left_between (disk_of file) (back_of result).now
+  pub leaves : writing ≡ true → (opened : List ℕ) (e : Editing) → IsAtRest d opened file e → LeavesEach d (disk_of file) (back_of result).now (IsSafe e e)
   pub written : WritesAtMost d.state 72 (disk_of file) (back_of result).now
   pub asked : (d.state (back_of result).now).asked ≡ (d.state (disk_of file)).asked

@@ -1,7 +1,7 @@
 //! What a command does to an open file that it does not change, and its reply.
 
 ghost use Rattle.std.specs.Prelude.{◌≡◌, None};
-ghost use Rattle.snd_modes.specs.Handle.{known_of, loan_of};
+ghost use Rattle.snd_modes.specs.Handle.{known_of};
 ghost use Rattle.snd_script.specs.Rules.{read_rule, refused_rule, seek_both_rule, seek_read_rule, seek_write_rule, tell_rule};
 ghost use Rattle.snd_script.specs.Work.{Follows};
 
@@ -35,6 +35,17 @@ pub fn tell<'d, D: Disk, M: Mode, O: Sink>(
     say_file(out, file.frames(), file.params(), file.kind())
 }
 
+// Why a frame is not sought in a file that is whole, and of a codec with no blocks.
+fn seek_refusal(error: SeekError) -> Refusal
+    requires { error ≡ SeekError.SeekRange }
+    ensures { result ≡ Refusal.SeekRange }
+{
+    match error {
+        SeekError::SeekRange => Refusal::SeekRange,
+        SeekError::Broken(_) | SeekError::AdpcmSeek => unreachable!(),
+    }
+}
+
 /// Makes a frame the one to read next.
 pub fn seek_read<'d, D: Disk, M: CanRead, O: Sink>(
     file: &mut File<'d, D, M>,
@@ -42,14 +53,11 @@ pub fn seek_read<'d, D: Disk, M: CanRead, O: Sink>(
     out: &mut O,
 ) -> Result<Reply, StepFault>
     requires { (known_of file.old).broken ≡ None }
-    ensures loan { loan_of file.new ≡ loan_of file.old }
-    ensures follows { Follows D.Disk O.Sink (seek_read_rule to) result file.old out.old file.new out.new }
+    ensures { Follows D.Disk O.Sink (seek_read_rule to) result file.old out.old file.new out.new }
 {
     match file.seek_read(to) {
         Ok(()) => say_ok(out, to),
-        Err(SeekError::SeekRange) => refuse(out, Refusal::SeekRange),
-        Err(SeekError::Broken(_)) => unreachable!(),
-        Err(SeekError::AdpcmSeek) => unreachable!(),
+        Err(error) => refuse(out, seek_refusal(error)),
     }
 }
 
@@ -60,14 +68,11 @@ pub fn seek_write<'d, D: Disk, M: CanWrite, O: Sink>(
     out: &mut O,
 ) -> Result<Reply, StepFault>
     requires { (known_of file.old).broken ≡ None }
-    ensures loan { loan_of file.new ≡ loan_of file.old }
-    ensures follows { Follows D.Disk O.Sink (seek_write_rule to) result file.old out.old file.new out.new }
+    ensures { Follows D.Disk O.Sink (seek_write_rule to) result file.old out.old file.new out.new }
 {
     match file.seek_write(to) {
         Ok(()) => say_ok(out, to),
-        Err(SeekError::SeekRange) => refuse(out, Refusal::SeekRange),
-        Err(SeekError::Broken(_)) => unreachable!(),
-        Err(SeekError::AdpcmSeek) => unreachable!(),
+        Err(error) => refuse(out, seek_refusal(error)),
     }
 }
 
@@ -78,17 +83,14 @@ pub fn seek_both<'d, D: Disk, O: Sink>(
     out: &mut O,
 ) -> Result<Reply, StepFault>
     requires { (known_of file.old).broken ≡ None }
-    ensures loan { loan_of file.new ≡ loan_of file.old }
-    ensures follows { Follows D.Disk O.Sink (seek_both_rule to) result file.old out.old file.new out.new }
+    ensures { Follows D.Disk O.Sink (seek_both_rule to) result file.old out.old file.new out.new }
 {
     match file.seek_read(to) {
         Ok(()) => match file.seek_write(to) {
             Ok(()) => say_ok(out, to),
             Err(_) => unreachable!(),
         },
-        Err(SeekError::SeekRange) => refuse(out, Refusal::SeekRange),
-        Err(SeekError::Broken(_)) => unreachable!(),
-        Err(SeekError::AdpcmSeek) => unreachable!(),
+        Err(error) => refuse(out, seek_refusal(error)),
     }
 }
 
@@ -101,8 +103,7 @@ pub fn read<'d, D: Disk, M: CanRead, O: Sink>(
     out: &mut O,
 ) -> Result<Reply, StepFault>
     requires { (known_of file.old).broken ≡ None }
-    ensures loan { loan_of file.new ≡ loan_of file.old }
-    ensures follows { Follows D.Disk O.Sink (read_rule wanted) result file.old out.old file.new out.new }
+    ensures { Follows D.Disk O.Sink (read_rule wanted) result file.old out.old file.new out.new }
 {
     let channels = usize::from(file.params().channels);
     let frames = read_some(file, samples, wanted)?;

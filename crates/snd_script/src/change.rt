@@ -1,7 +1,7 @@
 //! What a command does to an open file that it changes, and its reply.
 
 ghost use Rattle.std.specs.Prelude.{◌≡◌, None};
-ghost use Rattle.snd_modes.specs.Handle.{known_of, loan_of};
+ghost use Rattle.snd_modes.specs.Handle.{known_of};
 ghost use Rattle.snd_script.specs.Rules.{auto_rule, trim_rule, truncate_rule, update_rule, write_rule};
 ghost use Rattle.snd_script.specs.Work.{Follows};
 
@@ -19,8 +19,7 @@ pub fn write<'d, D: Disk, M: CanWrite, O: Sink>(
     out: &mut O,
 ) -> Result<Reply, StepFault>
     requires { (known_of file.old).broken ≡ None }
-    ensures loan { loan_of file.new ≡ loan_of file.old }
-    ensures follows { Follows D.Disk O.Sink (write_rule samples.now) result file.old out.old file.new out.new }
+    ensures { Follows D.Disk O.Sink (write_rule samples.now) result file.old out.old file.new out.new }
 {
     let params = file.params();
     params.are_good();
@@ -44,8 +43,7 @@ pub fn truncate<'d, D: Disk, M: CanShrink, O: Sink>(
     out: &mut O,
 ) -> Result<Reply, StepFault>
     requires { (known_of file.old).broken ≡ None }
-    ensures loan { loan_of file.new ≡ loan_of file.old }
-    ensures follows { Follows D.Disk O.Sink (truncate_rule to) result file.old out.old file.new out.new }
+    ensures { Follows D.Disk O.Sink (truncate_rule to) result file.old out.old file.new out.new }
 {
     match file.truncate(to) {
         Ok(()) => say_ok(out, to),
@@ -63,8 +61,7 @@ pub fn trim<'d, D: Disk, M: CanShrink, O: Sink>(
     out: &mut O,
 ) -> Result<Reply, StepFault>
     requires { (known_of file.old).broken ≡ None }
-    ensures loan { loan_of file.new ≡ loan_of file.old }
-    ensures follows { Follows D.Disk O.Sink trim_rule result file.old out.old file.new out.new }
+    ensures { Follows D.Disk O.Sink trim_rule result file.old out.old file.new out.new }
 {
     let frames = file.frames();
     match file.trim() {
@@ -83,8 +80,7 @@ pub fn bring_up<'d, D: Disk, M: CanWrite, O: Sink>(
     out: &mut O,
 ) -> Result<Reply, StepFault>
     requires { (known_of file.old).broken ≡ None }
-    ensures loan { loan_of file.new ≡ loan_of file.old }
-    ensures follows { Follows D.Disk O.Sink update_rule result file.old out.old file.new out.new }
+    ensures { Follows D.Disk O.Sink update_rule result file.old out.old file.new out.new }
 {
     match file.update_now() {
         Ok(frames) => say_ok(out, frames),
@@ -100,8 +96,7 @@ pub fn set_auto<'d, D: Disk, M: CanWrite, O: Sink>(
     out: &mut O,
 ) -> Result<Reply, StepFault>
     requires { (known_of file.old).broken ≡ None }
-    ensures loan { loan_of file.new ≡ loan_of file.old }
-    ensures follows { Follows D.Disk O.Sink (auto_rule on) result file.old out.old file.new out.new }
+    ensures { Follows D.Disk O.Sink (auto_rule on) result file.old out.old file.new out.new }
 {
     match file.set_auto(on) {
         Ok(frames) => say_ok(out, frames),

@@ -3,7 +3,7 @@
 ghost use Rattle.std.specs.Prelude.{◌≡◌, ◌≤◌, List, ℕ, Some, false, true, is_none, OnOk};
 ghost use Rattle.snd_command.specs.Forms.{is_name};
 ghost use Rattle.snd_command.specs.Line.{command_of};
-ghost use Rattle.snd_command.specs.Said.{said_of};
+ghost use Rattle.snd_command.specs.Said.{line_said};
 ghost use Rattle.snd_container.specs.Sound.{linear_of};
 ghost use Rattle.snd_layout.specs.Params.{params_of};
 ghost use Rattle.snd_layout.specs.declared.kind.Kind.TheVariants.{Wave};
@@ -19,11 +19,12 @@ ghost use Rattle.snd_script.specs.Work.{name_of};
 
 use crate::open::OpenAs;
 use crate::opening::serve_disk;
+use crate::reader::Line;
 use crate::refusal::{Refusal, line_refusal};
 use crate::run::Run;
 use crate::stop::Stop;
 use crate::work::{Work, work_of};
-use snd_command::{Command, parse_line};
+use snd_command::LineCommand;
 use snd_container::fit;
 use snd_disk::{Shelf, ShelfFault, Sink, Source};
 use snd_layout::{Codec, Kind, OpenRefusal, Params};
@@ -68,7 +69,7 @@ fn serve_name<S: Shelf, R: Source, O: Sink>(
     ensures asked { UsesOn (λ s. (S.state s).asked) R.left result asked_by (most_asked how.now) shelf.old run.old script.old shelf.new run.new script.new }
     ensures written { UsesOn (λ s. (S.state s).written) R.left result written_by (most_made how.now) shelf.old run.old script.old shelf.new run.new script.new }
     ensures tail { LeavesLines R.left result run.old script.old run.new script.new }
-    ensures images { KeepsUnless S.state S.may_leave S.left_between (λ n. how_writes n how.now name.now) shelf.old shelf.new }
+    ensures images { KeepsUnless S.Shelf (how_writes how.now name.now) shelf.old shelf.new }
 {
     let text = name_text(name);
     let mut disk = match shelf.take(text, is_making(how)) {
@@ -96,25 +97,25 @@ fn params_for(kind: Kind, codec: Codec, channels: u64, rate: u64) -> Result<Para
 // One command while no file is open. A file that it opens is served up to its close.
 fn closed_command<S: Shelf, R: Source, O: Sink>(
     alloc: Global,
-    command: &Command<'_>,
+    said: LineCommand<'_, '_>,
     shelf: &mut S,
     script: &mut R,
     out: &mut O,
     run: &mut Run,
 ) -> Result<(), Stop>
     requires back { (n : List ℕ) → (S.state shelf.old).out n ≡ false }
-    requires named { (name : List ℕ) → name_of (said_of command.now) ≡ Some name → is_name name ≡ true }
-    ensures served { ServesLine S.state R.left O.told (λ f. edit_closed f (said_of command.now)) result shelf.old run.old script.old out.old shelf.new run.new script.new out.new }
+    requires named { (name : List ℕ) → name_of (line_said said) ≡ Some name → is_name name ≡ true }
+    ensures served { ServesLine S.state R.left O.told (λ f. edit_closed f (line_said said.entry)) result shelf.old run.old script.old out.old shelf.new run.new script.new out.new }
     ensures fewer { OnOk result (run.new.lines.room ≤ run.old.lines.room) }
     ensures given { TakesLines R.given run.old script.old run.new script.new }
     ensures counted { CountsRun S.state R.faults O.faults result shelf.old script.old out.old shelf.new script.new out.new }
     ensures shelf { LeavesShelf S.state S.left_between shelf.old shelf.new }
-    ensures asked { UsesOn (λ s. (S.state s).asked) R.left result asked_by (asked_by (said_of command.now)) shelf.old run.old script.old shelf.new run.new script.new }
-    ensures written { UsesOn (λ s. (S.state s).written) R.left result written_by (written_by (said_of command.now)) shelf.old run.old script.old shelf.new run.new script.new }
+    ensures asked { UsesOn (λ s. (S.state s).asked) R.left result asked_by (asked_by (line_said said.entry)) shelf.old run.old script.old shelf.new run.new script.new }
+    ensures written { UsesOn (λ s. (S.state s).written) R.left result written_by (written_by (line_said said.entry)) shelf.old run.old script.old shelf.new run.new script.new }
     ensures tail { LeavesLines R.left result run.old script.old run.new script.new }
-    ensures images { KeepsUnless S.state S.may_leave S.left_between (λ n. writes_name n (said_of command.now)) shelf.old shelf.new }
+    ensures images { KeepsUnless S.Shelf (writes_name (line_said said.entry)) shelf.old shelf.new }
 {
-    match work_of(command) {
+    match work_of(said) {
         Work::Open(name) => serve_name(alloc, name, &OpenAs::Read, shelf, script, out, run),
         Work::Update(name) => serve_name(alloc, name, &OpenAs::Update, shelf, script, out, run),
         Work::Make(kind, codec, channels, rate, name) => {
@@ -145,26 +146,26 @@ fn closed_command<S: Shelf, R: Source, O: Sink>(
 /// run stops, and the shelf has it back in every case.
 pub fn closed_line<S: Shelf, R: Source, O: Sink>(
     alloc: Global,
-    line: &[u8],
+    line: &mut Line,
     shelf: &mut S,
     script: &mut R,
     out: &mut O,
     run: &mut Run,
 ) -> Result<(), Stop>
     requires { (n : List ℕ) → (S.state shelf.old).out n ≡ false }
-    ensures served { ServesLine S.state R.left O.told (λ f. edit_line (closed_desk f) line.now) result shelf.old run.old script.old out.old shelf.new run.new script.new out.new }
+    ensures served { ServesLine S.state R.left O.told (λ f. edit_line (closed_desk f) line.old) result shelf.old run.old script.old out.old shelf.new run.new script.new out.new }
     ensures fewer { OnOk result (run.new.lines.room ≤ run.old.lines.room) }
     ensures given { TakesLines R.given run.old script.old run.new script.new }
     ensures counted { CountsRun S.state R.faults O.faults result shelf.old script.old out.old shelf.new script.new out.new }
     ensures shelf { LeavesShelf S.state S.left_between shelf.old shelf.new }
-    ensures asked { UsesOn (λ s. (S.state s).asked) R.left result asked_by (by_command asked_by (command_of line.now)) shelf.old run.old script.old shelf.new run.new script.new }
-    ensures written { UsesOn (λ s. (S.state s).written) R.left result written_by (by_command written_by (command_of line.now)) shelf.old run.old script.old shelf.new run.new script.new }
+    ensures asked { UsesOn (λ s. (S.state s).asked) R.left result asked_by (by_command asked_by (command_of line.old)) shelf.old run.old script.old shelf.new run.new script.new }
+    ensures written { UsesOn (λ s. (S.state s).written) R.left result written_by (by_command written_by (command_of line.old)) shelf.old run.old script.old shelf.new run.new script.new }
     ensures tail { LeavesLines R.left result run.old script.old run.new script.new }
-    ensures images { KeepsUnless S.state S.may_leave S.left_between (λ n. by_writing n (command_of line.now)) shelf.old shelf.new }
+    ensures images { KeepsUnless S.Shelf (by_writing (command_of line.old)) shelf.old shelf.new }
 {
-    match parse_line(line) {
+    match line.says() {
         Ok(None) => Ok(()),
-        Ok(Some(command)) => closed_command(alloc, &command, shelf, script, out, run),
+        Ok(Some(said)) => closed_command(alloc, said, shelf, script, out, run),
         Err(refusal) => run.refuse(line_refusal(refusal), out),
     }
 }

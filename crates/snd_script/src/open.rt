@@ -6,7 +6,7 @@ ghost use Rattle.snd_modes.specs.Loans.{answer_of};
 ghost use Rattle.snd_patch.specs.Steps.{StillTells};
 ghost use Rattle.snd_script.specs.Edit.{mode_for};
 ghost use Rattle.snd_script.specs.Handled.{handle_known, mode_of};
-ghost use Rattle.snd_script.specs.Opened.{CountsOpen, IsMakeable, OnlyOpens, OpensHandle, disk_of_open, loan_of_open, most_made, opening_by};
+ghost use Rattle.snd_script.specs.Opened.{CountsOpen, IsMakeable, OnlyOpens, OpensHandle, OpensToRest, disk_of_open, loan_of_open, most_made, opening_by};
 ghost use Rattle.snd_script.specs.Used.{most_asked};
 
 use crate::handle::Handle;
@@ -41,6 +41,7 @@ pub fn open_disk<'d, D: Disk>(
     ensures tells { StillTells (D.state disk.old) (D.state (disk_of_open result)) }
     ensures time { GoesOnFrom D.state D.left_between disk.old (disk_of_open result) }
     ensures reads { OnlyOpens D.Disk how.now disk.old (disk_of_open result) }
+    ensures rests { IfOk result (OpensToRest D.Disk how.now disk.old) }
     ensures asked { AsksAtMost D.state (most_asked how.now) disk.old (disk_of_open result) }
     ensures written { WritesAtMost D.state (most_made how.now) disk.old (disk_of_open result) }
 {

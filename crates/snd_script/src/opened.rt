@@ -1,66 +1,83 @@
 //! The lines of a script while a file is open.
 
-ghost use Rattle.std.specs.Prelude.{◌≡◌, ◌≤◌, List, ℕ, None, OnOk};
+ghost use Rattle.std.specs.Prelude.{◌≡◌, ◌≤◌, List, ℕ, None, Ok, OnOk, false, true};
 ghost use Rattle.snd_command.specs.Line.{command_of};
-ghost use Rattle.snd_command.specs.Said.{said_of};
+ghost use Rattle.snd_command.specs.Said.{line_said};
+ghost use Rattle.snd_script.specs.Desk.{updating};
 ghost use Rattle.snd_script.specs.Edit.{edit_open};
-ghost use Rattle.snd_script.specs.Handled.{handle_known, LeavesHandle};
+ghost use Rattle.snd_script.specs.Handled.{handle_known, LeavesHandle, mode_of};
 ghost use Rattle.snd_script.specs.Kept.{LeavesLines};
-ghost use Rattle.snd_script.specs.Script.{asked_by, by_command, written_by};
-ghost use Rattle.snd_script.specs.Stepped.{is_close};
-ghost use Rattle.snd_script.specs.Used.{HandleUses, UsesOpen};
+ghost use Rattle.snd_script.specs.Script.{asked_by, most_in, written_by};
+ghost use Rattle.snd_script.specs.Rules.{is_close};
+ghost use Rattle.snd_script.specs.declared.stop.Next.TheVariants as next;
+ghost use Rattle.snd_script.specs.Used.{CommandAsks, CommandWrites, LineAsks, LineWrites, UsesOpen};
+ghost use Rattle.snd_script.specs.Trail.{CommandMoves, IsIdle, LineMoves, TrailsOpen};
 ghost use Rattle.snd_script.specs.Serving.{AnswersOpen, CountsHandle, CountsLine, IsWhole, ServesOpen, TakesLines, edit_open_line};
 
 use crate::handle::Handle;
-use crate::reader::LineBytes;
+use crate::held::held_refusal;
+use crate::reader::Line;
 use crate::refusal::line_refusal;
 use crate::run::Run;
 use crate::stop::{Next, Stop};
-use snd_command::{Command, parse_line};
+use snd_command::LineCommand;
 use snd_disk::{Disk, Sink, Source};
 
 // One command on an open file. Closing is left to the caller.
 fn open_command<'d, D: Disk, O: Sink>(
-    command: &Command<'_>,
+    said: LineCommand<'_, '_>,
     handle: &mut Handle<'d, D>,
+    stays: bool,
     out: &mut O,
     run: &mut Run,
 ) -> Result<Next, Stop>
-    requires { (handle_known handle.old).broken ≡ None }
-    ensures answered { (name : List ℕ) → AnswersOpen D.state O.told name (λ files file. edit_open files file (said_of command.now)) result handle.old run.old out.old handle.new run.new out.new }
+    requires working { (handle_known handle.old).broken ≡ None }
+    requires updated { stays ≡ true → mode_of handle.old ≡ updating }
+    ensures answered { (name : List ℕ) → AnswersOpen D.state O.told name stays (λ files file. edit_open files file (line_said said.entry)) result handle.old run.old out.old handle.new run.new out.new }
     ensures lines { run.new.lines ≡ run.old.lines }
     ensures whole { IsWhole result (handle_known handle.new).broken }
     ensures counted { CountsLine D.state O.faults result handle.old out.old handle.new out.new }
     ensures leaves { LeavesHandle D.state D.may_leave D.left_between handle.old handle.new }
-    ensures asked { HandleUses (λ d. (D.state d).asked) result asked_by (asked_by (said_of command.now)) handle.old handle.new }
-    ensures written { HandleUses (λ d. (D.state d).written) result written_by (written_by (said_of command.now)) handle.old handle.new }
+    ensures moves { CommandMoves D.Disk stays (line_said said.entry) result handle.old handle.new }
+    ensures asked { CommandAsks D.Disk stays result (line_said said.entry) handle.old handle.new }
+    ensures written { CommandWrites D.Disk stays result (line_said said.entry) handle.old handle.new }
+    ensures closes { result ≡ Ok next.Close → stays ≡ false }
 {
-    if is_close(command) {
+    if let Some(refusal) = held_refusal(stays, said) {
+        run.refuse(refusal, out)?;
+        return Ok(Next::Open);
+    }
+    if is_close(said) {
         return Ok(Next::Close);
     }
-    run.step(handle, command, out)?;
+    run.step(handle, said, out)?;
     Ok(Next::Open)
 }
 
 // One line while a file is open. Closing is left to the caller.
 fn open_line<'d, D: Disk, O: Sink>(
-    line: &[u8],
+    line: &mut Line,
     handle: &mut Handle<'d, D>,
+    stays: bool,
     out: &mut O,
     run: &mut Run,
 ) -> Result<Next, Stop>
-    requires { (handle_known handle.old).broken ≡ None }
-    ensures answered { (name : List ℕ) → AnswersOpen D.state O.told name (edit_open_line line.now) result handle.old run.old out.old handle.new run.new out.new }
+    requires working { (handle_known handle.old).broken ≡ None }
+    requires updated { stays ≡ true → mode_of handle.old ≡ updating }
+    ensures answered { (name : List ℕ) → AnswersOpen D.state O.told name stays (edit_open_line line.old) result handle.old run.old out.old handle.new run.new out.new }
     ensures lines { run.new.lines ≡ run.old.lines }
     ensures whole { IsWhole result (handle_known handle.new).broken }
     ensures counted { CountsLine D.state O.faults result handle.old out.old handle.new out.new }
     ensures leaves { LeavesHandle D.state D.may_leave D.left_between handle.old handle.new }
-    ensures asked { HandleUses (λ d. (D.state d).asked) result asked_by (by_command asked_by (command_of line.now)) handle.old handle.new }
-    ensures written { HandleUses (λ d. (D.state d).written) result written_by (by_command written_by (command_of line.now)) handle.old handle.new }
+    ensures moves { LineMoves D.Disk stays line.old result handle.old handle.new }
+    ensures idle { IsIdle line.old result handle.old handle.new }
+    ensures asked { LineAsks D.Disk stays result (command_of line.old) handle.old handle.new }
+    ensures written { LineWrites D.Disk stays result (command_of line.old) handle.old handle.new }
+    ensures closes { result ≡ Ok next.Close → stays ≡ false }
 {
-    match parse_line(line) {
+    match line.says() {
         Ok(None) => Ok(Next::Open),
-        Ok(Some(command)) => open_command(&command, handle, out, run),
+        Ok(Some(said)) => open_command(said, handle, stays, out, run),
         Err(refusal) => {
             run.refuse(line_refusal(refusal), out)?;
             Ok(Next::Open)
@@ -69,28 +86,32 @@ fn open_line<'d, D: Disk, O: Sink>(
 }
 
 /// Carries out lines on an open file up to one that closes it, which is left to the caller, or to
-/// where the run stops.
+/// where the run stops. A file that is to stay open is not closed by a line.
 pub fn serve_open<'d, D: Disk, R: Source, O: Sink>(
     handle: &mut Handle<'d, D>,
+    stays: bool,
     script: &mut R,
     out: &mut O,
     run: &mut Run,
 ) -> Result<(), Stop>
-    requires { (handle_known handle.old).broken ≡ None }
-    ensures served { (name : List ℕ) → ServesOpen D.state R.left O.told name result handle.old run.old script.old out.old handle.new run.new script.new out.new }
+    requires working { (handle_known handle.old).broken ≡ None }
+    requires updated { stays ≡ true → mode_of handle.old ≡ updating }
+    ensures served { (name : List ℕ) → ServesOpen D.state R.left O.told name stays result handle.old run.old script.old out.old handle.new run.new script.new out.new }
     ensures fewer { OnOk result (run.new.lines.room ≤ run.old.lines.room) }
     ensures given { TakesLines R.given run.old script.old run.new script.new }
     ensures whole { IsWhole result (handle_known handle.new).broken }
     ensures counted { CountsHandle D.state R.faults O.faults result handle.old script.old out.old handle.new script.new out.new }
     ensures leaves { LeavesHandle D.state D.may_leave D.left_between handle.old handle.new }
-    ensures asked { UsesOpen (λ d. (D.state d).asked) R.left result asked_by handle.old run.old script.old handle.new run.new script.new }
-    ensures written { UsesOpen (λ d. (D.state d).written) R.left result written_by handle.old run.old script.old handle.new run.new script.new }
+    ensures trail { TrailsOpen D.Disk R.Source O.Sink stays handle.old run.old script.old out.old handle.new out.new }
+    ensures asked { UsesOpen (λ d. (D.state d).asked) R.left result (most_in stays asked_by) handle.old run.old script.old handle.new run.new script.new }
+    ensures written { UsesOpen (λ d. (D.state d).written) R.left result (most_in stays written_by) handle.old run.old script.old handle.new run.new script.new }
     ensures tail { LeavesLines R.left result run.old script.old run.new script.new }
+    ensures closes { OnOk result (stays ≡ false) }
 {
-    let mut line = LineBytes::new();
+    let mut line = Line::new();
     loop {
         run.next(script, &mut line)?;
-        match open_line(line.as_slice(), handle, out, run)? {
+        match open_line(&mut line, handle, stays, out, run)? {
             Next::Open => {}
             Next::Close => return Ok(()),
         }
@@ -98,8 +119,8 @@ pub fn serve_open<'d, D: Disk, R: Source, O: Sink>(
 }
 
 // Whether a command closes the file.
-fn is_close(command: &Command<'_>) -> bool
-    ensures { result ≡ is_close (said_of command.now) }
+fn is_close(said: LineCommand<'_, '_>) -> bool
+    ensures { result ≡ is_close (line_said said.entry) }
 {
-    matches!(command, Command::Close)
+    matches!(said, LineCommand::Close)
 }

@@ -4,10 +4,9 @@ ghost use Rattle.std.specs.Prelude.{◌≡◌, ◌≤◌, List, ℕ, None, OnOk}
 ghost use Rattle.snd_disk.specs.Device.{GoesOnFrom};
 ghost use Rattle.snd_modes.specs.Handle.{known_of};
 ghost use Rattle.snd_patch.specs.Steps.{StillTells};
-ghost use Rattle.snd_script.specs.Edit.{open_edit_of, opened_as};
 ghost use Rattle.snd_script.specs.Handled.{LeavesDisk, LeavesHandle, handle_known, handle_loan};
 ghost use Rattle.snd_script.specs.Kept.{LeavesLines};
-ghost use Rattle.snd_script.specs.Opened.{IsMakeable, OnlyServes, is_making, most_made, opening_by};
+ghost use Rattle.snd_script.specs.Opened.{IsMakeable, OnlyServes, most_made};
 ghost use Rattle.snd_script.specs.Script.{asked_by, written_by};
 ghost use Rattle.snd_script.specs.Used.{UsesClosed, UsesOn, UsesOpen, most_asked};
 ghost use Rattle.snd_script.specs.Serving.{AnswersClose, AnswersError, AnswersFile, CountsClosed, CountsDisk, CountsHandle, IsSinkCounted, IsWhole, ServesDisk, ServesHandle, ServesToClose, TakesLines};
@@ -35,8 +34,8 @@ fn tell_file<'d, D: Disk, M: Mode, O: Sink>(file: &File<'d, D, M>, out: &mut O) 
     }
 }
 
-// Answers that a file was opened.
-fn reply_opened<'d, D: Disk, O: Sink>(handle: &Handle<'d, D>, out: &mut O) -> Result<(), Stop>
+/// Answers that a file was opened.
+pub fn reply_opened<'d, D: Disk, O: Sink>(handle: &Handle<'d, D>, out: &mut O) -> Result<(), Stop>
     ensures answered { AnswersFile O.told (handle_known handle.now).shape result out.old out.new }
     ensures faults { IsSinkCounted result (O.faults out.old) (O.faults out.new) }
 {
@@ -66,7 +65,7 @@ fn serve_opened<'d, D: Disk, R: Source, O: Sink>(
     ensures tail { LeavesLines R.left result run.old script.old run.new script.new }
 {
     match reply_opened(handle, out) {
-        Ok(()) => serve_open(handle, script, out, run),
+        Ok(()) => serve_open(handle, false, script, out, run),
         Err(stop) => Err(stop),
     }
 }
@@ -113,8 +112,8 @@ fn serve_handle<'d, D: Disk, R: Source, O: Sink>(
     }
 }
 
-// Answers that a file was not opened.
-fn not_opened<O: Sink>(error: OpenError, out: &mut O, run: &mut Run) -> Result<(), Stop>
+/// Answers that a file was not opened.
+pub fn not_opened<O: Sink>(error: OpenError, out: &mut O, run: &mut Run) -> Result<(), Stop>
     ensures answered { AnswersError O.told O.faults error result run.old out.old run.new out.new }
     ensures lines { run.new.lines ≡ run.old.lines }
 {
@@ -138,7 +137,7 @@ pub fn serve_disk<D: Disk, R: Source, O: Sink>(
     run: &mut Run,
 ) -> Result<(), Stop>
     requires { IsMakeable how.now }
-    ensures served { (name : List ℕ) → ServesDisk D.state R.left O.told (λ files b. open_edit_of files name (opening_by how.now) (opened_as (opening_by how.now) b)) (is_making how.now) name result disk.old run.old script.old out.old disk.new run.new script.new out.new }
+    ensures served { (name : List ℕ) → ServesDisk D.state R.left O.told how.now name result disk.old run.old script.old out.old disk.new run.new script.new out.new }
     ensures fewer { OnOk result (run.new.lines.room ≤ run.old.lines.room) }
     ensures given { TakesLines R.given run.old script.old run.new script.new }
     ensures counted { CountsDisk D.state R.faults O.faults result disk.old script.old out.old disk.new script.new out.new }

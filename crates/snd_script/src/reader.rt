@@ -1,12 +1,14 @@
 //! The lines of a script, as they come from a source.
 
-ghost use Rattle.std.specs.Prelude.{◌≡◌, ◌+◌, ◌-◌, ◌<◌, ◌≤◌, ◌↔◌, ◌++◌, ◌∷◌, List, ℕ, [], true, false, Some, IfOk, OnOk, OnErr, length, take, drop, IsTrue};
+ghost use Rattle.std.specs.Prelude.{◌≡◌, ◌+◌, ◌-◌, ◌<◌, ◌≤◌, ◌==◌, ◌↔◌, ◌++◌, ◌∷◌, List, ℕ, [], true, false, Some, IfOk, OnOk, OnErr, length, take, drop, IsTrue};
 ghost use Rattle.std.specs.List.{position};
+ghost use Rattle.snd_command.specs.Line.{command_of, line_answer};
 ghost use Rattle.snd_disk.specs.State.{Counts};
 ghost use Rattle.snd_script.specs.Lines.{Reading, Moves, most_kept, to_take, GivesBytes, IsAtEnd, ReadsOn, TakesUp, IsPrompt, StopsShort};
 ghost use Rattle.snd_script.specs.Script.{is_feed};
 
 use arrayvec::ArrayVec;
+use snd_command::{LineCommand, NumberRoom, ScriptRefusal, read_line};
 use snd_disk::{Failed, Source};
 use std::marker::Model;
 
@@ -16,8 +18,60 @@ const SCRIPT_BYTES: usize = 16777216;
 
 const KEPT_BYTES: usize = 4097;
 
-/// A line without its line feed. Of a line of more than 4096 bytes it keeps the first 4097.
-pub type LineBytes = ArrayVec<u8, KEPT_BYTES>;
+/// A line without its line feed, with room for the numbers of its command. Of a line of more than 4096
+/// bytes it keeps the first 4097. It is made once and used again from line to line.
+#[derive(Drop)]
+pub struct Line {
+    bytes: ArrayVec<u8, KEPT_BYTES>,
+    numbers: NumberRoom,
+}
+
+impl Model for Line {
+    ghost Value = { List ℕ };
+
+    ghost view = { λ l. l.bytes.items };
+}
+
+impl Line {
+    /// An empty line.
+    pub fn new() -> Line
+        ensures { result ≡ [] }
+    {
+        Line {
+            bytes: ArrayVec::new(),
+            numbers: NumberRoom::new(),
+        }
+    }
+
+    // Drops every byte.
+    fn clear(&mut self)
+        ensures { self.new ≡ [] }
+    {
+        self.bytes.clear();
+    }
+
+    // Whether there is no byte.
+    fn is_empty(&self) -> bool
+        ensures { result ≡ (length self.now == 0) }
+    {
+        self.bytes.is_empty()
+    }
+
+    // Appends as many of the bytes as are kept of a line.
+    fn keep(&mut self, bytes: &[u8])
+        ensures { self.new ≡ take most_kept (self.old ++ bytes.now) }
+    {
+        let count = bytes.len().min(self.bytes.remaining_capacity());
+        let _ = self.bytes.try_extend_from_slice(&bytes[..count]);
+    }
+
+    /// What it says.
+    pub fn says(&mut self) -> Result<Option<LineCommand<'_, '_>>, ScriptRefusal>
+        ensures { line_answer result ≡ command_of self.old }
+    {
+        read_line(&self.bytes, &mut self.numbers)
+    }
+}
 
 /// What comes next of a script.
 #[derive(Clone, Copy, Debug, PartialEq, Eq)]
@@ -54,14 +108,6 @@ fn feed_in(bytes: &[u8]) -> Option<usize>
     ensures { result ≡ position is_feed bytes.now }
 {
     bytes.iter().position(|byte| *byte == b'\n')
-}
-
-// Appends as many of the bytes as are kept of a line.
-fn keep(line: &mut ArrayVec<u8, KEPT_BYTES>, bytes: &[u8])
-    ensures { line.new.items ≡ take most_kept (line.old.items ++ bytes.now) }
-{
-    let count = bytes.len().min(line.remaining_capacity());
-    let _ = line.try_extend_from_slice(&bytes[..count]);
 }
 
 // Takes the next bytes into the front of a block, at most so many.
@@ -101,21 +147,21 @@ impl ScriptLines {
     }
 
     // Moves bytes in hand to the line, up to a line feed. The answer is whether one came.
-    fn move_part(&mut self, line: &mut LineBytes) -> bool
-        ensures moved { (p : List ℕ) × Moves self.old self.new line.old.items line.new.items result p }
+    fn move_part(&mut self, line: &mut Line) -> bool
+        ensures moved { (p : List ℕ) × Moves self.old self.new line.old line.new result p }
         ensures to_take { to_take self.new ≡ to_take self.old }
     {
         let end = self.start + (self.end - self.start).min(self.room);
         let bytes = &self.block[self.start..end];
         match feed_in(bytes) {
             Some(count) => {
-                keep(line, &bytes[..count]);
+                line.keep(&bytes[..count]);
                 self.start += count + 1;
                 self.room -= count + 1;
                 true
             }
             None => {
-                keep(line, bytes);
+                line.keep(bytes);
                 self.room -= bytes.len();
                 self.start = end;
                 false
@@ -147,9 +193,9 @@ impl ScriptLines {
     pub fn next_line<R: Source>(
         &mut self,
         script: &mut R,
-        line: &mut LineBytes,
+        line: &mut Line,
     ) -> Result<NextLine, Failed>
-        ensures next { IfOk result (ReadsOn R.left line.new.items self.old script.old self.new script.new) }
+        ensures next { IfOk result (ReadsOn R.left line.new self.old script.old self.new script.new) }
         ensures short { OnErr result (StopsShort R.left self.old script.old script.new) }
         ensures prompt { IsPrompt self.old script.old script.new }
         ensures fewer { IfOk result (λ next. next ≡ NextLine.Line → self.new.room < self.old.room) }

@@ -40,6 +40,8 @@ pub enum Refusal {
     WrongMode,
     /// There is no file of this name.
     MissingFile,
+    /// The file stays open, and is updated automatically, to the end of the script.
+    Pinned,
     /// The command is not built yet.
     NotBuilt,
 }
@@ -65,6 +67,7 @@ impl Refusal {
             Refusal::AlreadyOpen => 43,
             Refusal::WrongMode => 44,
             Refusal::MissingFile => 56,
+            Refusal::Pinned => 65,
             Refusal::NotBuilt => 99,
         }
     }
@@ -89,6 +92,7 @@ impl Refusal {
             Refusal::AlreadyOpen => "AlreadyOpen",
             Refusal::WrongMode => "WrongMode",
             Refusal::MissingFile => "MissingFile",
+            Refusal::Pinned => "Pinned",
             Refusal::NotBuilt => "NotBuilt",
         }
     }

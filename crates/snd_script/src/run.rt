@@ -1,20 +1,21 @@
 //! A run over a script, and what it does for one line.
 
-ghost use Rattle.std.specs.Prelude.{◌≡◌, ◌<◌, ◌≤◌, List, ℕ, false, None, OnOk};
-ghost use Rattle.snd_script.specs.Stepped.{is_close};
-ghost use Rattle.snd_command.specs.Said.{said_of};
+ghost use Rattle.std.specs.Prelude.{◌≡◌, ◌<◌, ◌≤◌, Bool, List, ℕ, false, None, OnOk};
+ghost use Rattle.snd_script.specs.Rules.{is_close};
+ghost use Rattle.snd_command.specs.Said.{line_said};
 ghost use Rattle.snd_script.specs.Handled.{handle_known, HandleAsks, HandleWrites, LeavesHandle};
 ghost use Rattle.snd_script.specs.Replies.{refuses};
 ghost use Rattle.snd_script.specs.Script.{asked_by, written_by};
+ghost use Rattle.snd_script.specs.Trail.{StepMoves};
 ghost use Rattle.snd_script.specs.Serving.{IsScriptCounted, IsSinkCounted, IsWhole, Answers, CountsLine, TakesLines, BringsLine, AnswersStep};
 
 use crate::handle::{Handle, Reply, StepFault};
-use crate::reader::{LineBytes, NextLine, ScriptLines};
+use crate::reader::{Line, NextLine, ScriptLines};
 use crate::refusal::Refusal;
 use crate::session::Session;
 use crate::stop::Stop;
 use crate::text::put_refusal;
-use snd_command::Command;
+use snd_command::LineCommand;
 use snd_disk::{Disk, Sink, Source};
 
 /// A run over a script: its lines, what is used again from command to command, and whether a line was
@@ -28,8 +29,8 @@ pub struct Run {
 
 impl Run {
     /// Reads on to the next line, of which at most the first 4097 bytes are kept.
-    pub fn next<R: Source>(&mut self, script: &mut R, line: &mut LineBytes) -> Result<(), Stop>
-        ensures brought { BringsLine R.left result line.new.items self.old script.old self.new script.new }
+    pub fn next<R: Source>(&mut self, script: &mut R, line: &mut Line) -> Result<(), Stop>
+        ensures brought { BringsLine R.left result line.new self.old script.old self.new script.new }
         ensures fewer { OnOk result (self.new.lines.room < self.old.lines.room) }
         ensures given { TakesLines R.given self.old script.old self.new script.new }
         ensures noted { self.new.refused ≡ self.old.refused }
@@ -60,20 +61,21 @@ impl Run {
     pub fn step<'d, D: Disk, O: Sink>(
         &mut self,
         handle: &mut Handle<'d, D>,
-        command: &Command<'_>,
+        said: LineCommand<'_, '_>,
         out: &mut O,
     ) -> Result<(), Stop>
         requires whole { (handle_known handle.old).broken ≡ None }
-        requires step { is_close (said_of command.now) ≡ false }
-        ensures answered { (name : List ℕ) → AnswersStep D.state O.told name (said_of command.now) result handle.old self.old out.old handle.new self.new out.new }
+        requires step { is_close (line_said said) ≡ false }
+        ensures answered { (name : List ℕ) (stays : Bool) → AnswersStep D.state O.told name stays (line_said said.entry) result handle.old self.old out.old handle.new self.new out.new }
         ensures lines { self.new.lines ≡ self.old.lines }
         ensures whole { IsWhole result (handle_known handle.new).broken }
         ensures counted { CountsLine D.state O.faults result handle.old out.old handle.new out.new }
         ensures leaves { LeavesHandle D.state D.may_leave D.left_between handle.old handle.new }
-        ensures asked { HandleAsks D.state (asked_by (said_of command.now)) handle.old handle.new }
-        ensures written { HandleWrites D.state (written_by (said_of command.now)) handle.old handle.new }
+        ensures moves { StepMoves D.Disk (line_said said.entry) result handle.old handle.new }
+        ensures asked { HandleAsks D.state (asked_by (line_said said.entry)) handle.old handle.new }
+        ensures written { HandleWrites D.state (written_by (line_said said.entry)) handle.old handle.new }
     {
-        match self.session.step(handle, command, out) {
+        match self.session.carry_out(handle, said, out) {
             Ok(Reply::Ok) => Ok(()),
             Ok(Reply::Refused(_)) => {
                 self.refused = true;

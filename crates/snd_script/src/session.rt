@@ -1,11 +1,12 @@
 //! Commands on an open file.
 
-ghost use Rattle.std.specs.Prelude.{◌≡◌, true, false, None, IfErr, IsErrOf, IsOk};
-ghost use Rattle.snd_command.specs.Said.{said_of};
+ghost use Rattle.std.specs.Prelude.{◌≡◌, false, None, IfErr, IsOk};
+ghost use Rattle.snd_command.specs.Said.{line_said, said_of};
 ghost use Rattle.snd_modes.specs.Handle.{loan_of};
 ghost use Rattle.snd_script.specs.Desk.{writes};
-ghost use Rattle.snd_script.specs.Handled.{CountsStep, FinishesAs, HandleAsks, HandleWrites, IsFinishCause, KnowsAfter, LeavesDisk, LeavesHandle, LeavesOpen, OnlyChanges, SaysReply, back_of, handle_disk, handle_known, handle_loan, mode_of, rule_for};
-ghost use Rattle.snd_script.specs.Stepped.{IsSilent, is_close};
+ghost use Rattle.snd_script.specs.Handled.{AsksByRule, CountsStep, FinishesAs, FinishesSafely, IsFinishCause, KnowsAfter, LacksMemory, LeavesDisk, LeavesHandle, LeavesOpen, OnlyChanges, SaysReply, Steps, StepsSafely, StepsToRest, WritesByRule, back_of, handle_disk, handle_known, handle_loan, mode_of};
+ghost use Rattle.snd_script.specs.Stepped.{IsSilent};
+ghost use Rattle.snd_script.specs.Rules.{is_close};
 ghost use Rattle.snd_script.specs.Work.{ClosesAs};
 ghost use Rattle.snd_disk.specs.Device.{WritesAtMost};
 
@@ -14,7 +15,7 @@ use crate::step::{step_read, step_update, step_write};
 use crate::text::PAGE_BYTES;
 use crate::work::work_of;
 use arrayvec::ArrayVec;
-use snd_command::Command;
+use snd_command::{Command, LineCommand};
 use snd_disk::{Disk, Sink, Step};
 use snd_modes::{File, Mode};
 use std::alloc::{AllocError, Global};
@@ -46,6 +47,10 @@ impl Session {
     /// was appended. `Memory` where there was none for the samples of a read, which takes it before it
     /// reads: then all is as before. Other commands take none.
     ///
+    /// Where updates are automatic and the file is at rest, a crash at any moment leaves a file that opens,
+    /// with as many frames as before or as the command leads to, and with every frame that the command does
+    /// not write. Unless the disk fails, the file is then at rest again.
+    ///
     /// A read asks at most 1024 bytes of the disk for each frame that is wanted, and 16384 more. A write of
     /// v numbers writes at most `4 v + 72` bytes, `trim` 80, and `truncate`, `update` and `auto` 72. Other
     /// commands ask and write nothing.
@@ -61,14 +66,30 @@ impl Session {
         ensures said { SaysReply D.state O.told result (said_of command.now) handle.old out.old out.new }
         ensures silent { IfErr result (λ fault. IsSilent fault (O.told out.old) (O.told out.new)) }
         ensures cause { CountsStep D.state O.faults result handle.old out.old handle.new out.new }
-        ensures memory { IsErrOf result StepFault.Memory → (rule_for handle.old (said_of command.now)).takes_memory ≡ true }
+        ensures memory { LacksMemory result (said_of command.now) handle.old }
         ensures knows { KnowsAfter result (said_of command.now) handle.old handle.new }
         ensures leaves { LeavesHandle D.state D.may_leave D.left_between handle.old handle.new }
-        ensures reads { OnlyChanges D.state D.may_leave D.left_between (said_of command.now) handle.old handle.new }
-        ensures asked { HandleAsks D.state (rule_for handle.old (said_of command.now)).asked handle.old handle.new }
-        ensures written { HandleWrites D.state (rule_for handle.old (said_of command.now)).written handle.old handle.new }
+        ensures reads { OnlyChanges D.Disk (said_of command.now) handle.old handle.new }
+        ensures safe { StepsSafely D.Disk (said_of command.now) handle.old handle.new }
+        ensures rests { StepsToRest D.Disk result (said_of command.now) handle.old handle.new }
+        ensures asked { AsksByRule D.Disk (said_of command.now) handle.old handle.new }
+        ensures written { WritesByRule D.Disk (said_of command.now) handle.old handle.new }
     {
-        let work = work_of(command);
+        self.carry_out(handle, command.as_line(), out)
+    }
+
+    /// The same for what a line says.
+    pub(crate) fn carry_out<'d, D: Disk, O: Sink>(
+        &mut self,
+        handle: &mut Handle<'d, D>,
+        said: LineCommand<'_, '_>,
+        out: &mut O,
+    ) -> Result<Reply, StepFault>
+        requires whole { (handle_known handle.old).broken ≡ None }
+        requires step { is_close (line_said said) ≡ false }
+        ensures { Steps D.Disk O.Sink (line_said said.entry) result handle.old out.old handle.new out.new }
+    {
+        let work = work_of(said);
         match handle {
             Handle::R(file) => step_read(file, work, &mut self.samples, &mut self.page, out),
             Handle::W(file) => step_write(file, work, out),
@@ -78,6 +99,7 @@ impl Session {
 
     /// Closes a file and gives its disk back, with the number of its frames, or with the step at which
     /// the disk failed, where it did. In a mode that writes the file is sealed first, with at most 72 bytes.
+    /// Where it is at rest, a crash at any moment leaves a file that opens, with all its frames.
     pub fn finish<'d, D: Disk>(
         &mut self,
         handle: Handle<'d, D>,
@@ -86,6 +108,7 @@ impl Session {
         ensures back { FinishesAs (writes (mode_of handle.entry)) D.state D.may_leave handle.entry result }
         ensures cause { IsFinishCause D.state handle.entry result }
         ensures leaves { LeavesDisk D.state D.may_leave D.left_between handle.entry (back_of result).now }
+        ensures safe { FinishesSafely D.Disk handle.entry (back_of result).now }
         ensures written { WritesAtMost D.state 72 (handle_disk handle.entry) (back_of result).now }
         ensures asked { (D.state (back_of result).now).asked ≡ (D.state (handle_disk handle.entry)).asked }
     {

@@ -1,19 +1,12 @@
 //! What is done for a command.
 
-ghost use Rattle.std.specs.Prelude.{◌≡◌, ◌≤◌, List, Some, false, ℕ};
-ghost use Rattle.snd_command.specs.Said.{said_of};
-ghost use Rattle.snd_disk.specs.Shelf.{Files};
-ghost use Rattle.snd_script.specs.Desk.{Mode};
-ghost use Rattle.snd_script.specs.Edit.{edit_closed};
-ghost use Rattle.snd_script.specs.Kept.{work_writes};
-ghost use Rattle.snd_script.specs.Rules.{is_wave, linear_word, rule_of};
-ghost use Rattle.snd_script.specs.Script.{asked_by, writes_name, written_by};
-ghost use Rattle.snd_script.specs.Stepped.{is_close};
-ghost use Rattle.snd_script.specs.Used.{work_asks, work_makes};
-ghost use Rattle.snd_script.specs.Work.{IsBuiltWork, MakesFor, WritesFor, name_of, work_closed, work_closes, work_name, work_rule};
+ghost use Rattle.std.specs.Prelude.{◌≡◌, ◌&&◌, is_some};
+ghost use Rattle.snd_command.specs.Said.{Said, line_said};
+ghost use Rattle.snd_script.specs.Rules.{is_wave, linear_word};
+ghost use Rattle.snd_script.specs.Work.{WorksFor, WritesFor};
 
 use arrayvec::ArrayVec;
-use snd_command::{CodecWord, Command, MOST_SAMPLES};
+use snd_command::{CodecWord, LineCommand, MOST_SAMPLES};
 use snd_layout::{Codec, Kind};
 
 /// What is done for a command.
@@ -71,9 +64,16 @@ fn is_wave(kind: Kind) -> bool
     matches!(kind, Kind::Wave)
 }
 
+/// Whether a file of this kind and codec is made.
+pub fn is_made(kind: Kind, word: CodecWord) -> bool
+    ensures { result ≡ (is_wave kind && is_some (linear_word word)) }
+{
+    is_wave(kind) && linear_word(word).is_some()
+}
+
 // What is done to make a file.
 fn make_of(kind: Kind, word: CodecWord, channels: u64, rate: u64, name: &[u8]) -> Work<'_>
-    ensures { MakesFor result kind word channels rate name.now }
+    ensures { WorksFor (Said.create kind word channels rate name.now) result }
 {
     match linear_word(word) {
         Some(codec) if is_wave(kind) => Work::Make(kind, codec, channels, rate, name),
@@ -89,50 +89,43 @@ fn write_of(samples: &ArrayVec<i32, MOST_SAMPLES>) -> Work<'_>
 }
 
 /// What is done for a command, with a file open or with none.
-pub fn work_of<'c>(command: &'c Command<'_>) -> Work<'c>
-    ensures rule { (mode : Mode) → is_close (said_of command.now) ≡ false → rule_of mode (said_of command.now) ≡ work_rule mode result }
-    ensures closed { (f : Files) → edit_closed f (said_of command.now) ≡ work_closed result f }
-    ensures named { (n : List ℕ) → work_name result ≡ Some n → name_of (said_of command.now) ≡ Some n }
-    ensures closes { is_close (said_of command.now) ≡ work_closes result }
-    ensures built { IsBuiltWork result }
-    ensures asked { work_asks result ≤ asked_by (said_of command.now) }
-    ensures writes { (n : List ℕ) → writes_name n (said_of command.now) ≡ false → work_writes n result ≡ false }
-    ensures made { work_makes result ≤ written_by (said_of command.now) }
+pub fn work_of<'a>(said: LineCommand<'a, 'a>) -> Work<'a>
+    ensures { WorksFor (line_said said.entry) result }
 {
-    if let Command::Write(samples) = command {
+    if let LineCommand::Write(samples) = said {
         return write_of(samples);
     }
-    match command {
-        Command::OpenRead { name } => Work::Open(name),
-        Command::OpenUpdate { name } => Work::Update(name),
-        Command::Create {
+    match said {
+        LineCommand::OpenRead { name } => Work::Open(name),
+        LineCommand::OpenUpdate { name } => Work::Update(name),
+        LineCommand::Create {
             kind,
             codec,
             channels,
             rate,
             name,
-        } => make_of(*kind, *codec, *channels, *rate, name),
-        Command::Close => Work::Close,
-        Command::Info => Work::Tell,
-        Command::SeekRead(to) => Work::SeekRead(*to),
-        Command::SeekWrite(to) => Work::SeekWrite(*to),
-        Command::SeekBoth(to) => Work::SeekBoth(*to),
-        Command::Read(count) => Work::Read(*count),
-        Command::Write(_) => unreachable!(),
-        Command::Truncate(to) => Work::Truncate(*to),
-        Command::Trim => Work::Trim,
-        Command::Update => Work::BringUp,
-        Command::Auto(on) => Work::Auto(*on),
-        Command::SetChunk { .. }
-        | Command::SetString { .. }
-        | Command::SetBext { .. }
-        | Command::SetCue(_)
-        | Command::GetChunk(_)
-        | Command::GetChunks
-        | Command::GetStrings
-        | Command::GetBext
-        | Command::GetCues
-        | Command::Tap(_)
-        | Command::Untap(_) => Work::NotBuilt,
+        } => make_of(kind, codec, channels, rate, name),
+        LineCommand::Close => Work::Close,
+        LineCommand::Info => Work::Tell,
+        LineCommand::SeekRead(to) => Work::SeekRead(to),
+        LineCommand::SeekWrite(to) => Work::SeekWrite(to),
+        LineCommand::SeekBoth(to) => Work::SeekBoth(to),
+        LineCommand::Read(count) => Work::Read(count),
+        LineCommand::Write(_) => unreachable!(),
+        LineCommand::Truncate(to) => Work::Truncate(to),
+        LineCommand::Trim => Work::Trim,
+        LineCommand::Update => Work::BringUp,
+        LineCommand::Auto(on) => Work::Auto(on),
+        LineCommand::SetChunk { .. }
+        | LineCommand::SetString { .. }
+        | LineCommand::SetBext { .. }
+        | LineCommand::SetCue(_)
+        | LineCommand::GetChunk(_)
+        | LineCommand::GetChunks
+        | LineCommand::GetStrings
+        | LineCommand::GetBext
+        | LineCommand::GetCues
+        | LineCommand::Tap(_)
+        | LineCommand::Untap(_) => Work::NotBuilt,
     }
 }

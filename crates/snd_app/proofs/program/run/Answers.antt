@@ -1,8 +1,12 @@
-use Rattle.std.proofs.Common.{◌≡◌, refl, rules}
-use Rattle.snd_app.specs.Outcome.{Asked, asked, outcome_of}
+use Rattle.std.proofs.Common.{◌≡◌, refl, rules, subst}
+use Rattle.snd_app.specs.Outcome.{Asked, asked, outcome_of, pinned_by}
+use Rattle.snd_app.specs.Run.{StopsAs}
 use Rattle.snd_app.proofs.Left.{kept_leaves}
 use Rattle.snd_app.proofs.Outcomes.{is_put_err, run_as, with_files}
 use Rattle.snd_script.proofs.ShelfLeft.{some_of}
+use Rattle.snd_script.specs.PinnedRun.{named}
+use Rattle.snd_script.specs.Served.{BoundsScript}
+use Rattle.snd_script.specs.Trail.{TrailsScript}
 use Rattle.snd_app.proofs.program.run.Goals as goal
 
 pub returns-in-Some-Info-clause-headline : goal.returns-in-Some-Info-clause-headline
@@ -28,3 +32,32 @@ pub returns-in-Some-Info-clause-unnamed : goal.returns-in-Some-Info-clause-unnam
 returns-in-Some-Info-clause-unnamed g c = λ f s n told left there none.
     let is = some_of (f n) there in
     c.run_info.ensures.images f n is.0 told is.1
+
+pub returns-in-Some-Script-clause-stops : goal.returns-in-Some-Script-clause-stops
+returns-in-Some-Script-clause-stops g c = λ script.
+    let is : Asked.script (named c.in-Some-Script.pinned) ≡ asked c.args.words.now = search rules in
+    subst (λ (a : Asked). StopsAs g.S.Shelf g.R.Source g.O.Sink g.E.Sink (pinned_by a) c.args.shelf.now c.args.script.now c.args.out.now c.args.err.now
+    c.run_script.new.shelf c.run_script.new.script c.run_script.new.out c.run_script.new.err c.run_script.result) is c.run_script.ensures.stops
+
+pub returns-in-Some-Script-clause-bounds : goal.returns-in-Some-Script-clause-bounds
+returns-in-Some-Script-clause-bounds g c = λ script.
+    let is : Asked.script (named c.in-Some-Script.pinned) ≡ asked c.args.words.now = search rules in
+    subst (λ (a : Asked). BoundsScript g.S.Shelf.state g.R.Source.left (pinned_by a) c.args.shelf.now c.args.script.now c.run_script.new.shelf) is c.run_script.ensures.bounds
+
+pub returns-in-Some-Info-clause-crash : goal.returns-in-Some-Info-clause-crash
+returns-in-Some-Info-clause-crash g c =
+    let is : Asked.info_of c.in-Some-Info.name.now ≡ asked c.args.words.now = search rules in
+    subst (λ (a : Asked). TrailsScript g.S.Shelf g.R.Source g.O.Sink (pinned_by a) c.args.shelf.now c.args.script.now c.args.out.now c.run_info.new.shelf c.run_info.new.out) is
+    (λ name files b e text t some. absurd (cc))
+
+pub returns-in-Some-Script-clause-crash : goal.returns-in-Some-Script-clause-crash
+returns-in-Some-Script-clause-crash g c =
+    let is : Asked.script (named c.in-Some-Script.pinned) ≡ asked c.args.words.now = search rules in
+    subst (λ (a : Asked). TrailsScript g.S.Shelf g.R.Source g.O.Sink (pinned_by a) c.args.shelf.now c.args.script.now c.args.out.now c.run_script.new.shelf c.run_script.new.out) is
+    c.run_script.ensures.crash
+
+pub returns-in-None-clause-crash : goal.returns-in-None-clause-crash
+returns-in-None-clause-crash g c =
+    let is : Asked.nothing ≡ asked c.args.words.now = search rules in
+    subst (λ (a : Asked). TrailsScript g.S.Shelf g.R.Source g.O.Sink (pinned_by a) c.args.shelf.now c.args.script.now c.args.out.now c.args.shelf.now c.args.out.now) is
+    (λ name files b e text t some. absurd (cc))

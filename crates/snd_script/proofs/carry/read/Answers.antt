@@ -8,8 +8,8 @@ use Rattle.snd_script.proofs.Followed.{carried_out}
 use Rattle.snd_script.proofs.Lines.{front_groups}
 use Rattle.snd_script.proofs.carry.read.Goals as goal
 
-pub returns-clause-follows : goal.returns-clause-follows
-returns-clause-follows g c =
+pub returns : goal.returns
+returns g c =
     let channels = c.from-channels.result in
     let k = c.in_ok-frames.frames in
     let samples = c.read_some.new.samples.items in
@@ -22,6 +22,6 @@ returns-clause-follows g c =
     ∙ ap (frames_read e) (c.in_ok-frames.ensures.count e here) in
     carried_out g.D.Disk g.O.Sink (read_rule c.args.wanted) c.say_frames.result c.args.file.now c.args.out.now c.read_some.new.file c.say_frames.new.out
     (read_text channels k (take (k * channels) c.deref.result.now))
-    refl c.say_frames.ensures.sent c.say_frames.ensures.said (λ e here. ap (λ fs. says (frames_text fs)) (sym (shown e here)))
+    c.read_some.ensures.loan refl c.say_frames.ensures.sent c.say_frames.ensures.said (λ e here. ap (λ fs. says (frames_text fs)) (sym (shown e here)))
     (λ e here. subst (λ (n : ℕ). Stands g.D.Disk.state c.read_some.new.file (moved_by n e)) (c.in_ok-frames.ensures.count e here) (c.in_ok-frames.ensures.stands e here))
-    c.in_ok-frames.ensures.held c.in_ok-frames.ensures.calm (search rules) (search rules) (λ same. c.in_ok-frames.ensures.reads) c.in_ok-frames.ensures.asked (search rules)
+    c.in_ok-frames.ensures.held c.in_ok-frames.ensures.calm (search rules) (search rules) (λ same. c.in_ok-frames.ensures.reads) (λ changes. absurd (cc)) (λ changes. absurd (cc)) c.in_ok-frames.ensures.asked (search rules)

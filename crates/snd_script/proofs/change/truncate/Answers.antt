@@ -2,12 +2,19 @@ use Rattle.std.proofs.Common.{refl, rules}
 use Rattle.snd_modes.specs.Handle.{known_of}
 use Rattle.snd_script.specs.Replies.{ok_line}
 use Rattle.snd_script.specs.Rules.{truncate_rule}
-use Rattle.snd_script.proofs.Followed.{carried_out}
+use Rattle.snd_script.proofs.Followed.{carried_out, failed}
 use Rattle.snd_script.proofs.Refused.{truncate_free}
 use Rattle.snd_script.proofs.change.truncate.Goals as goal
 
-pub returns-in-Ok-clause-follows : goal.returns-in-Ok-clause-follows
-returns-in-Ok-clause-follows g c =
+pub returns-in-Ok : goal.returns-in-Ok
+returns-in-Ok g c =
     carried_out g.D.Disk g.O.Sink (truncate_rule c.args.to) c.say_ok.result c.args.file.now c.args.out.now c.truncate.new.self c.say_ok.new.out (ok_line c.args.to)
-    (truncate_free c.args.to (known_of c.args.file.now) c.in-Ok.ensures.left.0) c.say_ok.ensures.sent c.say_ok.ensures.said (λ e here. refl) c.in-Ok.ensures.stands
-    c.in-Ok.ensures.left.1 (search rules) (search rules) (search rules) (search rules) (search rules) (search rules)
+    c.truncate.ensures.loan (truncate_free c.args.to (known_of c.args.file.now) c.in-Ok.ensures.left.0) c.say_ok.ensures.sent c.say_ok.ensures.said (λ e here. refl) c.in-Ok.ensures.stands
+    c.in-Ok.ensures.left.1 (search rules) (search rules) (search rules) (search rules) (λ changes on. c.in-Ok.ensures.leaves) (λ changes on. c.in-Ok.ensures.rests) (search rules) (search rules)
+
+pub returns-in-Err-DiskFault : goal.returns-in-Err-DiskFault
+returns-in-Err-DiskFault g c =
+    let left = rw c.in-Err-DiskFault.field-0-is at c.in-Err-DiskFault.ensures.left in
+    let leaves = rw c.in-Err-DiskFault.field-0-is at c.in-Err-DiskFault.ensures.leaves in
+    failed g.D.Disk g.O.Sink (truncate_rule c.args.to) c.args.file.now c.args.out.now c.truncate.new.self
+    c.truncate.ensures.loan (truncate_free c.args.to (known_of c.args.file.now) left.0) refl (search rules) (search rules) (search rules) (search rules) (λ on. leaves) (search rules) (search rules)

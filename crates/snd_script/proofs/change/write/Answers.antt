@@ -1,4 +1,4 @@
-use Rattle.std.proofs.Common.{length, ap, sym, ◌/◌, rules}
+use Rattle.std.proofs.Common.{length, ap, sym, ⊎_elim, ◌/◌, rules}
 use Rattle.snd_layout.specs.Shape.{Shape}
 use Rattle.snd_modes.specs.Handle.{known_of}
 use Rattle.snd_script.specs.Replies.{ok_line, says}
@@ -9,45 +9,46 @@ use Rattle.snd_script.proofs.Refused.{write_free, write_full, write_range, write
 use Rattle.snd_script.proofs.WrittenBytes.{written_for_numbers}
 use Rattle.snd_script.proofs.change.write.Goals as goal
 
-pub returns-in-Ok-clause-follows : goal.returns-in-Ok-clause-follows
-returns-in-Ok-clause-follows g c =
+pub returns-in-Ok : goal.returns-in-Ok
+returns-in-Ok g c =
     let h = known_of c.args.file.now in
     let xs = c.args.samples.now in
     carried_out g.D.Disk g.O.Sink (write_rule xs) c.say_ok.result c.args.file.now c.args.out.now c.write_frames.new.self c.say_ok.new.out (ok_line (length xs / h.shape.params.channels))
-    (write_free xs h.shape h.write_place c.in-Ok.ensures.left.1) c.say_ok.ensures.sent (search rules)
+    c.write_frames.ensures.loan (write_free xs h.shape h.write_place c.in-Ok.ensures.left.1) c.say_ok.ensures.sent (search rules)
     (λ e here. ap (λ (s : Shape). says (ok_line (length xs / s.params.channels))) (sym here.shape)) c.in-Ok.ensures.stands
-    c.in-Ok.ensures.left.2 (search rules) (search rules) (search rules) (search rules) (search rules)
+    c.in-Ok.ensures.left.2 (search rules) (search rules) (search rules) (search rules) (λ changes on. c.in-Ok.ensures.leaves (⊎_elim (λ is. is) (λ is. is) on)) (λ changes on. c.in-Ok.ensures.rests (⊎_elim (λ is. is) (λ is. is) on)) (search rules)
     (written_for_numbers _ _ (length xs) h.shape.params.channels h.shape.params.codec h.automatic c.args.file.now.linear c.in-Ok.ensures.written)
 
-pub returns-in-Err-DiskFault-clause-follows : goal.returns-in-Err-DiskFault-clause-follows
-returns-in-Err-DiskFault-clause-follows g c =
+pub returns-in-Err-DiskFault : goal.returns-in-Err-DiskFault
+returns-in-Err-DiskFault g c =
     let h = known_of c.args.file.now in
     let xs = c.args.samples.now in
+    let leaves = rw c.in-Err-DiskFault.field-0-is at c.in-Err-DiskFault.ensures.leaves in
     failed g.D.Disk g.O.Sink (write_rule xs) c.args.file.now c.args.out.now c.write_frames.new.self
-    (write_free xs h.shape h.write_place (search rules)) (search rules) (search rules) (search rules)
-    (search rules) (search rules) (search rules)
+    c.write_frames.ensures.loan (write_free xs h.shape h.write_place (search rules)) (search rules) (search rules) (search rules)
+    (search rules) (search rules) (λ on. leaves (⊎_elim (λ is. is) (λ is. is) on)) (search rules)
     (written_for_numbers _ _ (length xs) h.shape.params.channels h.shape.params.codec h.automatic c.args.file.now.linear c.write_frames.ensures.written)
 
-pub returns-in-Err-SampleRange-clause-follows : goal.returns-in-Err-SampleRange-clause-follows
-returns-in-Err-SampleRange-clause-follows g c =
+pub returns-in-Err-SampleRange : goal.returns-in-Err-SampleRange
+returns-in-Err-SampleRange g c =
     let h = known_of c.args.file.now in
     let xs = c.args.samples.now in
     let left = rw c.in-Err-SampleRange.field-0-is at c.in-Err-SampleRange.ensures.left in
     refused_on g.D.Disk g.O.Sink (write_rule xs) c.refuse-in-Err-SampleRange.result c.args.file.now c.args.out.now c.write_frames.new.self c.refuse-in-Err-SampleRange.new.out SampleRange
-    (write_range xs h.shape h.write_place left.1.0 left.1.1) c.refuse-in-Err-SampleRange.ensures.sent c.refuse-in-Err-SampleRange.ensures.said left.2 (search rules)
+    c.write_frames.ensures.loan (write_range xs h.shape h.write_place left.1.0 left.1.1) c.refuse-in-Err-SampleRange.ensures.sent c.refuse-in-Err-SampleRange.ensures.said left.2 (search rules)
 
-pub returns-in-Err-TrailingData-clause-follows : goal.returns-in-Err-TrailingData-clause-follows
-returns-in-Err-TrailingData-clause-follows g c =
+pub returns-in-Err-TrailingData : goal.returns-in-Err-TrailingData
+returns-in-Err-TrailingData g c =
     let h = known_of c.args.file.now in
     let xs = c.args.samples.now in
     let left = rw c.in-Err-TrailingData.field-0-is at c.in-Err-TrailingData.ensures.left in
     refused_on g.D.Disk g.O.Sink (write_rule xs) c.refuse-in-Err-TrailingData.result c.args.file.now c.args.out.now c.write_frames.new.self c.refuse-in-Err-TrailingData.new.out TrailingData
-    (write_trailing xs h.shape h.write_place left.1.0 left.1.1 left.1.2) c.refuse-in-Err-TrailingData.ensures.sent c.refuse-in-Err-TrailingData.ensures.said left.2 (search rules)
+    c.write_frames.ensures.loan (write_trailing xs h.shape h.write_place left.1.0 left.1.1 left.1.2) c.refuse-in-Err-TrailingData.ensures.sent c.refuse-in-Err-TrailingData.ensures.said left.2 (search rules)
 
-pub returns-in-Err-ContainerFull-clause-follows : goal.returns-in-Err-ContainerFull-clause-follows
-returns-in-Err-ContainerFull-clause-follows g c =
+pub returns-in-Err-ContainerFull : goal.returns-in-Err-ContainerFull
+returns-in-Err-ContainerFull g c =
     let h = known_of c.args.file.now in
     let xs = c.args.samples.now in
     let left = rw c.in-Err-ContainerFull.field-0-is at c.in-Err-ContainerFull.ensures.left in
     refused_on g.D.Disk g.O.Sink (write_rule xs) c.refuse-in-Err-ContainerFull.result c.args.file.now c.args.out.now c.write_frames.new.self c.refuse-in-Err-ContainerFull.new.out ContainerFull
-    (write_full xs h.shape h.write_place left.1.0 left.1.1 left.1.2 left.1.3) c.refuse-in-Err-ContainerFull.ensures.sent c.refuse-in-Err-ContainerFull.ensures.said left.2 (search rules)
+    c.write_frames.ensures.loan (write_full xs h.shape h.write_place left.1.0 left.1.1 left.1.2 left.1.3) c.refuse-in-Err-ContainerFull.ensures.sent c.refuse-in-Err-ContainerFull.ensures.said left.2 (search rules)

@@ -53,17 +53,17 @@ returns-clause-served g c = λ files s has left.
     (λ there. c.serve_disk-served.ensures.served c.name_text-text.result.now files (unwrap_or (has.0 c.name_text-text.result.now) []) s (c.in-Ok.ensures.taken.contents has.0 has.1) there left)
 
 pub returns-in-Err-Missing-clause-images : goal.returns-in-Err-Missing-clause-images
-returns-in-Err-Missing-clause-images g c = stayed_unless g.S.Shelf.state g.S.Shelf.may_leave g.S.Shelf.left_between c.name_text-text.result.now (λ n. how_writes n c.args.how.now c.args.name.now) c.args.shelf.now c.take.new.self c.in-Err-Missing.ensures.same_images c.take.ensures.others
+returns-in-Err-Missing-clause-images g c = stayed_unless g.S.Shelf c.name_text-text.result.now (how_writes c.args.how.now c.args.name.now) c.args.shelf.now c.take.new.self c.in-Err-Missing.ensures.same_images c.take.ensures.others
 
 pub returns-in-Err-Failed-clause-images : goal.returns-in-Err-Failed-clause-images
-returns-in-Err-Failed-clause-images g c = stayed_unless g.S.Shelf.state g.S.Shelf.may_leave g.S.Shelf.left_between c.name_text-text.result.now (λ n. how_writes n c.args.how.now c.args.name.now) c.args.shelf.now c.take.new.self c.in-Err-Failed.ensures.same_images c.take.ensures.others
+returns-in-Err-Failed-clause-images g c = stayed_unless g.S.Shelf c.name_text-text.result.now (how_writes c.args.how.now c.args.name.now) c.args.shelf.now c.take.new.self c.in-Err-Failed.ensures.same_images c.take.ensures.others
 
 pub returns-in-Err-Memory-clause-images : goal.returns-in-Err-Memory-clause-images
-returns-in-Err-Memory-clause-images g c = stayed_unless g.S.Shelf.state g.S.Shelf.may_leave g.S.Shelf.left_between c.name_text-text.result.now (λ n. how_writes n c.args.how.now c.args.name.now) c.args.shelf.now c.take.new.self c.in-Err-Memory.ensures.same_images c.take.ensures.others
+returns-in-Err-Memory-clause-images g c = stayed_unless g.S.Shelf c.name_text-text.result.now (how_writes c.args.how.now c.args.name.now) c.args.shelf.now c.take.new.self c.in-Err-Memory.ensures.same_images c.take.ensures.others
 
 pub returns-clause-images : goal.returns-clause-images
 returns-clause-images g c =
     let named : c.name_text-text.result.now ≡ c.args.name.now = c.name_text-text.ensures in
     rw (sym named) (
-    returned_unless g.S.Shelf.state g.S.Shelf.may_leave g.S.Shelf.left_between g.S.Disk.Disk c.name_text-text.result.now c.args.shelf.now c.take.new.self c.give.new.self c.in-Ok.disk c.serve_disk-served.new.disk
+    returned_unless g.S.Shelf g.S.Disk.Disk c.name_text-text.result.now c.args.shelf.now c.take.new.self c.give.new.self c.in-Ok.disk c.serve_disk-served.new.disk
     c.in-Ok.ensures.images c.give.ensures.images c.take.ensures.others c.give.ensures.others c.args.how.now c.serve_disk-served.ensures.reads)

@@ -1,17 +1,90 @@
-use Rattle.std.proofs.Common.{rules}
+use Rattle.std.proofs.Common.{◌≡◌, inl, ◌∙◌, false, rules, arith, refl}
 use Rattle.std.proofs.lemmas.Result.{err_from_is_err_and}
-use Rattle.snd_command.specs.Said.{said_of}
-use Rattle.snd_script.specs.Handled.{mode_of}
+use Rattle.snd_command.specs.Said.{line_said}
+use Rattle.snd_script.specs.Desk.{OpenFile, open_desk}
+use Rattle.snd_script.specs.Handled.{mode_of, open_as}
+use Rattle.snd_script.specs.Rules.{is_close}
+use Rattle.snd_script.specs.Script.{asked_by, written_by}
 use Rattle.snd_script.specs.Serving.{OpenStands}
-use Rattle.snd_script.proofs.OpenChains.{step_served, step_stops}
+use Rattle.snd_script.proofs.OpenChains.{refused_stops, step_served, step_stops}
+use Rattle.snd_script.proofs.PinnedMoves.{automatic_of, carried_behind, moves_as, moves_refused}
+use Rattle.snd_script.proofs.StaysOpen.{held_edit, kept_edit, most_same}
+use Rattle.snd_script.proofs.Stepping.{stands_open}
 use Rattle.snd_script.proofs.opened.open_command.Goals as goal
+
+pub returns-in_err-refuse-clause-answered : goal.returns-in_err-refuse-clause-answered
+returns-in_err-refuse-clause-answered g c =
+    let p = err_from_is_err_and c.from_residual.result c.from_residual.ensures.1 in
+    rw (p.1, p.2) (λ name files e stands.
+    let file : OpenFile = record { name = name; mode = open_as c.args.stays (mode_of c.args.handle.now); editing = e } in
+    refused_stops _ _ c.in-Some.refusal (open_desk files file) c.args.run.now.refused c.refuse.new.self.refused _ _ _
+    (held_edit files name (mode_of c.args.handle.now) (line_said c.args.said) e c.args.stays c.in-Some.refusal c.in-Some.ensures.0 c.in-Some.ensures.1) c.in_err-refuse.ensures.answered
+    (stands_open g.D.Disk.state files name c.args.stays c.args.handle.now c.args.handle.now e _ refl stands))
 
 pub returns-in_err-step-clause-answered : goal.returns-in_err-step-clause-answered
 returns-in_err-step-clause-answered g c =
-    let p = err_from_is_err_and c.from_residual.result c.from_residual.ensures.1 in
+    let p = err_from_is_err_and c.from_residual-in_err-step.result c.from_residual-in_err-step.ensures.1 in
     rw (p.1, p.2) (λ name files e stands.
-    step_stops files (record { name = name; mode = mode_of c.args.handle.now; editing = e }) (said_of c.args.command.now) c.args.run.now.refused c.step.new.self.refused _ _ _ (search rules) _ (c.in_err-step.ensures.answered name files e stands))
+    let file : OpenFile = record { name = name; mode = open_as c.args.stays (mode_of c.args.handle.now); editing = e } in
+    let remains : is_close (line_said c.args.said) ≡ false = search rules in
+    step_stops files file (line_said c.args.said) _ c.args.run.now.refused c.step.new.self.refused _ _ _
+    (kept_edit files name (mode_of c.args.handle.now) (line_said c.args.said) e c.args.stays c.requires.updated c.in_default.ensures remains)
+    _ (c.in_err-step.ensures.answered name c.args.stays files e stands))
 
 pub returns-clause-answered : goal.returns-clause-answered
 returns-clause-answered g c = λ name files e stands.
-    step_served files (record { name = name; mode = mode_of c.args.handle.now; editing = e }) (said_of c.args.command.now) _ _ _ _ (OpenStands g.D.Disk.state files name c.step.new.handle) (search rules) _ (c.in_ok-step.ensures.answered name files e stands)
+    let file : OpenFile = record { name = name; mode = open_as c.args.stays (mode_of c.args.handle.now); editing = e } in
+    let remains : is_close (line_said c.args.said) ≡ false = search rules in
+    step_served files file (line_said c.args.said) _ _ _ _ _ (OpenStands g.D.Disk.state files name c.args.stays c.step.new.handle)
+    (kept_edit files name (mode_of c.args.handle.now) (line_said c.args.said) e c.args.stays c.requires.updated c.in_default.ensures remains)
+    _ (c.in_ok-step.ensures.answered name c.args.stays files e stands)
+
+pub returns-in_err-step-clause-asked : goal.returns-in_err-step-clause-asked
+returns-in_err-step-clause-asked g c =
+    let p = err_from_is_err_and c.from_residual-in_err-step.result c.from_residual-in_err-step.ensures.1 in
+    rw (p.1, p.2) (record {
+      later = c.step.ensures.asked.later;
+      within = omega (arith, c.step.ensures.asked.most, most_same c.args.stays asked_by (line_said c.args.said) c.in_default.ensures);
+    })
+
+pub returns-in_err-step-clause-written : goal.returns-in_err-step-clause-written
+returns-in_err-step-clause-written g c =
+    let p = err_from_is_err_and c.from_residual-in_err-step.result c.from_residual-in_err-step.ensures.1 in
+    rw (p.1, p.2) (record {
+      later = c.step.ensures.written.later;
+      within = omega (arith, c.step.ensures.written.most, most_same c.args.stays written_by (line_said c.args.said) c.in_default.ensures);
+    })
+
+pub returns-clause-asked : goal.returns-clause-asked
+returns-clause-asked g c = record {
+  later = c.step.ensures.asked.later;
+  within = omega (arith, c.step.ensures.asked.most, most_same c.args.stays asked_by (line_said c.args.said) c.in_default.ensures);
+}
+
+pub returns-clause-written : goal.returns-clause-written
+returns-clause-written g c = record {
+  later = c.step.ensures.written.later;
+  within = omega (arith, c.step.ensures.written.most, most_same c.args.stays written_by (line_said c.args.said) c.in_default.ensures);
+}
+
+pub returns-in_err-refuse-clause-moves : goal.returns-in_err-refuse-clause-moves
+returns-in_err-refuse-clause-moves g c = λ pins opened e on rest.
+    moves_refused g.D.Disk g.met.D.Disk.only_now opened _ e (line_said c.args.said) c.in-Some.refusal c.args.handle.now c.in-Some.ensures.1 rest
+
+pub returns-in-Some-clause-moves : goal.returns-in-Some-clause-moves
+returns-in-Some-clause-moves g c = λ pins opened e on rest.
+    moves_refused g.D.Disk g.met.D.Disk.only_now opened _ e (line_said c.args.said) c.in-Some.refusal c.args.handle.now c.in-Some.ensures.1 rest
+
+pub returns-in_err-step-clause-moves : goal.returns-in_err-step-clause-moves
+returns-in_err-step-clause-moves g c =
+    let p = err_from_is_err_and c.from_residual-in_err-step.result c.from_residual-in_err-step.ensures.1 in
+    rw (p.1, p.2) (λ pins opened e on rest.
+    let moves = c.in_err-step.ensures.moves (inl (automatic_of g.D.Disk opened c.args.handle.now e rest ∙ on)) opened e rest in
+    moves_as g.D.Disk opened _ e _ _ c.args.handle.now c.step.new.handle (carried_behind (mode_of c.args.handle.now) (line_said c.args.said) e (c.requires.updated pins) (c.in_default.ensures pins))
+    (record { leaves = moves.leaves; rests = moves.rests }))
+
+pub returns-clause-moves : goal.returns-clause-moves
+returns-clause-moves g c = λ pins opened e on rest.
+    let moves = c.in_ok-step.ensures.moves (inl (automatic_of g.D.Disk opened c.args.handle.now e rest ∙ on)) opened e rest in
+    moves_as g.D.Disk opened _ e _ _ c.args.handle.now c.step.new.handle (carried_behind (mode_of c.args.handle.now) (line_said c.args.said) e (c.requires.updated pins) (c.in_default.ensures pins))
+    (record { leaves = moves.leaves; rests = moves.rests })

@@ -24,9 +24,9 @@ returns-in-Err-clause-served g c = λ name files e s stands left.
     let file : OpenFile = record { name = name; mode = mode_of c.args.handle.now; editing = e } in
     let m : Moment = moment c.args.run.now.lines (g.R.Source.left c.args.script.now) c.args.run.now.refused (g.O.Sink.told c.args.out.now) in
     let m' : Moment = moment c.args.run.now.lines (g.R.Source.left c.args.script.now) c.args.run.now.refused (g.O.Sink.told c.reply_opened.new.out) in
-    line_stops c.in-Err.stop _ (opened_edit files file) (steps_left (open_desk files file) m s) (closed_desk files) m m' (OpenStands g.D.Disk.state files name c.args.handle.now)
+    line_stops c.in-Err.stop _ (opened_edit files file) (steps_left (open_desk files file) m s) (closed_desk files) m m' (OpenStands g.D.Disk.state files name false c.args.handle.now)
     (answer_stops c.in-Err.stop (opened_edit files file) (says (file_line (handle_known c.args.handle.now).shape)) (closed_desk files) false false _ _ _ (said_of_shape _ _ (shape_stands g.D.Disk.state c.args.handle.now e stands)) c.in-Err.ensures.answered
-    (stands_open g.D.Disk.state files name c.args.handle.now c.args.handle.now e none_lost refl stands))
+    (stands_open g.D.Disk.state files name false c.args.handle.now c.args.handle.now e none_lost refl stands))
 
 pub returns-in-Ok-clause-counted : goal.returns-in-Ok-clause-counted
 returns-in-Ok-clause-counted g c = counted_then _ _ _ _ (record { shelf = refl; script = refl; out = c.in-Ok.ensures.faults }) c.serve_open.ensures.counted

@@ -19,8 +19,8 @@ returns-in-Ok-clause-served g c = λ files s has left.
     let m : Moment = moment c.args.run.now.lines (g.R.Source.left c.args.script.now) c.args.run.now.refused (g.O.Sink.told c.args.out.now) in
     let m' : Moment = moment c.next.new.self.lines (g.R.Source.left c.next.new.script) c.next.new.self.refused (g.O.Sink.told c.args.out.now) in
     let m'' : Moment = moment c.closed_line.new.run.lines (g.R.Source.left c.closed_line.new.script) c.closed_line.new.run.refused (g.O.Sink.told c.closed_line.new.out) in
-    let kept = c.next.new.line.items in
-    let served = rw c.as_slice.ensures.value at c.closed_line.ensures.served files comes.0 has comes.1 in
+    let kept = c.next.new.line in
+    let served = c.closed_line.ensures.served files comes.0 has comes.1 in
     served_on_then c.closed_line.result (is_longer m' comes.0) (is_longer m s) (steps_left (closed_desk files) m s) (steps_from (edit_line (closed_desk files) kept) m' comes.0) (closed_desk files) (closed_desk files) m m' m''
     (ShelfStands g.S.Shelf.state c.closed_line.new.shelf) (sym {a = is_longer m s} {b = is_longer m' comes.0} comes.2.too_long) (brought_then (closed_desk files) kept s comes.0 m m' comes.2 c.in-Ok.ensures.noted refl) served
 
@@ -30,7 +30,7 @@ returns-in-Err-clause-asked g c = λ s left. so_far_stops asked_by _ _ _ s c.arg
 pub returns-in-Ok-clause-asked : goal.returns-in-Ok-clause-asked
 returns-in-Ok-clause-asked g c = λ s left.
     let comes = c.in-Ok.ensures.brought s left in
-    uses_for_line c.closed_line.result asked_by _ _ c.next.new.self.lines c.next.new.line.items s comes.0 _ _ _ _ comes.2 (rw c.as_slice.ensures.value at c.closed_line.ensures.asked comes.0 comes.1)
+    uses_for_line c.closed_line.result asked_by _ _ c.next.new.self.lines c.next.new.line s comes.0 _ _ _ _ comes.2 (c.closed_line.ensures.asked comes.0 comes.1)
 
 pub returns-in-Err-clause-written : goal.returns-in-Err-clause-written
 returns-in-Err-clause-written g c = λ s left. so_far_stops written_by _ _ _ s c.args.run.now.lines _ _ _ c.in-Err.stop _ _ (uses_so_far_none written_by _ s _ _ left)
@@ -38,7 +38,7 @@ returns-in-Err-clause-written g c = λ s left. so_far_stops written_by _ _ _ s c
 pub returns-in-Ok-clause-written : goal.returns-in-Ok-clause-written
 returns-in-Ok-clause-written g c = λ s left.
     let comes = c.in-Ok.ensures.brought s left in
-    uses_for_line c.closed_line.result written_by _ _ c.next.new.self.lines c.next.new.line.items s comes.0 _ _ _ _ comes.2 (rw c.as_slice.ensures.value at c.closed_line.ensures.written comes.0 comes.1)
+    uses_for_line c.closed_line.result written_by _ _ c.next.new.self.lines c.next.new.line s comes.0 _ _ _ _ comes.2 (c.closed_line.ensures.written comes.0 comes.1)
 
 pub returns-in-Err-clause-images : goal.returns-in-Err-clause-images
 returns-in-Err-clause-images g c = λ s left f n told there none. keeps_same g.S.Shelf.state g.S.Shelf.may_leave g.S.Shelf.left_between n c.args.shelf.now
@@ -46,10 +46,9 @@ returns-in-Err-clause-images g c = λ s left f n told there none. keeps_same g.S
 pub returns-in-Ok-clause-tail : goal.returns-in-Ok-clause-tail
 returns-in-Ok-clause-tail g c = λ s left.
     let comes = c.in-Ok.ensures.brought s left in
-    tail_for_line c.closed_line.result c.args.run.now.lines c.next.new.self.lines _ c.next.new.line.items s comes.0 _ comes.2 (c.closed_line.ensures.tail comes.0 comes.1)
+    tail_for_line c.closed_line.result c.args.run.now.lines c.next.new.self.lines _ c.next.new.line s comes.0 _ comes.2 (c.closed_line.ensures.tail comes.0 comes.1)
 
 pub returns-in-Ok-clause-images : goal.returns-in-Ok-clause-images
 returns-in-Ok-clause-images g c = λ s left.
     let comes = c.in-Ok.ensures.brought s left in
-    keeps_for_line g.S.Shelf.state g.S.Shelf.may_leave g.S.Shelf.left_between c.args.run.now.lines c.next.new.self.lines c.next.new.line.items s comes.0 c.args.shelf.now c.closed_line.new.shelf comes.2
-    (rw c.as_slice.ensures.value at c.closed_line.ensures.images)
+    keeps_for_line g.S.Shelf c.args.run.now.lines c.next.new.self.lines c.next.new.line s comes.0 c.args.shelf.now c.closed_line.new.shelf comes.2 c.closed_line.ensures.images

@@ -6,7 +6,7 @@ use Rattle.snd_script.proofs.Chains.{serves_then, stopped_as, stopped_then}
 use Rattle.snd_script.proofs.ShelfCounts.{all_same_then, counted_behind}
 use Rattle.snd_script.proofs.ShelfLeft.{has_files, leaves_shelf_then}
 use Rattle.snd_script.proofs.Tails.{keeps_on, tail_on}
-use Rattle.snd_script.proofs.Uses.{used_in_all, uses_on}
+use Rattle.snd_script.proofs.Uses.{used_in_all, uses_on, without_close}
 use Rattle.snd_script.proofs.serving.serve_lines.Goals as goal
 
 pub loop-stop-preserved : goal.loop-stop-preserved
@@ -32,7 +32,7 @@ loop-stop-preserved g c = record {
       tail_on _ c.loop-stop.run.lines _ _ _ so_far (c.in-Ok.ensures.tail so_far.0 so_far.1);
   images = λ s left.
       let so_far = c.loop-stop.invariant.tail s left in
-      keeps_on g.S.Shelf.state g.S.Shelf.may_leave g.S.Shelf.left_between _ c.loop-stop.run.lines _ so_far c.args.shelf.now c.loop-stop.shelf c.serve_line.new.shelf c.loop-stop.invariant.shelf
+      keeps_on g.S.Shelf _ c.loop-stop.run.lines _ so_far c.args.shelf.now c.loop-stop.shelf c.serve_line.new.shelf c.loop-stop.invariant.shelf
       (c.loop-stop.invariant.images s left) (c.serve_line.ensures.images so_far.0 so_far.1);
   asked = λ s left.
       let so_far = c.loop-stop.invariant.asked s left in
@@ -58,18 +58,16 @@ returns-in-Err-clause-counted g c = counted_behind _ _ _ _ c.loop-stop.invariant
 pub returns-in-Err-clause-shelf : goal.returns-in-Err-clause-shelf
 returns-in-Err-clause-shelf g c = leaves_shelf_then g.S.Shelf.state g.S.Shelf.may_leave g.S.Shelf.left_between c.args.shelf.now c.loop-stop.shelf c.serve_line.new.shelf c.loop-stop.invariant.shelf c.serve_line.ensures.shelf
 
-pub returns-in-Err-clause-asked : goal.returns-in-Err-clause-asked
-returns-in-Err-clause-asked g c = λ s left.
-    let so_far = c.loop-stop.invariant.asked s left in
-    used_in_all c.in-Err.stop asked_by _ _ s _ _ _ _ _ _ _ so_far (c.in-Err.ensures.asked so_far.1.0 so_far.1.1)
-
-pub returns-in-Err-clause-written : goal.returns-in-Err-clause-written
-returns-in-Err-clause-written g c = λ s left.
-    let so_far = c.loop-stop.invariant.written s left in
-    used_in_all c.in-Err.stop written_by _ _ s _ _ _ _ _ _ _ so_far (c.in-Err.ensures.written so_far.1.0 so_far.1.1)
+pub returns-in-Err-clause-bounds : goal.returns-in-Err-clause-bounds
+returns-in-Err-clause-bounds g c = λ s left.
+    let asked = c.loop-stop.invariant.asked s left in
+    let written = c.loop-stop.invariant.written s left in (
+      without_close _ _ _ (used_in_all c.in-Err.stop asked_by _ _ s _ _ _ _ _ _ _ asked (c.in-Err.ensures.asked asked.1.0 asked.1.1)),
+      used_in_all c.in-Err.stop written_by _ _ s _ _ _ _ _ _ _ written (c.in-Err.ensures.written written.1.0 written.1.1),
+    )
 
 pub returns-in-Err-clause-images : goal.returns-in-Err-clause-images
 returns-in-Err-clause-images g c = λ s left.
     let so_far = c.loop-stop.invariant.tail s left in
-    keeps_on g.S.Shelf.state g.S.Shelf.may_leave g.S.Shelf.left_between _ c.loop-stop.run.lines _ so_far c.args.shelf.now c.loop-stop.shelf c.serve_line.new.shelf c.loop-stop.invariant.shelf
+    keeps_on g.S.Shelf _ c.loop-stop.run.lines _ so_far c.args.shelf.now c.loop-stop.shelf c.serve_line.new.shelf c.loop-stop.invariant.shelf
     (c.loop-stop.invariant.images s left) (c.serve_line.ensures.images so_far.0 so_far.1)

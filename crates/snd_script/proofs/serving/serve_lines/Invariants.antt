@@ -26,7 +26,7 @@ invariant-loop-stop g l = record {
   counted : SameCounts (faults_of g.S.Shelf.state g.R.Source.faults g.O.Sink.faults l.fn.shelf l.fn.script l.fn.out) (faults_of g.S.Shelf.state g.R.Source.faults g.O.Sink.faults l.shelf l.script l.out);
   shelf : LeavesShelf g.S.Shelf.state g.S.Shelf.left_between l.fn.shelf l.shelf;
   tail : (s : List ℕ) → g.R.Source.left l.fn.script ≡ Some s → TailSoFar (lines_to_serve l.fn.run.lines s) l.run.lines (g.R.Source.left l.script);
-  images : KeepsByLines g.S.Shelf.state g.S.Shelf.may_leave g.S.Shelf.left_between g.R.Source.left l.fn.shelf l.fn.run l.fn.script l.shelf;
+  images : KeepsByLines g.S.Shelf g.R.Source l.fn.shelf l.fn.run l.fn.script l.shelf;
   asked : (s : List ℕ) → g.R.Source.left l.fn.script ≡ Some s
       → UsesSoFar asked_by l.fn.run.lines s l.run.lines (g.R.Source.left l.script) (g.S.Shelf.state l.fn.shelf).asked (g.S.Shelf.state l.shelf).asked;
   written : (s : List ℕ) → g.R.Source.left l.fn.script ≡ Some s

@@ -1,44 +1,63 @@
 use Rattle.std.proofs.Common.{[], ◌∷◌}
-use Rattle.snd_command.specs.Said.{said_of}
+use Rattle.snd_command.specs.Said.{line_said}
 use Rattle.snd_script.specs.Edit.{edit_file, keep_open}
-use Rattle.snd_script.specs.Handled.{handle_known, mode_of}
+use Rattle.snd_script.specs.Handled.{handle_known, mode_of, open_as}
 use Rattle.snd_script.proofs.Stepping.{or_no_refusal, or_refusal, stands_lost, stands_open}
 use Rattle.snd_script.proofs.Wholes.{broken_after, whole_after}
 use Rattle.snd_script.proofs.run.Run.step.Goals as goal
 
 pub returns-in-Ok-Ok-clause-answered : goal.returns-in-Ok-Ok-clause-answered
-returns-in-Ok-Ok-clause-answered g c = λ name files e stands.
+returns-in-Ok-Ok-clause-answered g c = λ name stays files e stands.
     let said = rw c.in-Ok-Ok.field-0-is at c.in-Ok-Ok.ensures.said e stands in
-    (or_no_refusal _ _ said.0, said.1, stands_open g.D.Disk.state files name c.args.handle.now c.step.new.handle _ _ c.step.ensures.leaves.mode (c.in-Ok-Ok.ensures.stands e stands))
+    (or_no_refusal _ _ said.0, said.1, stands_open g.D.Disk.state files name stays c.args.handle.now c.carry_out.new.handle _ _ c.carry_out.ensures.leaves.mode (c.in-Ok-Ok.ensures.stands e stands))
 
 pub returns-in-Ok-Refused-clause-answered : goal.returns-in-Ok-Refused-clause-answered
-returns-in-Ok-Refused-clause-answered g c = λ name files e stands.
+returns-in-Ok-Refused-clause-answered g c = λ name stays files e stands.
     let said = rw c.in-Ok-Refused.field-0-is at c.in-Ok-Refused.ensures.said e stands in
-    (or_refusal _ _ _ said.0, said.1, stands_open g.D.Disk.state files name c.args.handle.now c.step.new.handle _ _ c.step.ensures.leaves.mode (c.in-Ok-Refused.ensures.stands e stands))
+    (or_refusal _ _ _ said.0, said.1, stands_open g.D.Disk.state files name stays c.args.handle.now c.carry_out.new.handle _ _ c.carry_out.ensures.leaves.mode (c.in-Ok-Refused.ensures.stands e stands))
 
 pub returns-in-Err-Out-clause-answered : goal.returns-in-Err-Out-clause-answered
-returns-in-Err-Out-clause-answered g c = λ name files e stands.
+returns-in-Err-Out-clause-answered g c = λ name stays files e stands.
     let said = rw c.in-Err-Out.field-0-is at c.in-Err-Out.ensures.said e stands in
-    (said, stands_open g.D.Disk.state files name c.args.handle.now c.step.new.handle _ _ c.step.ensures.leaves.mode (rw c.in-Err-Out.field-0-is at c.in-Err-Out.ensures.stands e stands))
+    (said, stands_open g.D.Disk.state files name stays c.args.handle.now c.carry_out.new.handle _ _ c.carry_out.ensures.leaves.mode (rw c.in-Err-Out.field-0-is at c.in-Err-Out.ensures.stands e stands))
 
 pub returns-in-Err-Disk-clause-answered : goal.returns-in-Err-Disk-clause-answered
-returns-in-Err-Disk-clause-answered g c = λ name files e stands.
-    (rw c.in-Err-Disk.field-0-is at c.in-Err-Disk.ensures.silent, stands_lost g.D.Disk.state files name c.args.handle.now c.step.new.handle e (keep_open files (record { name = name; mode = mode_of c.args.handle.now; editing = e }) (edit_file (mode_of c.args.handle.now) (said_of c.args.command.now) e) ∷ []) c.step.ensures.leaves.mode)
+returns-in-Err-Disk-clause-answered g c = λ name stays files e stands.
+    (rw c.in-Err-Disk.field-0-is at c.in-Err-Disk.ensures.silent, stands_lost g.D.Disk.state files name stays c.args.handle.now c.carry_out.new.handle e (keep_open files (record { name = name; mode = open_as stays (mode_of c.args.handle.now); editing = e }) (edit_file (mode_of c.args.handle.now) (line_said c.args.said) e) ∷ []) c.carry_out.ensures.leaves.mode)
 
 pub returns-in-Err-Memory-clause-answered : goal.returns-in-Err-Memory-clause-answered
-returns-in-Err-Memory-clause-answered g c = λ name files e stands.
-    (rw c.in-Err-Memory.field-0-is at c.in-Err-Memory.ensures.silent, stands_open g.D.Disk.state files name c.args.handle.now c.step.new.handle _ _ c.step.ensures.leaves.mode (rw c.in-Err-Memory.field-0-is at c.in-Err-Memory.ensures.stands e stands))
+returns-in-Err-Memory-clause-answered g c = λ name stays files e stands.
+    (rw c.in-Err-Memory.field-0-is at c.in-Err-Memory.ensures.silent, stands_open g.D.Disk.state files name stays c.args.handle.now c.carry_out.new.handle _ _ c.carry_out.ensures.leaves.mode (rw c.in-Err-Memory.field-0-is at c.in-Err-Memory.ensures.stands e stands))
 
 pub returns-in-Ok-Ok-clause-whole : goal.returns-in-Ok-Ok-clause-whole
-returns-in-Ok-Ok-clause-whole g c = whole_after (mode_of c.args.handle.now) (said_of c.args.command.now) (handle_known c.args.handle.now) _ c.requires.whole c.in-Ok-Ok.ensures.knows.1
+returns-in-Ok-Ok-clause-whole g c = whole_after (mode_of c.args.handle.now) (line_said c.args.said) (handle_known c.args.handle.now) _ c.requires.whole c.in-Ok-Ok.ensures.knows.1
 
 pub returns-in-Ok-Refused-clause-whole : goal.returns-in-Ok-Refused-clause-whole
-returns-in-Ok-Refused-clause-whole g c = whole_after (mode_of c.args.handle.now) (said_of c.args.command.now) (handle_known c.args.handle.now) _ c.requires.whole c.in-Ok-Refused.ensures.knows.1
+returns-in-Ok-Refused-clause-whole g c = whole_after (mode_of c.args.handle.now) (line_said c.args.said) (handle_known c.args.handle.now) _ c.requires.whole c.in-Ok-Refused.ensures.knows.1
 
 pub returns-in-Err-Out-clause-whole : goal.returns-in-Err-Out-clause-whole
-returns-in-Err-Out-clause-whole g c = whole_after (mode_of c.args.handle.now) (said_of c.args.command.now) (handle_known c.args.handle.now) _ c.requires.whole (rw c.in-Err-Out.field-0-is at c.in-Err-Out.ensures.knows)
+returns-in-Err-Out-clause-whole g c = whole_after (mode_of c.args.handle.now) (line_said c.args.said) (handle_known c.args.handle.now) _ c.requires.whole (rw c.in-Err-Out.field-0-is at c.in-Err-Out.ensures.knows)
 
 pub returns-in-Err-Disk-clause-whole : goal.returns-in-Err-Disk-clause-whole
 returns-in-Err-Disk-clause-whole g c =
     let knows = rw c.in-Err-Disk.field-0-is at c.in-Err-Disk.ensures.knows in
     broken_after _ knows.0 (handle_known c.args.handle.now) _ knows.1
+
+pub returns-in-Ok-Ok-clause-moves : goal.returns-in-Ok-Ok-clause-moves
+returns-in-Ok-Ok-clause-moves g c = λ on opened e rest. record { leaves = c.carry_out.ensures.safe on opened e rest; rests = c.in-Ok-Ok.ensures.rests on opened e rest }
+
+pub returns-in-Ok-Refused-clause-moves : goal.returns-in-Ok-Refused-clause-moves
+returns-in-Ok-Refused-clause-moves g c = λ on opened e rest. record { leaves = c.carry_out.ensures.safe on opened e rest; rests = c.in-Ok-Refused.ensures.rests on opened e rest }
+
+pub returns-in-Err-Out-clause-moves : goal.returns-in-Err-Out-clause-moves
+returns-in-Err-Out-clause-moves g c = λ on opened e rest.
+    let rests = rw c.in-Err-Out.field-0-is at c.in-Err-Out.ensures.rests in
+    record { leaves = c.carry_out.ensures.safe on opened e rest; rests = rests on opened e rest }
+
+pub returns-in-Err-Disk-clause-moves : goal.returns-in-Err-Disk-clause-moves
+returns-in-Err-Disk-clause-moves g c = λ on opened e rest. record { leaves = c.carry_out.ensures.safe on opened e rest; rests = tt }
+
+pub returns-in-Err-Memory-clause-moves : goal.returns-in-Err-Memory-clause-moves
+returns-in-Err-Memory-clause-moves g c = λ on opened e rest.
+    let rests = rw c.in-Err-Memory.field-0-is at c.in-Err-Memory.ensures.rests in
+    record { leaves = c.carry_out.ensures.safe on opened e rest; rests = rests on opened e rest }

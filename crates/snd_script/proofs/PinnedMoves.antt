@@ -1,0 +1,184 @@
+-- Commands on a file at rest that stays open: each is answered, and updates stay automatic.
+use Rattle.std.specs.Prelude.{nat_lt, if◌then◌else◌}
+use Rattle.std.proofs.Common.{◌≡◌, ◌⊎◌, inl, inr, ℕ, ℤ, ◌<◌, ◌≤◌, List, [], ◌∷◌, ◌++◌, Bool, true, false, not, ◌&&◌, Option, None, Some, Result, Ok, Err, length, codes, cond, decimal, refl, sym, ◌∙◌, ap, subst, arith}
+use Rattle.std.specs.List.{flat_map}
+use Rattle.std.proofs.lemmas.List.{length-append}
+use Rattle.snd_command.specs.Said.{Said}
+use Rattle.snd_command.specs.declared.refusal.ScriptRefusal.{ScriptRefusal}
+use Rattle.snd_command.specs.declared.refusal.ScriptRefusal.TheVariants as no_command
+use Rattle.snd_disk.specs.Shelf.{Files}
+use Rattle.snd_disk.specs.declared.disk.Disk.{Ghosts}
+use Rattle.snd_modes.specs.Editing.{Editing, frames_left, frames_read}
+use Rattle.snd_modes.specs.Edits.{cut_to, sealed_to}
+use Rattle.snd_modes.specs.Safe.{IsSafe}
+use Rattle.snd_modes.proofs.LeftSafe.{unchanged}
+use Rattle.snd_patch.specs.Images.{LeavesEach}
+use Rattle.snd_script.specs.Desk.{Mode, OpenFile, open_desk, pinned, updating}
+use Rattle.snd_script.specs.Edit.{Edited, close_edit, edit_by, edit_file, edit_open, edit_unless, keep_open, line_edit}
+use Rattle.snd_script.specs.Handled.{HandleAtRest, HandleStands, handle_disk, handle_known}
+use Rattle.snd_script.specs.Replies.{error_line, ok_line, frame_line, frames_text, refusal_name, refusal_number, text_of}
+use Rattle.snd_script.specs.Rules.{FileEdited, Rule, is_built, is_close, is_held, read_rule, refused_rule, rule_of, seek_both_rule, seek_read_rule, seek_write_rule, tell_rule, trim_rule, truncate_rule, update_rule, write_rule}
+use Rattle.snd_script.specs.Trail.{MovesSafely, RestsAt, pinned_file, state_behind}
+use Rattle.snd_script.proofs.StaysOpen.{carried}
+use Rattle.snd_script.specs.declared.handle.Handle.{Handle}
+use Rattle.snd_script.specs.declared.handle.Handle.TheVariants.{R, W, U}
+use Rattle.snd_script.specs.declared.refusal.Refusal.{Refusal}
+use Rattle.snd_script.specs.declared.refusal.Refusal.TheVariants.{BadCommand, LineTooLong, NotBuilt, Pinned}
+use Rattle.snd_script.specs.declared.stop.Stop.{Stop}
+use Rattle.snd_script.specs.declared.stop.Stop.TheVariants as stop
+
+-- ---- answers
+
+pub record IsAnswering (rule : Rule) : Type 0 where
+  pub speaks : (e : Editing) → 0 < length (text_of (edit_by rule e).answer)
+  pub automatic : (e : Editing) → (edit_by rule e).editing.automatic ≡ e.automatic
+
+behind : (word rest : List ℕ) → 0 < length word → 0 < length (word ++ rest)
+behind word rest some = omega (arith, some, length-append word rest)
+
+error_speaks : (refusal : Refusal) → 0 < length (error_line refusal)
+error_speaks refusal =
+    let first : length (codes "error ") ≡ 6 = refl in
+    behind (codes "error ") (decimal (refusal_number refusal) ++ 32 ∷ [] ++ refusal_name refusal ++ 10 ∷ []) (omega (arith, first))
+
+pub ok_speaks : (rest : List ℕ) → 0 < length (codes "ok " ++ rest)
+ok_speaks rest =
+    let first : length (codes "ok ") ≡ 3 = refl in
+    behind (codes "ok ") rest (omega (arith, first))
+
+frames_speak : (frames : List (List ℤ)) → 0 < length (frames_text frames)
+frames_speak frames = behind (ok_line (length frames)) (flat_map frame_line frames) (ok_speaks (decimal (length frames) ++ 10 ∷ []))
+
+pub unless_speaks : (refusal : Option Refusal) (done : FileEdited) (e : Editing) → 0 < length (text_of done.answer) → 0 < length (text_of (edit_unless refusal done e).answer)
+unless_speaks None done e some = some
+unless_speaks (Some refusal) done e some = error_speaks refusal
+
+unless_automatic : (refusal : Option Refusal) (done : FileEdited) (e : Editing) → done.editing.automatic ≡ e.automatic → (edit_unless refusal done e).editing.automatic ≡ e.automatic
+unless_automatic None done e same = same
+unless_automatic (Some refusal) done e same = refl
+
+answering : (rule : Rule) → ((e : Editing) → 0 < length (text_of (rule.done e).answer)) → ((e : Editing) → (rule.done e).editing.automatic ≡ e.automatic) → IsAnswering rule
+answering rule some same = record {
+  speaks = λ e. unless_speaks (rule.refusal e.write_place e.shape) (rule.done e) e (some e);
+  automatic = λ e. unless_automatic (rule.refusal e.write_place e.shape) (rule.done e) e (same e);
+}
+
+refusing : (refusal : Refusal) → IsAnswering (refused_rule refusal)
+refusing refusal = record { speaks = λ e. error_speaks refusal; automatic = λ e. refl }
+
+-- a file that is made is refused, whether or not its kind is built
+making : (built : Bool) → IsAnswering (if built then refused_rule Pinned else refused_rule NotBuilt)
+making true = refusing Pinned
+making false = refusing NotBuilt
+
+cutting_on : (fewer : Bool) (n : ℕ) (e : Editing) → (cond fewer (cut_to n e) (sealed_to e)).automatic ≡ e.automatic
+cutting_on true n e = refl
+cutting_on false n e = refl
+
+-- a pinned file's rules
+answers : (said : Said) → IsAnswering (rule_of pinned said)
+answers (Said.open_read name) = refusing Pinned
+answers (Said.open_update name) = refusing Pinned
+answers (Said.create kind codec channels rate name) = making (is_built (Said.create kind codec channels rate name))
+answers Said.info = answering tell_rule (λ e. ok_speaks _) (λ e. refl)
+answers Said.close = refusing Pinned
+answers (Said.seek_read n) = answering (seek_read_rule n) (λ e. ok_speaks _) (λ e. refl)
+answers (Said.seek_write n) = answering (seek_write_rule n) (λ e. ok_speaks _) (λ e. refl)
+answers (Said.seek_both n) = answering (seek_both_rule n) (λ e. ok_speaks _) (λ e. refl)
+answers (Said.read n) = answering (read_rule n) (λ e. frames_speak (frames_read e (frames_left e n))) (λ e. refl)
+answers (Said.write xs) = answering (write_rule xs) (λ e. ok_speaks _) (λ e. refl)
+answers (Said.truncate n) = answering (truncate_rule n) (λ e. ok_speaks _) (λ e. cutting_on (nat_lt n e.shape.frames) n e)
+answers Said.trim = answering trim_rule (λ e. ok_speaks _) (λ e. refl)
+answers Said.update = answering update_rule (λ e. ok_speaks _) (λ e. refl)
+answers (Said.auto on) = refusing Pinned
+answers (Said.set_chunk id hex) = refusing NotBuilt
+answers (Said.set_string key text) = refusing NotBuilt
+answers (Said.set_bext key text) = refusing NotBuilt
+answers (Said.set_cue places) = refusing NotBuilt
+answers (Said.get_chunk id) = refusing NotBuilt
+answers Said.get_chunks = refusing NotBuilt
+answers Said.get_strings = refusing NotBuilt
+answers Said.get_bext = refusing NotBuilt
+answers Said.get_cues = refusing NotBuilt
+answers (Said.tap kind) = refusing NotBuilt
+answers (Said.untap kind) = refusing NotBuilt
+
+-- ---- lines
+
+module _ (files : Files) (name : List ℕ) (e : Editing) where
+  abbrev file : OpenFile
+  file = pinned_file name e
+
+  said_edit : (said : Said) → edit_open files file said ≡ keep_open files file (edit_file pinned said e)
+  said_edit said = as_none (is_close said)
+    where
+      as_none : (closes : Bool) → (if closes && not true then close_edit files file else keep_open files file (edit_file pinned said e)) ≡ keep_open files file (edit_file pinned said e)
+      as_none true = refl
+      as_none false = refl
+
+  pub said_behind : (said : Said) → state_behind e (edit_open files file said) ≡ (edit_file pinned said e).editing
+  said_behind said = ap (state_behind e) (said_edit said)
+
+  -- it says something, unless it is no command at all
+  pub command_speaks : (command : Result (Option Said) ScriptRefusal) → (command ≡ Ok None) ⊎ (0 < length (text_of (line_edit (open_desk files file) command).answer))
+  command_speaks (Ok None) = inl refl
+  command_speaks (Ok (Some said)) = inr (subst (λ (x : Edited). 0 < length (text_of x.answer)) (sym (said_edit said)) ((answers said).speaks e))
+  command_speaks (Err no_command.LineTooLong) = inr (error_speaks LineTooLong)
+  command_speaks (Err no_command.BadCommand) = inr (error_speaks BadCommand)
+
+  pub command_automatic : (command : Result (Option Said) ScriptRefusal) → (state_behind e (line_edit (open_desk files file) command)).automatic ≡ e.automatic
+  command_automatic (Ok None) = refl
+  command_automatic (Ok (Some said)) = ap (λ (g : Editing). g.automatic) (said_behind said) ∙ (answers said).automatic e
+  command_automatic (Err no_command.LineTooLong) = refl
+  command_automatic (Err no_command.BadCommand) = refl
+
+  -- the file stays open
+  pub desk_behind : (command : Result (Option Said) ScriptRefusal)
+      → (line_edit (open_desk files file) command).desk ≡ open_desk files (pinned_file name (state_behind e (line_edit (open_desk files file) command)))
+  desk_behind (Ok None) = refl
+  desk_behind (Ok (Some said)) = subst (λ (x : Edited). x.desk ≡ open_desk files (pinned_file name (state_behind e x))) (sym (said_edit said)) refl
+  desk_behind (Err no_command.LineTooLong) = refl
+  desk_behind (Err no_command.BadCommand) = refl
+
+-- a command that is not refused is carried out as on a file that is updated
+pub carried_behind : (mode : Mode) (said : Said) (e : Editing) → mode ≡ updating → is_held said ≡ false → (edit_file mode said e).editing ≡ (edit_file pinned said e).editing
+carried_behind mode said e is other = ap (λ (rule : Rule). (edit_by rule e).editing) (ap (λ (m : Mode). rule_of m said) is ∙ sym (carried said other).rule)
+
+-- ---- a handle at rest
+
+pub automatic_of : {D : Type 0} (d : Ghosts D) (opened : List ℕ) (handle : Handle D d) (e : Editing) → HandleAtRest d opened handle e → (handle_known handle).automatic ≡ e.automatic
+automatic_of d opened (R held) e rest = rest.stands.automatic
+automatic_of d opened (W held) e rest = rest.stands.automatic
+automatic_of d opened (U held) e rest = rest.stands.automatic
+
+pub stands_of : {D : Type 0} (d : Ghosts D) (opened : List ℕ) (handle : Handle D d) (e : Editing) → HandleAtRest d opened handle e → HandleStands d.state handle e
+stands_of d opened (R held) e rest = rest.stands
+stands_of d opened (W held) e rest = rest.stands
+stands_of d opened (U held) e rest = rest.stands
+
+rests_still : {D T : Type 0} (d : Ghosts D) (opened : List ℕ) (r : Result T Stop) (e : Editing) (handle : Handle D d) → HandleAtRest d opened handle e → RestsAt d opened r e e handle
+rests_still d opened (Ok x) e handle rest = rest
+rests_still d opened (Err stop.Sink) e handle rest = rest
+rests_still d opened (Err stop.Memory) e handle rest = rest
+rests_still d opened (Err stop.Ended) e handle rest = tt
+rests_still d opened (Err stop.TooLong) e handle rest = tt
+rests_still d opened (Err stop.Script) e handle rest = tt
+rests_still d opened (Err stop.File) e handle rest = tt
+
+module _ {D T : Type 0} (d : Ghosts D) (only_now : (disk : D) (s t : ℕ) (x : List ℕ) → (d.state disk).clock ≤ s → d.left_between disk s t x → d.may_leave disk x) (opened : List ℕ) (r : Result T Stop) (e : Editing) where
+  pub leaves_still : (handle : Handle D d) → HandleAtRest d opened handle e → LeavesEach d (handle_disk handle) (handle_disk handle) (IsSafe e e)
+  leaves_still (R held) rest = unchanged d opened held e rest only_now e
+  leaves_still (W held) rest = unchanged d opened held e rest only_now e
+  leaves_still (U held) rest = unchanged d opened held e rest only_now e
+
+  -- nothing is done
+  pub moves_none : (handle : Handle D d) → HandleAtRest d opened handle e → MovesSafely d opened r e e handle handle
+  moves_none handle rest = record { leaves = leaves_still handle rest; rests = rests_still d opened r e handle rest }
+
+  -- .. as what is said is refused
+  pub moves_refused : (said : Said) (refusal : Refusal) (handle : Handle D d) → rule_of pinned said ≡ refused_rule refusal → HandleAtRest d opened handle e → MovesSafely d opened r e (edit_file pinned said e).editing handle handle
+  moves_refused said refusal handle is rest = subst (λ (rule : Rule). MovesSafely d opened r e (edit_by rule e).editing handle handle) (sym is) (moves_none handle rest)
+
+-- it moves to the same state, by other words
+pub moves_as : {D T : Type 0} (d : Ghosts D) (opened : List ℕ) (r : Result T Stop) (e e' e'' : Editing) (old new : Handle D d) → e' ≡ e'' → MovesSafely d opened r e e' old new → MovesSafely d opened r e e'' old new
+moves_as d opened r e e' e'' old new is moves = subst (λ (g : Editing). MovesSafely d opened r e g old new) is moves

@@ -1,0 +1,203 @@
+-- A file at rest, while commands are carried out on it and when it is closed.
+use Rattle.std.proofs.Common.{◌≡◌, inl, inr, ⊎_elim, ℕ, ◌+◌, ◌≤◌, List, Bool, true, false, ◌&&◌, Option, None, Some, Result, Ok, Err, refl, sym, ◌∙◌, ap, subst, arith}
+use Rattle.std.specs.Prelude.{is_none, nat_lt, if◌then◌else◌}
+use Rattle.std.proofs.lemmas.Bool.{cases_Bool, ltb-false}
+use Rattle.snd_disk.specs.Device.{OnlyReadsOn}
+use Rattle.snd_disk.specs.declared.disk.Disk.{Ghosts}
+use Rattle.snd_disk.specs.declared.streams.Sink.{Ghosts as SinkMeaning}
+use Rattle.snd_modes.specs.Editing.{Editing, frames_left, moved_to}
+use Rattle.snd_modes.specs.Edits.{sealed_to}
+use Rattle.snd_modes.specs.Handle.{Stands, disk_of, known_of}
+use Rattle.snd_modes.specs.Laws.{HoldsFrames, IsEdited, seals}
+use Rattle.snd_modes.specs.Rest.{IsAtRest}
+use Rattle.snd_modes.specs.Safe.{IsSafe}
+use Rattle.snd_modes.specs.declared.handle.File.{File}
+use Rattle.snd_modes.specs.declared.mode.Mode.{Ghosts as ModeGhosts}
+use Rattle.snd_modes.proofs.EditedFiles.{moved_edited, moved_write_edited}
+use Rattle.snd_modes.proofs.EditedSteps.{leads_to_edited}
+use Rattle.snd_modes.proofs.LeftSafe.{left_at_rest}
+use Rattle.snd_modes.proofs.SafeImages.{same_file}
+use Rattle.snd_patch.proofs.Moments.{leaves_weaker}
+use Rattle.snd_patch.specs.Images.{LeavesEach}
+use Rattle.snd_script.specs.Desk.{Mode, is_pinned, pinned, reading, reads, updating, writes, writing}
+use Rattle.snd_script.specs.Edit.{edit_by, edit_unless}
+use Rattle.snd_script.specs.Rules.{FileEdited, Rule, auto_rule, in_mode, read_rule, refused_if, refused_rule, seek_both_rule, seek_read_rule, seek_rule, seek_write_rule, trim_rule, truncate_rule, unless_pinned, update_rule, write_rule}
+use Rattle.snd_script.specs.Stepped.{IsAutomatic, LeavesFile, changes_by}
+use Rattle.snd_script.specs.Work.{Follows, work_rule}
+use Rattle.snd_script.specs.declared.handle.Reply.{Reply}
+use Rattle.snd_script.specs.declared.handle.StepFault.{StepFault}
+use Rattle.snd_script.specs.declared.handle.StepFault.TheVariants.{Disk, Out, Memory}
+use Rattle.snd_script.specs.declared.refusal.Refusal.{Refusal}
+use Rattle.snd_script.specs.declared.refusal.Refusal.TheVariants.{AlreadyOpen, Pinned, SeekRange}
+use Rattle.snd_script.specs.declared.work.Work.{Work}
+use Rattle.snd_script.specs.declared.work.Work.TheVariants.{Open, Update, Make, Close, Tell, SeekRead, SeekWrite, SeekBoth, Read, Write, Truncate, Trim, BringUp, Auto, NotBuilt}
+
+-- ---- commands that change no file move at most its places
+
+pub record IsMoved (e e' : Editing) : Type 0 where
+  pub place : ℕ
+  pub write_place : ℕ
+  pub is : e' ≡ record e { place = place; write_place = write_place }
+  pub within : place ≤ e.shape.frames
+  pub write_within : write_place ≤ e.shape.frames
+
+module _ (e : Editing) (holds : HoldsFrames e) where
+  stays : IsMoved e e
+  stays = record { place = e.place; write_place = e.write_place; is = refl; within = holds.placed; write_within = holds.write_placed }
+
+  -- one that is refused
+  refused_stays : (refusal : Option Refusal) (done : FileEdited) → is_none refusal ≡ false → IsMoved e (edit_unless refusal done e).editing
+  refused_stays None done is = absurd (cc)
+  refused_stays (Some refusal) done is = stays
+
+  -- a place is sought
+  sought : (n : ℕ) (done : FileEdited) → (n ≤ e.shape.frames → IsMoved e done.editing) → IsMoved e (edit_unless (refused_if (nat_lt e.shape.frames n) SeekRange None) done e).editing
+  sought n done moves = elim (cases_Bool (nat_lt e.shape.frames n)) [
+    | inl past ↦ subst (λ (b : Bool). IsMoved e (edit_unless (refused_if b SeekRange None) done e).editing) (sym past) stays
+    | inr within ↦ subst (λ (b : Bool). IsMoved e (edit_unless (refused_if b SeekRange None) done e).editing) (sym within) (moves (ltb-false _ _ within))
+  ]
+
+  sought_read : (n : ℕ) → IsMoved e (edit_by (seek_read_rule n) e).editing
+  sought_read n = sought n _ (λ le. record { place = n; write_place = e.write_place; is = refl; within = le; write_within = holds.write_placed })
+
+  sought_write : (n : ℕ) → IsMoved e (edit_by (seek_write_rule n) e).editing
+  sought_write n = sought n _ (λ le. record { place = e.place; write_place = n; is = refl; within = holds.placed; write_within = le })
+
+  sought_both : (n : ℕ) → IsMoved e (edit_by (seek_both_rule n) e).editing
+  sought_both n = sought n _ (λ le. record { place = n; write_place = n; is = refl; within = le; write_within = le })
+
+  -- one that its mode may lack
+  by_mode : (has : Bool) (rule : Rule) → IsMoved e (edit_by rule e).editing → IsMoved e (edit_by (in_mode has rule) e).editing
+  by_mode true rule moved = moved
+  by_mode false rule moved = stays
+
+  -- .. and that changes the file where it is not refused
+  by_refusal : (has : Bool) (rule : Rule) → rule.changes ≡ true → ((in_mode has rule).changes && is_none ((in_mode has rule).refusal e.write_place e.shape)) ≡ false → IsMoved e (edit_by (in_mode has rule) e).editing
+  by_refusal true rule changes is =
+      refused_stays (rule.refusal e.write_place e.shape) (rule.done e) (ap (λ b. b && is_none (rule.refusal e.write_place e.shape)) (sym changes) ∙ is)
+  by_refusal false rule changes is = stays
+
+  -- .. or which a file that stays open refuses
+  by_held : (pins : Bool) (rule : Rule) → ((rule.changes && is_none (rule.refusal e.write_place e.shape)) ≡ false → IsMoved e (edit_by rule e).editing)
+      → ((if pins then refused_rule Pinned else rule).changes && is_none ((if pins then refused_rule Pinned else rule).refusal e.write_place e.shape)) ≡ false
+      → IsMoved e (edit_by (if pins then refused_rule Pinned else rule) e).editing
+  by_held true rule moves is = stays
+  by_held false rule moves is = moves is
+
+  already_open : (mode : Mode) → IsMoved e (edit_by (unless_pinned true mode (refused_rule AlreadyOpen)) e).editing
+  already_open reading = stays
+  already_open writing = stays
+  already_open updating = stays
+  already_open pinned = stays
+
+  read_on : (n : ℕ) → IsMoved e (edit_by (read_rule n) e).editing
+  read_on n = record {
+    place = e.place + frames_left e n;
+    write_place = e.write_place;
+    is = refl;
+    within = omega (arith, holds.count, holds.placed);
+    write_within = holds.write_placed;
+  }
+
+  sought_by_mode : (mode : Mode) (n : ℕ) → IsMoved e (edit_by (seek_rule mode n) e).editing
+  sought_by_mode reading n = sought_read n
+  sought_by_mode writing n = sought_write n
+  sought_by_mode updating n = sought_both n
+  sought_by_mode pinned n = sought_both n
+
+  -- whatever is done
+  moves : (mode : Mode) (work : Work) → ((work_rule mode work).changes && is_none ((work_rule mode work).refusal e.write_place e.shape)) ≡ false → IsMoved e (edit_by (work_rule mode work) e).editing
+  moves mode Tell is = stays
+  moves mode (SeekRead n) is = by_mode (reads mode) (seek_read_rule n) (sought_read n)
+  moves mode (SeekWrite n) is = by_mode (writes mode) (seek_write_rule n) (sought_write n)
+  moves mode (SeekBoth n) is = sought_by_mode mode n
+  moves mode (Read n) is = by_mode (reads mode) (read_rule n) (read_on n)
+  moves mode (Write xs) is = by_refusal (writes mode) (write_rule xs.now) refl is
+  moves mode (Truncate n) is = by_refusal (writes mode) (truncate_rule n) refl is
+  moves mode Trim is = by_refusal (writes mode) trim_rule refl is
+  moves mode BringUp is = by_refusal (writes mode) update_rule refl is
+  moves mode (Auto on) is = by_held (is_pinned mode) (in_mode (writes mode) (auto_rule on)) (λ is. by_refusal (writes mode) (auto_rule on) refl is) is
+  moves mode NotBuilt is = stays
+  moves mode (Open name) is = already_open mode
+  moves mode (Update name) is = already_open mode
+  moves mode (Make kind codec channels rate name) is = already_open mode
+  moves mode Close is = already_open mode
+
+-- ---- a disk that is only read
+
+module _ {D M : Type 0} {mode : ModeGhosts M} (d : Ghosts D) (opened : List ℕ) (old : File D M d mode) (e : Editing) (rest : IsAtRest d opened old e) where
+  pub reading_is_safe : ((disk : D) (s t : ℕ) (x : List ℕ) → (d.state disk).clock ≤ s → d.left_between disk s t x → d.may_leave disk x) → (last : D)
+      → OnlyReadsOn d.state d.may_leave d.left_between (disk_of old) last → (e' : Editing) → LeavesEach d (disk_of old) last (IsSafe e e')
+  reading_is_safe only_now last only e' = record {
+    time = record { later = omega (arith, only.images.same_time); same = λ s t x le left. only.images.no_more s t x left; kept = only.images.no_fewer };
+    now = λ x left. left_at_rest d opened old e rest e' x (only.images.now.no_more x left);
+    moments = λ t x left. left_at_rest d opened old e rest e' x (only_now (disk_of old) (d.state (disk_of old)).clock t x (omega arith) (only.images.no_more (d.state (disk_of old)).clock t x left));
+    earlier = λ s t x left. inl (only.images.no_more s t x left);
+  }
+
+  pub reading_rests : (new : File D M d mode) → OnlyReadsOn d.state d.may_leave d.left_between (disk_of old) (disk_of new) → (e' : Editing) → IsMoved e e' → Stands d.state new e' → IsAtRest d opened new e'
+  reading_rests new only e' moved stands =
+      subst (λ (g : Editing). IsAtRest d opened new g) (sym moved.is) (record {
+        edited = moved_write_edited opened (moved_to moved.place e) (moved_edited opened e rest.edited moved.place moved.within) moved.write_place moved.write_within;
+        stands = subst (λ (g : Editing). Stands d.state new g) moved.is stands;
+        stable = λ x left. only.keeps.contents ∙ rest.stable x (only.images.now.no_more x left);
+        fit = record { bytes = rest.fit.bytes; told = rest.fit.told; there = rest.fit.there; whole = rest.fit.whole };
+        sized = λ on free. let sized = rest.sized on free in record { outer = sized.outer; declared = sized.declared; closed = sized.closed };
+      })
+
+-- ---- a command
+
+abbrev pub Safely : {D M : Type 0} {mode : ModeGhosts M} (d : Ghosts D) → Rule → File D M d mode → File D M d mode → Type 0
+Safely d rule old new = IsAutomatic rule (known_of old) → (opened : List ℕ) (e : Editing) → IsAtRest d opened old e → LeavesEach d (disk_of old) (disk_of new) (IsSafe e (edit_by rule e).editing)
+
+abbrev pub ToRest : {D M : Type 0} {mode : ModeGhosts M} (d : Ghosts D) → Rule → Result Reply StepFault → File D M d mode → File D M d mode → Type 0
+ToRest d rule result old new = IsAutomatic rule (known_of old) → (opened : List ℕ) (e : Editing) → IsAtRest d opened old e → LeavesFile result (edit_by rule e) e (IsAtRest d opened new)
+
+module _ {D M O : Type 0} {mode : ModeGhosts M} (d : Ghosts D) (o : SinkMeaning O) (how : Mode) (work : Work) (r : Result Reply StepFault) (old : File D M d mode) (out : O) (new : File D M d mode) (out' : O)
+    (only_now : (disk : D) (s t : ℕ) (x : List ℕ) → (d.state disk).clock ≤ s → d.left_between disk s t x → d.may_leave disk x)
+    (follows : Follows d o (work_rule how work) r old out new out') where
+  abbrev rule : Rule
+  rule = work_rule how work
+
+  pub works_safely : Safely d rule old new
+  works_safely on opened e rest = elim (cases_Bool (changes_by rule (known_of old))) [
+    | inl changes ↦ follows.leaves changes on opened e rest
+    | inr none ↦ reading_is_safe d opened old e rest only_now (disk_of new) (follows.reads none) (edit_by rule e).editing
+  ]
+
+  module _ (opened : List ℕ) (e : Editing) (rest : IsAtRest d opened old e) (none : changes_by rule (known_of old) ≡ false) where
+    same_refusal : (rule.changes && is_none (rule.refusal e.write_place e.shape)) ≡ false
+    same_refusal = ap (λ (x : Option Refusal). rule.changes && is_none x)
+        (ap (λ n. rule.refusal n e.shape) (sym rest.stands.write_place) ∙ ap (rule.refusal (known_of old).write_place) (sym rest.stands.shape)) ∙ none
+
+    pub still_rests : (r : Result Reply StepFault) → LeavesFile r (edit_by rule e) e (Stands d.state new) → LeavesFile r (edit_by rule e) e (IsAtRest d opened new)
+    still_rests (Ok reply) stands = reading_rests d opened old e rest new (follows.reads none) _ (moves e rest.edited.holds how work same_refusal) stands
+    still_rests (Err Out) stands = reading_rests d opened old e rest new (follows.reads none) _ (moves e rest.edited.holds how work same_refusal) stands
+    still_rests (Err Memory) stands = reading_rests d opened old e rest new (follows.reads none) e (stays e rest.edited.holds) stands
+    still_rests (Err Disk) stands = tt
+
+  pub works_to_rest : ToRest d rule r old new
+  works_to_rest on opened e rest = elim (cases_Bool (changes_by rule (known_of old))) [
+    | inl changes ↦ follows.rests changes on opened e rest
+    | inr none ↦ still_rests opened e rest none r (follows.stands e rest.stands)
+  ]
+
+-- ---- a file is closed
+
+-- what is safe while it is sealed is so in its own state
+pub safe_in_place : (opened : List ℕ) (e : Editing) (x : List ℕ) → IsEdited opened e → IsSafe e (sealed_to e) x → IsSafe e e x
+safe_in_place opened e x edited safe =
+    let file = same_file opened e (sealed_to e) edited (leads_to_edited opened e (sealed_to e) edited seals) in
+    record {
+      sound = safe.sound;
+      opens = safe.opens;
+      params = safe.params;
+      kind = ⊎_elim (λ same. inl same) (λ same. inl same) safe.kind;
+      chunks = ⊎_elim (λ same. inl same) (λ same. inl (same ∙ file.2)) safe.chunks;
+      count = ⊎_elim (λ same. inl same) (λ same. inl same) safe.count;
+      unwritten = λ i lt within un. safe.unwritten i lt within (inr refl);
+      risen = safe.risen;
+    }
+
+pub closes_in_place : {D : Type 0} (d : Ghosts D) (opened : List ℕ) (e : Editing) (old new : D) → IsEdited opened e → LeavesEach d old new (IsSafe e (sealed_to e)) → LeavesEach d old new (IsSafe e e)
+closes_in_place d opened e old new edited leaves = leaves_weaker d old new (IsSafe e (sealed_to e)) (IsSafe e e) (λ x safe. safe_in_place opened e x edited safe) leaves

@@ -1,0 +1,24 @@
+use Rattle.std.proofs.Common.{refl, sym, ◌∙◌, ap, rules}
+use Rattle.snd_layout.specs.Shape.{Shape}
+use Rattle.snd_modes.specs.Handle.{known_of}
+use Rattle.snd_script.specs.Replies.{ok_line, says}
+use Rattle.snd_script.specs.Rules.{auto_rule}
+use Rattle.snd_script.proofs.Followed.{carried_out, failed}
+use Rattle.snd_script.proofs.Refused.{auto_free}
+use Rattle.snd_script.proofs.change.set_auto.Goals as goal
+
+pub returns-in-Ok : goal.returns-in-Ok
+returns-in-Ok g c =
+    let h = known_of c.args.file.now in
+    carried_out g.D.Disk g.O.Sink (auto_rule c.args.on) c.say_ok.result c.args.file.now c.args.out.now c.set_auto.new.self c.say_ok.new.out (ok_line c.in-Ok.frames)
+    c.set_auto.ensures.loan (auto_free c.args.on h.shape c.in-Ok.ensures.left.1) c.say_ok.ensures.sent c.say_ok.ensures.said
+    (λ e here. ap (λ n. says (ok_line n)) (sym (c.in-Ok.ensures.left.2 ∙ ap (λ (s : Shape). s.frames) here.shape))) c.in-Ok.ensures.stands
+    c.in-Ok.ensures.left.3 (search rules) (search rules) (search rules) (search rules) (λ changes on. c.in-Ok.ensures.leaves) (λ changes on. c.in-Ok.ensures.rests) (search rules) (search rules)
+
+pub returns-in-Err-DiskFault : goal.returns-in-Err-DiskFault
+returns-in-Err-DiskFault g c =
+    let h = known_of c.args.file.now in
+    let left = rw c.in-Err-DiskFault.field-0-is at c.in-Err-DiskFault.ensures.left in
+    let leaves = rw c.in-Err-DiskFault.field-0-is at c.in-Err-DiskFault.ensures.leaves in
+    failed g.D.Disk g.O.Sink (auto_rule c.args.on) c.args.file.now c.args.out.now c.set_auto.new.self
+    c.set_auto.ensures.loan (auto_free c.args.on h.shape left.1) refl (search rules) (search rules) (search rules) (search rules) (λ on. leaves) (search rules) (search rules)
