@@ -37,11 +37,12 @@ class Cases:
         else:
             self.passed += 1
 
-    def end(self, pinned):
+    def end(self, pinned, more=""):
+        """Prints the counts, with what more is to be said in the same line, and ends."""
         if self.passed + self.failed != pinned:
             print(f"FAILED {self.name}: {self.passed + self.failed} cases were tried, and {pinned} are to be")
             self.failed += 1
-        print(f"{self.name}: {self.passed} passed, {self.failed} failed")
+        print(f"{self.name}: {self.passed} passed, {self.failed} failed{more}")
         sys.exit(self.failed != 0)
 
 

@@ -1,19 +1,22 @@
 #!/usr/bin/env bash
 # Scripts of the built program that make and change WAVE files, on the real system: the whole streams, the status, and every
 # byte of the files afterwards. What is wanted comes from the layout of a WAVE file as the format's document gives it, and from
-# a list of frames that is edited beside the program. Needs Python 3. What a full disk leaves is skipped where no file system
-# can be mounted; what a folder without permission does is skipped for a user who may write everywhere.
+# a list of frames that is edited beside the program. Some scripts have a file pinned by --auto. Needs Python 3. What a full
+# disk leaves is skipped where no file system can be mounted; what a folder without permission does is skipped for a user who may
+# write everywhere.
 set -u
 source "$(dirname "$(readlink -f "${BASH_SOURCE[0]}")")/built_program.bash"
 PYTHONDONTWRITEBYTECODE=1 PYTHONPATH=$top/checks python3 - "$program" <<'PY'
 import os
 import random
+import select
 import struct
 import subprocess
 import sys
 import tempfile
+import time
 
-from common import Cases, first_difference
+from common import SECONDS, Cases, first_difference
 
 program = sys.argv[1]
 cases = Cases("scripts")
@@ -48,7 +51,18 @@ def files():
     return found
 
 
-def run(name, lines, replies, status, after, before=None, **options):
+def wrong_files(after):
+    """What is wrong with the files of the current folder."""
+    left, wrong = files(), []
+    for file in sorted(set(left) | set(after)):
+        if file not in left or file not in after:
+            wrong.append(f"{file} is {'missing' if file in after else 'there'}")
+        else:
+            wrong += first_difference(file, left[file], after[file])
+    return wrong
+
+
+def run(name, lines, replies, status, after, before=None, words=("script",), err=b"", **options):
     """One run over these files in a new folder; the faults of its streams, its status and the files."""
     with tempfile.TemporaryDirectory() as folder:
         at = os.getcwd()
@@ -57,17 +71,12 @@ def run(name, lines, replies, status, after, before=None, **options):
             with open(file, "wb") as out:
                 out.write(data)
         script = "".join(f"{line}\n" for line in lines).encode()
-        done = subprocess.run([program, "script"], input=script, capture_output=True, timeout=60, **options)
+        done = subprocess.run([program, *words], input=script, capture_output=True, timeout=60, **options)
         wrong = first_difference("standard output", done.stdout, "".join(f"{line}\n" for line in replies).encode())
-        wrong += first_difference("standard error", done.stderr, b"")
+        wrong += first_difference("standard error", done.stderr, err)
         if done.returncode != status:
             wrong.append(f"status {done.returncode} for {status}")
-        left = files()
-        for file in sorted(set(left) | set(after)):
-            if file not in left or file not in after:
-                wrong.append(f"{file} is {'missing' if file in after else 'there'}")
-            else:
-                wrong += first_difference(file, left[file], after[file])
+        wrong += wrong_files(after)
         os.chdir(at)
     cases.case(name, wrong)
 
@@ -162,6 +171,84 @@ for seed in range(12):
     edited(seed, list(BITS)[seed % 4], 1 + seed % 3)
 
 
+# ---- a file that stays open: its opening and `auto on` are answered before the first line
+
+PINNED = ("script", "--auto", "a.wav")
+small = {"a.wav": made("pcm_u8", 1, 8000, [[1], [2]]), "b.wav": made("pcm_u8", 1, 8000, [[7]]), "other": b"stays"}
+begun = [line_of("pcm_u8", 1, 8000, 2), "ok 2"]
+run("pinned: a frame is written over", ["write 5", "close"], [*begun, "ok 1", "error 65 Pinned"], 1, {**small, "a.wav": made("pcm_u8", 1, 8000, [[5], [2]])}, small, PINNED)
+run("pinned: no line", [], begun, 0, small, small, PINNED)
+run("pinned: what is refused", ["open r b.wav", "open u a.wav", "open u none.wav", "create wave pcm_u8 1 8000 a.wav", "create wave pcm_u8 1 8000 n.wav", "close", "auto on", "auto off", "seek w 3",
+    "truncate 3", "write 128", "write", "set cue 1", "# a remark", "", "info"],
+    [*begun, *["error 65 Pinned"] * 8, *["error 24 SeekRange"] * 2, "error 23 SampleRange", "error 40 BadCommand", "error 99 NotBuilt", begun[0]], 1, small, small, PINNED)
+run("pinned: every edit", ["read 9", "seek w 2", "write 3 4 5", "seek r 1", "read 9", "truncate 3", "trim", "update", "write -1", "info"],
+    [*begun, "ok 2", "1", "2", "ok 2", "ok 3", "ok 1", "ok 4", "2", "3", "4", "5", "ok 3", "ok 3", "ok 3", "ok 1", line_of("pcm_u8", 1, 8000, 4)], 0,
+    {**small, "a.wav": made("pcm_u8", 1, 8000, [[1], [2], [3], [-1]])}, small, PINNED)
+run("pinned: a file that is missing", ["write 5"], ["error 56 MissingFile"], 1, small, small, ("script", "--auto", "none.wav"))
+run("pinned: a file that is no sound", ["write 5"], ["error 1 NotSound"], 1, small, small, ("script", "--auto", "other"))
+run("pinned: a file that goes on behind its data", ["write 5 6", "write 7", "seek w 1", "write 8 9", "truncate 1", "trim"],
+    [line_of("pcm_16_le", 1, 8000, 2), "ok 2", "ok 2", "error 25 TrailingData", "ok 1", *["error 25 TrailingData"] * 3], 1,
+    {"t.wav": tail["t.wav"].replace(struct.pack("<hh", 1, 2), struct.pack("<hh", 5, 6))}, tail, ("script", "--auto", "t.wav"))
+run("pinned: a file is healed", [], [line_of("pcm_u8", 1, 8000, 3), "ok 3"], 0, {"l.wav": made("pcm_u8", 1, 8000, [[1], [2], [3]]) + b"x"}, loose, ("script", "--auto", "l.wav"))
+for words in (["--auto"], ["--auto", "a.wav", "b.wav"], ["--auto", "--auto", "a.wav"], ["--auto", "-a.wav"], ["--auto", ""], ["a.wav", "--auto"], ["--auto", "on", "a.wav"], ["--auto=a.wav"], ["a.wav"]):
+    run(f"pinned: bad words {words}", ["write 5"], [], 2, small, small, ["script", *words], b"snd: bad words\n")
+
+
+def lines_from(talk, count):
+    """The next lines that a run says, so many of them; fewer where they do not come in time."""
+    got, end = b"", time.monotonic() + min(SECONDS, 10)
+    while got.count(b"\n") < count and select.select([talk.stdout], [], [], max(end - time.monotonic(), 0))[0]:
+        part = os.read(talk.stdout.fileno(), 1 << 16)
+        got += part
+        if not part:
+            break
+    return got.decode("latin-1").splitlines()
+
+
+def turns(name, before, words, first, talk, status):
+    """A run whose replies are awaited line by line: those that come before any line, and then each with the files that it leaves.
+    Its input stays open until it ended, or, where there are lines, until the last is answered."""
+    with tempfile.TemporaryDirectory() as folder:
+        at = os.getcwd()
+        os.chdir(folder)
+        for file, data in before.items():
+            with open(file, "wb") as out:
+                out.write(data)
+        session = subprocess.Popen([program, *words], stdin=subprocess.PIPE, stdout=subprocess.PIPE, stderr=subprocess.PIPE)
+        wrong = first_difference("before the first line", lines_from(session, len(first)), first) + wrong_files(before)
+        try:
+            for line, replies, after in talk:
+                os.write(session.stdin.fileno(), f"{line}\n".encode())
+                wrong += first_difference(f"after {line!r}", lines_from(session, len(replies)), replies) + wrong_files({**before, **after})
+            if talk:
+                session.stdin.close()
+            ended = session.wait(timeout=min(SECONDS, 10))
+            wrong += [f"status {ended} for {status}"] * (ended != status)
+            wrong += first_difference("the rest", session.stdout.read() + session.stderr.read(), b"")
+        except (OSError, subprocess.TimeoutExpired) as error:
+            wrong.append(f"it ended early or not at all: {error}")
+        finally:
+            session.kill()
+            session.wait()
+        os.chdir(at)
+    cases.case(name, wrong)
+
+
+def mono(*frames):
+    return {"a.wav": made("pcm_u8", 1, 8000, [[x] for x in frames])}
+
+
+turns("pinned: each reply before the next line, and its file", small, PINNED, begun, [("write 5", ["ok 1"], mono(5, 2)), ("read 1", ["ok 1", "5"], mono(5, 2)), ("seek w 2", ["ok 2"], mono(5, 2)),
+    ("write 6 7 8", ["ok 3"], mono(5, 2, 6, 7, 8)), ("close", ["error 65 Pinned"], mono(5, 2, 6, 7, 8)), ("truncate 3", ["ok 3"], mono(5, 2, 6)), ("write 9", ["ok 1"], mono(5, 2, 6, 9))], 1)
+# the size of the data stands in two sectors; the input stays open, and nothing is taken of it
+filled = made("pcm_16_le", 1, 8000, [[1], [2]])
+straddling = {**small, "s.wav": filled[:4] + struct.pack("<I", 36 + 4 + 470) + filled[8:36] + b"fill" + struct.pack("<I", 462) + b"f" * 462 + filled[36:]}
+turns("pinned: a size in two sectors", straddling, ("script", "--auto", "s.wav"), [line_of("pcm_16_le", 1, 8000, 2), "error 27 Straddle"], [], 1)
+turns("pinned: a file that is missing, and an input that stays open", small, ("script", "--auto", "none.wav"), ["error 56 MissingFile"], [], 1)
+turns("pinned: a file that is no sound, and an input that stays open", small, ("script", "--auto", "other"), ["error 1 NotSound"], [], 1)
+turns("pinned: a folder, and an input that stays open", small, ("script", "--auto", "/"), [], [], 3)
+
+
 # ---- names and devices that fail
 
 def failing(name, prepare, lines, replies, after=None, stdout=None):
@@ -220,5 +307,5 @@ else:
     print("scripts: skipped: a full disk, since no file system can be mounted")
     skipped += 1
 os.rmdir(folder)
-cases.end(24 + 4 + 3 + 12 + 6 + 3 - skipped)
+cases.end(24 + 4 + 3 + 12 + 8 + 9 + 5 + 6 + 3 - skipped)
 PY
