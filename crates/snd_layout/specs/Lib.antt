@@ -1,4 +1,5 @@
 pub mod Blocks
+pub mod Container
 pub mod Fit
 pub mod Format
 pub mod Names
