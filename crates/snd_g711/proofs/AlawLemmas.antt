@@ -1,10 +1,9 @@
 -- Facts on the A-law's definitions.
-use Rattle.std.proofs.Common.{negsuc, ◌⊎◌, ◌≡◌, sym, ap, ◌∙◌, ℕ, ℤ, pos, neg_ℤ, ◌+◌, ◌-◌, ◌*◌, ◌/◌, ◌%◌, ◌^◌, ◌<◌, ◌≤◌, inl, inr, Bool, true, false, FitsSigned, to_z, List, map, All, get_or, zero-add, arith, bit_xor}
+use Rattle.std.proofs.Common.{negsuc, ◌⊎◌, ◌≡◌, sym, ap, ◌∙◌, ℕ, ℤ, pos, neg_ℤ, ◌+◌, ◌/◌, ◌%◌, ◌<◌, ◌≤◌, inl, inr, Bool, true, false, FitsSigned, List, map, All, get_or, zero-add, arith, bit_xor}
 use Rattle.std.specs.Prelude.{if◌then◌else◌, nat_lt, nat_eq}
-use Rattle.std.specs.Int.{w16, w32, is_negative}
+use Rattle.std.specs.Int.{w16, is_negative}
 use Rattle.std.proofs.lemmas.Bool.{cases_lt}
 use Rattle.std.proofs.lemmas.Bool.Decides.{nat_tests}
-use Rattle.std.proofs.lemmas.Int.{to_z_pos}
 use Rattle.std.proofs.lemmas.List.Elements.{All-map}
 use lib.Dec.{ltb→lt, eqb→eq}
 use Rattle.snd_g711.specs.Segment.{segment_and_step}
@@ -13,20 +12,8 @@ use Rattle.snd_g711.proofs.Segments.{segment_and_step-lt, code-half}
 use Rattle.snd_g711.proofs.Below.{every_below}
 use Rattle.snd_g711.proofs.Widths.{fits_positive, fits_negative}
 
-pub steps-lt : (code : ℕ) → code < 128 → (code % 16 * 16 + 264) * 2 ^ (code / 16 - 1) < 32768
-steps-lt code h = ltb→lt _ _ (every_below (λ k. nat_lt ((k % 16 * 16 + 264) * 2 ^ (k / 16 - 1)) 32768) 128 tt code h)
-
 pub magnitude-lt : (code : ℕ) → code < 128 → alaw_magnitude code < 32768
 magnitude-lt code h = ltb→lt _ _ (every_below (λ k. nat_lt (alaw_magnitude k) 32768) 128 tt code h)
-
--- from the second segment on the code's shift does not wrap
-pub no_wrap : (code : ℕ) → 16 ≤ code → code < 128 → to_z w32 ((code % 16 * 16 + 264) * 2 ^ (code / 16 - 1) % 4294967296) ≡ pos (alaw_magnitude code)
-no_wrap code low h =
-    let n : ℕ = (code % 16 * 16 + 264) * 2 ^ (code / 16 - 1) in
-    let small : n < 32768 = steps-lt code h in
-    let e : n % 4294967296 ≡ n = omega arith in
-    let t : nat_lt code 16 ≡ false = grind (arith, nat_tests) in
-    ap (to_z w32) e ∙ to_z_pos w32 n (omega arith) ∙ ap (λ (b : Bool). pos (if b then code * 16 + 8 else n)) (sym t)
 
 pub value_negative : (byte : ℕ) → byte < 128 → alaw_value byte ≡ neg_ℤ (pos (alaw_magnitude (bit_xor byte 85 % 128)))
 unfolding alaw_value

@@ -1,10 +1,9 @@
 -- Facts on the mu-law's definitions.
-use Rattle.std.proofs.Common.{min, ◌≡◌, refl, sym, ap, ◌∙◌, ℕ, ℤ, pos, neg_ℤ, ◌+◌, ◌-◌, ◌*◌, ◌/◌, ◌%◌, ◌^◌, ◌<◌, ◌≤◌, inl, inr, Bool, true, false, FitsSigned, to_z, List, map, All, get_or, arith}
+use Rattle.std.proofs.Common.{min, ◌≡◌, refl, sym, ap, ◌∙◌, ℕ, ℤ, pos, neg_ℤ, ◌+◌, ◌-◌, ◌*◌, ◌/◌, ◌%◌, ◌^◌, ◌<◌, ◌≤◌, inl, inr, Bool, true, false, FitsSigned, List, map, All, get_or, arith}
 use Rattle.std.specs.Prelude.{if◌then◌else◌, nat_lt, nat_eq, ◌==◌, unsigned_abs}
-use Rattle.std.specs.Int.{w16, w32, is_negative}
+use Rattle.std.specs.Int.{w16, is_negative}
 use Rattle.std.proofs.lemmas.Bool.{cases_lt}
 use Rattle.std.proofs.lemmas.Bool.Decides.{nat_tests}
-use Rattle.std.proofs.lemmas.Int.{to_z_pos}
 use Rattle.std.proofs.lemmas.List.Elements.{All-map}
 use lib.Dec.{ltb→lt, eqb→eq}
 use Rattle.snd_g711.specs.Segment.{segment_and_step}
@@ -18,14 +17,6 @@ biased code = (code % 16 * 8 + 132) * 2 ^ (code / 16)
 
 pub biased-lt : (code : ℕ) → code < 128 → biased code < 32768
 biased-lt code h = ltb→lt _ _ (every_below (λ k. nat_lt (biased k) 32768) 128 tt code h)
-
--- the code's shift does not wrap
-pub no_wrap : (code : ℕ) → code < 128 → to_z w32 (biased code % 4294967296 - 132) ≡ pos (mulaw_magnitude code)
-no_wrap code h =
-    let small : biased code < 32768 = biased-lt code h in
-    let e : biased code % 4294967296 ≡ biased code = omega arith in
-    let fits : biased code - 132 < 2147483648 = omega arith in
-    rw e (to_z_pos w32 (biased code - 132) fits)
 
 pub magnitude-lt : (byte : ℕ) → mulaw_magnitude ((255 - byte) % 128) < 32768
 magnitude-lt byte =
