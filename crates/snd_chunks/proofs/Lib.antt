@@ -1,4 +1,5 @@
 pub mod Chains
 pub mod Heads
+pub mod Stays
 pub mod Walks
 pub mod WrittenChunks
