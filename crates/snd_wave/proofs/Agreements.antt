@@ -14,12 +14,13 @@ use Rattle.snd_chunks.specs.declared.front.Front.{Front}
 use Rattle.snd_chunks.specs.Chunks.{chunk_at}
 use Rattle.snd_fields.specs.declared.field.Order.TheVariants.{Little}
 use Rattle.snd_layout.specs.Blocks.{is_adpcm}
+use Rattle.snd_layout.specs.Container.{is_in_some}
 use Rattle.snd_layout.specs.Format.{format_of}
 use Rattle.snd_layout.specs.Params.{Parameters}
 use Rattle.snd_layout.specs.Shape.{Shape}
 use Rattle.snd_layout.specs.declared.piece.Piece.{Piece}
 use Rattle.snd_wave.specs.Layout.{body_of, fact_chunk, format_chunk, front_refusal, has_id, inner_field, is_fact, is_joined, is_own, piece_of, pieces_of, side_field, wave_front, wave_shape, wave_tail}
-use Rattle.snd_wave.specs.Laws.{LayoutsAgree, SameButNumbers, SameHead, is_in, is_in_field, is_number}
+use Rattle.snd_wave.proofs.LayoutFacts.{LayoutsAgree, SameButNumbers, SameHead, is_among, is_number}
 use Rattle.snd_wave.proofs.Counts.{reached}
 use Rattle.snd_wave.proofs.Opens.{Opens, not_refused, opened, opens}
 
@@ -27,18 +28,18 @@ use Rattle.snd_wave.proofs.Opens.{Opens, not_refused, opened, opens}
 abbrev pub IsBeside : Option Chunk → ℕ → Type 0
 IsBeside fact i = (f : Chunk) → fact ≡ Some f → (i < f.at) ⊎ (f.at + 4 ≤ i)
 
-pub outside : (at size i : ℕ) → (i < at) ⊎ (at + size ≤ i) → is_in at size i ≡ false
+pub outside : (at size i : ℕ) → (i < at) ⊎ (at + size ≤ i) → is_among at size i ≡ false
 outside at size i (inl before) = and_left (nat_le at i) (nat_lt i (at + size)) (lt-leb at i before)
 outside at size i (inr behind) = and_right (nat_le at i) (nat_lt i (at + size)) (le-ltb i (at + size) behind)
 
-pub side_is : (p : Parameters) (fact : Option Chunk) (i : ℕ) → IsBeside fact i → is_in_field (side_field p fact) i ≡ false
+pub side_is : (p : Parameters) (fact : Option Chunk) (i : ℕ) → IsBeside fact i → is_in_some (side_field p fact) i ≡ false
 side_is p None i beside = elim (cases_Bool (is_adpcm p.codec)) [ inl is ↦ rw is refl | inr other ↦ rw other refl ]
 side_is p (Some fact) i beside = elim (cases_Bool (is_adpcm p.codec)) [
   | inl is ↦ rw is refl
   | inr other ↦ rw other (outside fact.at 4 i (beside fact refl))
 ]
 
-inner_is : (p : Parameters) (fact : Option Chunk) (sound : Chunk) (i : ℕ) → IsBeside fact i → i < sound.at - 4 → is_in (inner_field p fact sound).at 4 i ≡ false
+inner_is : (p : Parameters) (fact : Option Chunk) (sound : Chunk) (i : ℕ) → IsBeside fact i → i < sound.at - 4 → is_among (inner_field p fact sound).at 4 i ≡ false
 inner_is p None sound i beside before = elim (cases_Bool (is_adpcm p.codec)) [
   | inl is ↦ rw is (outside (sound.at - 4) 4 i (inl before))
   | inr other ↦ rw other (outside (sound.at - 4) 4 i (inl before))

@@ -1,34 +1,33 @@
 -- A file whose fields say a number of frames has its layout with so many frames.
-use Rattle.std.proofs.Common.{◌≡◌, ◌⊎◌, ℕ, ◌+◌, ◌-◌, ◌<◌, ◌≤◌, ◌^◌, List, [], ◌∷◌, ◌++◌, All, Bool, true, false, not, ◌&&◌, ◌||◌, Option, None, Some, Ok, length, take, drop, get_or, refl, sym, ap, subst, ◌∙◌, inl, inr, arith}
+use Rattle.std.proofs.Common.{◌≡◌, ◌⊎◌, ℕ, ◌+◌, ◌-◌, ◌<◌, ◌≤◌, ◌^◌, List, [], ◌∷◌, ◌++◌, All, Bool, true, false, not, ◌&&◌, ◌||◌, Option, None, Some, Ok, length, take, drop, get_or, refl, sym, ap, ◌∙◌, inl, inr, arith}
 use Rattle.std.proofs.Math.Nat.{div-mul-le_self}
-use Rattle.std.proofs.lemmas.Bool.{cases_Bool, le-leb, le-ltb, lt-ltb, or_from, or_parts, cases_lt}
-use Rattle.std.proofs.lemmas.List.{length-take, places}
+use Rattle.std.proofs.lemmas.Bool.{cases_Bool, le-leb, le-ltb, lt-ltb, ltb-false, or_from, or_parts, cases_lt}
+use Rattle.std.proofs.lemmas.List.{places}
 use Rattle.std.proofs.lemmas.List.Elements.{All-head, All-tail}
 use Rattle.std.proofs.lemmas.Slice.Eq.{bytes_eq-Decides}
 use Rattle.std.specs.List.{filter}
-use Rattle.std.specs.Prelude.{IfSome, codes, min}
+use Rattle.std.specs.Prelude.{IfSome, codes, min, nat_lt}
 use Rattle.snd_disk.specs.Runs.{HasAt}
 use Rattle.snd_chunks.proofs.Chains.{IsHead, is_head}
 use Rattle.snd_chunks.proofs.WrittenChunks.{has_left, has_number, has_right}
 use Rattle.snd_chunks.specs.declared.chunk.Chunk.{Chunk}
 use Rattle.snd_chunks.specs.Chunks.{padded_end}
 use Rattle.snd_fields.proofs.Numbers.{length-bytes_of}
-use Rattle.snd_fields.specs.Field.{bytes_of, number, with_field}
+use Rattle.snd_fields.specs.Field.{bytes_of, number}
 use Rattle.snd_fields.specs.declared.field.Order.TheVariants.{Little}
 use Rattle.snd_layout.proofs.Formats.{format_fits}
 use Rattle.snd_layout.specs.Blocks.{block_align, is_adpcm}
+use Rattle.snd_layout.specs.Container.{KeepsHead, counted_shape, is_in, is_in_fields, is_in_some}
 use Rattle.snd_layout.specs.Fit.{fit_refusal}
-use Rattle.snd_layout.specs.Params.{Parameters, data_bytes}
-use Rattle.snd_layout.specs.Shape.{Shape, room}
+use Rattle.snd_layout.specs.Params.{AreParams, Parameters, data_bytes}
+use Rattle.snd_layout.specs.Shape.{Shape}
 use Rattle.snd_layout.specs.declared.field.Field.{Field}
 use Rattle.snd_layout.specs.declared.kind.Kind.{Kind}
 use Rattle.snd_layout.specs.declared.kind.Kind.TheVariants.{Wave}
 use Rattle.snd_layout.specs.declared.piece.Piece.{Piece}
 use Rattle.snd_wave.specs.Layout.{body_of, fact_chunk, inner_field, is_joined, outer_end, wave_front, wave_layout, frame_count}
-use Rattle.snd_wave.specs.Images.{KeepsHead, NewCountReadsBack, OuterReaches, ValuesFillFields, ValuesStand, is_in_fields}
-use Rattle.snd_wave.specs.Laws.{FieldsStandApart, HoldsBlocks, SameButNumbers, SameHead, count_of, is_in, is_in_field, padded_data_end, pieces_before}
-use Rattle.snd_wave.specs.Sealed.{CountedReadsBack, CutReadsBack, MayBeCounted, RoomMayBeCounted, SealedReadsBack, counted_shape, put_in, with_values}
-use Rattle.snd_wave.specs.Values.{count_bytes, inner_value, outer_value, riff_size, side_value}
+use Rattle.snd_wave.proofs.LayoutFacts.{FieldsStandApart, HoldsBlocks, SameButNumbers, SameHead, count_of, is_among, padded_data_end, pieces_before}
+use Rattle.snd_wave.specs.Values.{count_bytes, inner_value, outer_value, riff_size}
 use Rattle.snd_wave.proofs.Agreements.{layouts_agree, outside}
 use Rattle.snd_wave.proofs.Counts.{count_is_stated, no_piece_behind, numbers_stand_before, reached, trailing_is_stated}
 use Rattle.snd_wave.proofs.Made.{counted}
@@ -36,7 +35,7 @@ use Rattle.snd_wave.proofs.Opens.{Opens, opens}
 use Rattle.snd_wave.proofs.Standing.{fields_are_apart}
 
 -- a place that is not in a field lies before it or behind it
-pub apart_of : (at size i : ℕ) → is_in at size i ≡ false → (i < at) ⊎ (at + size ≤ i)
+pub apart_of : (at size i : ℕ) → is_among at size i ≡ false → (i < at) ⊎ (at + size ≤ i)
 apart_of at size i out = elim (cases_lt i at) [
   | inl before ↦ inl before
   | inr from ↦ elim (cases_lt i (at + size)) [
@@ -46,19 +45,8 @@ apart_of at size i out = elim (cases_lt i at) [
 ]
 
 -- a place beside each field
-pub out_of_fields : (h : Shape) (i : ℕ) → is_in_field (Some h.inner) i ≡ false → is_in_field h.outer i ≡ false → is_in_field h.side i ≡ false → is_in_fields h i ≡ false
-out_of_fields h i inner outer side = or_from (is_in_field (Some h.inner) i || is_in_field h.outer i) (is_in_field h.side i) (or_from (is_in_field (Some h.inner) i) (is_in_field h.outer i) inner outer) side
-
--- what stands in a field, beside it, and how long the list is
-field_in : (b v : List ℕ) (at j : ℕ) → at + length v ≤ length b → j < length v → get_or (with_field b at v) (at + j) 0 ≡ get_or v j 0
-field_in b v at j within lt = grind (arith, places)
-
-field_out : (b v : List ℕ) (at i : ℕ) → at + length v ≤ length b → (i < at) ⊎ (at + length v ≤ i) → get_or (with_field b at v) i 0 ≡ get_or b i 0
-field_out b v at i within (inl before) = grind (arith, places)
-field_out b v at i within (inr behind) = grind (arith, places)
-
-length-field : (b v : List ℕ) (at : ℕ) → at + length v ≤ length b → length (with_field b at v) ≡ length b
-length-field b v at within = grind (arith, places)
+pub out_of_fields : (h : Shape) (i : ℕ) → is_in h.inner i ≡ false → is_in_some h.outer i ≡ false → is_in_some h.side i ≡ false → is_in_fields h i ≡ false
+out_of_fields h i inner outer side = or_from (is_in h.inner i || is_in_some h.outer i) (is_in_some h.side i) (or_from (is_in h.inner i) (is_in_some h.outer i) inner outer) side
 
 -- the field that decides the count has 4 bytes, or 12
 inner_sizes : (p : Parameters) (fact : Option Chunk) (sound : Chunk) → ((inner_field p fact sound).size ≡ 4) ⊎ ((inner_field p fact sound).size ≡ 12)
@@ -93,12 +81,22 @@ joined_parts x h n twelve ends has =
       has_right x h.inner.at (h.start - 8) (bytes_of Little 4 n) (codes "data") (omega (arith, twelve, ends)) front,
     )
 
+-- The fields of a file that does not go on behind its data may say so many frames: the data size has 32 bits, and in ADPCM so
+-- has the count, which is one field with it.
+pub record MaySay (b : List ℕ) (h : Shape) (n : ℕ) : Type 0 where
+  pub opened : wave_layout b ≡ Ok h
+  pub params : AreParams h.params
+  pub free : h.trailing ≡ false
+  pub few : data_bytes h.params n < 2 ^ 32
+  pub on_disk : h.start + data_bytes h.params n ≤ 2 ^ 63 - 8
+  pub counted : is_adpcm h.params.codec ≡ true → (n < 2 ^ 32) × (h.inner.size ≡ 12)
+
 -- a file has, before its data, the bytes of another but in the three fields; the one that decides the count says so many frames,
 -- and the whole ends by their data
-pub record Says (b : List ℕ) (h : Shape) (n : ℕ) (x : List ℕ) : Type 0 where
+pub record HasNew (b : List ℕ) (h : Shape) (n : ℕ) (x : List ℕ) : Type 0 where
   pub inner : HasAt x h.inner.at (inner_value h n)
   pub beside : KeepsHead h b x
-  pub long : padded_end h.start (data_bytes h.params n) ≤ length x
+  pub long : h.start + data_bytes h.params n ≤ length x
   pub ends : outer_end x ≤ padded_end h.start (data_bytes h.params n)
 
 -- what a layout says of its file: the identifier of the data stands before their size
@@ -111,7 +109,7 @@ pub record StandsIn (b : List ℕ) (h : Shape) : Type 0 where
   pub known : h.unknown_length ≡ false
   pub reserve : h.reserve ≡ None
 
-stands : (b : List ℕ) (h : Shape) → wave_layout b ≡ Ok h → StandsIn b h
+pub stands : (b : List ℕ) (h : Shape) → wave_layout b ≡ Ok h → StandsIn b h
 stands b h is =
     let from : Opens b (wave_front b) h = opens b h is in
     let reach = reached b from.sound from.sound_is in
@@ -164,18 +162,24 @@ all_before (piece ∷ pieces) all =
     let here : piece.after ≡ false = All-head (λ (p : Piece). p.after ≡ false) piece pieces all in
     kept_first (λ (p : Piece). not p.after) piece pieces (ap not here) ∙ ap (λ (l : List Piece). piece ∷ l) (all_before pieces (All-tail (λ (p : Piece). p.after ≡ false) piece pieces all))
 
-module _ (b x : List ℕ) (h : Shape) (n : ℕ) (may : MayBeCounted b h n) (says : Says b h n x) (apart : FieldsStandApart h) (there : StandsIn b h) where
+-- where a file does not go on behind its data, all pieces stand before them
+pieces_all : (b : List ℕ) (h : Shape) → wave_layout b ≡ Ok h → h.trailing ≡ false → pieces_before h ≡ h.pieces
+pieces_all b h is free =
+    let late : nat_lt (padded_data_end h (length b)) (outer_end b) ≡ false = sym (trailing_is_stated b h is) ∙ free in
+    all_before h.pieces (no_piece_behind b h is (ltb-false (padded_data_end h (length b)) (outer_end b) late))
+
+module _ (b x : List ℕ) (h : Shape) (n : ℕ) (may : MaySay b h n) (says : HasNew b h n x) (apart : FieldsStandApart h) (there : StandsIn b h) where
   same : SameButNumbers h x b
   same i before none =
-      let one = or_parts (is_in_field h.outer i || is_in_field h.side i || is_in h.inner.at 4 i) (is_in (h.start - 4) 4 i) none in
-      let two = or_parts (is_in_field h.outer i || is_in_field h.side i) (is_in h.inner.at 4 i) one.0 in
-      let three = or_parts (is_in_field h.outer i) (is_in_field h.side i) two.0 in
+      let one = or_parts (is_in_some h.outer i || is_in_some h.side i || is_among h.inner.at 4 i) (is_among (h.start - 4) 4 i) none in
+      let two = or_parts (is_in_some h.outer i || is_in_some h.side i) (is_among h.inner.at 4 i) one.0 in
+      let three = or_parts (is_in_some h.outer i) (is_in_some h.side i) two.0 in
       by_place (apart_of h.inner.at 4 i two.1) (apart_of (h.start - 4) 4 i one.1) three.0 three.1 there.sizes
     where
       in_middle : h.inner.size ≡ 12 → (j : ℕ) → i ≡ (h.start - 8) + j → j < 4 → get_or x i 0 ≡ get_or b i 0
       in_middle twelve j at lt = rw at ((joined_parts x h n twelve apart.start says.inner).1 j lt ∙ sym (there.sound j lt))
 
-      by_place : (i < h.inner.at) ⊎ (h.inner.at + 4 ≤ i) → (i < h.start - 4) ⊎ (h.start - 4 + 4 ≤ i) → is_in_field h.outer i ≡ false → is_in_field h.side i ≡ false → (h.inner.size ≡ 4) ⊎ (h.inner.size ≡ 12) → get_or x i 0 ≡ get_or b i 0
+      by_place : (i < h.inner.at) ⊎ (h.inner.at + 4 ≤ i) → (i < h.start - 4) ⊎ (h.start - 4 + 4 ≤ i) → is_in_some h.outer i ≡ false → is_in_some h.side i ≡ false → (h.inner.size ≡ 4) ⊎ (h.inner.size ≡ 12) → get_or x i 0 ≡ get_or b i 0
       by_place (inl early) last outer side sizes = says.beside i before (out_of_fields h i (outside h.inner.at h.inner.size i (inl early)) outer side)
       by_place (inr late) (inr behind) outer side sizes = absurd (omega arith)
       by_place (inr late) (inl first) outer side (inl four) = absurd (omega (arith, four, apart.start))
@@ -219,186 +223,35 @@ module _ (b x : List ℕ) (h : Shape) (n : ℕ) (may : MayBeCounted b h n) (says
     ends : outer_end x ≤ padded_data_end h' (length x)
     ends = omega (arith, data_reach, says.ends)
 
-    trailing : h'.trailing ≡ false
-    trailing = trailing_is_stated x h' is ∙ le-ltb (padded_data_end h' (length x)) (outer_end x) ends
+    trailing : h'.trailing ≡ h.trailing
+    trailing = trailing_is_stated x h' is ∙ le-ltb (padded_data_end h' (length x)) (outer_end x) ends ∙ sym may.free
 
-    pieces : h'.pieces ≡ pieces_before h
-    pieces = sym (all_before h'.pieces (no_piece_behind x h' is ends)) ∙ agrees.pieces
+    pieces : h'.pieces ≡ h.pieces
+    pieces = sym (all_before h'.pieces (no_piece_behind x h' is ends)) ∙ agrees.pieces ∙ pieces_all b h may.opened may.free
 
     shape_is : h' ≡ counted_shape h n
     unfolding shape_of_parts
     shape_is =
         let then : StandsIn x h' = stands x h' is in
-        by_parts h'.kind h.kind h'.params h.params h'.start h.start h'.frames n h'.declared (data_bytes h.params n) h'.inner h.inner h'.outer h.outer h'.side h.side h'.trailing false
-        h'.unknown_length h.unknown_length h'.reserve h.reserve h'.pieces (pieces_before h) agrees.kind agrees.params agrees.start frames declared agrees.inner agrees.outer agrees.side trailing
+        by_parts h'.kind h.kind h'.params h.params h'.start h.start h'.frames n h'.declared (data_bytes h.params n) h'.inner h.inner h'.outer h.outer h'.side h.side h'.trailing h.trailing
+        h'.unknown_length h.unknown_length h'.reserve h.reserve h'.pieces h.pieces agrees.kind agrees.params agrees.start frames declared agrees.inner agrees.outer agrees.side trailing
         (then.known ∙ sym there.known) (then.reserve ∙ sym there.reserve) pieces
 
-pub says_so : (b x : List ℕ) (h : Shape) (n : ℕ) → MayBeCounted b h n → Says b h n x → wave_layout x ≡ Ok (counted_shape h n)
+pub says_so : (b x : List ℕ) (h : Shape) (n : ℕ) → MaySay b h n → HasNew b h n x → wave_layout x ≡ Ok (counted_shape h n)
 says_so b x h n may says =
     let apart : FieldsStandApart h = fields_are_apart b h may.opened in
     let there : StandsIn b h = stands b h may.opened in
     let agreed = layouts_agree x b h may.opened (omega (arith, says.long)) (same b x h n may says apart there) in
     agreed.1 ∙ ap (λ (s : Shape). Ok s) (shape_is b x h n may says apart there agreed.0 agreed.1 agreed.2)
 
-pub new_count_reads_back : NewCountReadsBack
-new_count_reads_back b x h n may keeps inner long ends = says_so b x h n may (record { inner = inner; beside = keeps; long = long; ends = ends })
-
-pub outer_reaches : OuterReaches
+-- where the size of the whole is that of so many frames, the whole ends by their data
+pub outer_reaches : (x : List ℕ) (h : Shape) (n : ℕ) → 8 ≤ h.start → HasAt x 4 (outer_value h n) → outer_end x ≤ padded_end h.start (data_bytes h.params n)
 unfolding outer_value
 outer_reaches x h n early has =
     let read : number Little x 4 4 ≡ riff_size h.start (data_bytes h.params n) = has_number Little x 4 (riff_size h.start (data_bytes h.params n)) has (omega arith) in
     omega (arith, read, early)
 
--- what is put into the three fields stands there
-length-put_in : (side : Option Field) (v y : List ℕ) → IfSome side (λ field. field.at + length v ≤ length y) → length (put_in side v y) ≡ length y
-length-put_in None v y within = refl
-length-put_in (Some field) v y within = length-field y v field.at within
-
-put_beside : (side : Option Field) (n limit : ℕ) (y : List ℕ) (i : ℕ) → IfSome side (λ field. (field.size ≡ 4) × (20 ≤ field.at) × (field.at + 4 ≤ limit)) → limit ≤ length y
-    → ((field : Field) → side ≡ Some field → (i < field.at) ⊎ (field.at + 4 ≤ i)) → get_or (put_in side (count_bytes side n) y) i 0 ≡ get_or y i 0
-put_beside None n limit y i stands within beside = refl
-put_beside (Some field) n limit y i stands within beside = field_out y (bytes_of Little 4 n) field.at i (omega (arith, stands.2, within)) (beside field refl)
-
-side_within : (side : Option Field) (n limit : ℕ) → IfSome side (λ field. (field.size ≡ 4) × (20 ≤ field.at) × (field.at + 4 ≤ limit)) → (y : List ℕ) → limit ≤ length y
-    → length (put_in side (count_bytes side n) y) ≡ length y
-side_within None n limit stands y within = refl
-side_within (Some field) n limit stands y within = length-field y (bytes_of Little 4 n) field.at (omega (arith, stands.2, within))
-
-side_in : (side : Option Field) (n limit : ℕ) (y : List ℕ) → IfSome side (λ field. (field.size ≡ 4) × (20 ≤ field.at) × (field.at + 4 ≤ limit)) → limit ≤ length y
-    → IfSome side (λ field. HasAt (put_in side (count_bytes side n) y) field.at (count_bytes side n))
-side_in None n limit y stands within = tt
-side_in (Some field) n limit y stands within = λ j lt. field_in y (bytes_of Little 4 n) field.at j (omega (arith, stands.2, within)) lt
-
-side_fills : (side : Option Field) (n limit : ℕ) → IfSome side (λ field. (field.size ≡ 4) × (20 ≤ field.at) × (field.at + 4 ≤ limit)) → IfSome side (λ field. length (count_bytes side n) ≡ field.size)
+-- the count that is not read fills its field
+pub side_fills : (side : Option Field) (n limit : ℕ) → IfSome side (λ field. (field.size ≡ 4) × (20 ≤ field.at) × (field.at + 4 ≤ limit)) → IfSome side (λ field. length (count_bytes side n) ≡ field.size)
 side_fills None n limit stands = tt
 side_fills (Some field) n limit stands = length-bytes_of Little 4 n ∙ sym stands.0
-
-side_early : (side : Option Field) (limit i : ℕ) → IfSome side (λ field. (field.size ≡ 4) × (20 ≤ field.at) × (field.at + 4 ≤ limit)) → (i < 20) ⊎ (limit ≤ i) → (field : Field) → side ≡ Some field → (i < field.at) ⊎ (field.at + 4 ≤ i)
-side_early None limit i stands place field is = absurd (cc)
-side_early (Some f) limit i stands place field is = by_place place (ap (λ (s : Option Field). at_of s) is)
-  where
-    at_of : Option Field → ℕ
-    at_of None = 0
-    at_of (Some g) = g.at
-
-    by_place : (i < 20) ⊎ (limit ≤ i) → f.at ≡ field.at → (i < field.at) ⊎ (field.at + 4 ≤ i)
-    by_place (inl early) same = inl (omega (arith, stands.1, same))
-    by_place (inr late) same = inr (omega (arith, stands.2, same))
-
-side_out : (side : Option Field) (limit i : ℕ) → IfSome side (λ field. (field.size ≡ 4) × (20 ≤ field.at) × (field.at + 4 ≤ limit)) → is_in_field side i ≡ false → (field : Field) → side ≡ Some field → (i < field.at) ⊎ (field.at + 4 ≤ i)
-side_out None limit i stands out field is = absurd (cc)
-side_out (Some f) limit i stands out field is =
-    let same : f ≡ field = cc in
-    let four : f.size ≡ 4 = stands.0 in
-    let four_too : field.size ≡ 4 = rw same at four in
-    let out_too : is_in field.at field.size i ≡ false = rw same at out in
-    apart_of field.at 4 i (rw four_too at out_too)
-
-module _ (b : List ℕ) (h : Shape) (n : ℕ) (apart : FieldsStandApart h) (there : StandsIn b h) where
-  abbrev first : List ℕ
-  first = with_field b h.inner.at (inner_value h n)
-
-  abbrev second : List ℕ
-  second = with_field first 4 (outer_value h n)
-
-  inner_long : length (inner_value h n) ≡ h.inner.size
-  inner_long = length-inner_value h n there.sizes
-
-  inner_fits : h.inner.at + length (inner_value h n) ≤ length b
-  inner_fits = omega (arith, inner_long, apart.start, there.within)
-
-  first_long : length first ≡ length b
-  first_long = length-field b (inner_value h n) h.inner.at inner_fits
-
-  outer_long : length (outer_value h n) ≡ 4
-  unfolding outer_value
-  outer_long = refl
-
-  outer_fits : 4 + length (outer_value h n) ≤ length first
-  outer_fits = omega (arith, outer_long, first_long, apart.inner, apart.start, there.within)
-
-  second_long : length second ≡ length b
-  second_long = length-field first (outer_value h n) 4 outer_fits ∙ first_long
-
-  values_are : with_values b h n ≡ put_in h.side (count_bytes h.side n) second
-  unfolding with_values side_value
-  values_are = rw apart.outer refl
-
-  value_at : (i : ℕ) → ((field : Field) → h.side ≡ Some field → (i < field.at) ⊎ (field.at + 4 ≤ i)) → get_or (with_values b h n) i 0 ≡ get_or second i 0
-  value_at i beside = ap (λ (l : List ℕ). get_or l i 0) values_are ∙ put_beside h.side n h.inner.at second i apart.side (omega (arith, second_long, apart.start, there.within)) beside
-
-  inner_there : HasAt (with_values b h n) h.inner.at (inner_value h n)
-  inner_there j lt =
-      value_at (h.inner.at + j) (side_early h.side h.inner.at (h.inner.at + j) apart.side (inr (omega arith)))
-      ∙ field_out first (outer_value h n) 4 (h.inner.at + j) outer_fits (inr (omega (arith, outer_long, apart.inner)))
-      ∙ field_in b (inner_value h n) h.inner.at j inner_fits lt
-
-  outer_there : HasAt (with_values b h n) 4 (outer_value h n)
-  outer_there j lt =
-      value_at (4 + j) (side_early h.side h.inner.at (4 + j) apart.side (inl (omega (arith, outer_long, lt))))
-      ∙ field_in first (outer_value h n) 4 j outer_fits lt
-
-  side_there : IfSome h.side (λ field. HasAt (with_values b h n) field.at (side_value h n))
-  unfolding side_value
-  side_there = rw values_are (side_in h.side n h.inner.at second apart.side (omega (arith, second_long, apart.start, there.within)))
-
-  beside_there : (i : ℕ) → is_in_fields h i ≡ false → get_or (with_values b h n) i 0 ≡ get_or b i 0
-  beside_there i none =
-      let one = or_parts (is_in_field (Some h.inner) i || is_in_field h.outer i) (is_in_field h.side i) none in
-      let two = or_parts (is_in_field (Some h.inner) i) (is_in_field h.outer i) one.0 in
-      let out : is_in 4 4 i ≡ false = rw apart.outer at two.1 in
-      let beside : (i < h.inner.at) ⊎ (h.inner.at + length (inner_value h n) ≤ i) = elim (apart_of h.inner.at h.inner.size i two.0) [ inl before ↦ inl before | inr behind ↦ inr (omega (arith, inner_long, behind)) ] in
-      let place : (i < 4) ⊎ (4 + length (outer_value h n) ≤ i) = elim (apart_of 4 4 i out) [ inl before ↦ inl before | inr behind ↦ inr (omega (arith, outer_long)) ] in
-      value_at i (side_out h.side h.inner.at i apart.side one.1)
-      ∙ field_out first (outer_value h n) 4 i outer_fits place
-      ∙ field_out b (inner_value h n) h.inner.at i inner_fits beside
-
-pub counted_reads_back : CountedReadsBack
-counted_reads_back b x h n may same long =
-    let apart : FieldsStandApart h = fields_are_apart b h may.opened in
-    let there : StandsIn b h = stands b h may.opened in
-    let inner_long = length-inner_value h n there.sizes in
-    let outer : HasAt x 4 (outer_value h n) = λ j lt. same (4 + j) (omega (arith, outer_long b h n apart there, apart.inner, apart.start, lt)) ∙ outer_there b h n apart there j lt in
-    new_count_reads_back b x h n may (λ i lt out. same i lt ∙ beside_there b h n apart there i out)
-    (λ j lt. same (h.inner.at + j) (omega (arith, inner_long, apart.start, lt)) ∙ inner_there b h n apart there j lt) long
-    (outer_reaches x h n (omega (arith, apart.inner, apart.start)) outer)
-
-pub values_stand : ValuesStand
-values_stand b h n is =
-    let apart : FieldsStandApart h = fields_are_apart b h is in
-    let there : StandsIn b h = stands b h is in
-    record { inner = inner_there b h n apart there; outer = subst (λ (o : Option Field). IfSome o (λ field. HasAt (with_values b h n) field.at (outer_value h n))) (sym apart.outer) (outer_there b h n apart there); side = side_there b h n apart there }
-
-pub values_fill_fields : ValuesFillFields
-unfolding side_value
-values_fill_fields b h n is =
-    let apart : FieldsStandApart h = fields_are_apart b h is in
-    let there : StandsIn b h = stands b h is in
-    record { inner = inner_long b h n apart there; outer = subst (λ (o : Option Field). IfSome o (λ field. length (outer_value h n) ≡ field.size)) (sym apart.outer) (outer_long b h n apart there); side = side_fills h.side n h.inner.at apart.side }
-
-pub room_may_be_counted : RoomMayBeCounted
-room_may_be_counted b h n is good fits few early joined =
-    let apart : FieldsStandApart h = fields_are_apart b h is in
-    let limit : room h ≡ 2 ^ 32 + 6 - h.start = rw fits.kind refl in
-    let short : data_bytes h.params n < 2 ^ 32 = omega (arith, fits.in_room, limit, few, apart.inner, apart.start) in
-    record { opened = is; params = good; few = short; on_disk = omega (arith, early, short); counted = λ adpcm. (fits.counted adpcm, joined adpcm) }
-
-values_long : (b : List ℕ) (h : Shape) (n : ℕ) → wave_layout b ≡ Ok h → length (with_values b h n) ≡ length b
-values_long b h n is =
-    let apart : FieldsStandApart h = fields_are_apart b h is in
-    let there : StandsIn b h = stands b h is in
-    let same = second_long b h n apart there in
-    ap length (values_are b h n apart there) ∙ side_within h.side n h.inner.at apart.side (second b h n apart there) (omega (arith, same, apart.start, there.within)) ∙ same
-
-pub sealed_reads_back : SealedReadsBack
-sealed_reads_back b h n may long = counted_reads_back b (with_values b h n) h n may (λ i before. refl) (omega (arith, values_long b h n may.opened, long))
-
-front_at : (k i : ℕ) (l : List ℕ) → i < k → get_or (take k l) i 0 ≡ get_or l i 0
-front_at k i l lt = grind (arith, places)
-
-pub cut_reads_back : CutReadsBack
-cut_reads_back b h n may long =
-    let whole = values_long b h n may.opened in
-    counted_reads_back b (take (padded_end h.start (data_bytes h.params n)) (with_values b h n)) h n may
-    (λ i before. front_at (padded_end h.start (data_bytes h.params n)) i (with_values b h n) (omega arith))
-    (omega (arith, whole, long, length-take (padded_end h.start (data_bytes h.params n)) (with_values b h n)))

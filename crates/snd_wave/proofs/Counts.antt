@@ -19,7 +19,7 @@ use Rattle.snd_layout.specs.Params.{Parameters}
 use Rattle.snd_layout.specs.Shape.{Shape}
 use Rattle.snd_layout.specs.declared.piece.Piece.{Piece}
 use Rattle.snd_wave.specs.Layout.{data_end, fact_chunk, fact_count, frame_count, held, inner_field, is_joined, is_own, outer_end, piece_of, pieces_of, wave_front, wave_shape, wave_tail, whole_frames}
-use Rattle.snd_wave.specs.Laws.{CountIsStated, HoldsBlocks, NoPieceBehind, NumbersStandBefore, TrailingIsStated, count_of}
+use Rattle.snd_wave.proofs.LayoutFacts.{CountIsStated, HoldsBlocks, NoPieceBehind, NumbersStandBefore, TrailingIsStated, count_of}
 use Rattle.snd_wave.proofs.Opens.{Opens, opens}
 
 -- as many whole blocks are in a part that has all of them

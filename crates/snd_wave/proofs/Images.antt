@@ -1,26 +1,27 @@
 -- What a file says that has kept the field that decides its count, or all but its data.
-use Rattle.std.proofs.Common.{◌≡◌, ℕ, zero, suc, ◌+◌, ◌-◌, ◌<◌, ◌≤◌, List, [], ◌++◌, ◌∷◌, All, ◌*◌, ◌^◌, Bool, true, false, ◌||◌, Option, None, Some, Ok, length, take, drop, get_or, refl, sym, ap, ◌∙◌, inl, inr, arith}
-use Rattle.std.proofs.lemmas.Bool.{cases_Bool, cases_lt, le-ltb, lt-leb, ltb-false, or_parts}
-use Rattle.std.specs.Prelude.{codes, nat_le, nat_lt, option_map}
+use Rattle.std.proofs.Common.{◌≡◌, ◌⊎◌, ℕ, ◌+◌, ◌-◌, ◌<◌, ◌≤◌, List, ◌++◌, All, ◌*◌, ◌^◌, Bool, true, false, ◌||◌, Option, None, Some, Ok, length, get_or, refl, sym, ap, ◌∙◌, inl, inr, arith}
+use Rattle.std.proofs.lemmas.Bool.{cases_Bool, cases_lt, le-ltb, ltb-false, or_parts}
+use Rattle.std.specs.Prelude.{codes, nat_lt, option_map}
 use Rattle.snd_disk.specs.Runs.{HasFieldOf}
-use Rattle.snd_chunks.proofs.Chains.{IsChain, IsHead, Reaches, in_order, is_head, same_chunk, same_number_at, same_part}
+use Rattle.snd_chunks.proofs.Chains.{IsHead, Reaches, in_order, is_head, same_chunk, same_number_at}
+use Rattle.snd_chunks.proofs.Stays.{chain_end, tail_from_same}
 use Rattle.snd_chunks.specs.declared.chunk.Chunk.{Chunk}
 use Rattle.snd_chunks.specs.declared.front.Ending.TheVariants.{AtSound}
 use Rattle.snd_chunks.specs.declared.front.Front.{Front}
-use Rattle.snd_chunks.specs.Chunks.{chunk_at, padded_end, tail, tail_from}
+use Rattle.snd_chunks.specs.Chunks.{chunk_at, padded_end, tail}
 use Rattle.snd_fields.proofs.Numbers.{number_fits}
 use Rattle.snd_fields.specs.Field.{number}
 use Rattle.snd_fields.specs.Laws.{IsByte}
 use Rattle.snd_fields.specs.declared.field.Order.TheVariants.{Little}
 use Rattle.snd_layout.proofs.Formats.{format_fits}
 use Rattle.snd_layout.specs.Blocks.{is_adpcm}
+use Rattle.snd_layout.specs.Container.{HoldDeclared, KeepsHead, is_in_some}
 use Rattle.snd_layout.specs.Fit.{fit_refusal}
 use Rattle.snd_layout.specs.Format.{format_of}
 use Rattle.snd_layout.specs.Params.{AreParams, Parameters}
 use Rattle.snd_layout.specs.Shape.{Shape, end}
 use Rattle.snd_layout.specs.declared.kind.Kind.TheVariants.{Wave}
-use Rattle.snd_wave.specs.Images.{KeepsHead, OldCountReadsBack, OuterStops, SameOutsideDataReadsBack}
-use Rattle.snd_wave.specs.Laws.{FieldsStandApart, SameButNumbers, is_in, is_in_field, padded_data_end}
+use Rattle.snd_wave.proofs.LayoutFacts.{FieldsStandApart, SameButNumbers, is_among, padded_data_end}
 use Rattle.snd_wave.specs.Layout.{body_of, data_end, fact_chunk, fact_count, format_chunk, frame_count, front_refusal, held, outer_end, pieces_of, side_field, wave_front, wave_layout, wave_shape, wave_tail}
 use Rattle.snd_wave.proofs.Agreements.{front_same, opens_too, outside, side_is, sound_same}
 use Rattle.snd_wave.proofs.Counted.{out_of_fields}
@@ -31,7 +32,7 @@ use Rattle.snd_wave.proofs.Standing.{StandsBefore, fields_are_apart, stands_befo
 
 -- before the data, every byte beside the size of the whole and the count that is not read is that of a file
 abbrev pub KeepsCount : Shape → List ℕ → List ℕ → Type 0
-KeepsCount h file x = (i : ℕ) → i < h.start → is_in_field h.outer i ≡ false → is_in_field h.side i ≡ false → get_or x i 0 ≡ get_or file i 0
+KeepsCount h file x = (i : ℕ) → i < h.start → is_in_some h.outer i ≡ false → is_in_some h.side i ≡ false → get_or x i 0 ≡ get_or file i 0
 
 -- then the layout is made from the same parts
 record Stays (x y : List ℕ) (h : Shape) : Type 0 where
@@ -41,7 +42,7 @@ record Stays (x y : List ℕ) (h : Shape) : Type 0 where
   new : wave_layout x ≡ Ok (wave_shape x (wave_front y) params sound)
   count : (bytes : ℕ) → frame_count params bytes (option_map (fact_count x) (fact_chunk (wave_front y).chunks)) ≡ frame_count params bytes (option_map (fact_count y) (fact_chunk (wave_front y).chunks))
 
-not_side : (p : Parameters) (fact : Option Chunk) (i : ℕ) → is_adpcm p.codec ≡ true → is_in_field (side_field p fact) i ≡ false
+not_side : (p : Parameters) (fact : Option Chunk) (i : ℕ) → is_adpcm p.codec ≡ true → is_in_some (side_field p fact) i ≡ false
 not_side p fact i adpcm = rw adpcm refl
 
 -- in other codecs than ADPCM the count of a `fact` does not count
@@ -70,9 +71,9 @@ module _ (x y : List ℕ) (p : Parameters) (sound : Chunk) (same : KeepsCount (w
   -- the numbers are at some of the places that may change
   but_numbers : SameButNumbers shape x y
   but_numbers i lt none =
-      let one = or_parts (is_in_field shape.outer i || is_in_field shape.side i || is_in shape.inner.at 4 i) (is_in (shape.start - 4) 4 i) none in
-      let two = or_parts (is_in_field shape.outer i || is_in_field shape.side i) (is_in shape.inner.at 4 i) one.0 in
-      let three = or_parts (is_in_field shape.outer i) (is_in_field shape.side i) two.0 in
+      let one = or_parts (is_in_some shape.outer i || is_in_some shape.side i || is_among shape.inner.at 4 i) (is_among (shape.start - 4) 4 i) none in
+      let two = or_parts (is_in_some shape.outer i || is_in_some shape.side i) (is_among shape.inner.at 4 i) one.0 in
+      let three = or_parts (is_in_some shape.outer i) (is_in_some shape.side i) two.0 in
       same i lt three.0 three.1
 
   stands : (f : Chunk) → fact ≡ Some f → StandsBefore sound f
@@ -148,22 +149,13 @@ frames_end b h is good =
     let few = counted_bytes from.params (held (length b) from.sound) (option_map (fact_count b) (fact_chunk (wave_front b).chunks)) good_too fits in
     rw from.shape (omega (arith, few))
 
--- in a file of bytes the chunks before the data are few and small
-chain_end : (b id : List ℕ) (limit p q : ℕ) (chunks : List Chunk) → All IsByte b → IsChain (chunk_at Little b) id limit p chunks q → q ≤ p + length chunks * 2 ^ 33
-chain_end b id limit p q [] bytes chain = omega (arith, chain)
-chain_end b id limit p q (chunk ∷ chunks) bytes chain =
-    let head : IsHead Little b p chunk = is_head Little b p chunk chain.0.at in
-    let few : number Little b (p + 4) 4 < 2 ^ 32 = number_fits Little b (p + 4) 4 bytes in
-    let rest : q ≤ chunk.next + length chunks * 2 ^ 33 = chain_end b id limit chunk.next q chunks bytes chain.1 in
-    omega (arith, head.at, head.len, head.next, few, rest)
-
--- so that these begin early, and are declared with 32 bits
+-- in a file of bytes they begin early, and are declared with 32 bits
 pub few_before : (b : List ℕ) (h : Shape) → All IsByte b → wave_layout b ≡ Ok h → (h.declared < 2 ^ 32) × (h.start < 2 ^ 42)
 few_before b h bytes is =
     let from : Opens b (wave_front b) h = opens b h is in
     let reach = reached b from.sound from.sound_is in
     let head : IsHead Little b reach.last from.sound = is_head Little b reach.last from.sound reach.at in
-    let near : reach.last ≤ 12 + length (wave_front b).chunks * 2 ^ 33 = chain_end b (codes "data") (length b) 12 reach.last (wave_front b).chunks bytes reach.chain in
+    let near : reach.last ≤ 12 + length (wave_front b).chunks * 2 ^ 33 = chain_end Little b (codes "data") (length b) 12 reach.last (wave_front b).chunks bytes reach.chain in
     let start : h.start ≡ from.sound.at = ap (λ (s : Shape). s.start) from.shape in
     let few : number Little b (h.start - 4) 4 < 2 ^ 32 = number_fits Little b (h.start - 4) 4 bytes in
     (omega (arith, (numbers_stand_before b h is).0, few), omega (arith, start, near, head.at, reach.few))
@@ -185,18 +177,21 @@ keeps_count b x h keeps inner i lt outer side = elim (cases_lt i h.inner.at) [
   ]
 ]
 
-pub outer_stops : OuterStops
+-- the whole of a file that does not go on behind its data ends by those that it declares
+pub outer_stops : (b : List ℕ) (h : Shape) → wave_layout b ≡ Ok h → h.trailing ≡ false → outer_end b ≤ padded_end h.start h.declared
 outer_stops b h is free =
     let ends : outer_end b ≤ padded_data_end h (length b) = ltb-false (padded_data_end h (length b)) (outer_end b) (sym (trailing_is_stated b h is) ∙ free) in
     omega (arith, ends)
 
-pub old_count_reads_back : OldCountReadsBack
-old_count_reads_back b x h is free hold keeps inner ends =
+pub old_count_reads_back : (b x : List ℕ) (h : Shape) → wave_layout b ≡ Ok h → All IsByte b → h.trailing ≡ false → HoldDeclared h b x → KeepsHead h b x → HasFieldOf x b h.inner.at h.inner.size
+    → outer_end x ≤ padded_end h.start h.declared → wave_layout x ≡ Ok h
+old_count_reads_back b x h is bytes free hold keeps inner ends =
+    let few = few_before b h bytes is in
     let there : Stays x b h = stays x b h is (omega (arith, hold.new)) (keeps_count b x h keeps inner) in
     let start : h.start ≡ there.sound.at = ap (λ (s : Shape). s.start) there.old in
     let declared : h.declared ≡ there.sound.len = ap (λ (s : Shape). s.declared) there.old in
-    let in_x : held (length x) there.sound ≡ there.sound.len = omega (arith, start, declared, hold.new, hold.on_disk) in
-    let in_b : held (length b) there.sound ≡ there.sound.len = omega (arith, start, declared, hold.old, hold.on_disk) in
+    let in_x : held (length x) there.sound ≡ there.sound.len = omega (arith, start, declared, hold.new, few.0, few.1) in
+    let in_b : held (length b) there.sound ≡ there.sound.len = omega (arith, start, declared, hold.old, few.0, few.1) in
     let by_x : outer_end x ≤ data_end x there.sound = omega (arith, ends, in_x, start, declared) in
     let by_b : outer_end b ≤ data_end b there.sound = omega (arith, outer_stops b h is free, in_b, start, declared) in
     let front : Front = wave_front b in
@@ -208,37 +203,8 @@ old_count_reads_back b x h is free hold keeps inner ends =
 
 -- ---- all but the data
 
--- where two files have one length, and the same bytes from a place on, they have there the same chunks
-chunk_from : (x y : List ℕ) (p : ℕ) → length x ≡ length y → ((i : ℕ) → p ≤ i → get_or x i 0 ≡ get_or y i 0) → chunk_at Little x p ≡ chunk_at Little y p
-chunk_from x y p long same = elim (cases_lt (length y) (p + 8)) [
-  | inl past ↦
-      let in_x : nat_le (p + 8) (length x) ≡ false = lt-leb (p + 8) (length x) (omega (arith, past, long)) in
-      let in_y : nat_le (p + 8) (length y) ≡ false = lt-leb (p + 8) (length y) past in
-      rw (in_x, in_y) refl
-  | inr within ↦
-      let id : take 4 (drop p x) ≡ take 4 (drop p y) = same_part 4 p x y (omega (arith, within, long)) (omega (arith, within)) (λ i from to. same i from) in
-      let size : number Little x (p + 4) 4 ≡ number Little y (p + 4) 4 = same_number_at Little 4 (p + 4) x y (λ i from to. same i (omega (arith, from))) in
-      rw (long, id, size) refl
-]
-
-tail_from_same : (x y : List ℕ) (limit n p : ℕ) → length x ≡ length y → ((i : ℕ) → p ≤ i → get_or x i 0 ≡ get_or y i 0) → tail (chunk_at Little x) limit n p ≡ tail (chunk_at Little y) limit n p
-unfolding tail
-tail_from_same x y limit zero p long same = refl
-tail_from_same x y limit (suc n) p long same =
-    ap (λ (o : Option Chunk). tail_from limit o (tail (chunk_at Little x) limit n)) (chunk_from x y p long same)
-    ∙ one (chunk_at Little y p) refl (λ q le. tail_from_same x y limit n q long (λ i from. same i (omega (arith, le, from))))
-  where
-    one : (o : Option Chunk) → chunk_at Little y p ≡ o → ((q : ℕ) → p ≤ q → tail (chunk_at Little x) limit n q ≡ tail (chunk_at Little y) limit n q)
-        → tail_from limit o (tail (chunk_at Little x) limit n) ≡ tail_from limit o (tail (chunk_at Little y) limit n)
-    one None is rest = refl
-    one (Some chunk) is rest = elim (cases_Bool (nat_le (chunk.at + chunk.len) limit)) [
-      | inl ends ↦
-          let head : IsHead Little y p chunk = is_head Little y p chunk is in
-          rw ends (ap (λ (l : List Chunk). chunk ∷ l) (rest chunk.next (omega (arith, head.at, head.next))))
-      | inr runs ↦ rw runs refl
-    ]
-
-pub same_outside_data_reads_back : SameOutsideDataReadsBack
+pub same_outside_data_reads_back : (b x : List ℕ) (h : Shape) → wave_layout b ≡ Ok h → length x ≡ length b
+    → ((i : ℕ) → (i < h.start) ⊎ (padded_data_end h (length b) ≤ i) → get_or x i 0 ≡ get_or b i 0) → wave_layout x ≡ Ok h
 same_outside_data_reads_back b x h is long same =
     let apart : FieldsStandApart h = fields_are_apart b h is in
     let there : Stays x b h = stays x b h is (omega (arith, long, start_within b h is)) (λ i lt outer side. same i (inl lt)) in
@@ -251,7 +217,7 @@ same_outside_data_reads_back b x h is long same =
     let behind : wave_tail x front there.sound ≡ wave_tail b front there.sound =
     ap (λ (n : ℕ). tail (chunk_at Little x) n most (data_end x there.sound)) outer
     ∙ ap (λ (n : ℕ). tail (chunk_at Little x) (outer_end b) most n) ends
-    ∙ tail_from_same x b (outer_end b) most (data_end b there.sound) long (λ i from. same i (inr (omega (arith, reach, from)))) in
+    ∙ tail_from_same Little x b (outer_end b) most (data_end b there.sound) long (λ i from. same i (inr (omega (arith, reach, from)))) in
     there.new
     ∙ ap (λ (s : Shape). Ok s) (same_shape x b front there.params there.sound
     (ap (λ (n : ℕ). frame_count there.params (held n there.sound) (option_map (fact_count x) (fact_chunk front.chunks))) long ∙ there.count (held (length b) there.sound))

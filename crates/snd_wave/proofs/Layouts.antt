@@ -1,5 +1,5 @@
 -- The layout of a file, from its parts.
-use Rattle.std.proofs.Common.{◌≡◌, ℕ, ◌+◌, ◌≤◌, List, All, Option, None, Some, Ok, Err, length, refl, sym, ap, ◌∙◌, arith}
+use Rattle.std.proofs.Common.{◌≡◌, ℕ, ◌+◌, ◌≤◌, List, All, Option, None, Some, Ok, Err, length, refl, sym, ap, ◌∙◌}
 use Rattle.std.proofs.lemmas.Bool.{and_parts, leb-true}
 use Rattle.std.specs.Prelude.{IfSome, Result, codes, nat_le, option_map}
 use Rattle.snd_chunks.proofs.Chains.{find_has}
@@ -17,7 +17,7 @@ use Rattle.snd_layout.specs.declared.piece.Piece.{Piece}
 use Rattle.snd_layout.specs.declared.refusal.OpenRefusal.{OpenRefusal}
 use Rattle.snd_wave.specs.declared.ends.Ends.{Ends}
 use Rattle.snd_wave.specs.declared.parts.Parts.{Parts}
-use Rattle.snd_wave.specs.Layout.{body_of, fact_chunk, fact_count, front_refusal, held, is_fact, wave_front, wave_layout, with_format}
+use Rattle.snd_wave.specs.Layout.{body_of, fact_chunk, fact_count, front_refusal, is_fact, wave_front, wave_layout, with_format}
 use Rattle.snd_wave.specs.Parts.{AreParts, ArePlaced, IsFact, all_pieces, ends_of, shape_of, with_params}
 
 pub built : (b : List ℕ) (front : Front) (parts : Parts) (p : Parameters) (r : Result Parameters OpenRefusal) (count : Option ℕ) (ends : Ends) (pieces : List Piece) (layout : Shape)
@@ -25,9 +25,6 @@ pub built : (b : List ℕ) (front : Front) (parts : Parts) (p : Parameters) (r :
     → layout ≡ shape_of p parts count ends pieces → with_params b front parts r ≡ Ok layout
 built b front parts p r count ends pieces layout params counted ended found is =
     rw params (ap (λ (s : Shape). Ok s) (sym (is ∙ rw (found, ended, counted) refl)))
-
-pub held_few : (size : ℕ) (sound : Chunk) → held size sound ≤ sound.len
-held_few size sound = omega arith
 
 fact_placed : (chunks : List Chunk) (sound : Chunk) (fact : Option Chunk) → fact ≡ fact_chunk chunks → All (λ chunk. chunk.at + chunk.len + 8 ≤ sound.at) chunks → IfSome fact (IsFact sound)
 fact_placed chunks sound None is before = tt

@@ -1,15 +1,20 @@
 mod Bodies
 pub mod Agreements
 pub mod Answered
+pub mod ByteValues
 pub mod Changed
+pub mod Contained
 pub mod Counted
 pub mod Counts
-pub mod Standing
 pub mod HeadValues
 pub mod Images
+pub mod KeptPieces
+pub mod LayoutFacts
 pub mod Layouts
+pub mod Lies
 pub mod Made
 pub mod MadeParts
+pub mod NewFiles
 pub mod NewHeads
 pub mod Opens
 pub mod PlainHeads
@@ -18,3 +23,5 @@ pub mod Putting
 pub mod Relaying
 pub mod Shapes
 pub mod Sizes
+pub mod Standing
+pub mod Widths

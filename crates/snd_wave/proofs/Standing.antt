@@ -9,7 +9,7 @@ use Rattle.snd_fields.specs.declared.field.Order.TheVariants.{Little}
 use Rattle.snd_layout.specs.Blocks.{is_adpcm}
 use Rattle.snd_layout.specs.Params.{Parameters}
 use Rattle.snd_wave.specs.Layout.{fact_chunk, has_id, inner_field, is_fact, is_joined, side_field, wave_front}
-use Rattle.snd_wave.specs.Laws.{FieldsAreApart}
+use Rattle.snd_wave.proofs.LayoutFacts.{FieldsAreApart}
 use Rattle.snd_wave.proofs.Counts.{reached}
 use Rattle.snd_wave.proofs.Opens.{Opens, opens}
 

@@ -1,10 +1,9 @@
 pub mod Layout
+pub mod Container
 pub mod Parts
-pub mod Laws
 pub mod Values
 pub mod Written
 pub mod Sealed
-pub mod Images
 pub mod Put
 pub mod Relaid
 pub mod Changes

@@ -10,7 +10,7 @@ use Rattle.snd_fields.specs.declared.field.Order.TheVariants.{Little}
 use Rattle.snd_layout.specs.Format.{format_of}
 use Rattle.snd_layout.specs.Opened.{EndsIn}
 use Rattle.snd_layout.specs.Params.{Parameters}
-use Rattle.snd_layout.specs.Shape.{Shape, end}
+use Rattle.snd_layout.specs.Shape.{Shape, end, room}
 use Rattle.snd_layout.specs.declared.kind.Kind.TheVariants.{Wave}
 use Rattle.snd_layout.specs.declared.piece.Piece.{Piece}
 use Rattle.snd_layout.specs.declared.refusal.OpenRefusal.{OpenRefusal}
@@ -72,10 +72,10 @@ with_params b front parts (Ok p) = Ok (shape_of p parts (option_map (fact_count 
 abbrev pub layout_with : List ℕ → Front → Parts → Result Shape OpenRefusal
 layout_with b front parts = with_params b front parts (format_of (body_of b parts.format))
 
--- the data and the pieces end within a file of so many bytes; the declared size has four bytes, and the chunks before the
--- data are so few and so small that the data begin early
+-- the data and the pieces end within a file of so many bytes; the declared size has four bytes, and data for which the head has
+-- room end on a disk
 pub record IsHeld (size : ℕ) (layout : Shape) : Type 0 where
   pub sound : end layout layout.frames ≤ size
   pub pieces : All (EndsIn size) layout.pieces
   pub declared : layout.declared < 2 ^ 32
-  pub early : layout.start < 2 ^ 42
+  pub room_ends : layout.start + room layout + 8 ≤ 2 ^ 63

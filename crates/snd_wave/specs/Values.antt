@@ -2,16 +2,14 @@
 -- Programming Interface and Data Specifications 1.0" (IBM and Microsoft, 1991), chapters 2 and 3, and the count of the `fact`
 -- chunk, after "New Multimedia Data Types and Data Techniques" 3.0 (Microsoft, 1994). That one write changes all from an
 -- ADPCM file's count to its data size is this library's own rule.
-use Rattle.std.specs.Prelude.{◌≡◌, ℕ, ◌+◌, ◌-◌, ◌^◌, ◌<◌, ◌≤◌, ◌==◌, true, List, [], ◌++◌, Option, None, Some, codes, max, min, if◌then◌else◌}
+use Rattle.std.specs.Prelude.{ℕ, ◌-◌, ◌^◌, ◌==◌, List, [], ◌++◌, Option, None, Some, codes, min, if◌then◌else◌}
 use Rattle.snd_chunks.specs.Chunks.{padded_end}
 use Rattle.snd_chunks.specs.Written.{pad}
 use Rattle.snd_fields.specs.Field.{bytes_of}
 use Rattle.snd_fields.specs.declared.field.Order.TheVariants.{Little}
-use Rattle.snd_layout.specs.Blocks.{is_adpcm}
 use Rattle.snd_layout.specs.Params.{data_bytes}
-use Rattle.snd_layout.specs.Shape.{Shape, room}
+use Rattle.snd_layout.specs.Shape.{Shape}
 use Rattle.snd_layout.specs.declared.field.Field.{Field}
-use Rattle.snd_layout.specs.declared.kind.Kind.TheVariants.{Wave}
 
 -- The RIFF size of a file whose data begin at a place: all behind its first 8 bytes, with the pad of the data. Where that
 -- passes 32 bits it is the greatest number that they hold.
@@ -41,11 +39,3 @@ side_value h frames = count_bytes h.side frames
 -- what closes the data of so many frames: a pad byte behind an odd number of bytes
 unfoldable pub closing : Shape → ℕ → List ℕ
 closing h frames = pad (data_bytes h.params frames)
-
--- The condition under which fields are written: the data of so many frames have room in the head, or are no more than it
--- declares already, and end on a disk; and in ADPCM the count of the `fact` holds the number.
-pub record HasRoomFor (h : Shape) (frames : ℕ) : Type 0 where
-  pub kind : h.kind ≡ Wave
-  pub in_room : data_bytes h.params frames ≤ max (room h) h.declared
-  pub on_disk : h.start + data_bytes h.params frames < 2 ^ 63
-  pub counted : is_adpcm h.params.codec ≡ true → frames < 2 ^ 32

@@ -145,8 +145,8 @@ fn fill<D: Disk>(disk: &mut D, bytes: &[u8]) -> Result<(), Step>
     Ok(())
 }
 
-// Replaces what a disk holds by these bytes.
-fn write_whole<D: Disk>(disk: &mut D, bytes: &[u8]) -> Result<(), Step>
+/// Replaces what a disk holds by these bytes.
+pub fn write_whole<D: Disk>(disk: &mut D, bytes: &[u8]) -> Result<(), Step>
     requires { length bytes.now ≤ 2048 }
     ensures done { OnOk result (Becomes bytes.now (D.state disk.old) (D.state disk.new)) }
     ensures faults { CountsOn D.state disk.old disk.new result }

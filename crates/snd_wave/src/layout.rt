@@ -1,12 +1,12 @@
 //! What a WAVE file says of itself.
 
-ghost use Rattle.std.specs.Prelude.{◌≡◌, ◌^◌, ◌<◌, ◌≤◌, None, All, IfSome, IfOk};
+ghost use Rattle.std.specs.Prelude.{◌≡◌, ◌+◌, ◌^◌, ◌<◌, ◌≤◌, None, All, IfSome, IfOk};
 ghost use Rattle.snd_disk.specs.Device.{AsksAtMost, OnlyReadsOn, IfOkTold};
 ghost use Rattle.snd_chunks.specs.Walks.{CountsWalk, EndsBy, IsSound};
 ghost use Rattle.snd_layout.specs.Fit.{fit_refusal};
 ghost use Rattle.snd_layout.specs.Opened.{CountsOpening, EndsIn, OpensAs};
 ghost use Rattle.snd_layout.specs.Params.{data_bytes};
-ghost use Rattle.snd_layout.specs.Shape.{IsPlaced, end};
+ghost use Rattle.snd_layout.specs.Shape.{IsPlaced, end, room};
 ghost use Rattle.snd_layout.specs.declared.kind.Kind.TheVariants.{Wave};
 ghost use Rattle.snd_wave.specs.Layout.{wave_layout};
 ghost use Rattle.snd_wave.specs.Parts.{ArePlaced, IsFact, IsHeld, all_pieces, layout_with, shape_of};
@@ -161,7 +161,7 @@ pub fn open_layout<D: Disk>(alloc: Global, disk: &mut D) -> Result<Layout, OpenE
     ensures held { IfOk result (λ l. end l l.frames ≤ (D.state disk.old).size) }
     ensures pieces_held { IfOk result (λ l. All (EndsIn (D.state disk.old).size) l.pieces) }
     ensures declared { IfOk result (λ l. l.declared < 2 ^ 32) }
-    ensures early { IfOk result (λ l. l.start < 2 ^ 42) }
+    ensures room_ends { IfOk result (λ l. l.start + room l + 8 ≤ 2 ^ 63) }
     ensures faults { CountsOpening D.state disk.old disk.new result }
     ensures reads { OnlyReadsOn D.state D.may_leave D.left_between disk.old disk.new }
     ensures asked { AsksAtMost D.state 8192 disk.old disk.new }

@@ -21,10 +21,11 @@ mod tests;
 mod values;
 
 pub use changing::put_piece;
-pub use head::lay_head;
-pub use laws::{
-    count_is_stated, counted_files_read_back, fields_are_apart, images_read_back, layouts_agree,
-    made_files_read_back, no_piece_behind, outer_reaches, values_stand,
-};
+pub use head::{lay_head, write_whole};
+pub use laws::{keeps_laws, made_files_read_back};
 pub use layout::open_layout;
+pub use parts::{Parts, parts_of};
+pub use pieces::add_pieces;
+pub use put::{put_all, put_chunk, put_number, put_pad};
+pub use reads::read_format;
 pub use values::{closing_bytes, inner_bytes, outer_bytes, room, side_bytes};

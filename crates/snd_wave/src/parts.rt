@@ -12,10 +12,10 @@ const LEAST_FORMAT: u64 = 16;
 /// The chunks from which a layout is made: the format, the `fact` that counts where there is one, and
 /// the data.
 #[derive(Clone, Copy, Debug, PartialEq, Eq)]
-pub(crate) struct Parts {
-    pub(crate) format: Chunk,
-    pub(crate) fact: Option<Chunk>,
-    pub(crate) sound: Chunk,
+pub struct Parts {
+    pub format: Chunk,
+    pub fact: Option<Chunk>,
+    pub sound: Chunk,
 }
 
 pub(crate) fn has_id(chunk: &Chunk, id: &[u8]) -> bool
@@ -45,7 +45,7 @@ fn fact_chunk(chunks: &[Chunk]) -> Option<Chunk>
 }
 
 /// The parts of a file, or why its walk up to the data is refused.
-pub(crate) fn parts_of(front: &Front) -> Result<Parts, OpenRefusal>
+pub fn parts_of(front: &Front) -> Result<Parts, OpenRefusal>
     ensures found { IfOk result (AreParts front.now) }
     ensures refused { IfErr result (λ r. front_refusal front.now ≡ Some r) }
 {

@@ -23,11 +23,7 @@ fn is_own(chunk: &Chunk) -> bool
 }
 
 /// Adds the pieces among these chunks.
-pub(crate) fn add_pieces(
-    pieces: &mut PieceList,
-    chunks: &[Chunk],
-    after: bool,
-) -> Result<(), AllocError>
+pub fn add_pieces(pieces: &mut PieceList, chunks: &[Chunk], after: bool) -> Result<(), AllocError>
     ensures { OnOk result (pieces.new ≡ pieces.old ++ pieces_of after chunks.now) }
 {
     for chunk in chunks {

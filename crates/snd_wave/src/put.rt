@@ -9,7 +9,7 @@ ghost use Rattle.snd_fields.specs.declared.field.Order.TheVariants.{Little};
 use arrayvec::ArrayVec;
 
 /// Puts bytes behind the others.
-pub(crate) fn put_all<const N: usize>(into: &mut ArrayVec<u8, N>, bytes: &[u8])
+pub fn put_all<const N: usize>(into: &mut ArrayVec<u8, N>, bytes: &[u8])
     requires { array_vec_len into.old + length bytes.now ≤ N }
     ensures items { into.new.items ≡ into.old.items ++ bytes.now }
     ensures len { array_vec_len into.new ≡ array_vec_len into.old + length bytes.now }
@@ -20,7 +20,7 @@ pub(crate) fn put_all<const N: usize>(into: &mut ArrayVec<u8, N>, bytes: &[u8])
 }
 
 /// Puts the lowest 4 bytes of a number behind the others, the lowest first.
-pub(crate) fn put_number<const N: usize>(into: &mut ArrayVec<u8, N>, value: u64)
+pub fn put_number<const N: usize>(into: &mut ArrayVec<u8, N>, value: u64)
     requires { array_vec_len into.old + 4 ≤ N }
     ensures items { into.new.items ≡ into.old.items ++ bytes_of Little 4 value }
     ensures len { array_vec_len into.new ≡ array_vec_len into.old + 4 }
@@ -33,7 +33,7 @@ pub(crate) fn put_number<const N: usize>(into: &mut ArrayVec<u8, N>, value: u64)
 }
 
 /// Puts a zero behind an odd number of bytes.
-fn put_pad<const N: usize>(into: &mut ArrayVec<u8, N>, len: usize)
+pub fn put_pad<const N: usize>(into: &mut ArrayVec<u8, N>, len: usize)
     requires { array_vec_len into.old + 1 ≤ N }
     ensures items { into.new.items ≡ into.old.items ++ pad len }
     ensures few { array_vec_len into.new ≤ array_vec_len into.old + 1 }
@@ -44,7 +44,7 @@ fn put_pad<const N: usize>(into: &mut ArrayVec<u8, N>, len: usize)
 }
 
 /// Puts a chunk behind the others.
-pub(crate) fn put_chunk<const N: usize>(into: &mut ArrayVec<u8, N>, id: &[u8], body: &[u8])
+pub fn put_chunk<const N: usize>(into: &mut ArrayVec<u8, N>, id: &[u8], body: &[u8])
     requires { array_vec_len into.old + length id.now + length body.now + 5 ≤ N }
     ensures items { into.new.items ≡ into.old.items ++ chunk_bytes Little (record { id = id.now; body = body.now }) }
     ensures few { array_vec_len into.new ≤ array_vec_len into.old + length id.now + length body.now + 5 }

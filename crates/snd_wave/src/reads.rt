@@ -32,7 +32,7 @@ pub(crate) fn read_number<D: Disk>(disk: &mut D, at: u64) -> Result<u32, Step>
 }
 
 /// The parameters that a format states, or why it is refused.
-pub(crate) fn read_format<D: Disk>(disk: &mut D, format: Chunk) -> Result<Params, OpenError>
+pub fn read_format<D: Disk>(disk: &mut D, format: Chunk) -> Result<Params, OpenError>
     requires within { format.at + format.len ≤ (D.state disk.old).size }
     requires long { 16 ≤ format.len }
     ensures told { OpensAs D.state disk.old (λ b. format_of (body_of b format)) result }

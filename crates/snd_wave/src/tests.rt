@@ -189,10 +189,7 @@ fn said(alloc: Global, bytes: &[u8]) -> Result<Result<Said, OpenRefusal>, Fail> 
 
 #[test]
 fn reads_layouts(rt: HostRuntime) -> Result<(), Fail> {
-    layouts_agree();
-    fields_are_apart();
-    count_is_stated();
-    no_piece_behind();
+    keeps_laws();
     for (i, (bytes, says)) in FILES.iter().enumerate() {
         assert_eq!(rt; said(rt.alloc(), bytes)?, *says, "file {i}");
     }
@@ -236,7 +233,6 @@ static HEADS: [(u64, u64, Codec, &'static [u8]); 4] = [
 #[test]
 fn lays_heads(rt: HostRuntime) -> Result<(), Fail> {
     made_files_read_back();
-    counted_files_read_back();
     for (channels, rate, codec, head) in HEADS.iter() {
         let alloc = rt.alloc();
         let params = Params::new(*channels, *rate, *codec)?;

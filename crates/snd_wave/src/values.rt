@@ -4,11 +4,12 @@ ghost use Rattle.std.specs.Prelude.{◌≡◌, ◌+◌, ◌<◌, ◌^◌, None, 
 ghost use Rattle.snd_fields.specs.Field.{bytes_of};
 ghost use Rattle.snd_fields.specs.declared.field.Order.TheVariants.{Little};
 ghost use Rattle.snd_layout.specs.Blocks.{is_adpcm};
+ghost use Rattle.snd_layout.specs.Container.{HasRoomFor};
 ghost use Rattle.snd_layout.specs.Fit.{fit_refusal};
 ghost use Rattle.snd_layout.specs.Params.{data_bytes};
 ghost use Rattle.snd_layout.specs.Shape.{room as shape_room};
 ghost use Rattle.snd_layout.specs.declared.kind.Kind.TheVariants.{Wave};
-ghost use Rattle.snd_wave.specs.Values.{HasRoomFor, closing, inner_value, outer_value, riff_size, side_value};
+ghost use Rattle.snd_wave.specs.Values.{closing, inner_value, outer_value, riff_size, side_value};
 
 use crate::put::{put_all, put_number};
 use arrayvec::ArrayVec;
@@ -38,7 +39,8 @@ fn data_bytes(params: &Params, frames: u64) -> u64
 
 // The data bytes of so many frames of a layout.
 fn bytes_in(layout: &Layout, frames: u64) -> u64
-    requires { HasRoomFor layout.now frames }
+    requires kind { layout.now.kind ≡ Wave }
+    requires room { HasRoomFor layout.now frames }
     ensures { result ≡ data_bytes layout.now.params frames }
 {
     layout.keeps_rule();
@@ -66,7 +68,8 @@ fn riff_size(start: u64, bytes: u64) -> u64
 /// What the field that decides the count says of so many frames: the data size; where the field has 12
 /// bytes, the count, the identifier of the data chunk and the data size.
 pub fn inner_bytes(layout: &Layout, frames: u64) -> ArrayVec<u8, 64>
-    requires { HasRoomFor layout.now frames }
+    requires kind { layout.now.kind ≡ Wave }
+    requires room { HasRoomFor layout.now frames }
     ensures { result.items ≡ inner_value layout.now frames }
 {
     let bytes = bytes_in(layout, frames);
@@ -81,7 +84,8 @@ pub fn inner_bytes(layout: &Layout, frames: u64) -> ArrayVec<u8, 64>
 
 /// What the size of the whole says of so many frames.
 pub fn outer_bytes(layout: &Layout, frames: u64) -> ArrayVec<u8, 64>
-    requires { HasRoomFor layout.now frames }
+    requires kind { layout.now.kind ≡ Wave }
+    requires room { HasRoomFor layout.now frames }
     ensures { result.items ≡ outer_value layout.now frames }
 {
     let bytes = bytes_in(layout, frames);
@@ -90,7 +94,8 @@ pub fn outer_bytes(layout: &Layout, frames: u64) -> ArrayVec<u8, 64>
 
 /// What the count says that is not read: nothing where there is none.
 pub fn side_bytes(layout: &Layout, frames: u64) -> ArrayVec<u8, 64>
-    requires { HasRoomFor layout.now frames }
+    requires kind { layout.now.kind ≡ Wave }
+    requires room { HasRoomFor layout.now frames }
     ensures { result.items ≡ side_value layout.now frames }
 {
     match layout.side {
@@ -101,7 +106,8 @@ pub fn side_bytes(layout: &Layout, frames: u64) -> ArrayVec<u8, 64>
 
 /// What closes the data of so many frames: a pad byte behind an odd number of bytes.
 pub fn closing_bytes(layout: &Layout, frames: u64) -> ArrayVec<u8, 8>
-    requires { HasRoomFor layout.now frames }
+    requires kind { layout.now.kind ≡ Wave }
+    requires room { HasRoomFor layout.now frames }
     ensures { result.items ≡ closing layout.now frames }
 {
     let mut pad = ArrayVec::new();

@@ -1,27 +1,23 @@
--- What the layouts of WAVE files owe one another and their files.
-use Rattle.std.specs.Prelude.{◌≡◌, ℕ, ◌+◌, ◌-◌, ◌*◌, ◌/◌, ◌^◌, ◌<◌, ◌≤◌, Bool, false, not, ◌&&◌, ◌||◌, List, Option, None, Some, Ok, All, IfSome, option_map, length, min, get_or, nat_le, nat_lt}
+-- What the layouts of WAVE files owe one another and their files, from which the laws follow.
+use Rattle.std.specs.Prelude.{◌≡◌, ℕ, ◌+◌, ◌-◌, ◌*◌, ◌/◌, ◌^◌, ◌<◌, ◌≤◌, Bool, false, not, ◌||◌, List, Option, Some, Ok, All, IfSome, option_map, length, min, get_or, nat_lt}
 use Rattle.std.specs.List.{filter}
 use Rattle.snd_chunks.specs.Chunks.{padded_end}
 use Rattle.snd_fields.specs.Field.{number}
 use Rattle.snd_fields.specs.declared.field.Order.TheVariants.{Little}
 use Rattle.snd_layout.specs.Blocks.{block_align}
+use Rattle.snd_layout.specs.Container.{is_in, is_in_some}
 use Rattle.snd_layout.specs.Shape.{Shape}
-use Rattle.snd_layout.specs.declared.field.Field.{Field}
 use Rattle.snd_layout.specs.declared.piece.Piece.{Piece}
 use Rattle.snd_wave.specs.Layout.{fact_chunk, fact_count, frame_count, outer_end, wave_front, wave_layout}
 
 -- a place is one of so many from another on
-abbrev pub is_in : ℕ → ℕ → ℕ → Bool
-is_in at size place = nat_le at place && nat_lt place (at + size)
-
-abbrev pub is_in_field : Option Field → ℕ → Bool
-is_in_field None place = false
-is_in_field (Some field) place = is_in field.at field.size place
+abbrev pub is_among : ℕ → ℕ → ℕ → Bool
+is_among at size place = is_in (record { at = at; size = size }) place
 
 -- A place of a number that changes as the sound grows: the size of the whole, the count that is not read, the first 4 bytes
 -- of the field that decides the count, and the 4 bytes before the data, which are the data size
 abbrev pub is_number : Shape → ℕ → Bool
-is_number h place = is_in_field h.outer place || is_in_field h.side place || is_in h.inner.at 4 place || is_in (h.start - 4) 4 place
+is_number h place = is_in_some h.outer place || is_in_some h.side place || is_among h.inner.at 4 place || is_among (h.start - 4) 4 place
 
 -- a file has the bytes that another has before its data, but for those numbers
 abbrev pub SameButNumbers : Shape → List ℕ → List ℕ → Type 0

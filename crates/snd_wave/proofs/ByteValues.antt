@@ -1,0 +1,129 @@
+-- The values of fields are bytes, and the head that is made is of bytes.
+use Rattle.std.proofs.Common.{◌≡◌, sym, subst, refl, ℕ, ◌%◌, Bool, true, false, cond, ◌&&◌, List, [], ◌∷◌, ◌++◌, All, Option, None, Some, length, arith}
+use Rattle.std.proofs.lemmas.Bool.{and_parts, cond_both, ltb-true}
+use Rattle.std.proofs.lemmas.List.Elements.{All-append, All-cons, All-nil, All-replicate}
+use Rattle.std.specs.Prelude.{◌==◌, codes, nat_lt}
+use Rattle.snd_chunks.specs.Written.{NewChunk, chunk_bytes, chunks_bytes, head_bytes, pad}
+use Rattle.snd_fields.proofs.Numbers.{bytes_are_bytes}
+use Rattle.snd_fields.specs.Field.{bytes_of}
+use Rattle.snd_fields.specs.Laws.{IsByte}
+use Rattle.snd_fields.specs.declared.field.Order.TheVariants.{Little}
+use Rattle.snd_layout.specs.Blocks.{block_align, is_adpcm}
+use Rattle.snd_layout.specs.Container.{AreBytes}
+use Rattle.snd_layout.specs.Params.{Parameters, data_bytes}
+use Rattle.snd_layout.specs.Shape.{Shape}
+use Rattle.snd_layout.specs.Written.{bits_per_sample, bytes_per_second, extension, tag_of, written_format}
+use Rattle.snd_layout.specs.declared.codec.Codec.{Codec}
+use Rattle.snd_layout.specs.declared.codec.Codec.TheVariants.{MuLaw, ALaw, Ima, Ms}
+use Rattle.snd_layout.specs.declared.field.Field.{Field}
+use Rattle.snd_wave.proofs.HeadValues.{chunks-append}
+use Rattle.snd_wave.specs.Container.{wave}
+use Rattle.snd_wave.specs.Values.{closing, count_bytes, inner_value, outer_value, riff_size, side_value}
+use Rattle.snd_wave.specs.Written.{chunks_before, filler, has_fact, head_for, head_size, junk, new_fact, new_format, riff_head, wave_head}
+
+abbrev are_bytes : List ℕ → Bool
+are_bytes [] = true
+are_bytes (x ∷ xs) = nat_lt x 256 && are_bytes xs
+
+pub from_test : (xs : List ℕ) → are_bytes xs ≡ true → All IsByte xs
+from_test [] is = All-nil IsByte
+from_test (x ∷ xs) is = let parts = and_parts (nat_lt x 256) (are_bytes xs) is in All-cons IsByte x xs (ltb-true x 256 parts.0) (from_test xs parts.1)
+
+pub number_bytes : (k n : ℕ) → All IsByte (bytes_of Little k n)
+number_bytes k n = (bytes_are_bytes Little k n).1
+
+-- ---- the values of fields
+
+inner_bytes : (h : Shape) (n : ℕ) → All IsByte (inner_value h n)
+unfolding inner_value
+inner_bytes h n =
+    let size = bytes_of Little 4 (data_bytes h.params n) in
+    cond_both (h.inner.size == 12) (bytes_of Little 4 n ++ codes "data" ++ size) size (λ l. All IsByte l)
+    (λ is. All-append IsByte (bytes_of Little 4 n ++ codes "data") size (All-append IsByte (bytes_of Little 4 n) (codes "data") (number_bytes 4 n) (from_test (codes "data") refl)) (number_bytes 4 (data_bytes h.params n)))
+    (λ other. number_bytes 4 (data_bytes h.params n))
+
+outer_bytes : (h : Shape) (n : ℕ) → All IsByte (outer_value h n)
+unfolding outer_value
+outer_bytes h n = number_bytes 4 (riff_size h.start (data_bytes h.params n))
+
+some_bytes : (side : Option Field) (n : ℕ) → All IsByte (count_bytes side n)
+some_bytes None n = All-nil IsByte
+some_bytes (Some field) n = number_bytes 4 n
+
+side_bytes : (h : Shape) (n : ℕ) → All IsByte (side_value h n)
+unfolding side_value
+side_bytes h n = some_bytes h.side n
+
+closing_bytes : (h : Shape) (n : ℕ) → All IsByte (closing h n)
+unfolding closing
+closing_bytes h n = All-replicate IsByte (data_bytes h.params n % 2) 0 (omega arith)
+
+pub values_are_bytes : (h : Shape) (n : ℕ) → AreBytes wave h n
+values_are_bytes h n = record { inner = inner_bytes h n; outer = outer_bytes h n; side = side_bytes h n; closing = closing_bytes h n }
+
+-- ---- the head that is made
+
+pub both : (xs ys : List ℕ) → All IsByte xs → All IsByte ys → All IsByte (xs ++ ys)
+both xs ys one two = All-append IsByte xs ys one two
+
+extension_bytes : (codec : Codec) → is_adpcm codec ≡ false → All IsByte (extension codec)
+extension_bytes MuLaw plain = number_bytes 2 0
+extension_bytes ALaw plain = number_bytes 2 0
+extension_bytes (Ima align per_block) plain = absurd (cc)
+extension_bytes (Ms align per_block) plain = absurd (cc)
+extension_bytes _ plain = All-nil IsByte
+
+pub three : (xs ys zs : List ℕ) → All IsByte xs → All IsByte ys → All IsByte zs → All IsByte (xs ++ ys ++ zs)
+three xs ys zs one two more = both (xs ++ ys) zs (both xs ys one two) more
+
+pub format_bytes : (p : Parameters) → is_adpcm p.codec ≡ false → All IsByte (written_format p)
+format_bytes p plain =
+    let first = bytes_of Little 2 (tag_of p.codec) ++ bytes_of Little 2 p.channels ++ bytes_of Little 4 p.rate in
+    let second = bytes_of Little 4 (bytes_per_second p) in
+    let third = bytes_of Little 2 (block_align p.channels p.codec) in
+    let last = bytes_of Little 2 (bits_per_sample p.codec) in
+    both (first ++ second ++ third ++ last) (extension p.codec)
+    (three (first ++ second) third last
+    (both first second (three (bytes_of Little 2 (tag_of p.codec)) (bytes_of Little 2 p.channels) (bytes_of Little 4 p.rate) (number_bytes 2 (tag_of p.codec)) (number_bytes 2 p.channels) (number_bytes 4 p.rate)) (number_bytes 4 (bytes_per_second p)))
+    (number_bytes 2 (block_align p.channels p.codec)) (number_bytes 2 (bits_per_sample p.codec)))
+    (extension_bytes p.codec plain)
+
+abbrev IsBytes : NewChunk → Type 0
+IsBytes chunk = All IsByte chunk.id × All IsByte chunk.body
+
+pub one_chunk : (chunk : NewChunk) → IsBytes chunk → All IsByte (chunk_bytes Little chunk)
+unfolding chunk_bytes head_bytes
+one_chunk chunk is =
+    three (chunk.id ++ bytes_of Little 4 (length chunk.body)) chunk.body (pad (length chunk.body))
+    (both chunk.id (bytes_of Little 4 (length chunk.body)) is.0 (number_bytes 4 (length chunk.body))) is.1 (All-replicate IsByte (length chunk.body % 2) 0 (omega arith))
+
+pub two_chunks : (chunk : NewChunk) (chunks : List NewChunk) → IsBytes chunk → All IsByte (chunks_bytes Little chunks) → All IsByte (chunks_bytes Little (chunk ∷ chunks))
+unfolding chunks_bytes
+two_chunks chunk chunks one rest = both (chunk_bytes Little chunk) (chunks_bytes Little chunks) (one_chunk chunk one) rest
+
+filler_bytes : (t : Bool) → All IsByte (chunks_bytes Little (cond t [] (junk ∷ [])))
+unfolding chunks_bytes
+filler_bytes true = All-nil IsByte
+filler_bytes false = two_chunks junk [] (from_test (codes "JUNK") refl, All-replicate IsByte 8 0 (omega arith)) (All-nil IsByte)
+
+fact_bytes : (t : Bool) → All IsByte (chunks_bytes Little (cond t (record { id = codes "fact"; body = bytes_of Little 4 0 } ∷ []) []))
+unfolding chunks_bytes
+fact_bytes true = two_chunks (record { id = codes "fact"; body = bytes_of Little 4 0 }) [] (from_test (codes "fact") refl, number_bytes 4 0) (All-nil IsByte)
+fact_bytes false = All-nil IsByte
+
+before_bytes : (p : Parameters) → is_adpcm p.codec ≡ false → All IsByte (chunks_bytes Little (chunks_before p [] 0))
+unfolding chunks_before
+before_bytes p plain =
+    two_chunks (new_format p) (filler p [] ++ new_fact p.codec 0) (from_test (codes "fmt ") refl, format_bytes p plain)
+    (subst (All IsByte) (sym (chunks-append (filler p []) (new_fact p.codec 0))) (both (chunks_bytes Little (filler p [])) (chunks_bytes Little (new_fact p.codec 0)) (filler_bytes _) (fact_bytes (has_fact p.codec))))
+
+pub head_bytes_are : (p : Parameters) → is_adpcm p.codec ≡ false → All IsByte (wave_head p [])
+unfolding head_for riff_head head_bytes
+head_bytes_are p plain =
+    let size = bytes_of Little 4 (riff_size (head_size p []) (data_bytes p 0)) in
+    let bytes = bytes_of Little 4 (data_bytes p 0) in
+    let chunks = chunks_bytes Little (chunks_before p [] 0) in
+    three (codes "RIFF" ++ size ++ codes "WAVE") chunks (codes "data" ++ bytes)
+    (three (codes "RIFF") size (codes "WAVE") (from_test (codes "RIFF") refl) (number_bytes 4 (riff_size (head_size p []) (data_bytes p 0))) (from_test (codes "WAVE") refl))
+    (before_bytes p plain)
+    (both (codes "data") bytes (from_test (codes "data") refl) (number_bytes 4 (data_bytes p 0)))
