@@ -1,0 +1,6 @@
+pub mod Answered
+pub mod Encodings
+pub mod Opens
+pub mod Kept
+pub mod Made
+pub mod Joined

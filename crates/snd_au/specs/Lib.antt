@@ -1,0 +1,4 @@
+pub mod Layout
+pub mod Values
+pub mod Written
+pub mod Container

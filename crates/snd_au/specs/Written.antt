@@ -1,0 +1,60 @@
+-- An AU file as it is made, after the manual page au(4) of Solaris (Sun Microsystems): the mark and five numbers, and no
+-- remark before the data.
+use Rattle.std.specs.Prelude.{ℕ, ◌≤◌, false, List, [], ◌++◌, None, codes, length}
+use Rattle.snd_disk.specs.State.{IsMeant, Rises, State}
+use Rattle.snd_fields.specs.Field.{bytes_of}
+use Rattle.snd_fields.specs.declared.field.Order.{Order}
+use Rattle.snd_fields.specs.declared.field.Order.TheVariants.{Little, Big}
+use Rattle.snd_layout.specs.Params.{Parameters}
+use Rattle.snd_layout.specs.Shape.{Shape}
+use Rattle.snd_layout.specs.declared.codec.Codec.{Codec}
+use Rattle.snd_layout.specs.declared.codec.Codec.TheVariants.{S8, S16, S24, S32, MuLaw, ALaw}
+use Rattle.snd_layout.specs.declared.error.OpenError.{OpenError}
+use Rattle.snd_layout.specs.declared.error.OpenError.TheVariants.{DiskFault}
+use Rattle.snd_au.specs.Layout.{kind_of}
+
+abbrev pub mark : Order → List ℕ
+mark Big = codes ".snd"
+mark Little = codes "dns."
+
+-- the encoding of a codec, 0 where there is none
+abbrev pub encoding_of : Codec → ℕ
+encoding_of MuLaw = 1
+encoding_of S8 = 2
+encoding_of (S16 order) = 3
+encoding_of (S24 order) = 4
+encoding_of (S32 order) = 5
+encoding_of ALaw = 27
+encoding_of _ = 0
+
+-- the head of a file without frames
+unfoldable pub au_head : Order → Parameters → List ℕ
+au_head order p =
+    mark order ++ bytes_of order 4 24 ++ bytes_of order 4 0 ++ bytes_of order 4 (encoding_of p.codec)
+    ++ bytes_of order 4 p.rate ++ bytes_of order 4 p.channels
+
+-- what it says of itself
+abbrev pub made_shape : Order → Parameters → Shape
+made_shape order p = record {
+  kind = kind_of order;
+  params = p;
+  start = 24;
+  frames = 0;
+  declared = 0;
+  inner = record { at = 8; size = 4 };
+  outer = None;
+  side = None;
+  trailing = false;
+  unknown_length = false;
+  reserve = None;
+  pieces = [];
+}
+
+-- where a disk tells what it holds, it holds these bytes
+abbrev pub Becomes : List ℕ → State → State → Type 0
+Becomes bytes old new = IsMeant (length bytes) (λ _. bytes) old new
+
+-- The only reason that a head is not laid is a fault of the disk.
+abbrev pub IsLayCause : ℕ → ℕ → OpenError → Type 0
+IsLayCause old new (DiskFault step) = (old ≤ new) × Rises old new
+IsLayCause old new _ = ⊥
