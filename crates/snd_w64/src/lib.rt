@@ -1,0 +1,21 @@
+//! Sony Wave64 files.
+#![tactic(auto)]
+
+mod count;
+mod fields;
+mod head;
+mod laws;
+mod layout;
+mod parts;
+mod put;
+mod reads;
+mod seen;
+#[cfg(test)]
+mod tests;
+mod values;
+mod walk;
+
+pub use head::lay_head;
+pub use laws::keeps_laws;
+pub use layout::open_layout;
+pub use values::{closing_bytes, inner_bytes, outer_bytes, room, side_bytes};
