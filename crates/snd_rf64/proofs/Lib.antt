@@ -1,0 +1,9 @@
+pub mod Layouts
+pub mod Opens
+pub mod Stays
+pub mod Counted
+pub mod KeptPieces
+pub mod Lies
+pub mod Made
+pub mod NewFiles
+pub mod Contained

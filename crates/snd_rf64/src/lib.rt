@@ -1,0 +1,16 @@
+//! RF64 files: WAVE files whose sizes have 64 bits.
+#![tactic(auto)]
+
+mod ends;
+mod head;
+mod laws;
+mod layout;
+mod sizes;
+#[cfg(test)]
+mod tests;
+mod values;
+
+pub use head::lay_head;
+pub use laws::keeps_laws;
+pub use layout::open_layout;
+pub use values::{closing_bytes, inner_bytes, outer_bytes, room, side_bytes};
