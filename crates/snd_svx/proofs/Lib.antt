@@ -1,0 +1,11 @@
+pub mod Agreements
+pub mod AllLaws
+pub mod Bodies
+pub mod FieldValues
+pub mod Images
+pub mod Layouts
+pub mod Lies
+pub mod NewFiles
+pub mod Opens
+pub mod PlainHeads
+pub mod Sizes

@@ -1,0 +1,5 @@
+pub mod Container
+pub mod Layout
+pub mod Parts
+pub mod Values
+pub mod Written

@@ -1,0 +1,172 @@
+//! The head of a file that is made.
+
+ghost use Rattle.std.specs.Prelude.{◌≡◌, ◌+◌, ◌≤◌, ◌++◌, [], None, is_some, length, OnOk, IfErr, IfOk};
+ghost use Rattle.arrayvec.specs.ArrayVec.{array_vec_len};
+ghost use Rattle.snd_disk.specs.Device.{CountsOn, GoesOnFrom, WritesAtMost};
+ghost use Rattle.snd_disk.specs.State.{IsCut};
+ghost use Rattle.snd_fields.specs.Field.{bytes_of};
+ghost use Rattle.snd_fields.specs.declared.field.Order.TheVariants.{Big};
+ghost use Rattle.snd_layout.specs.Fit.{fit_refusal};
+ghost use Rattle.snd_layout.specs.Opened.{CountsOpening};
+ghost use Rattle.snd_layout.specs.declared.kind.Kind.TheVariants.{Svx};
+ghost use Rattle.snd_wave.specs.Written.{Becomes, IsLayCause};
+ghost use Rattle.snd_svx.specs.Written.{made_shape, svx_head};
+
+use crate::values::put_number;
+use arrayvec::ArrayVec;
+use snd_disk::{Disk, Step};
+use snd_layout::{Field, Kind, Layout, OpenError, Params, PieceList};
+use std::alloc::Global;
+
+/// The place of the data, and of the one-shot samples of the voice header.
+const START: u64 = 48;
+
+const COUNT_AT: u64 = 20;
+
+/// The bytes of a voice header.
+const HEADER_SIZE: u64 = 20;
+
+/// One octave that is not packed, and the full volume, 1 with 16 bits behind the point.
+const VOICE: [u8; 6] = [1, 0, 0, 1, 0, 0];
+
+// Puts bytes behind the others.
+fn put_all(into: &mut ArrayVec<u8, 64>, bytes: &[u8])
+    requires { array_vec_len into.old + length bytes.now ≤ 64 }
+    ensures items { into.new.items ≡ into.old.items ++ bytes.now }
+    ensures len { array_vec_len into.new ≡ array_vec_len into.old + length bytes.now }
+{
+    for byte in bytes {
+        into.push(*byte);
+    }
+}
+
+// Puts the lowest 2 bytes of a number behind the others, the highest first.
+fn put_short(into: &mut ArrayVec<u8, 64>, value: u32)
+    requires { array_vec_len into.old + 2 ≤ 64 }
+    ensures items { into.new.items ≡ into.old.items ++ bytes_of Big 2 value }
+    ensures len { array_vec_len into.new ≡ array_vec_len into.old + 2 }
+{
+    let [first, second, ..] = value.to_le_bytes();
+    into.push(second);
+    into.push(first);
+}
+
+// The head of a file without pieces and frames.
+fn plain_head(params: &Params) -> ArrayVec<u8, 64>
+    requires { fit_refusal Svx params.now ≡ None }
+    ensures { result.items ≡ svx_head params.now [] }
+{
+    params.are_good();
+    let mut head = ArrayVec::new();
+    put_all(&mut head, b"FORM");
+    put_number(&mut head, START - 8);
+    put_all(&mut head, b"8SVXVHDR");
+    put_number(&mut head, HEADER_SIZE);
+    put_all(&mut head, &[0; 12]);
+    put_short(&mut head, params.rate);
+    put_all(&mut head, &VOICE);
+    put_all(&mut head, b"BODY");
+    put_number(&mut head, 0);
+    head
+}
+
+// What it says.
+fn plain_layout(alloc: Global, params: Params) -> Layout
+    requires { fit_refusal Svx params ≡ None }
+    ensures { result ≡ made_shape params [] 0 }
+{
+    params.are_good();
+    Layout {
+        kind: Kind::Svx,
+        params,
+        start: START,
+        frames: 0,
+        declared: 0,
+        inner: Field {
+            at: START - 4,
+            size: 4,
+        },
+        outer: Some(Field { at: 4, size: 4 }),
+        side: Some(Field {
+            at: COUNT_AT,
+            size: 4,
+        }),
+        trailing: false,
+        unknown_length: false,
+        reserve: None,
+        pieces: PieceList::new(alloc),
+    }
+}
+
+// Cuts all that a disk holds.
+fn clear<D: Disk>(disk: &mut D) -> Result<(), Step>
+    ensures done { OnOk result (IsCut 0 (D.state disk.old) (D.state disk.new)) }
+    ensures faults { CountsOn D.state disk.old disk.new result }
+    ensures name { (D.state disk.new).name ≡ (D.state disk.old).name }
+    ensures told { is_some (D.state disk.new).contents ≡ is_some (D.state disk.old).contents }
+    ensures time { GoesOnFrom D.state D.left_between disk.old disk.new }
+    ensures written { (D.state disk.new).written ≡ (D.state disk.old).written }
+    ensures asked { (D.state disk.new).asked ≡ (D.state disk.old).asked }
+{
+    let Ok(()) = disk.cut(0) else {
+        return Err(Step::Cut);
+    };
+    Ok(())
+}
+
+// Writes all bytes of an empty disk.
+fn fill<D: Disk>(disk: &mut D, bytes: &[u8]) -> Result<(), Step>
+    requires empty { (D.state disk.old).size ≡ 0 }
+    requires few { length bytes.now ≤ 2048 }
+    ensures done { OnOk result (Becomes bytes.now (D.state disk.old) (D.state disk.new)) }
+    ensures faults { CountsOn D.state disk.old disk.new result }
+    ensures name { (D.state disk.new).name ≡ (D.state disk.old).name }
+    ensures told { is_some (D.state disk.new).contents ≡ is_some (D.state disk.old).contents }
+    ensures time { GoesOnFrom D.state D.left_between disk.old disk.new }
+    ensures written { WritesAtMost D.state 2048 disk.old disk.new }
+    ensures asked { (D.state disk.new).asked ≡ (D.state disk.old).asked }
+{
+    let Ok(()) = disk.write_at(0, bytes) else {
+        return Err(Step::Write);
+    };
+    Ok(())
+}
+
+// Replaces what a disk holds by these bytes.
+fn write_whole<D: Disk>(disk: &mut D, bytes: &[u8]) -> Result<(), Step>
+    requires { length bytes.now ≤ 2048 }
+    ensures done { OnOk result (Becomes bytes.now (D.state disk.old) (D.state disk.new)) }
+    ensures faults { CountsOn D.state disk.old disk.new result }
+    ensures name { (D.state disk.new).name ≡ (D.state disk.old).name }
+    ensures told { is_some (D.state disk.new).contents ≡ is_some (D.state disk.old).contents }
+    ensures time { GoesOnFrom D.state D.left_between disk.old disk.new }
+    ensures written { WritesAtMost D.state 2048 disk.old disk.new }
+    ensures asked { (D.state disk.new).asked ≡ (D.state disk.old).asked }
+{
+    clear(disk)?;
+    fill(disk, bytes)?;
+    Ok(())
+}
+
+/// Makes a disk an 8SVX file with these parameters, no frames and no pieces, whatever it held before. An
+/// 8SVX file holds the parameters. It writes at most 2048 bytes and reads none. The only error is
+/// `DiskFault`, where a call of the disk failed.
+pub fn lay_head<D: Disk>(alloc: Global, disk: &mut D, params: Params) -> Result<Layout, OpenError>
+    requires { fit_refusal Svx params ≡ None }
+    ensures laid { OnOk result (Becomes (svx_head params []) (D.state disk.old) (D.state disk.new)) }
+    ensures layout { IfOk result (λ l. l ≡ made_shape params [] 0) }
+    ensures cause { IfErr result (IsLayCause (D.state disk.old).faults (D.state disk.new).faults) }
+    ensures faults { CountsOpening D.state disk.old disk.new result }
+    ensures name { (D.state disk.new).name ≡ (D.state disk.old).name }
+    ensures told { is_some (D.state disk.new).contents ≡ is_some (D.state disk.old).contents }
+    ensures time { GoesOnFrom D.state D.left_between disk.old disk.new }
+    ensures written { WritesAtMost D.state 2048 disk.old disk.new }
+    ensures asked { (D.state disk.new).asked ≡ (D.state disk.old).asked }
+{
+    params.are_good();
+    let head = plain_head(&params);
+    match write_whole(disk, head.as_slice()) {
+        Ok(()) => Ok(plain_layout(alloc, params)),
+        Err(step) => Err(OpenError::DiskFault(step)),
+    }
+}

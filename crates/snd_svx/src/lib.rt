@@ -1,0 +1,19 @@
+//! 8SVX files.
+#![tactic(auto)]
+
+mod ends;
+mod head;
+mod header;
+mod laws;
+mod layout;
+mod parts;
+mod pieces;
+mod reads;
+#[cfg(test)]
+mod tests;
+mod values;
+
+pub use head::lay_head;
+pub use laws::keeps_laws;
+pub use layout::open_layout;
+pub use values::{closing_bytes, inner_bytes, outer_bytes, room, side_bytes};
