@@ -1,0 +1,11 @@
+pub mod Answered
+pub mod Filling
+pub mod Formats
+pub mod Kept
+pub mod Laying
+pub mod Made
+pub mod Opens
+pub mod Parting
+pub mod Sizes
+pub mod Stays
+pub mod Walking

@@ -1,0 +1,5 @@
+pub mod Layout
+pub mod Parts
+pub mod Values
+pub mod Written
+pub mod Container

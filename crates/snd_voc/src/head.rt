@@ -1,0 +1,162 @@
+//! The head of a file that is made.
+
+ghost use Rattle.std.specs.Prelude.{◌≡◌, ◌+◌, ◌<◌, ◌≤◌, ◌++◌, None, is_some, length, OnOk, IfErr, IfOk};
+ghost use Rattle.snd_disk.specs.Device.{CountsOn, GoesOnFrom, WritesAtMost};
+ghost use Rattle.snd_disk.specs.State.{IsCut};
+ghost use Rattle.arrayvec.specs.ArrayVec.{array_vec_len};
+ghost use Rattle.snd_layout.specs.Fit.{fit_refusal};
+ghost use Rattle.snd_layout.specs.Opened.{CountsOpening};
+ghost use Rattle.snd_layout.specs.declared.kind.Kind.TheVariants.{Voc};
+ghost use Rattle.snd_voc.specs.Written.{Becomes, IsLayCause, bits_of, code_of, made_shape, voc_head};
+
+use arrayvec::ArrayVec;
+use snd_disk::{Disk, Step};
+use snd_layout::{Codec, Field, Kind, Layout, OpenError, Params, PieceList};
+use std::alloc::Global;
+
+// The bits of a sample.
+fn bits_of(codec: Codec) -> u8
+    ensures { result ≡ bits_of codec }
+{
+    match codec {
+        Codec::S16(_) => 16,
+        _ => 8,
+    }
+}
+
+// The number of a codec.
+fn code_of(codec: Codec) -> u8
+    ensures { result ≡ code_of codec }
+{
+    match codec {
+        Codec::S16(_) => 4,
+        Codec::ALaw => 6,
+        Codec::MuLaw => 7,
+        _ => 0,
+    }
+}
+
+// Puts bytes behind the others.
+fn put_all(into: &mut ArrayVec<u8, 64>, bytes: &[u8])
+    requires { array_vec_len into.old + length bytes.now ≤ 64 }
+    ensures items { into.new.items ≡ into.old.items ++ bytes.now }
+    ensures len { array_vec_len into.new ≡ array_vec_len into.old + length bytes.now }
+{
+    for byte in bytes {
+        into.push(*byte);
+    }
+}
+
+// The head of a file without frames.
+fn plain_head(params: &Params) -> ArrayVec<u8, 64>
+    requires { fit_refusal Voc params.now ≡ None }
+    ensures { result.items ≡ voc_head params.now }
+{
+    params.are_good();
+    let channels = params.channels as u8;
+    let mut head = ArrayVec::new();
+    put_all(
+        &mut head,
+        b"Creative Voice File\x1a\x1a\x00\x14\x01\x1f\x11",
+    );
+    put_all(&mut head, &[9, 12, 0, 0]);
+    put_all(&mut head, &params.rate.to_le_bytes());
+    let (bits, code) = (bits_of(params.codec), code_of(params.codec));
+    put_all(&mut head, &[bits, channels, code, 0, 0, 0, 0, 0]);
+    head
+}
+
+// What it says.
+#[tactic(auto, unfolding(crate::specs::Written::made_shape))]
+fn plain_layout(alloc: Global, params: Params) -> Layout
+    requires { fit_refusal Voc params ≡ None }
+    ensures { result ≡ made_shape params }
+{
+    Layout {
+        kind: Kind::Voc,
+        params,
+        start: 42,
+        frames: 0,
+        declared: 0,
+        inner: Field { at: 27, size: 3 },
+        outer: None,
+        side: None,
+        trailing: false,
+        unknown_length: false,
+        reserve: None,
+        pieces: PieceList::new(alloc),
+    }
+}
+
+// Empties a disk.
+fn empty<D: Disk>(disk: &mut D) -> Result<(), Step>
+    ensures done { OnOk result (IsCut 0 (D.state disk.old) (D.state disk.new)) }
+    ensures faults { CountsOn D.state disk.old disk.new result }
+    ensures name { (D.state disk.new).name ≡ (D.state disk.old).name }
+    ensures told { is_some (D.state disk.new).contents ≡ is_some (D.state disk.old).contents }
+    ensures time { GoesOnFrom D.state D.left_between disk.old disk.new }
+    ensures written { (D.state disk.new).written ≡ (D.state disk.old).written }
+    ensures asked { (D.state disk.new).asked ≡ (D.state disk.old).asked }
+{
+    let Ok(()) = disk.cut(0) else {
+        return Err(Step::Cut);
+    };
+    Ok(())
+}
+
+// Writes all bytes of an empty disk.
+fn fill<D: Disk>(disk: &mut D, bytes: &[u8]) -> Result<(), Step>
+    requires empty { (D.state disk.old).size ≡ 0 }
+    requires few { length bytes.now ≤ 2048 }
+    ensures done { OnOk result (Becomes bytes.now (D.state disk.old) (D.state disk.new)) }
+    ensures faults { CountsOn D.state disk.old disk.new result }
+    ensures name { (D.state disk.new).name ≡ (D.state disk.old).name }
+    ensures told { is_some (D.state disk.new).contents ≡ is_some (D.state disk.old).contents }
+    ensures time { GoesOnFrom D.state D.left_between disk.old disk.new }
+    ensures written { WritesAtMost D.state 2048 disk.old disk.new }
+    ensures asked { (D.state disk.new).asked ≡ (D.state disk.old).asked }
+{
+    let Ok(()) = disk.write_at(0, bytes) else {
+        return Err(Step::Write);
+    };
+    Ok(())
+}
+
+// Replaces what a disk holds by these bytes.
+fn write_whole<D: Disk>(disk: &mut D, bytes: &[u8]) -> Result<(), Step>
+    requires { length bytes.now ≤ 2048 }
+    ensures done { OnOk result (Becomes bytes.now (D.state disk.old) (D.state disk.new)) }
+    ensures faults { CountsOn D.state disk.old disk.new result }
+    ensures name { (D.state disk.new).name ≡ (D.state disk.old).name }
+    ensures told { is_some (D.state disk.new).contents ≡ is_some (D.state disk.old).contents }
+    ensures time { GoesOnFrom D.state D.left_between disk.old disk.new }
+    ensures written { WritesAtMost D.state 2048 disk.old disk.new }
+    ensures asked { (D.state disk.new).asked ≡ (D.state disk.old).asked }
+{
+    empty(disk)?;
+    fill(disk, bytes)?;
+    Ok(())
+}
+
+/// Makes a disk a Creative Voice file with these parameters and no frames, whatever it held before. A
+/// Creative Voice file holds the parameters. It writes at most 2048 bytes and reads none. The only error
+/// is `DiskFault`, where a call of the disk failed.
+pub fn lay_head<D: Disk>(alloc: Global, disk: &mut D, params: Params) -> Result<Layout, OpenError>
+    requires { fit_refusal Voc params ≡ None }
+    ensures laid { OnOk result (Becomes (voc_head params) (D.state disk.old) (D.state disk.new)) }
+    ensures layout { IfOk result (λ l. l ≡ made_shape params) }
+    ensures cause { IfErr result (IsLayCause (D.state disk.old).faults (D.state disk.new).faults) }
+    ensures faults { CountsOpening D.state disk.old disk.new result }
+    ensures name { (D.state disk.new).name ≡ (D.state disk.old).name }
+    ensures told { is_some (D.state disk.new).contents ≡ is_some (D.state disk.old).contents }
+    ensures time { GoesOnFrom D.state D.left_between disk.old disk.new }
+    ensures written { WritesAtMost D.state 2048 disk.old disk.new }
+    ensures asked { (D.state disk.new).asked ≡ (D.state disk.old).asked }
+{
+    params.are_good();
+    let head = plain_head(&params);
+    match write_whole(disk, head.as_slice()) {
+        Ok(()) => Ok(plain_layout(alloc, params)),
+        Err(step) => Err(OpenError::DiskFault(step)),
+    }
+}
