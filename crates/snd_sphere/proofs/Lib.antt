@@ -1,0 +1,13 @@
+pub mod AllLaws
+pub mod Answered
+pub mod Counts
+pub mod Digits
+pub mod Headings
+pub mod Kept
+pub mod Laid
+pub mod Made
+pub mod Openings
+pub mod ReadsBack
+pub mod Sounds
+pub mod Splits
+pub mod Walks
