@@ -1,7 +1,8 @@
 pub mod Blocks
+pub mod EveryKind
+pub mod FixedSamples
 mod Fronts
 mod Heads
-pub mod Images
 mod Laid
 pub mod Marks
 pub mod OfKinds

@@ -1,118 +1,50 @@
--- How many bytes the values of fields have.
-use Rattle.std.proofs.Common.{◌≡◌, ◌⊎◌, ℕ, ◌%◌, ◌≤◌, Bool, true, false, ◌||◌, ◌&&◌, List, [], ◌++◌, Option, None, Some, length, refl, ◌∙◌, sym, subst, inl, inr, ⊎_elim, arith, length-append}
-use Rattle.std.proofs.lemmas.Bool.{eq-eqb, eqb-true, ne_eqb}
-use Rattle.std.proofs.lemmas.List.{length-replicate}
-use Rattle.std.specs.Prelude.{◌==◌, codes, is_none, not}
-use Rattle.snd_fields.proofs.Numbers.{length-bytes_of}
-use Rattle.snd_fields.specs.Field.{bytes_of}
-use Rattle.snd_fields.specs.declared.field.Order.TheVariants.{Little}
-use Rattle.snd_layout.specs.Blocks.{is_adpcm}
-use Rattle.snd_layout.specs.Params.{data_bytes}
-use Rattle.snd_layout.specs.Shape.{KeepsRule, Shape, has_size, is_inner_size, is_outer_size, is_side_size}
-use Rattle.snd_layout.specs.declared.field.Field.{Field}
+-- The values of a number of frames have room in the fields of every layout.
+use Rattle.std.proofs.Common.{◌≡◌, ◌⊎◌, ap, inl, inr, ℕ, ◌≤◌, [], length}
+use Rattle.snd_layout.specs.Container.{FitsField}
+use Rattle.snd_layout.specs.Shape.{KeepsRule, Shape}
 use Rattle.snd_layout.specs.declared.kind.Kind.{Kind}
-use Rattle.snd_layout.specs.declared.kind.Kind.TheVariants.{Wave}
-use Rattle.snd_wave.specs.Values.{closing, count_bytes, inner_value, outer_value, riff_size, side_value}
-use Rattle.snd_container.specs.Values as all
-use Rattle.snd_container.specs.Values.{FitsField, closing_of_kind, inner_of_kind, outer_of_kind, side_of_kind}
+use Rattle.snd_layout.specs.declared.kind.Kind.TheVariants.{Au, Dns, Voc, Sphere}
+use Rattle.snd_container.proofs.EveryKind.{closes, fit}
+use Rattle.snd_container.specs.Kinds.{container_of}
+use Rattle.snd_voc.specs.Values.{outer_value as voc_outer, side_value as voc_side}
+use Rattle.snd_container.specs.Values.{closing, inner_value, outer_value, side_value}
 
-four_or_twelve : (adpcm four twelve : Bool) → (four || (adpcm && twelve)) ≡ true → (four ≡ true) ⊎ (twelve ≡ true)
-four_or_twelve adpcm true twelve is = inl refl
-four_or_twelve true false true is = inr refl
-four_or_twelve true false false is = absurd cc
-four_or_twelve false false twelve is = absurd cc
+pub inner_value_fits : (h : Shape) (n : ℕ) → KeepsRule h → length (inner_value h n) ≤ h.inner.size
+inner_value_fits h n rule = (fit h n rule).inner
 
-module _ (h : Shape) (n : ℕ) (wave : h.kind ≡ Wave) (rule : KeepsRule h) where
-  inner_size : (h.inner.size ≡ 4) ⊎ (h.inner.size ≡ 12)
-  inner_size =
-      let size : is_inner_size Wave h.params.codec h.inner.size ≡ true = subst (λ (k : Kind). is_inner_size k h.params.codec h.inner.size ≡ true) wave rule.inner_size in
-      ⊎_elim (λ four. inl (eqb-true h.inner.size 4 four)) (λ twelve. inr (eqb-true h.inner.size 12 twelve)) (four_or_twelve (is_adpcm h.params.codec) (h.inner.size == 4) (h.inner.size == 12) size)
+pub few_in_inner : (h : Shape) (n : ℕ) → KeepsRule h → length (inner_value h n) ≤ 32
+few_in_inner h n rule = (fit h n rule).few_inner
 
-  pub inner_width : length (inner_value h n) ≡ h.inner.size
-  unfolding inner_value
-  inner_width = elim inner_size [
-    | inl four ↦ let other : (h.inner.size == 12) ≡ false = ne_eqb h.inner.size 12 (λ twelve. omega (arith, four, twelve)) in rw other (length-bytes_of Little 4 (data_bytes h.params n) ∙ sym four)
-    | inr twelve ↦ let joined : (h.inner.size == 12) ≡ true = eq-eqb h.inner.size 12 twelve in rw joined (
-        length-append (bytes_of Little 4 n) (codes "data" ++ bytes_of Little 4 (data_bytes h.params n))
-        ∙ omega (arith, twelve, length-append (codes "data") (bytes_of Little 4 (data_bytes h.params n)), length-bytes_of Little 4 n, length-bytes_of Little 4 (data_bytes h.params n)))
-  ]
+pub outer_value_fits : (h : Shape) (n : ℕ) → KeepsRule h → FitsField h.outer (outer_value h n)
+outer_value_fits h n rule = (fit h n rule).outer
 
-  pub few_inner : h.inner.size ≤ 32
-  few_inner = ⊎_elim (λ four. omega (arith, four)) (λ twelve. omega (arith, twelve)) inner_size
+pub few_in_outer : (h : Shape) (n : ℕ) → KeepsRule h → length (outer_value h n) ≤ 8
+few_in_outer h n rule = (fit h n rule).few_outer
 
-fits_four : (field : Option Field) (v : List ℕ) → has_size field 4 ≡ true → length v ≤ 4 → FitsField field v
-fits_four None v is few = tt
-fits_four (Some f) v is few = omega (arith, eqb-true f.size 4 is, few)
+pub side_value_fits : (h : Shape) (n : ℕ) → KeepsRule h → FitsField h.side (side_value h n)
+side_value_fits h n rule = (fit h n rule).side
 
-pub outer_width : (h : Shape) (n : ℕ) → length (outer_value h n) ≡ 4
-unfolding outer_value
-outer_width h n = length-bytes_of Little 4 (riff_size h.start (data_bytes h.params n))
+pub few_in_side : (h : Shape) (n : ℕ) → KeepsRule h → length (side_value h n) ≤ 8
+few_in_side h n rule = (fit h n rule).few_side
 
-pub outer_fits : (h : Shape) (n : ℕ) → h.kind ≡ Wave → KeepsRule h → FitsField h.outer (outer_value h n)
-outer_fits h n wave rule =
-    let size : is_outer_size Wave h.outer ≡ true = subst (λ (k : Kind). is_outer_size k h.outer ≡ true) wave rule.outer_size in
-    fits_four h.outer (outer_value h n) size (omega (arith, outer_width h n))
+pub few_in_closing : (h : Shape) (n : ℕ) → length (closing h n) ≤ 7
+few_in_closing h n = (closes h.kind h).few n
 
-few_count : (side : Option Field) (n : ℕ) → length (count_bytes side n) ≤ 4
-few_count None n = omega arith
-few_count (Some f) n = omega (arith, length-bytes_of Little 4 n)
+-- ---- kinds without a size of the whole, and without a count that is not read
 
-pub side_width : (h : Shape) (n : ℕ) → length (side_value h n) ≤ 4
-unfolding side_value
-side_width h n = few_count h.side n
+abbrev pub IsSingle : Kind → Type 0
+IsSingle kind = (kind ≡ Au) ⊎ ((kind ≡ Dns) ⊎ ((kind ≡ Voc) ⊎ (kind ≡ Sphere)))
 
-side_size : (adpcm : Bool) (side : Option Field) (v : List ℕ) → (is_none side || (not adpcm && has_size side 4)) ≡ true → length v ≤ 4 → FitsField side v
-side_size adpcm None v is few = tt
-side_size true (Some f) v is few = absurd cc
-side_size false (Some f) v is few = omega (arith, eqb-true f.size 4 is, few)
+pub no_outer : (h : Shape) (n : ℕ) → IsSingle h.kind → outer_value h n ≡ []
+unfolding voc_outer
+no_outer h n (inl is) = ap (λ (k : Kind). (container_of k).outer h n) is
+no_outer h n (inr (inl is)) = ap (λ (k : Kind). (container_of k).outer h n) is
+no_outer h n (inr (inr (inl is))) = ap (λ (k : Kind). (container_of k).outer h n) is
+no_outer h n (inr (inr (inr is))) = ap (λ (k : Kind). (container_of k).outer h n) is
 
-pub side_fits : (h : Shape) (n : ℕ) → h.kind ≡ Wave → KeepsRule h → FitsField h.side (side_value h n)
-side_fits h n wave rule =
-    let size : is_side_size Wave h.params.codec h.side ≡ true = subst (λ (k : Kind). is_side_size k h.params.codec h.side ≡ true) wave rule.side_size in
-    side_size (is_adpcm h.params.codec) h.side (side_value h n) size (side_width h n)
-
-pub closing_width : (h : Shape) (n : ℕ) → length (closing h n) ≤ 1
-unfolding closing
-closing_width h n = omega (arith, length-replicate {A = ℕ} (data_bytes h.params n % 2) 0)
-
--- for every kind
-inner_of : (kind : Kind) (h : Shape) (n : ℕ) → h.kind ≡ kind → KeepsRule h → (length (inner_of_kind kind h n) ≤ h.inner.size) × (length (inner_of_kind kind h n) ≤ 32)
-inner_of Wave h n wave rule = (omega (arith, inner_width h n wave rule), omega (arith, inner_width h n wave rule, few_inner h n wave rule))
-inner_of _ h n other rule = (omega arith, omega arith)
-
-pub inner_value_fits : (h : Shape) (n : ℕ) → KeepsRule h → length (all.inner_value h n) ≤ h.inner.size
-inner_value_fits h n rule = (inner_of h.kind h n refl rule).0
-
-pub few_in_inner : (h : Shape) (n : ℕ) → KeepsRule h → length (all.inner_value h n) ≤ 32
-few_in_inner h n rule = (inner_of h.kind h n refl rule).1
-
-fits_none : (field : Option Field) → FitsField field []
-fits_none None = tt
-fits_none (Some f) = omega arith
-
-outer_of : (kind : Kind) (h : Shape) (n : ℕ) → h.kind ≡ kind → KeepsRule h → FitsField h.outer (outer_of_kind kind h n) × (length (outer_of_kind kind h n) ≤ 8)
-outer_of Wave h n wave rule = (outer_fits h n wave rule, omega (arith, outer_width h n))
-outer_of _ h n other rule = (fits_none h.outer, omega arith)
-
-pub outer_value_fits : (h : Shape) (n : ℕ) → KeepsRule h → FitsField h.outer (all.outer_value h n)
-outer_value_fits h n rule = (outer_of h.kind h n refl rule).0
-
-pub few_in_outer : (h : Shape) (n : ℕ) → KeepsRule h → length (all.outer_value h n) ≤ 8
-few_in_outer h n rule = (outer_of h.kind h n refl rule).1
-
-side_of : (kind : Kind) (h : Shape) (n : ℕ) → h.kind ≡ kind → KeepsRule h → FitsField h.side (side_of_kind kind h n) × (length (side_of_kind kind h n) ≤ 8)
-side_of Wave h n wave rule = (side_fits h n wave rule, omega (arith, side_width h n))
-side_of _ h n other rule = (fits_none h.side, omega arith)
-
-pub side_value_fits : (h : Shape) (n : ℕ) → KeepsRule h → FitsField h.side (all.side_value h n)
-side_value_fits h n rule = (side_of h.kind h n refl rule).0
-
-pub few_in_side : (h : Shape) (n : ℕ) → KeepsRule h → length (all.side_value h n) ≤ 8
-few_in_side h n rule = (side_of h.kind h n refl rule).1
-
-few_of : (kind : Kind) (h : Shape) (n : ℕ) → length (closing_of_kind kind h n) ≤ 7
-few_of Wave h n = omega (arith, closing_width h n)
-few_of _ h n = omega arith
-
-pub few_in_closing : (h : Shape) (n : ℕ) → length (all.closing h n) ≤ 7
-few_in_closing h n = few_of h.kind h n
+pub no_side : (h : Shape) (n : ℕ) → IsSingle h.kind → side_value h n ≡ []
+unfolding voc_side
+no_side h n (inl is) = ap (λ (k : Kind). (container_of k).side h n) is
+no_side h n (inr (inl is)) = ap (λ (k : Kind). (container_of k).side h n) is
+no_side h n (inr (inr (inl is))) = ap (λ (k : Kind). (container_of k).side h n) is
+no_side h n (inr (inr (inr is))) = ap (λ (k : Kind). (container_of k).side h n) is

@@ -1,4 +1,6 @@
-pub mod Images
+pub mod Fixed
+pub mod Kinds
+pub mod Laws
 pub mod Made
 pub mod Put
 pub mod Recognised

@@ -1,31 +1,25 @@
 -- The layout of a file of any kind, and its sound.
 use Rattle.std.specs.Prelude.{ℕ, ℤ, Bool, List, [], Option, None, Some, Result, Ok, Err, take, drop, map, is_none, if◌then◌else◌}
 use Rattle.snd_layout.specs.declared.codec.Codec.{Codec}
-use Rattle.snd_layout.specs.declared.codec.Codec.TheVariants.{U8, S8, S16, S24, S32}
+use Rattle.snd_layout.specs.declared.codec.Codec.TheVariants.{U8, S8, S16, S24, S32, MuLaw, ALaw}
 use Rattle.snd_layout.specs.declared.kind.Kind.{Kind}
-use Rattle.snd_layout.specs.declared.kind.Kind.TheVariants.{Wave, Rf64, W64, Au, Dns, Voc, Svx, Sphere}
 use Rattle.snd_layout.specs.declared.piece.Piece.{Piece}
 use Rattle.snd_layout.specs.declared.refusal.OpenRefusal.{OpenRefusal}
 use Rattle.snd_layout.specs.declared.refusal.OpenRefusal.TheVariants.{NotBuilt}
 use Rattle.snd_layout.specs.Params.{Parameters, data_bytes}
 use Rattle.snd_layout.specs.Shape.{Shape}
 use Rattle.snd_pcm.specs.Groups.{groups}
-use Rattle.snd_pcm.specs.Pcm.{samples}
 use Rattle.snd_pcm.specs.declared.linear.Linear as linear
-use Rattle.snd_pcm.specs.declared.linear.Linear.{Linear}
-use Rattle.snd_wave.specs.Layout.{wave_layout}
+use Rattle.snd_container.specs.declared.fixed.Fixed as fixed
+use Rattle.snd_container.specs.declared.fixed.Fixed.{Fixed}
+use Rattle.snd_container.specs.declared.fixed.Fixed.TheVariants.{Linear}
+use Rattle.snd_container.specs.Fixed.{kept_number, samples}
+use Rattle.snd_container.specs.Kinds.{container_of}
 use Rattle.snd_container.specs.Recognised.{recognised}
 
--- the layout of a file of a kind, or its first refusal; other kinds than WAVE are not built yet
+-- the layout of a file of a kind, or its first refusal
 abbrev pub layout_of_kind : Kind → List ℕ → Result Shape OpenRefusal
-layout_of_kind Wave b = wave_layout b
-layout_of_kind Rf64 b = Err NotBuilt
-layout_of_kind W64 b = Err NotBuilt
-layout_of_kind Au b = Err NotBuilt
-layout_of_kind Dns b = Err NotBuilt
-layout_of_kind Voc b = Err NotBuilt
-layout_of_kind Svx b = Err NotBuilt
-layout_of_kind Sphere b = Err NotBuilt
+layout_of_kind kind b = (container_of kind).layout b
 
 abbrev pub layout_as : Result Kind OpenRefusal → List ℕ → Result Shape OpenRefusal
 layout_as (Err refusal) b = Err refusal
@@ -34,23 +28,33 @@ layout_as (Ok kind) b = layout_of_kind kind b
 unfoldable pub layout_of : List ℕ → Result Shape OpenRefusal
 layout_of b = layout_as (recognised (take 40 b)) b
 
--- the linear form of a codec's samples, where it has one
-abbrev pub linear_of : Codec → Option Linear
-linear_of U8 = Some linear.TheVariants.U8
-linear_of S8 = Some linear.TheVariants.S8
-linear_of (S16 order) = Some (linear.TheVariants.S16 order)
-linear_of (S24 order) = Some (linear.TheVariants.S24 order)
-linear_of (S32 order) = Some (linear.TheVariants.S32 order)
-linear_of codec = None
+-- how a codec writes its samples, where each has a fixed number of bytes; ADPCM has blocks
+abbrev pub fixed_of : Codec → Option Fixed
+fixed_of U8 = Some (Linear linear.TheVariants.U8)
+fixed_of S8 = Some (Linear linear.TheVariants.S8)
+fixed_of (S16 order) = Some (Linear (linear.TheVariants.S16 order))
+fixed_of (S24 order) = Some (Linear (linear.TheVariants.S24 order))
+fixed_of (S32 order) = Some (Linear (linear.TheVariants.S32 order))
+fixed_of MuLaw = Some fixed.TheVariants.MuLaw
+fixed_of ALaw = Some fixed.TheVariants.ALaw
+fixed_of codec = None
 
--- The frames that data bytes stand for: a number for each channel, in turn. The data of laws and ADPCM are not read yet, and
--- a file of these has no sound.
-abbrev pub decoded_as : Option Linear → ℕ → List ℕ → List (List ℤ)
+-- The frames that data bytes stand for: a number for each channel, in turn. The data of ADPCM are not read yet, and a file of
+-- these has no sound.
+abbrev pub decoded_as : Option Fixed → ℕ → List ℕ → List (List ℤ)
 decoded_as None channels bytes = []
 decoded_as (Some form) channels bytes = groups channels (samples form bytes)
 
 abbrev pub decoded : Parameters → List ℕ → List (List ℤ)
-decoded p bytes = decoded_as (linear_of p.codec) p.channels bytes
+decoded p bytes = decoded_as (fixed_of p.codec) p.channels bytes
+
+-- the numbers that are kept of those that are written
+abbrev pub kept_as : Option Fixed → List ℤ → List ℤ
+kept_as None xs = xs
+kept_as (Some form) xs = map (kept_number form) xs
+
+abbrev pub kept_numbers : Parameters → List ℤ → List ℤ
+kept_numbers p xs = kept_as (fixed_of p.codec) xs
 
 -- a chunk that a file keeps, with its body
 pub record Kept : Type 0 where
@@ -75,7 +79,7 @@ kept_of b piece = record { id = piece.id.0; body = take piece.len (drop piece.at
 abbrev pub sound_in : List ℕ → Result Shape OpenRefusal → Result Sound OpenRefusal
 sound_in b (Err refusal) = Err refusal
 sound_in b (Ok s) =
-    if is_none (linear_of s.params.codec) then Err NotBuilt
+    if is_none (fixed_of s.params.codec) then Err NotBuilt
     else Ok (record { kind = s.kind; params = s.params; frames = decoded s.params (sound_bytes b s); pieces = map (kept_of b) s.pieces })
 
 abbrev pub sound_of : List ℕ → Result Sound OpenRefusal

@@ -4,7 +4,8 @@ ghost use Rattle.std.specs.Prelude.{◌≡◌, ◌-◌, ◌*◌, ◌^◌, ◌<�
 ghost use Rattle.snd_layout.specs.Blocks.{block_align};
 ghost use Rattle.snd_layout.specs.Params.{data_bytes};
 ghost use Rattle.snd_layout.specs.Shape.{room as shape_room};
-ghost use Rattle.snd_container.specs.Values.{FitsField, HasRoomFor, closing, inner_value, outer_value, side_value};
+ghost use Rattle.snd_layout.specs.Container.{FitsField, HasRoomFor};
+ghost use Rattle.snd_container.specs.Values.{closing, inner_value, outer_value, side_value};
 
 use arrayvec::ArrayVec;
 use snd_layout::{Kind, Layout, Params};
@@ -19,8 +20,12 @@ pub fn inner_bytes(layout: &Layout, frames: u64) -> ArrayVec<u8, 64>
     layout.keeps_rule();
     match layout.kind {
         Kind::Wave => snd_wave::inner_bytes(layout, frames),
-        Kind::Rf64 | Kind::W64 | Kind::Au | Kind::Dns | Kind::Voc | Kind::Svx | Kind::Sphere =>
-            ArrayVec::new(),
+        Kind::Rf64 => snd_rf64::inner_bytes(layout, frames),
+        Kind::W64 => snd_w64::inner_bytes(layout, frames),
+        Kind::Au | Kind::Dns => snd_au::inner_bytes(layout, frames),
+        Kind::Voc => snd_voc::inner_bytes(layout, frames),
+        Kind::Svx => snd_svx::inner_bytes(layout, frames),
+        Kind::Sphere => snd_sphere::inner_bytes(layout, frames),
     }
 }
 
@@ -34,8 +39,10 @@ pub fn outer_bytes(layout: &Layout, frames: u64) -> ArrayVec<u8, 64>
     layout.keeps_rule();
     match layout.kind {
         Kind::Wave => snd_wave::outer_bytes(layout, frames),
-        Kind::Rf64 | Kind::W64 | Kind::Au | Kind::Dns | Kind::Voc | Kind::Svx | Kind::Sphere =>
-            ArrayVec::new(),
+        Kind::Rf64 => snd_rf64::outer_bytes(layout, frames),
+        Kind::W64 => snd_w64::outer_bytes(layout, frames),
+        Kind::Svx => snd_svx::outer_bytes(layout, frames),
+        Kind::Au | Kind::Dns | Kind::Voc | Kind::Sphere => ArrayVec::new(),
     }
 }
 
@@ -49,8 +56,10 @@ pub fn side_bytes(layout: &Layout, frames: u64) -> ArrayVec<u8, 64>
     layout.keeps_rule();
     match layout.kind {
         Kind::Wave => snd_wave::side_bytes(layout, frames),
-        Kind::Rf64 | Kind::W64 | Kind::Au | Kind::Dns | Kind::Voc | Kind::Svx | Kind::Sphere =>
-            ArrayVec::new(),
+        Kind::Rf64 => snd_rf64::side_bytes(layout, frames),
+        Kind::W64 => snd_w64::side_bytes(layout, frames),
+        Kind::Svx => snd_svx::side_bytes(layout, frames),
+        Kind::Au | Kind::Dns | Kind::Voc | Kind::Sphere => ArrayVec::new(),
     }
 }
 
@@ -63,8 +72,12 @@ pub fn closing_bytes(layout: &Layout, frames: u64) -> ArrayVec<u8, 8>
     layout.keeps_rule();
     match layout.kind {
         Kind::Wave => snd_wave::closing_bytes(layout, frames),
-        Kind::Rf64 | Kind::W64 | Kind::Au | Kind::Dns | Kind::Voc | Kind::Svx | Kind::Sphere =>
-            ArrayVec::new(),
+        Kind::Rf64 => snd_rf64::closing_bytes(layout, frames),
+        Kind::W64 => snd_w64::closing_bytes(layout, frames),
+        Kind::Au | Kind::Dns => snd_au::closing_bytes(layout, frames),
+        Kind::Voc => snd_voc::closing_bytes(layout, frames),
+        Kind::Svx => snd_svx::closing_bytes(layout, frames),
+        Kind::Sphere => snd_sphere::closing_bytes(layout, frames),
     }
 }
 

@@ -1,37 +1,24 @@
-//! The laws of the layouts of files of every kind, proved of every file. The functions do nothing: their
-//! contracts are the laws.
+//! The laws of the layouts of files of every kind, proved of every file. The function does nothing: its
+//! contract is the laws.
 
-ghost use Rattle.snd_container.specs.Images.{EndsAreInOrder, FieldsAreApart, NewCountReadsBack, OldCountReadsBack, OuterIsWithin, OuterReaches, OuterStops, SameOutsideDataReadsBack, ValuesAreFree, ValuesFillFields};
+ghost use Rattle.snd_container.specs.Fixed.{KeptNumbersStay, NumbersAreKept};
+ghost use Rattle.snd_container.specs.Laws.{KeepAllLaws};
 
-/// Where the field that decides the count has its old bytes, or those for a number of frames, and the
-/// others have any, the layout says the old frames, or so many: as long as the data are there, and the
-/// whole ends by them. Where only the data change, the layout stays, with all that stands behind them.
-#[tactic(auto, using(crate::proofs::Images::old_count_reads_back, crate::proofs::Images::new_count_reads_back, crate::proofs::Images::same_outside_data_reads_back))]
-pub fn images_read_back()
-    ensures old { OldCountReadsBack }
-    ensures new { NewCountReadsBack }
-    ensures outside { SameOutsideDataReadsBack }
+/// What the containers owe the layers above, for files of every kind. Where the field that decides the
+/// count has its old bytes, or those for a number of frames, and the others have any, a file says the old
+/// frames, or so many, as long as the data are there and the whole ends by them; where only the data
+/// change, it says all that it said, with what stands behind them. The size of the whole reaches no
+/// further than what closes the data. The fields of a layout stand apart, and the values of a number of
+/// frames fill them. What is made says what it was made for.
+#[tactic(auto, using(crate::proofs::EveryKind::keep_all_laws))]
+pub fn keep_all_laws()
+    ensures { KeepAllLaws }
 {}
 
-/// The size of the whole that is that of a number of frames reaches no further than what closes their
-/// data. Where a file does not go on behind its data, its own does not either; and none reaches behind the
-/// file. The data of more frames end later.
-#[tactic(auto, using(crate::proofs::Images::outer_reaches, crate::proofs::Images::outer_stops, crate::proofs::Images::outer_is_within, crate::proofs::Images::ends_are_in_order))]
-pub fn outer_reaches()
-    ensures reaches { OuterReaches }
-    ensures stops { OuterStops }
-    ensures within { OuterIsWithin }
-    ensures order { EndsAreInOrder }
-{}
-
-/// The fields of a layout stand apart, and the size of the whole in one sector.
-pub fn fields_are_apart()
-    ensures { FieldsAreApart }
-{}
-
-/// The values of a number of frames fill the fields of a file that has a layout. They hang neither on the
-/// frames that there were nor on the declared length.
-pub fn values_fill_fields()
-    ensures fill { ValuesFillFields }
-    ensures free { ValuesAreFree }
+/// Samples that are written stand for the numbers that their codec keeps: a linear one keeps each, a law
+/// of G.711 one near it. What was kept once does not change when it is written again.
+#[tactic(auto, using(crate::proofs::FixedSamples::numbers_are_kept, crate::proofs::FixedSamples::kept_numbers_stay))]
+pub fn written_samples_are_kept()
+    ensures kept { NumbersAreKept }
+    ensures once { KeptNumbersStay }
 {}

@@ -3,6 +3,7 @@
 #![tactic(auto)]
 
 mod fields;
+mod fixed;
 mod laws;
 mod made;
 mod open;
@@ -10,7 +11,8 @@ mod pieces;
 mod recognition;
 
 pub use fields::{closing_bytes, data_bytes, inner_bytes, outer_bytes, room, side_bytes};
-pub use laws::{fields_are_apart, images_read_back, outer_reaches, values_fill_fields};
+pub use fixed::{Fixed, fixed_form, in_range, put_samples, read_samples};
+pub use laws::{keep_all_laws, written_samples_are_kept};
 pub use made::{fit, lay_head};
 pub use open::open_layout;
 pub use pieces::{add_piece, put_piece};

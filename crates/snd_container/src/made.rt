@@ -1,16 +1,15 @@
 //! Files of every kind that are made.
 
-ghost use Rattle.std.specs.Prelude.{◌≡◌, Err, IfErr, IfOk, None, OnOk, Ok, Some, [], is_some, length};
+ghost use Rattle.std.specs.Prelude.{◌≡◌, IfErr, IfOk, None, OnOk, Some, [], is_some, length};
 ghost use Rattle.snd_disk.specs.Device.{GoesOnFrom, WritesAtMost};
 ghost use Rattle.snd_disk.specs.State.{IsMeant};
 ghost use Rattle.snd_layout.specs.Fit.{fit_refusal};
 ghost use Rattle.snd_layout.specs.Opened.{CountsOpening};
-ghost use Rattle.snd_layout.specs.declared.error.OpenError.TheVariants.{Refused};
-ghost use Rattle.snd_layout.specs.declared.refusal.OpenRefusal.{OpenRefusal};
-ghost use Rattle.snd_container.specs.Made.{IsMakeCause, new_file, new_layout};
+ghost use Rattle.snd_container.specs.Made.{IsMakeCause, new_file, new_shape};
 ghost use Rattle.snd_container.specs.Put.{IsHeadOf};
 
 use snd_disk::Disk;
+use snd_fields::Order;
 use snd_layout::{Kind, Layout, OpenError, OpenRefusal, Params};
 use std::alloc::Global;
 
@@ -28,8 +27,7 @@ pub fn fit(kind: Kind, params: Params) -> Result<(), OpenRefusal>
 
 /// Makes a disk a file of a kind with these parameters, no frames and no pieces, whatever it held before.
 /// The kind holds the parameters. It writes at most 2048 bytes and reads none. The answer is
-/// `DiskFault` where a call of the disk failed, and `Refused` where the kind is not built yet: then the
-/// disk is not touched.
+/// `DiskFault` where a call of the disk failed.
 pub fn lay_head<D: Disk>(
     alloc: Global,
     disk: &mut D,
@@ -38,10 +36,9 @@ pub fn lay_head<D: Disk>(
 ) -> Result<Layout, OpenError>
     requires { fit_refusal kind params ≡ None }
     ensures laid { OnOk result (IsMeant (length (new_file kind params)) (λ b. new_file kind params) (D.state disk.old) (D.state disk.new)) }
-    ensures layout { IfOk result (λ l. new_layout kind params ≡ Ok l) }
+    ensures layout { IfOk result (λ l. l ≡ new_shape kind params) }
     ensures head { IfOk result (λ l. IsHeadOf (D.state disk.new) l params []) }
-    ensures cause { IfErr result (IsMakeCause (new_layout kind params) (D.state disk.old).faults (D.state disk.new).faults) }
-    ensures untouched { (refusal : OpenRefusal) → new_layout kind params ≡ Err refusal → disk.new ≡ disk.old }
+    ensures cause { IfErr result (IsMakeCause (D.state disk.old).faults (D.state disk.new).faults) }
     ensures faults { CountsOpening D.state disk.old disk.new result }
     ensures name { (D.state disk.new).name ≡ (D.state disk.old).name }
     ensures told { is_some (D.state disk.new).contents ≡ is_some (D.state disk.old).contents }
@@ -49,10 +46,15 @@ pub fn lay_head<D: Disk>(
     ensures written { WritesAtMost D.state 2048 disk.old disk.new }
     ensures asked { (D.state disk.new).asked ≡ (D.state disk.old).asked }
 {
+    params.are_good();
     match kind {
         Kind::Wave => snd_wave::lay_head(alloc, disk, params),
-        Kind::Rf64 | Kind::W64 | Kind::Au | Kind::Dns | Kind::Voc | Kind::Svx | Kind::Sphere => Err(
-            OpenError::Refused(OpenRefusal::NotBuilt),
-        ),
+        Kind::Rf64 => snd_rf64::lay_head(alloc, disk, params),
+        Kind::W64 => snd_w64::lay_head(alloc, disk, params),
+        Kind::Au => snd_au::lay_head(alloc, disk, Order::Big, params),
+        Kind::Dns => snd_au::lay_head(alloc, disk, Order::Little, params),
+        Kind::Voc => snd_voc::lay_head(alloc, disk, params),
+        Kind::Svx => snd_svx::lay_head(alloc, disk, params),
+        Kind::Sphere => snd_sphere::lay_head(alloc, disk, params),
     }
 }
