@@ -9,10 +9,9 @@ use Rattle.snd_disk.proofs.Sources.{byte_from, made_front}
 use Rattle.snd_disk.specs.State.{State}
 use Rattle.snd_patch.specs.Laws.{ClosesFromTo, ClosingKeepsPlaces, CutsFromTo, StableStartCloses, StableStartCuts, StartIsMade}
 use Rattle.snd_layout.specs.Shape.{Shape, end}
-use Rattle.snd_container.specs.Values.{closing}
+use Rattle.snd_container.specs.Values.{closed_end, closing}
 use Rattle.snd_patch.specs.Images.{IsClosing, IsCutting, held_closing, held_cut}
 use Rattle.snd_patch.specs.Sealed.{closed, over_closing}
-use Rattle.snd_container.specs.Images.{closed_end}
 use Rattle.snd_patch.proofs.Bytes.{over_beside, take_before}
 
 module _ (b : List ℕ) (h : Shape) (n : ℕ) where

@@ -8,7 +8,8 @@ use Rattle.snd_disk.proofs.Sources.{byte_from, made_comes}
 use Rattle.snd_layout.specs.Params.{data_bytes}
 use Rattle.snd_layout.specs.Shape.{KeepsRule, Shape}
 use Rattle.snd_layout.specs.declared.field.Field.{Field}
-use Rattle.snd_container.specs.Values.{FitsField, inner_value, outer_value, side_value}
+use Rattle.snd_layout.specs.Container.{FitsField}
+use Rattle.snd_container.specs.Values.{inner_value, outer_value, side_value}
 use Rattle.snd_container.proofs.Widths.{inner_value_fits, outer_value_fits, side_value_fits}
 use Rattle.snd_patch.specs.Images.{AllLieApart, HasNew, HasOld, IsGrowing, IsShrinking, IsUpdating}
 use Rattle.snd_patch.specs.Laws.{CountsFromTo, GrowsFromTo, ShrinksFromTo}

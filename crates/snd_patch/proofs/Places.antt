@@ -5,8 +5,7 @@ use Rattle.std.specs.Prelude.{nat_le, nat_lt}
 use Rattle.snd_disk.specs.Runs.{IsBeside}
 use Rattle.snd_layout.specs.Shape.{Shape}
 use Rattle.snd_layout.specs.declared.field.Field.{Field}
-use Rattle.snd_container.specs.Values.{FitsField}
-use Rattle.snd_container.specs.Images.{is_in, is_in_fields, is_in_some}
+use Rattle.snd_layout.specs.Container.{FitsField, is_in, is_in_fields, is_in_some}
 use Rattle.snd_patch.specs.Steps.{IsFieldOf, IsOutside}
 
 in_both : (a b : Bool) → a ≡ true → b ≡ true → (a && b) ≡ true

@@ -9,7 +9,7 @@ use Rattle.snd_layout.specs.declared.field.Field.{Field}
 use Rattle.snd_layout.specs.Shape.{Shape}
 use Rattle.snd_patch.specs.Images.{held_closing}
 use Rattle.snd_patch.specs.Sealed.{closed, held_field, over_closing, over_field}
-use Rattle.snd_container.specs.Images.{closed_end}
+use Rattle.snd_container.specs.Values.{closed_end}
 
 -- the same field with the same bytes
 pub held_same : (b : List ℕ) (o p : Option Field) (v w : List ℕ) → o ≡ p → v ≡ w → held_field o b v ≡ held_field p b w

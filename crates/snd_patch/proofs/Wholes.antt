@@ -5,10 +5,9 @@ use Rattle.snd_disk.proofs.Fields.{field_from, over_in}
 use Rattle.snd_disk.proofs.Sources.{byte_from}
 use Rattle.snd_layout.specs.Shape.{EndsBy, Shape}
 use Rattle.snd_layout.specs.declared.field.Field.{Field}
-use Rattle.snd_container.specs.Values.{FitsField}
+use Rattle.snd_layout.specs.Container.{FitsField, is_in_fields}
 use Rattle.snd_patch.specs.Images.{HasNew, HasOld, IsOldOrNew}
 use Rattle.snd_patch.specs.Sealed.{LieApart, over_field}
-use Rattle.snd_container.specs.Images.{is_in_fields}
 use Rattle.snd_patch.specs.Steps.{IsFieldOf}
 use Rattle.snd_patch.proofs.Bytes.{over_beside}
 use Rattle.snd_patch.proofs.Places.{beside_field}

@@ -7,9 +7,9 @@ use Rattle.snd_disk.specs.declared.disk.Disk.{Ghosts}
 use Rattle.snd_layout.specs.Params.{data_bytes}
 use Rattle.snd_layout.specs.Shape.{Shape, end}
 use Rattle.snd_layout.specs.declared.field.Field.{Field}
-use Rattle.snd_container.specs.Values.{inner_value, outer_value, side_value}
+use Rattle.snd_container.specs.Values.{closed_end, inner_value, outer_value, side_value}
 use Rattle.snd_patch.specs.Sealed.{FieldsLieApart, LieApart, closed, over_closing, with_fewer}
-use Rattle.snd_container.specs.Images.{closed_end, is_in_fields}
+use Rattle.snd_layout.specs.Container.{is_in_fields}
 
 -- no two fields have a byte in common
 pub record AllLieApart (h : Shape) : Type 0 where

@@ -6,7 +6,7 @@ use Rattle.snd_disk.specs.State.{State}
 use Rattle.snd_layout.specs.Shape.{KeepsRule, Shape, end}
 use Rattle.snd_patch.specs.Images.{AllLieApart, IsClosing, IsCounting, IsCutting, IsGrowing, IsShrinking, held_closing, held_cut}
 use Rattle.snd_patch.specs.Sealed.{FieldsLieApart, SameBesideFields, closed, grown, over_closing, patched, sealed, sealed_size, shrunk, with_fewer, with_fields}
-use Rattle.snd_container.specs.Images.{closed_end}
+use Rattle.snd_container.specs.Values.{closed_end}
 
 -- Before the end of the data, every byte beside the fields stays.
 abbrev pub GrownKeeps : Type 0

@@ -6,8 +6,8 @@ use Rattle.snd_disk.specs.Runs.{AreApart}
 use Rattle.snd_layout.specs.Params.{data_bytes}
 use Rattle.snd_layout.specs.Shape.{Shape, end}
 use Rattle.snd_layout.specs.declared.field.Field.{Field}
-use Rattle.snd_container.specs.Images.{closed_end, is_in_fields}
-use Rattle.snd_container.specs.Values.{closing, inner_value, outer_value, side_value}
+use Rattle.snd_layout.specs.Container.{is_in_fields}
+use Rattle.snd_container.specs.Values.{closed_end, closing, inner_value, outer_value, side_value}
 
 -- b with bytes in a field, where it is there
 abbrev pub over_field : Option Field → List ℕ → List ℕ → List ℕ

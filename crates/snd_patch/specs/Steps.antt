@@ -4,10 +4,9 @@ use Rattle.snd_disk.specs.Device.{GoesOnFrom, Tells, WritesAtMost}
 use Rattle.snd_disk.specs.Runs.{IsBeside, Since}
 use Rattle.snd_disk.specs.State.{State}
 use Rattle.snd_layout.specs.Shape.{Shape, end}
-use Rattle.snd_container.specs.Values.{HasRoomFor}
+use Rattle.snd_layout.specs.Container.{HasRoomFor, is_in, is_in_fields}
 use Rattle.snd_layout.specs.declared.field.Field.{Field}
 use Rattle.snd_patch.specs.Sealed.{SameBesideFields}
-use Rattle.snd_container.specs.Images.{is_in, is_in_fields}
 
 -- A head may say n frames: their fields and what closes them have room, and their data stand on a disk of a length.
 pub record MayCount (h : Shape) (n size : ℕ) : Type 0 where

@@ -5,10 +5,10 @@ ghost use Rattle.snd_disk.specs.Device.{CountsOn, IsStable};
 ghost use Rattle.snd_disk.specs.Runs.{Since};
 ghost use Rattle.snd_disk.specs.State.{Keeps};
 ghost use Rattle.snd_layout.specs.Shape.{EndsBy, Shape, end};
-ghost use Rattle.snd_container.specs.Values.{FitsField};
+ghost use Rattle.snd_layout.specs.Container.{FitsField};
 ghost use Rattle.snd_patch.specs.Images.{LeavesGrowing, LeavesLowered, held_closing};
 ghost use Rattle.snd_patch.specs.Sealed.{closed, held_field, held_others, over_closing, over_field, with_fewer, with_fields, with_inner, with_others};
-ghost use Rattle.snd_container.specs.Images.{closed_end};
+ghost use Rattle.snd_container.specs.Values.{closed_end};
 ghost use Rattle.snd_patch.specs.Steps.{Becomes, IsFieldOf, KeepsSize, MayCount, Runs, Updates};
 
 use crate::steps::{put_bytes, settle};

@@ -3,10 +3,10 @@
 ghost use Rattle.std.specs.Prelude.{◌≡◌, ◌+◌, ◌^◌, ◌<◌, ◌≤◌, false, true, OnErr, OnOk, take};
 ghost use Rattle.snd_disk.specs.Device.{CountsOn, GoesOnFrom, IsStable, WritesAtMost};
 ghost use Rattle.snd_layout.specs.Shape.{end};
-ghost use Rattle.snd_container.specs.Values.{HasRoomFor};
+ghost use Rattle.snd_layout.specs.Container.{HasRoomFor};
 ghost use Rattle.snd_patch.specs.Images.{LeavesCounting, LeavesCutting, LeavesEach, LeavesGrowing, LeavesSealing, LeavesShrinking, held_cut};
 ghost use Rattle.snd_patch.specs.Sealed.{counted, grown, over_closing, patched, sealed, sealed_size, shrunk};
-ghost use Rattle.snd_container.specs.Images.{closed_end};
+ghost use Rattle.snd_container.specs.Values.{closed_end};
 ghost use Rattle.snd_patch.specs.Steps.{Becomes, KeepsBeside, KeepsSize, MayCount, Runs, StillTells, Updates};
 
 use crate::fields::{close_data, lower, put_closing, raise};

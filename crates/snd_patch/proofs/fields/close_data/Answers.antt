@@ -3,7 +3,7 @@ use Rattle.std.specs.Prelude.{nat_lt}
 use Rattle.snd_disk.proofs.RunsOfCalls.{runs_join}
 use Rattle.snd_patch.specs.Images.{held_closing}
 use Rattle.snd_patch.specs.Sealed.{closed, over_closing}
-use Rattle.snd_container.specs.Images.{closed_end}
+use Rattle.snd_container.specs.Values.{closed_end}
 use Rattle.snd_patch.proofs.Running.{closed_missing, held_as, held_missing, mapped_as, more_held}
 use Rattle.snd_patch.proofs.fields.close_data.Goals as goal
 

@@ -2,7 +2,7 @@ use Rattle.std.proofs.Common.{◌≡◌, ◌∙◌, ◌≤◌, [], ◌∷◌, �
 use Rattle.snd_disk.proofs.RunsOfCalls.{runs_join, same_some}
 use Rattle.snd_patch.specs.Images.{IsCutting, held_cut}
 use Rattle.snd_patch.specs.Sealed.{over_closing}
-use Rattle.snd_container.specs.Images.{closed_end}
+use Rattle.snd_container.specs.Values.{closed_end}
 use Rattle.snd_patch.proofs.Behind.{cutting_from}
 use Rattle.snd_patch.proofs.Moments.{leaves_by}
 use Rattle.snd_patch.proofs.Running.{more_held, one_as, then_synced}
