@@ -3,38 +3,21 @@ use Rattle.std.proofs.Common.{◌≡◌, subst, ℕ, ◌+◌, ◌-◌, ◌/◌, 
 use Rattle.std.proofs.lemmas.Bool.{and_parts, cond_both, ltb-true}
 use Rattle.std.proofs.lemmas.List.Elements.{All-append, All-cons, All-drop, All-nil, All-replicate, All-take}
 use Rattle.std.specs.Prelude.{◌==◌, codes, nat_le, nat_lt}
-use Rattle.snd_container.specs.Sound.{linear_of}
-use Rattle.snd_container.specs.Values.{closing, closing_of_kind, inner_of_kind, inner_value, outer_of_kind, outer_value, side_of_kind, side_value}
+use Rattle.snd_container.specs.Sound.{fixed_of}
+use Rattle.snd_container.proofs.EveryKind.{bytes}
+use Rattle.snd_container.specs.Values.{closed_end, closing, inner_value, outer_value, side_value}
 use Rattle.snd_disk.specs.Bytes.{over}
-use Rattle.snd_fields.proofs.Numbers.{bytes_are_bytes}
-use Rattle.snd_fields.specs.Field.{bytes_of}
 use Rattle.snd_fields.specs.Laws.{IsByte}
-use Rattle.snd_fields.specs.declared.field.Order.TheVariants.{Little}
 use Rattle.snd_layout.specs.Params.{data_bytes}
 use Rattle.snd_layout.specs.Shape.{Shape, end}
 use Rattle.snd_layout.specs.declared.field.Field.{Field}
-use Rattle.snd_layout.specs.declared.kind.Kind.{Kind}
-use Rattle.snd_layout.specs.declared.kind.Kind.TheVariants.{Wave}
 use Rattle.snd_patch.specs.Sealed.{closed, over_closing, over_field, patched, sealed, shrunk, with_fewer, with_fields, with_inner, with_others}
-use Rattle.snd_container.specs.Images.{closed_end}
-use Rattle.snd_pcm.proofs.RoundTrips.{count_of_bytes}
-use Rattle.snd_pcm.specs.declared.linear.Linear.{Linear}
-use Rattle.snd_wave.specs.Values.{closing as wave_closing, count_bytes, inner_value as wave_inner, outer_value as wave_outer, riff_size, side_value as wave_side}
+use Rattle.snd_container.proofs.FixedSamples.{count_of_bytes}
+use Rattle.snd_container.specs.declared.fixed.Fixed.{Fixed}
 use Rattle.snd_modes.specs.Editing.{Editing}
 use Rattle.snd_modes.specs.Edits.{closed_behind, coded, coded_as, count_written, cut_off, cut_to, over_data, sealed_to, sealed_where}
 use Rattle.snd_modes.specs.Laws.{Leads, Reached, begins, goes_on, reads, seals, seeks, seeks_to_write, sets_automatic, trims, truncates, writes}
 use Rattle.snd_modes.proofs.EditedFiles.{updating_begins}
-
-abbrev are_bytes : List ℕ → Bool
-are_bytes [] = true
-are_bytes (x ∷ xs) = nat_lt x 256 && are_bytes xs
-
-pub from_test : (xs : List ℕ) → are_bytes xs ≡ true → All IsByte xs
-from_test [] is = All-nil IsByte
-from_test (x ∷ xs) is = let parts = and_parts (nat_lt x 256) (are_bytes xs) is in All-cons IsByte x xs (ltb-true x 256 parts.0) (from_test xs parts.1)
-
-pub number_bytes : (k n : ℕ) → All IsByte (bytes_of Little k n)
-number_bytes k n = (bytes_are_bytes Little k n).1
 
 -- ---- bytes that are put
 
@@ -44,45 +27,15 @@ bytes_over b at s are are_new =
     let front : All IsByte (take at b ++ gap) = All-append IsByte (take at b) gap (All-take IsByte at b are) (All-replicate IsByte (at - length b) 0 (omega arith)) in
     All-append IsByte (take at b ++ gap ++ s) (drop (at + length s) b) (All-append IsByte (take at b ++ gap) s front are_new) (All-drop IsByte (at + length s) b are)
 
-pub bytes_coded : (o : Option Linear) (xs : List ℤ) → All IsByte (coded_as o xs)
+pub bytes_coded : (o : Option Fixed) (xs : List ℤ) → All IsByte (coded_as o xs)
 bytes_coded None xs = All-nil IsByte
 bytes_coded (Some form) xs = (count_of_bytes form xs).1
 
-bytes_closing_as : (kind : Kind) (h : Shape) (n : ℕ) → All IsByte (closing_of_kind kind h n)
-unfolding wave_closing
-bytes_closing_as Wave h n = All-replicate IsByte (data_bytes h.params n % 2) 0 (omega arith)
-bytes_closing_as _ h n = All-nil IsByte
-
 pub bytes_closing : (h : Shape) (n : ℕ) → All IsByte (closing h n)
-bytes_closing h n = bytes_closing_as h.kind h n
+bytes_closing h n = (bytes h n).closing
 
 pub bytes_shut : (b : List ℕ) (h : Shape) (n : ℕ) → All IsByte b → All IsByte (closed_behind b h n)
 bytes_shut b h n are = cond_both (nat_lt h.frames n) (over_closing b h n) b (λ x. All IsByte x) (λ is. bytes_over b (end h n) (closing h n) are (bytes_closing h n)) (λ other. are)
-
--- ---- the values of fields
-
-bytes_inner : (kind : Kind) (h : Shape) (n : ℕ) → All IsByte (inner_of_kind kind h n)
-unfolding wave_inner
-bytes_inner Wave h n =
-    let size = bytes_of Little 4 (data_bytes h.params n) in
-    cond_both (h.inner.size == 12) (bytes_of Little 4 n ++ codes "data" ++ size) size (λ l. All IsByte l)
-    (λ is. All-append IsByte (bytes_of Little 4 n ++ codes "data") size (All-append IsByte (bytes_of Little 4 n) (codes "data") (number_bytes 4 n) (from_test (codes "data") refl)) (number_bytes 4 (data_bytes h.params n)))
-    (λ other. number_bytes 4 (data_bytes h.params n))
-bytes_inner _ h n = All-nil IsByte
-
-bytes_outer : (kind : Kind) (h : Shape) (n : ℕ) → All IsByte (outer_of_kind kind h n)
-unfolding wave_outer
-bytes_outer Wave h n = number_bytes 4 (riff_size h.start (data_bytes h.params n))
-bytes_outer _ h n = All-nil IsByte
-
-bytes_count : (side : Option Field) (n : ℕ) → All IsByte (count_bytes side n)
-bytes_count None n = All-nil IsByte
-bytes_count (Some field) n = number_bytes 4 n
-
-bytes_side : (kind : Kind) (h : Shape) (n : ℕ) → All IsByte (side_of_kind kind h n)
-unfolding wave_side
-bytes_side Wave h n = bytes_count h.side n
-bytes_side _ h n = All-nil IsByte
 
 -- ---- the file with them
 
@@ -92,10 +45,10 @@ bytes_field (Some field) b v are values = bytes_over b field.at v are values
 
 module _ (h : Shape) (n : ℕ) where
   with_inner_bytes : (b : List ℕ) → All IsByte b → All IsByte (with_inner b h n)
-  with_inner_bytes b are = bytes_over b h.inner.at (inner_value h n) are (bytes_inner h.kind h n)
+  with_inner_bytes b are = bytes_over b h.inner.at (inner_value h n) are (bytes h n).inner
 
   with_others_bytes : (b : List ℕ) → All IsByte b → All IsByte (with_others b h n)
-  with_others_bytes b are = bytes_field h.side (over_field h.outer b (outer_value h n)) (side_value h n) (bytes_field h.outer b (outer_value h n) are (bytes_outer h.kind h n)) (bytes_side h.kind h n)
+  with_others_bytes b are = bytes_field h.side (over_field h.outer b (outer_value h n)) (side_value h n) (bytes_field h.outer b (outer_value h n) are (bytes h n).outer) (bytes h n).side
 
   over_closing_bytes : (b : List ℕ) → All IsByte b → All IsByte (over_closing b h n)
   over_closing_bytes b are = bytes_over b (end h n) (closing h n) are (bytes_closing h n)
@@ -120,7 +73,7 @@ module _ (h : Shape) (n : ℕ) where
   bytes_where automatic b are = cond_both automatic (sealed b h n) b (λ x. All IsByte x) (λ is. bytes_sealed b are) (λ other. are)
 
 pub bytes_written : (b : List ℕ) (h : Shape) (place : ℕ) (xs : List ℤ) (n : ℕ) → All IsByte b → All IsByte (closed_behind (over_data b h place xs) h n)
-bytes_written b h place xs n are = bytes_shut (over_data b h place xs) h n (bytes_over b (end h place) (coded h.params xs) are (bytes_coded (linear_of h.params.codec) xs))
+bytes_written b h place xs n are = bytes_shut (over_data b h place xs) h n (bytes_over b (end h place) (coded h.params xs) are (bytes_coded (fixed_of h.params.codec) xs))
 
 -- ---- what calls leave
 

@@ -3,8 +3,9 @@ use Rattle.std.proofs.Common.{◌≡◌, ◌∙◌, ap, sym, subst, refl, inl, i
 use Rattle.std.specs.Prelude.{Result, is_none, nat_le, nat_lt}
 use Rattle.std.proofs.lemmas.Bool.{cases_Bool, cond_both}
 use Rattle.std.proofs.lemmas.List.{length-take}
-use Rattle.snd_container.specs.Sound.{layout_of, linear_of}
-use Rattle.snd_container.specs.Values.{closing}
+use Rattle.snd_container.specs.Laws.{FileSays}
+use Rattle.snd_container.specs.Sound.{layout_of, fixed_of}
+use Rattle.snd_container.specs.Values.{closed_end, closing}
 use Rattle.snd_disk.proofs.Lists.{length-over}
 use Rattle.snd_fields.specs.Laws.{IsByte}
 use Rattle.snd_layout.specs.Blocks.{is_adpcm}
@@ -15,12 +16,12 @@ use Rattle.snd_layout.specs.declared.refusal.OpenRefusal.{OpenRefusal}
 use Rattle.snd_patch.proofs.Bytes.{over_beside, take_before}
 use Rattle.snd_patch.proofs.Lists.{closed_same, order_is_free, sealed_keeps, sealed_length, shrunk_keeps, shrunk_length}
 use Rattle.snd_patch.specs.Sealed.{FieldsLieApart, closed, counted, over_closing, patched, sealed, sealed_size, shrunk, with_fewer, with_fields}
-use Rattle.snd_container.specs.Images.{KeepsHead, closed_end}
+use Rattle.snd_layout.specs.Container.{KeepsHead, LiesIn}
 use Rattle.snd_modes.specs.Editing.{Editing, first_editing, moved_to, opening_as, opening_of}
 use Rattle.snd_modes.specs.Edits.{automatic_to, cut_off, moved_write_to, sealed_to}
-use Rattle.snd_modes.specs.Laws.{AutomaticReadsBack, HoldsFrames, IsEdited, OpenedHoldsFrames, SealedReadsBack, UpdatedIsEdited, as_opened}
+use Rattle.snd_modes.specs.Laws.{AutomaticReadsBack, HoldsFrames, IsEdited, OpenedHoldsFrames, OpensAgain, SealedReadsBack, UpdatedIsEdited, as_opened, going_on}
 use Rattle.snd_modes.specs.Updating.{updating_as, updating_of}
-use Rattle.snd_modes.proofs.FileRules.{LiesIn, lies_in}
+use Rattle.snd_modes.proofs.FileRules.{lies_in}
 use Rattle.snd_modes.proofs.Opened.{update_ok}
 use Rattle.snd_modes.proofs.Opening.{count_opened, opening_ok}
 use Rattle.snd_modes.proofs.Rooms.{not_adpcm}
@@ -89,8 +90,8 @@ off_kept file b h n kept = λ i lt out. off_before b h n i lt ∙ kept i lt out
 pub off_length : (b : List ℕ) (h : Shape) (n : ℕ) → length (cut_off b h n) ≡ closed_end h n
 off_length b h n = length-take (closed_end h n) (over_closing b h n) ∙ omega (arith, length-over b (end h n) (closing h n))
 
-module _ (file : List ℕ) (head : Shape) (bytes : All IsByte file) (opened : layout_of file ≡ Ok head) (linear : is_none (linear_of head.params.codec) ≡ false)
-    (h : Shape) (shape : h ≡ recounted head h.frames h.declared) (rule : KeepsRule h) (free : h.trailing ≡ false) (n : ℕ) (fits : data_bytes head.params n ≤ max (room head) head.declared) where
+module _ (file : List ℕ) (head : Shape) (bytes : All IsByte file) (opened : FileSays file head) (linear : is_none (fixed_of head.params.codec) ≡ false) (known : head.unknown_length ≡ false)
+    (h : Shape) (shape : h ≡ recounted head h.frames h.declared) (rule : KeepsRule h) (free : h.trailing ≡ false) (n : ℕ) (fits : data_bytes head.params n ≤ max (room head) head.declared) (ends : end h n + 8 ≤ 2 ^ 63) where
   apart : FieldsLieApart h
   apart = subst FieldsLieApart (sym shape) (fields_lie_apart file head h.frames h.declared opened).inner
 
@@ -100,20 +101,22 @@ module _ (file : List ℕ) (head : Shape) (bytes : All IsByte file) (opened : la
   sealed_before : (b : List ℕ) → end h n ≤ length b → (i : ℕ) → get_or (sealed b h n) i 0 ≡ get_or (with_fields (closed b h n) h n) i 0
   sealed_before b there i = ap (λ (l : List ℕ). get_or l i 0) (sealed_is b h n rule apart free (omega (arith, there, longer_closed b h n)))
 
-  pub sealed_says : (b : List ℕ) → KeepsHead h file b → end h n ≤ length b → layout_of (sealed b h n) ≡ Ok (counted h n)
-  sealed_says b kept there =
-      let size : sealed_size (length b) h n ≡ max (length b) (closed_end h n) = ap (λ (t : Bool). cond t (length b) (max (length b) (closed_end h n))) free in
-      fields_read_back file head bytes opened linear (sealed b h n) (closed b h n) h n shape rule free fits (closed_kept b kept) (omega (arith, there, longer_closed b h n))
-      (λ i lt. sealed_before b there i) (omega (arith, sealed_length b h n rule there, size))
+  ends_there : end head n + 8 ≤ 2 ^ 63
+  ends_there = subst (λ (s : Shape). end s n + 8 ≤ 2 ^ 63) shape ends
 
-  pub trimmed_says : (b : List ℕ) → KeepsHead h file b → end h n ≤ length b → layout_of (cut_off (sealed b h n) h n) ≡ Ok (counted h n)
+  pub sealed_says : (b : List ℕ) → KeepsHead h file b → end h n ≤ length b → FileSays (sealed b h n) (counted h n)
+  sealed_says b kept there =
+      fields_read_back file head bytes opened linear known (sealed b h n) (closed b h n) h n shape rule free fits ends_there (closed_kept b kept) (omega (arith, there, longer_closed b h n))
+      (λ i lt. sealed_before b there i) (omega (arith, there, sealed_long b h n rule there))
+
+  pub trimmed_says : (b : List ℕ) → KeepsHead h file b → end h n ≤ length b → FileSays (cut_off (sealed b h n) h n) (counted h n)
   trimmed_says b kept there =
-      fields_read_back file head bytes opened linear (cut_off (sealed b h n) h n) (closed b h n) h n shape rule free fits (closed_kept b kept) (omega (arith, there, longer_closed b h n))
+      fields_read_back file head bytes opened linear known (cut_off (sealed b h n) h n) (closed b h n) h n shape rule free fits ends_there (closed_kept b kept) (omega (arith, there, longer_closed b h n))
       (λ i lt. off_before (sealed b h n) h n i lt ∙ sealed_before b there i) (omega (arith, off_length (sealed b h n) h n))
 
-  pub shrunk_says : (b : List ℕ) → KeepsHead h file b → end h n ≤ length b → layout_of (shrunk b h n) ≡ Ok (counted h n)
+  pub shrunk_says : (b : List ℕ) → KeepsHead h file b → end h n ≤ length b → FileSays (shrunk b h n) (counted h n)
   shrunk_says b kept there =
-      fields_read_back file head bytes opened linear (shrunk b h n) b h n shape rule free fits kept (omega (arith, there))
+      fields_read_back file head bytes opened linear known (shrunk b h n) b h n shape rule free fits ends_there kept (omega (arith, there))
       (λ i lt. take_before (over_closing (with_fewer b h n) h n) (closed_end h n) i (omega (arith, lt)) ∙ over_beside (with_fewer b h n) (end h n) (closing h n) i (inl (omega (arith, lt)))
       ∙ ap (λ (l : List ℕ). get_or l i 0) (order_is_free b h n rule apart (omega (arith, there))))
       (omega (arith, shrunk_length b h n rule there))
@@ -124,7 +127,7 @@ module _ (file : List ℕ) (head : Shape) (bytes : All IsByte file) (opened : la
 pub record Begins (b : List ℕ) (e : Editing) : Type 0 where
   pub layout : Shape
   pub opened : layout_of b ≡ Ok layout
-  pub linear : is_none (linear_of layout.params.codec) ≡ false
+  pub linear : is_none (fixed_of layout.params.codec) ≡ false
   pub is : first_editing b layout ≡ e
 
 module _ (b : List ℕ) (e : Editing) where
@@ -134,7 +137,7 @@ module _ (b : List ℕ) (e : Editing) where
     where
       by_layout : (r : Result Shape OpenRefusal) → layout_of b ≡ r → opening_as b r ≡ Ok e → Begins b e
       by_layout (Err refusal) found given = absurd (cc)
-      by_layout (Ok s) found given = elim (cases_Bool (is_none (linear_of s.params.codec))) [
+      by_layout (Ok s) found given = elim (cases_Bool (is_none (fixed_of s.params.codec))) [
         | inl law ↦ absurd (let h = rw law at given in cc)
         | inr other ↦ let same : ◌≡◌ {A = Result Editing OpenRefusal} (Ok (first_editing b s)) (Ok e) = rw other at given in record { layout = s; opened = found; linear = other; is = cc }
       ]
@@ -149,7 +152,7 @@ module _ (b : List ℕ) (e : Editing) where
         | inl blocks ↦ absurd (let h = rw blocks at given in cc)
         | inr whole ↦ elim (cases_Bool s.unknown_length) [
           | inl open_end ↦ absurd (let h = rw (whole, open_end) at given in cc)
-          | inr known ↦ elim (cases_Bool (is_none (linear_of s.params.codec))) [
+          | inr known ↦ elim (cases_Bool (is_none (fixed_of s.params.codec))) [
             | inl law ↦ absurd (let h = rw (whole, known, law) at given in cc)
             | inr other ↦
                 let same : ◌≡◌ {A = Result Editing OpenError} (Ok (first_editing b s)) (Ok e) = sym (update_ok b s found whole known other) ∙ is in
@@ -158,9 +161,12 @@ module _ (b : List ℕ) (e : Editing) where
         ]
       ]
 
-module _ (b : List ℕ) (s : Shape) (bytes : All IsByte b) (opened : layout_of b ≡ Ok s) (linear : is_none (linear_of s.params.codec) ≡ false) where
+module _ (b : List ℕ) (s : Shape) (bytes : All IsByte b) (opened : layout_of b ≡ Ok s) (linear : is_none (fixed_of s.params.codec) ≡ false) where
+  first_says : FileSays b s
+  first_says = record { goes_on = s.trailing; told = opened; same = inr refl }
+
   lies : LiesIn b s
-  lies = lies_in b s bytes opened linear
+  lies = lies_in b s bytes first_says linear
 
   first_holds : HoldsFrames (first_editing b s)
   first_holds = record { sound = refl; count = count_opened b s linear lies.params.some_channel lies.held; held = lies.held; placed = omega arith; write_placed = omega arith }
@@ -169,16 +175,16 @@ module _ (b : List ℕ) (s : Shape) (bytes : All IsByte b) (opened : layout_of b
   first_is_edited known = record {
     head = s;
     bytes = bytes;
-    opened = opened;
+    opened = first_says;
     linear = linear;
     known = known;
     shape = refl;
     rule = lies.rule;
     kept = λ i lt out. refl;
-    stays = λ trailing. record { shape = refl; size = refl; behind = λ i behind. refl };
+    stays = λ trailing. record { opened = opened; shape = refl; size = refl; behind = λ i behind. refl };
     holds = first_holds;
     in_room = lies.rule.in_room known;
-    told = λ either. opened;
+    told = λ either. first_says;
   }
 
 pub opened_holds_frames : OpenedHoldsFrames
@@ -200,8 +206,8 @@ module _ (file : List ℕ) (e : Editing) (ed : IsEdited file e) where
   pub lies_under : LiesIn file ed.head
   lies_under = lies_in file ed.head ed.bytes ed.opened ed.linear
 
-  pub is_linear : is_none (linear_of h.params.codec) ≡ false
-  is_linear = ap (λ (s : Shape). is_none (linear_of s.params.codec)) ed.shape ∙ ed.linear
+  pub is_linear : is_none (fixed_of h.params.codec) ≡ false
+  is_linear = ap (λ (s : Shape). is_none (fixed_of s.params.codec)) ed.shape ∙ ed.linear
 
   pub is_known : h.unknown_length ≡ false
   is_known = ap (λ (s : Shape). s.unknown_length) ed.shape ∙ ed.known
@@ -209,13 +215,17 @@ module _ (file : List ℕ) (e : Editing) (ed : IsEdited file e) where
   pub some_channel : 1 ≤ h.params.channels
   some_channel = subst (λ (s : Shape). 1 ≤ s.params.channels) (sym ed.shape) lies_under.params.some_channel
 
-  pub begins_early : h.start < 2 ^ 62
-  begins_early = subst (λ (s : Shape). s.start < 2 ^ 62) (sym ed.shape) (let early : ed.head.start < 2 ^ 62 = omega (arith, lies_under.early) in early)
+  pub room_ends : h.start + room h + 8 ≤ 2 ^ 63
+  room_ends = subst (λ (s : Shape). s.start + room s + 8 ≤ 2 ^ 63) (sym ed.shape) lies_under.room_ends
 
-  pub sealed_told : layout_of (sealed e.bytes h h.frames) ≡ Ok (counted h h.frames)
+  -- where it goes on behind its data, the sealed file is the file
+  as_it_was : h.trailing ≡ true → FileSays (sealed e.bytes h h.frames) (counted h h.frames)
+  as_it_was is = subst (λ (b : List ℕ). FileSays b (counted h h.frames)) (sym (sealed_same e.bytes h h.frames is)) (subst (FileSays e.bytes) (sym (counted_stays h is)) (ed.told (inr is)))
+
+  pub sealed_told : FileSays (sealed e.bytes h h.frames) (counted h h.frames)
   sealed_told = elim (cases_Bool h.trailing) [
-    | inl is ↦ ap layout_of (sealed_same e.bytes h h.frames is) ∙ ed.told (inr is) ∙ ap (λ (s : Shape). Ok s) (sym (counted_stays h is))
-    | inr free ↦ sealed_says file ed.head ed.bytes ed.opened ed.linear h ed.shape ed.rule free h.frames ed.in_room e.bytes ed.kept ed.holds.held
+    | inl is ↦ as_it_was is
+    | inr free ↦ sealed_says file ed.head ed.bytes ed.opened ed.linear ed.known h ed.shape ed.rule free h.frames ed.in_room ed.rule.data_end e.bytes ed.kept ed.holds.held
   ]
 
   sealed_holds : HoldsFrames (sealed_to e)
@@ -244,7 +254,7 @@ module _ (file : List ℕ) (e : Editing) (ed : IsEdited file e) where
         stays = λ trailing.
             let tail = ed.stays trailing in
             let same : sealed e.bytes h h.frames ≡ e.bytes = sealed_same e.bytes h h.frames trailing in
-            record { shape = counted_stays h trailing ∙ tail.shape; size = ap length same ∙ tail.size; behind = λ i behind. ap (λ (l : List ℕ). get_or l i 0) same ∙ tail.behind i behind };
+            record { opened = tail.opened; shape = counted_stays h trailing ∙ tail.shape; size = ap length same ∙ tail.size; behind = λ i behind. ap (λ (l : List ℕ). get_or l i 0) same ∙ tail.behind i behind };
         holds = record { sound = holds.sound; count = holds.count; held = holds.held; placed = holds.placed; write_placed = holds.write_placed };
         in_room = ed.in_room;
         told = λ either. sealed_told;
@@ -254,19 +264,24 @@ pub sealed_is_edited : (file : List ℕ) (e : Editing) → IsEdited file e → I
 sealed_is_edited file e ed = automatic_edited file e ed e.automatic
 
 -- what the bytes say that say what the state does
-pub opens_again : (file : List ℕ) (e : Editing) (ed : IsEdited file e) → layout_of e.bytes ≡ Ok e.shape → (opening_of e.bytes ≡ Ok (as_opened e)) × (updating_of e.bytes ≡ Ok (as_opened e))
-opens_again file e ed is =
+pub opens_again : (file : List ℕ) (e : Editing) (ed : IsEdited file e) → FileSays e.bytes e.shape → OpensAgain e
+opens_again file e ed says =
     let linear = is_linear file e ed in
-    let first : first_editing e.bytes e.shape ≡ as_opened e = ap (λ l. record (as_opened e) { frames = l }) (sym ed.holds.sound) in (
-      opening_ok e.bytes e.shape is linear ∙ ap (λ (s : Editing). Ok s) first,
-      update_ok e.bytes e.shape is (not_adpcm e.shape.params.codec linear) (is_known file e ed) linear ∙ ap (λ (s : Editing). Ok s) first,
-    )
+    let t = says.goes_on in
+    let s = record e.shape { trailing = t } in
+    let first : first_editing e.bytes s ≡ as_opened (going_on t e) = ap (λ l. record (as_opened (going_on t e)) { frames = l }) (sym ed.holds.sound) in
+    record {
+      goes_on = t;
+      opens = opening_ok e.bytes s says.told linear ∙ ap (λ (g : Editing). Ok g) first;
+      updates = update_ok e.bytes s says.told (not_adpcm e.shape.params.codec linear) (is_known file e ed) linear ∙ ap (λ (g : Editing). Ok g) first;
+      same = says.same;
+    }
 
 pub sealed_reads_back : SealedReadsBack
 sealed_reads_back file e ed = opens_again file (sealed_to e) (sealed_is_edited file e ed) (sealed_told file e ed)
 
 pub automatic_reads_back : AutomaticReadsBack
-automatic_reads_back file e ed on = (opens_again file e ed (ed.told (inl on))).0
+automatic_reads_back file e ed on = opens_again file e ed (ed.told (inl on))
 
 module _ (file : List ℕ) (e : Editing) (ed : IsEdited file e) (to : ℕ) (within : to ≤ e.shape.frames) where
   pub moved_edited : IsEdited file (moved_to to e)
@@ -279,7 +294,7 @@ module _ (file : List ℕ) (e : Editing) (ed : IsEdited file e) (to : ℕ) (with
     shape = ed.shape;
     rule = ed.rule;
     kept = ed.kept;
-    stays = λ trailing. let tail = ed.stays trailing in record { shape = tail.shape; size = tail.size; behind = tail.behind };
+    stays = λ trailing. let tail = ed.stays trailing in record { opened = tail.opened; shape = tail.shape; size = tail.size; behind = tail.behind };
     holds = record { sound = ed.holds.sound; count = ed.holds.count; held = ed.holds.held; placed = within; write_placed = ed.holds.write_placed };
     in_room = ed.in_room;
     told = ed.told;
@@ -295,7 +310,7 @@ module _ (file : List ℕ) (e : Editing) (ed : IsEdited file e) (to : ℕ) (with
     shape = ed.shape;
     rule = ed.rule;
     kept = ed.kept;
-    stays = λ trailing. let tail = ed.stays trailing in record { shape = tail.shape; size = tail.size; behind = tail.behind };
+    stays = λ trailing. let tail = ed.stays trailing in record { opened = tail.opened; shape = tail.shape; size = tail.size; behind = tail.behind };
     holds = record { sound = ed.holds.sound; count = ed.holds.count; held = ed.holds.held; placed = ed.holds.placed; write_placed = within };
     in_room = ed.in_room;
     told = ed.told;

@@ -1,25 +1,25 @@
 -- The frames of an open file after a step of editing that writes.
-use Rattle.std.proofs.Common.{◌≡◌, ◌∙◌, ap, sym, subst, refl, inl, inr, ℕ, ◌+◌, ◌-◌, ◌*◌, ◌/◌, ◌%◌, ◌<◌, ◌≤◌, Bool, true, false, ◌||◌, ℤ, List, ◌++◌, All, Option, None, Some, length, take, drop, max, get_or, arith}
+use Rattle.std.proofs.Common.{◌≡◌, ◌∙◌, ap, sym, subst, refl, inl, inr, ℕ, ◌+◌, ◌-◌, ◌*◌, ◌/◌, ◌%◌, ◌<◌, ◌≤◌, Bool, true, false, ◌||◌, ℤ, List, ◌++◌, All, Option, None, Some, length, map, take, drop, max, get_or, arith}
 use Rattle.std.specs.Prelude.{is_none, nat_lt}
 use Rattle.std.proofs.Math.Nat.{mul-div_cancel_left, mul-le-mul_left}
 use Rattle.std.proofs.lemmas.Bool.{cases_lt, cond_both}
-use Rattle.std.proofs.lemmas.List.{length-drop, length-take-le, places}
+use Rattle.std.proofs.lemmas.List.{length-drop, length-map, length-take-le, places}
 use Rattle.snd_disk.proofs.Lists.{length-over}
 use Rattle.snd_layout.specs.Params.{Parameters, data_bytes}
 use Rattle.snd_layout.specs.Shape.{KeepsRule, Shape, end}
-use Rattle.snd_container.specs.Sound.{decoded, decoded_as, linear_of, sound_bytes}
+use Rattle.snd_container.specs.Sound.{decoded, decoded_as, fixed_of, kept_as, kept_numbers, sound_bytes}
 use Rattle.snd_layout.specs.declared.kind.Kind.{Kind}
 use Rattle.snd_layout.specs.declared.kind.Kind.TheVariants.{Wave}
 use Rattle.snd_chunks.specs.Written.{pad}
-use Rattle.snd_wave.specs.Values.{closing as wave_closing}
-use Rattle.snd_container.specs.Values.{closing_of_kind}
+use Rattle.snd_container.proofs.EveryKind.{free}
+use Rattle.snd_container.specs.Values.{closed_end}
 use Rattle.snd_patch.specs.Sealed.{SameBesideFields, counted, over_closing, sealed}
-use Rattle.snd_container.specs.Images.{closed_end}
 use Rattle.snd_patch.proofs.Lists.{closing_same, sealed_keeps}
 use Rattle.snd_pcm.specs.Groups.{first_groups, groups}
-use Rattle.snd_pcm.specs.Pcm.{InRange, byte_count, samples, samples_bytes}
-use Rattle.snd_pcm.specs.declared.linear.Linear.{Linear}
-use Rattle.snd_pcm.proofs.Series.{byte_count_pos, length-first_groups, length-samples}
+use Rattle.snd_container.specs.Fixed.{InRange, byte_count, kept_number, samples, samples_bytes}
+use Rattle.snd_container.specs.declared.fixed.Fixed.{Fixed}
+use Rattle.snd_container.proofs.FixedSamples.{byte_count_pos, length-samples}
+use Rattle.snd_pcm.proofs.Series.{length-first_groups}
 use Rattle.snd_modes.specs.Editing.{Editing}
 use Rattle.snd_modes.specs.Edits.{closed_behind, coded, count_written, over_data, put_frames, sealed_where, written_bytes, written_frames, written_shape}
 use Rattle.snd_modes.specs.Handle.{Known}
@@ -39,7 +39,7 @@ times_max a x y = elim (cases_lt x y) [
 
 -- ---- frames that are written
 
-module _ (h : Shape) (form : Linear) (b : List ℕ) (place k : ℕ) (xs : List ℤ) (is : linear_of h.params.codec ≡ Some form) (some : 1 ≤ h.params.channels)
+module _ (h : Shape) (form : Fixed) (b : List ℕ) (place k : ℕ) (xs : List ℤ) (is : fixed_of h.params.codec ≡ Some form) (some : 1 ≤ h.params.channels)
     (fits : end h h.frames ≤ length b) (within : place ≤ h.frames) (count : length xs ≡ h.params.channels * k) (fit : All (InRange form) xs) where
   abbrev w : ℕ
   w = byte_count form
@@ -85,9 +85,11 @@ module _ (h : Shape) (form : Linear) (b : List ℕ) (place k : ℕ) (xs : List �
   groups_by n ys size = ap (λ (m : ℕ). first_groups c (m / c) ys) size ∙ ap (λ (m : ℕ). first_groups c m ys) (mul-div_cancel_left n (let e : 0 < c = omega (arith, some) in e))
 
   frames_over : groups c (samples form (take (data_bytes h.params (count_written h place k)) (drop h.start (over_data b h place xs))))
-      ≡ put_frames (groups c (samples form old)) place (groups c xs)
+      ≡ put_frames (groups c (samples form old)) place (groups c (map (kept_number form) xs))
   frames_over =
       let ys = samples form old in
+      let zs = map (kept_number form) xs in
+      let size_of_kept : length zs ≡ c * k = length-map xs (kept_number form) ∙ count in
       let n = count_written h place k in
       let new = take (data_bytes h.params n) (drop h.start (over_data b h place xs)) in
       let long : end h n ≤ length (over_data b h place xs) = omega (arith, size_written, length-over b (end h place) (coded h.params xs), fits) in
@@ -98,16 +100,16 @@ module _ (h : Shape) (form : Linear) (b : List ℕ) (place k : ℕ) (xs : List �
       groups_by n (samples form new) whole
       ∙ ap (λ l. first_groups c n (samples form l)) data_over
       ∙ ap (first_groups c n) (samples_put form (c * place) old xs (c * h.frames) length_old begins fit)
-      ∙ ap (λ (m : ℕ). first_groups c n (take (c * place) ys ++ xs ++ drop m ys)) sum
-      ∙ groups_put c place k h.frames ys xs total count within
-      ∙ ap (λ l. put_frames l place (first_groups c k xs)) (sym (groups_by h.frames ys total))
-      ∙ ap (λ l. put_frames (groups c ys) place l) (sym (groups_by k xs count))
+      ∙ ap (λ (m : ℕ). first_groups c n (take (c * place) ys ++ zs ++ drop m ys)) sum
+      ∙ groups_put c place k h.frames ys zs total size_of_kept within
+      ∙ ap (λ l. put_frames l place (first_groups c k zs)) (sym (groups_by h.frames ys total))
+      ∙ ap (λ l. put_frames (groups c ys) place l) (sym (groups_by k zs size_of_kept))
 
   pub decoded_over : decoded h.params (take (data_bytes h.params (count_written h place k)) (drop h.start (over_data b h place xs)))
-      ≡ put_frames (decoded h.params (sound_bytes b h)) place (groups c xs)
+      ≡ put_frames (decoded h.params (sound_bytes b h)) place (groups c (kept_numbers h.params xs))
   decoded_over =
-      ap (λ (o : Option Linear). decoded_as o c (take (data_bytes h.params (count_written h place k)) (drop h.start (over_data b h place xs)))) is
-      ∙ frames_over ∙ ap (λ l. put_frames l place (groups c xs)) (ap (λ (o : Option Linear). decoded_as o c old) (sym is))
+      ap (λ (o : Option Fixed). decoded_as o c (take (data_bytes h.params (count_written h place k)) (drop h.start (over_data b h place xs)))) is
+      ∙ frames_over ∙ ap (λ (o : Option Fixed). put_frames (decoded_as o c old) place (groups c (kept_as o xs))) (sym is)
 
 -- what stays of the data once they are closed and sealed
 closed_where : (automatic : Bool) (y : List ℕ) (h : Shape) (n : ℕ) → KeepsRule h → SameBesideFields h n y (sealed_where automatic (closed_behind y h n) h n)
@@ -116,11 +118,11 @@ closed_where automatic y h n rule = λ i lt out.
     (λ is. sealed_keeps (closed_behind y h n) h n rule i lt out) (λ other. refl)
     ∙ cond_both (nat_lt h.frames n) (over_closing y h n) y (λ x. get_or x i 0 ≡ get_or y i 0) (λ is. closing_same y h n i lt out) (λ other. refl)
 
-pub written_decoded : (automatic : Bool) (h : Shape) (b : List ℕ) (place k : ℕ) (xs : List ℤ) (o : Option Linear) → linear_of h.params.codec ≡ o → is_none o ≡ false → KeepsRule h → 1 ≤ h.params.channels
+pub written_decoded : (automatic : Bool) (h : Shape) (b : List ℕ) (place k : ℕ) (xs : List ℤ) (o : Option Fixed) → fixed_of h.params.codec ≡ o → is_none o ≡ false → KeepsRule h → 1 ≤ h.params.channels
     → end h h.frames ≤ length b → place ≤ h.frames → length xs ≡ h.params.channels * k → FitCodec h.params.codec xs
     → end h (count_written h place k) ≤ length (written_bytes automatic b h place (count_written h place k) xs)
     → decoded h.params (take (data_bytes h.params (count_written h place k)) (drop h.start (written_bytes automatic b h place (count_written h place k) xs)))
-    ≡ put_frames (decoded h.params (sound_bytes b h)) place (groups h.params.channels xs)
+    ≡ put_frames (decoded h.params (sound_bytes b h)) place (groups h.params.channels (kept_numbers h.params xs))
 written_decoded automatic h b place k xs None is linear rule some fits within count fit long = absurd (cc)
 written_decoded automatic h b place k xs (Some form) is linear rule some fits within count fit long =
     let n = count_written h place k in
@@ -132,16 +134,16 @@ written_decoded automatic h b place k xs (Some form) is linear rule some fits wi
 
 -- ---- the bytes of frames
 
-coded_as_frames : (p : Parameters) (xs : List ℤ) (k : ℕ) (o : Option Linear) → linear_of p.codec ≡ o → is_none o ≡ false → length xs ≡ p.channels * k → length (coded p xs) ≡ bytes_of_frames p k
+coded_as_frames : (p : Parameters) (xs : List ℤ) (k : ℕ) (o : Option Fixed) → fixed_of p.codec ≡ o → is_none o ≡ false → length xs ≡ p.channels * k → length (coded p xs) ≡ bytes_of_frames p k
 coded_as_frames p xs k None is linear count = absurd (cc)
 coded_as_frames p xs k (Some form) is linear count =
     length-coded p form xs is ∙ ap (λ (m : ℕ). byte_count form * m) count
     ∙ (let e : byte_count form * (p.channels * k) ≡ k * (byte_count form * p.channels) = omega arith in e) ∙ ap (λ (m : ℕ). k * m) (sym (linear_align p.codec form p.channels is))
 
-pub coded_size : (p : Parameters) (xs : List ℤ) (k : ℕ) → is_none (linear_of p.codec) ≡ false → length xs ≡ p.channels * k → length (coded p xs) ≡ bytes_of_frames p k
-coded_size p xs k linear count = coded_as_frames p xs k (linear_of p.codec) refl linear count
+pub coded_size : (p : Parameters) (xs : List ℤ) (k : ℕ) → is_none (fixed_of p.codec) ≡ false → length xs ≡ p.channels * k → length (coded p xs) ≡ bytes_of_frames p k
+coded_size p xs k linear count = coded_as_frames p xs k (fixed_of p.codec) refl linear count
 
-written_end_as : (h : Shape) (xs : List ℤ) (place k : ℕ) (o : Option Linear) → linear_of h.params.codec ≡ o → is_none o ≡ false → length xs ≡ h.params.channels * k → end h place + length (coded h.params xs) ≡ end h (place + k)
+written_end_as : (h : Shape) (xs : List ℤ) (place k : ℕ) (o : Option Fixed) → fixed_of h.params.codec ≡ o → is_none o ≡ false → length xs ≡ h.params.channels * k → end h place + length (coded h.params xs) ≡ end h (place + k)
 written_end_as h xs place k None is linear count = absurd (cc)
 written_end_as h xs place k (Some form) is linear count =
     let w = byte_count form in
@@ -149,8 +151,8 @@ written_end_as h xs place k (Some form) is linear count =
     let sum : w * (h.params.channels * (place + k)) ≡ w * (h.params.channels * place) + w * (h.params.channels * k) = omega arith in
     omega (arith, bytes, sum, end_is h form place is, end_is h form (place + k) is)
 
-pub written_end : (h : Shape) (xs : List ℤ) (place k : ℕ) → is_none (linear_of h.params.codec) ≡ false → length xs ≡ h.params.channels * k → end h place + length (coded h.params xs) ≡ end h (place + k)
-written_end h xs place k linear count = written_end_as h xs place k (linear_of h.params.codec) refl linear count
+pub written_end : (h : Shape) (xs : List ℤ) (place k : ℕ) → is_none (fixed_of h.params.codec) ≡ false → length xs ≡ h.params.channels * k → end h place + length (coded h.params xs) ≡ end h (place + k)
+written_end h xs place k linear count = written_end_as h xs place k (fixed_of h.params.codec) refl linear count
 
 pub whole_frames : (n channels k : ℕ) → 1 ≤ channels → n % channels ≡ 0 → k ≡ n / channels → n ≡ channels * k
 whole_frames n channels k some whole is = (let e : n ≡ channels * (n / channels) = omega (arith, some, whole) in e) ∙ ap (λ (m : ℕ). channels * m) (sym is)
@@ -166,10 +168,14 @@ end_max h n m = elim (cases_lt n m) [
 length-put : {X : Type 0} (f : List X) (place : ℕ) (gs : List X) → place ≤ length f → length (put_frames f place gs) ≡ max (length f) (place + length gs)
 length-put f place gs within = grind (arith, places)
 
+length-kept : (o : Option Fixed) (xs : List ℤ) → length (kept_as o xs) ≡ length xs
+length-kept None xs = refl
+length-kept (Some form) xs = length-map xs (kept_number form)
+
 -- what is known of frames that are written
 pub record CanPut (h : Shape) (b : List ℕ) (place k : ℕ) (xs : List ℤ) : Type 0 where
   pub rule : KeepsRule h
-  pub linear : is_none (linear_of h.params.codec) ≡ false
+  pub linear : is_none (fixed_of h.params.codec) ≡ false
   pub some : 1 ≤ h.params.channels
   pub fits : end h h.frames ≤ length b
   pub within : place ≤ h.frames
@@ -192,30 +198,26 @@ pub written_sound : (e : Editing) (k : ℕ) (xs : List ℤ) → CanPut e.shape e
     → (written_frames k xs e).frames ≡ decoded (written_frames k xs e).shape.params (sound_bytes (written_frames k xs e).bytes (written_frames k xs e).shape)
 written_sound e k xs can sound long =
     let n = count_written e.shape e.write_place k in
-    ap (λ l. put_frames l e.write_place (groups e.shape.params.channels xs)) sound
-    ∙ sym (written_decoded e.automatic e.shape e.bytes e.write_place k xs (linear_of e.shape.params.codec) refl can.linear can.rule can.some can.fits can.within can.whole can.fit long)
+    ap (λ l. put_frames l e.write_place (groups e.shape.params.channels (kept_numbers e.shape.params xs))) sound
+    ∙ sym (written_decoded e.automatic e.shape e.bytes e.write_place k xs (fixed_of e.shape.params.codec) refl can.linear can.rule can.some can.fits can.within can.whole can.fit long)
     ∙ sym (sound_where e.automatic e.shape n (written_bytes e.automatic e.bytes e.shape e.write_place n xs))
 
 pub written_count : (e : Editing) (k : ℕ) (xs : List ℤ) → CanPut e.shape e.bytes e.write_place k xs → e.shape.frames ≡ length e.frames
     → (written_frames k xs e).shape.frames ≡ length (written_frames k xs e).frames
 written_count e k xs can count =
     let c = e.shape.params.channels in
-    let gs = groups c xs in
-    let some : length gs ≡ k = length-first_groups c (length xs / c) xs ∙ ap (λ (m : ℕ). m / c) can.whole ∙ mul-div_cancel_left k (let e : 0 < c = omega (arith, can.some) in e) in
+    let zs = kept_numbers e.shape.params xs in
+    let gs = groups c zs in
+    let size : length zs ≡ c * k = length-kept (fixed_of e.shape.params.codec) xs ∙ can.whole in
+    let some : length gs ≡ k = length-first_groups c (length zs / c) zs ∙ ap (λ (m : ℕ). m / c) size ∙ mul-div_cancel_left k (let e : 0 < c = omega (arith, can.some) in e) in
     let total : length (put_frames e.frames e.write_place gs) ≡ max (length e.frames) (e.write_place + length gs) = length-put e.frames e.write_place gs (omega (arith, can.within, count)) in
     frames_where e.automatic e.shape (count_written e.shape e.write_place k) ∙ (let e : max e.shape.frames (e.write_place + k) ≡ length (put_frames e.frames e.write_place gs) = omega (arith, total, some, count) in e)
 
--- what closes the data does not hang on how many frames there were
-pub closing_by : (kind : Kind) (h h' : Shape) (n : ℕ) → h.params ≡ h'.params → closing_of_kind kind h n ≡ closing_of_kind kind h' n
-unfolding wave_closing
-closing_by Wave h h' n same = ap (λ (p : Parameters). pad (data_bytes p n)) same
-closing_by _ h h' n same = refl
-
 pub closed_counted : (h : Shape) (n : ℕ) → closed_end (counted h n) n ≡ closed_end h n
-closed_counted h n = ap (λ (l : List ℕ). end h n + length l) (closing_by h.kind (counted h n) h n refl)
+closed_counted h n = ap (λ (l : List ℕ). end h n + length l) (free h n (counted h n).declared h.trailing n).closing
 
 closed_record : (h : Shape) (n : ℕ) → closed_end (record h { frames = n }) n ≡ closed_end h n
-closed_record h n = ap (λ (l : List ℕ). end h n + length l) (closing_by h.kind (record h { frames = n }) h n refl)
+closed_record h n = ap (λ (l : List ℕ). end h n + length l) (free h n h.declared h.trailing n).closing
 
 still_closed_at : (automatic : Bool) (h : Shape) (n size : ℕ) → (h.trailing ≡ false → closed_end h n ≤ size) → (written_shape automatic h n).trailing ≡ false
     → closed_end (written_shape automatic h n) (written_shape automatic h n).frames ≤ size

@@ -3,24 +3,26 @@ use Rattle.std.proofs.Common.{◌≡◌, ◌⊎◌, ◌∙◌, ap, sym, subst, r
 use Rattle.std.specs.Prelude.{nat_lt}
 use Rattle.std.proofs.lemmas.Bool.{cases_Bool, cases_lt, cond_both, le-ltb, ltb-true}
 use Rattle.std.proofs.lemmas.List.{length-take}
-use Rattle.snd_container.proofs.Images.{same_outside_data_reads_back}
-use Rattle.snd_container.specs.Sound.{layout_of}
-use Rattle.snd_container.specs.Values.{closing}
+use Rattle.snd_container.proofs.EveryKind.{declares, outside, voice}
+use Rattle.snd_container.specs.Laws.{FileSays}
+use Rattle.snd_container.specs.Sound.{kept_numbers}
+use Rattle.snd_container.specs.Values.{closed_end, closing}
 use Rattle.snd_disk.proofs.Lists.{length-over}
 use Rattle.snd_layout.specs.Params.{AreParams, data_bytes}
 use Rattle.snd_layout.specs.Shape.{KeepsRule, Shape, end, room}
-use Rattle.snd_layout.specs.declared.kind.Kind.TheVariants.{Voc, Wave}
+use Rattle.snd_layout.specs.declared.kind.Kind.TheVariants.{Voc}
 use Rattle.snd_patch.proofs.Bytes.{over_beside}
 use Rattle.snd_patch.proofs.Lists.{shrunk_length}
 use Rattle.snd_patch.specs.Sealed.{counted, over_closing, sealed, shrunk}
-use Rattle.snd_container.specs.Images.{KeepsHead, closed_end}
+use Rattle.snd_layout.specs.Container.{KeepsHead}
 use Rattle.snd_pcm.specs.Groups.{groups}
 use Rattle.snd_modes.specs.Editing.{Editing}
-use Rattle.snd_modes.specs.Edits.{closed_behind, coded, count_written, cut_to, over_data, put_frames, sealed_to, trimmed, trimmed_to, truncated_to, written_bytes, written_shape}
+use Rattle.snd_modes.specs.Edits.{closed_behind, coded, count_written, cut_off, cut_to, over_data, put_frames, sealed_to, trimmed, trimmed_to, truncated_to, written_bytes, written_shape}
 use Rattle.snd_modes.specs.Laws.{HoldsFrames, IsEdited, LeadsToEdited, MayTruncate, ReachedIsEdited, begins, goes_on, reads, seals, seeks, seeks_to_write, sets_automatic, trims, truncates, writes}
 use Rattle.snd_modes.specs.WriteCalls.{MayWrite}
 use Rattle.snd_modes.proofs.CutFrames.{cut_decoded, may_count_fewer, off_decoded}
-use Rattle.snd_modes.proofs.EditedFiles.{automatic_edited, begins_early, counted_rule, counted_stays, is_known, is_linear, lies_under, moved_edited, moved_write_edited, off_kept, off_length, sealed_is_edited, sealed_kept, sealed_long, sealed_same, sealed_says, shrunk_kept, shrunk_says, some_channel, trimmed_says, updated_is_edited}
+use Rattle.snd_modes.proofs.FileRules.{going_on_rule, says_either}
+use Rattle.snd_modes.proofs.EditedFiles.{automatic_edited, counted_rule, counted_stays, is_known, is_linear, lies_under, moved_edited, moved_write_edited, off_before, off_kept, off_length, room_ends, sealed_is_edited, sealed_kept, sealed_long, sealed_same, sealed_says, shrunk_kept, shrunk_says, some_channel, trimmed_says, updated_is_edited}
 use Rattle.snd_modes.proofs.EditedFrames.{CanPut, end_max, whole_frames, written_count, written_end, written_sound}
 use Rattle.snd_modes.proofs.Rooms.{may_count}
 use Rattle.snd_modes.proofs.SealedFrames.{sealed_decoded}
@@ -35,9 +37,6 @@ module _ (file : List ℕ) (e : Editing) (ed : IsEdited file e) where
 
   room_is : room h ≡ room ed.head
   room_is = ap room ed.shape
-
-  kind_is : h.kind ≡ Wave
-  kind_is = ap (λ (s : Shape). s.kind) ed.shape ∙ (lies_under file e ed).kind
 
   -- ---- frames cut off
 
@@ -55,6 +54,7 @@ module _ (file : List ℕ) (e : Editing) (ed : IsEdited file e) where
       let there = (may_cut to fewer).0 in
       let size : length (shrunk e.bytes h to) ≡ closed_end h to = shrunk_length e.bytes h to ed.rule there in
       let few = (may_cut to fewer).1 in
+      let ends : end h to + 8 ≤ 2 ^ 63 = (may_count_fewer h to ed.rule linear known (room_ends file e ed) within).1 in
       record {
         head = ed.head;
         bytes = ed.bytes;
@@ -62,7 +62,7 @@ module _ (file : List ℕ) (e : Editing) (ed : IsEdited file e) where
         linear = ed.linear;
         known = ed.known;
         shape = ap (λ (s : Shape). record s { frames = to; declared = (counted h to).declared }) ed.shape;
-        rule = counted_rule h to ed.rule known (may_count_fewer h to ed.rule linear known (begins_early file e ed) within).1 (λ trailing. absurd (cc));
+        rule = counted_rule h to ed.rule known ends (λ trailing. absurd (cc));
         kept = shrunk_kept file e.bytes h to ed.rule ed.kept;
         stays = λ trailing. absurd (cc);
         holds = record {
@@ -73,7 +73,7 @@ module _ (file : List ℕ) (e : Editing) (ed : IsEdited file e) where
           write_placed = omega arith;
         };
         in_room = few;
-        told = λ either. shrunk_says file ed.head ed.bytes ed.opened ed.linear h ed.shape ed.rule free to few e.bytes ed.kept there;
+        told = λ either. shrunk_says file ed.head ed.bytes ed.opened ed.linear ed.known h ed.shape ed.rule free to few ends e.bytes ed.kept there;
       }
 
   -- ---- all behind the data cut off
@@ -101,15 +101,57 @@ module _ (file : List ℕ) (e : Editing) (ed : IsEdited file e) where
           write_placed = ed.holds.write_placed;
         };
         in_room = ed.in_room;
-        told = λ either. trimmed_says file ed.head ed.bytes ed.opened ed.linear h ed.shape ed.rule free h.frames ed.in_room e.bytes ed.kept ed.holds.held;
+        told = λ either. trimmed_says file ed.head ed.bytes ed.opened ed.linear ed.known h ed.shape ed.rule free h.frames ed.in_room ed.rule.data_end e.bytes ed.kept ed.holds.held;
       }
 
-  -- a WAVE file is trimmed where it does not go on behind its data
-  pub is_free : (h.trailing ≡ true → h.kind ≡ Voc) → h.trailing ≡ false
-  is_free may = elim (cases_Bool h.trailing) [
-    | inl trailing ↦ absurd (let voc : h.kind ≡ Voc = may trailing in let both : Wave ≡ Voc = sym kind_is ∙ voc in cc)
-    | inr free ↦ free
-  ]
+  -- a Creative Voice file that goes on behind its data: the head stays as it is
+  module _ (goes_on : h.trailing ≡ true) (voc : h.kind ≡ Voc) where
+    abbrev cut : List ℕ
+    cut = cut_off e.bytes h h.frames
+
+    cut_size : length cut ≡ closed_end h h.frames
+    cut_size = off_length e.bytes h h.frames
+
+    -- its head declares no whole frame more than it has
+    pub few_declared : h.declared < data_bytes h.params (h.frames + 1)
+    few_declared =
+        let tail = ed.stays goes_on in
+        let same = tail.shape in
+        subst (λ (s : Shape). s.declared < data_bytes s.params (s.frames + 1)) (sym same)
+        ((declares ed.head.kind file ed.head tail.opened (subst (λ (s : Shape). s.kind ≡ Voc) same voc)).0 ed.bytes (subst (λ (s : Shape). s.trailing ≡ true) same goes_on))
+
+    pub cut_says : FileSays cut (record h { trailing = false })
+    cut_says =
+        let says = voice h.kind e.bytes cut h (ed.told (inr goes_on)) voc few_declared (omega (arith, cut_size)) (λ i lt. off_before e.bytes h h.frames i lt) in
+        says_either cut h false says voc
+
+    pub cut_behind_edited : IsEdited file (record e { bytes = cut; shape = record h { trailing = false } })
+    cut_behind_edited = record {
+      head = record ed.head { trailing = false };
+      bytes = ed.bytes;
+      opened = says_either file ed.head false ed.opened (ap (λ (s : Shape). s.kind) (sym ed.shape) ∙ voc);
+      linear = ed.linear;
+      known = ed.known;
+      shape = ap (λ (s : Shape). record s { trailing = false }) ed.shape;
+      rule = going_on_rule h false ed.rule;
+      kept = off_kept file e.bytes h h.frames ed.kept;
+      stays = λ trailing. absurd (cc);
+      holds = record {
+        sound = ed.holds.sound ∙ off_decoded e.bytes h ed.rule ed.holds.held (omega (arith, cut_size));
+        count = ed.holds.count;
+        held = omega (arith, cut_size);
+        placed = ed.holds.placed;
+        write_placed = ed.holds.write_placed;
+      };
+      in_room = ed.in_room;
+      told = λ either. cut_says;
+    }
+
+    -- sealing leaves it as it is
+    pub trimmed_voice : record e { bytes = cut; shape = record h { trailing = false } } ≡ trimmed_to e
+    trimmed_voice =
+        ap (λ (b : List ℕ). record e { bytes = cut_off b h h.frames; shape = record h { trailing = false } }) (sym (sealed_same e.bytes h h.frames goes_on))
+        ∙ ap (λ (s : Shape). record e { bytes = trimmed e.bytes h h.frames; shape = record s { trailing = false } }) (sym (counted_stays h goes_on))
 
 truncated_is_edited : (file : List ℕ) (e : Editing) (to : ℕ) → IsEdited file e → MayTruncate to e.shape → IsEdited file (truncated_to to e)
 truncated_is_edited file e to ed may =
@@ -118,10 +160,12 @@ truncated_is_edited file e to ed may =
     (λ other. sealed_is_edited file e ed)
 
 trimmed_is_edited : (file : List ℕ) (e : Editing) → IsEdited file e → (e.shape.trailing ≡ true → e.shape.kind ≡ Voc) → IsEdited file (trimmed_to e)
-trimmed_is_edited file e ed may =
-    let free = is_free file e ed may in
-    subst (λ (s : Shape). IsEdited file (record e { bytes = trimmed e.bytes e.shape e.shape.frames; shape = s }))
-    (ap (λ (t : Bool). record (counted e.shape e.shape.frames) { trailing = t }) free) (trimmed_free file e ed free)
+trimmed_is_edited file e ed may = elim (cases_Bool e.shape.trailing) [
+  | inl trails ↦ subst (IsEdited file) (trimmed_voice file e ed trails (may trails)) (cut_behind_edited file e ed trails (may trails))
+  | inr free ↦
+      subst (λ (s : Shape). IsEdited file (record e { bytes = trimmed e.bytes e.shape e.shape.frames; shape = s }))
+      (ap (λ (t : Bool). record (counted e.shape e.shape.frames) { trailing = t }) free) (trimmed_free file e ed free)
+]
 
 -- ---- frames written
 
@@ -178,7 +222,7 @@ module _ (file : List ℕ) (e : Editing) (ed : IsEdited file e) (xs : List ℤ) 
   ]
 
   ends : end s n + 8 ≤ 2 ^ 63
-  ends = (may_count s n ed.rule (is_linear file e ed) (is_known file e ed) (begins_early file e ed) grows).1
+  ends = (may_count s n ed.rule (is_linear file e ed) (is_known file e ed) (room_ends file e ed) grows).1
 
   pub last_end : end s w + length (coded s.params xs) ≡ end s (w + k)
   last_end = written_end s xs w k (is_linear file e ed) whole
@@ -222,16 +266,18 @@ module _ (file : List ℕ) (e : Editing) (ed : IsEdited file e) (xs : List ℤ) 
       let before : end s (w + k) ≤ end s s.frames = ends_before s (w + k) s.frames (is_linear file e ed) (omega (arith, stays trailing)) in
       over_beside e.bytes (end s w) (coded s.params xs) i (inr (omega (arith, last_end, before, behind)))
 
-  put_says : s.trailing ≡ true → layout_of put ≡ Ok s
+  put_says : s.trailing ≡ true → FileSays put s
   put_says trailing =
       let good : AreParams s.params = subst (λ (h : Shape). AreParams h.params) (sym ed.shape) (lies_under file e ed).params in
-      same_outside_data_reads_back e.bytes put s (ed.told (inr trailing)) good (put_size trailing) (λ i place. ⊎_elim (λ early. put_before i early) (λ late. put_behind trailing i late) place)
+      let says = ed.told (inr trailing) in
+      let told = outside s.kind e.bytes put (record s { trailing = says.goes_on }) says.told good (put_size trailing) (λ i place. ⊎_elim (λ early. put_before i early) (λ late. put_behind trailing i late) place) in
+      record { goes_on = says.goes_on; told = told; same = says.same }
 
   shut_same : s.trailing ≡ true → shut ≡ put
   shut_same trailing = ap (λ (t : Bool). cond t (over_closing put s n) put) (le-ltb s.frames n (omega (arith, stays trailing)))
 
-  shut_says : s.trailing ≡ true → layout_of shut ≡ Ok s
-  shut_says trailing = ap layout_of (shut_same trailing) ∙ put_says trailing
+  shut_says : s.trailing ≡ true → FileSays shut s
+  shut_says trailing = subst (λ (b : List ℕ). FileSays b s) (sym (shut_same trailing)) (put_says trailing)
 
   pub shut_size : s.trailing ≡ true → length shut ≡ length e.bytes
   shut_size trailing = ap length (shut_same trailing) ∙ put_size trailing
@@ -245,11 +291,11 @@ module _ (file : List ℕ) (e : Editing) (ed : IsEdited file e) (xs : List ℤ) 
       let same : end s s.frames ≡ end ed.head ed.head.frames = ap (λ (h : Shape). end h h.frames) tail.shape in
       (shut_size trailing ∙ tail.size, λ i behind. shut_behind trailing i (omega (arith, same, behind)) ∙ tail.behind i behind)
 
-  sealed_said : layout_of (sealed shut s n) ≡ Ok (counted s n)
+  sealed_said : FileSays (sealed shut s n) (counted s n)
   sealed_said = elim (cases_Bool s.trailing) [
     | inl trailing ↦
-        ap layout_of (sealed_same shut s n trailing) ∙ shut_says trailing ∙ ap (λ (h : Shape). Ok h) (sym (ap (counted s) (stays trailing) ∙ counted_stays s trailing))
-    | inr free ↦ sealed_says file ed.head ed.bytes ed.opened ed.linear s ed.shape ed.rule free n few shut shut_kept shut_there
+        subst (λ (b : List ℕ). FileSays b (counted s n)) (sym (sealed_same shut s n trailing)) (subst (FileSays shut) (sym (ap (counted s) (stays trailing) ∙ counted_stays s trailing)) (shut_says trailing))
+    | inr free ↦ sealed_says file ed.head ed.bytes ed.opened ed.linear ed.known s ed.shape ed.rule free n few ends shut shut_kept shut_there
   ]
 
   -- the state then, where each write seals the file or none does
@@ -257,7 +303,7 @@ module _ (file : List ℕ) (e : Editing) (ed : IsEdited file e) (xs : List ℤ) 
   then t = record {
     bytes = written_bytes t e.bytes s w n xs;
     shape = written_shape t s n;
-    frames = put_frames e.frames w (groups s.params.channels xs);
+    frames = put_frames e.frames w (groups s.params.channels (kept_numbers s.params xs));
     place = e.place;
     write_place = w + k;
     automatic = t;
@@ -290,6 +336,7 @@ module _ (file : List ℕ) (e : Editing) (ed : IsEdited file e) (xs : List ℤ) 
         let tail = shut_stays trailing in
         let same : sealed shut s n ≡ shut = sealed_same shut s n trailing in
         record {
+          opened = (ed.stays trailing).opened;
           shape = ap (counted s) (stays trailing) ∙ counted_stays s trailing ∙ (ed.stays trailing).shape;
           size = ap length same ∙ tail.0;
           behind = λ i behind. ap (λ (l : List ℕ). get_or l i 0) same ∙ tail.1 i behind;
@@ -309,10 +356,10 @@ module _ (file : List ℕ) (e : Editing) (ed : IsEdited file e) (xs : List ℤ) 
     kept = shut_kept;
     stays = λ trailing.
         let tail = shut_stays trailing in
-        record { shape = ap (λ (m : ℕ). record s { frames = m }) (stays trailing) ∙ (ed.stays trailing).shape; size = tail.0; behind = tail.1 };
+        record { opened = (ed.stays trailing).opened; shape = ap (λ (m : ℕ). record s { frames = m }) (stays trailing) ∙ (ed.stays trailing).shape; size = tail.0; behind = tail.1 };
     holds = then_holds false shut_there refl refl;
     in_room = few;
-    told = ⊎_elim (λ never. absurd (cc)) (λ trailing. shut_says trailing ∙ ap (λ (m : ℕ). Ok (record s { frames = m })) (sym (stays trailing)));
+    told = ⊎_elim (λ never. absurd (cc)) (λ trailing. subst (λ (m : ℕ). FileSays shut (record s { frames = m })) (sym (stays trailing)) (shut_says trailing));
   }
 
 -- ---- each step, and all of them

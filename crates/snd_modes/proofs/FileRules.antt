@@ -1,181 +1,44 @@
--- What holds of the layout that a list of bytes gives.
-use Rattle.std.proofs.Common.{◌≡◌, ◌∙◌, ap, sym, refl, inl, inr, ℕ, zero, suc, ◌+◌, ◌*◌, ◌-◌, ◌^◌, ◌<◌, ◌≤◌, false, not, List, [], ◌∷◌, All, Option, None, Some, Ok, Err, length, drop, arith}
-use Rattle.std.proofs.lemmas.Bool.{and_parts, cases_Bool, cases_lt, eqb-false, leb-true}
-use Rattle.std.proofs.lemmas.List.Elements.{All-cons, All-drop, All-nil, All-take, All-weaker}
-use Rattle.std.specs.Prelude.{◌==◌, IfSome, Result, codes, is_none, nat_le, option_map}
-use Rattle.snd_chunks.proofs.Chains.{IsBetween, IsChain, IsHead, Reaches, find_has, in_order, is_head}
-use Rattle.snd_chunks.specs.declared.chunk.Chunk.{Chunk}
-use Rattle.snd_chunks.specs.Chunks.{chunk_at, tail, tail_from}
-use Rattle.snd_chunks.specs.Walks.{EndsBy, IsSound}
-use Rattle.snd_container.proofs.OfKinds.{wave_only}
-use Rattle.snd_container.specs.Sound.{layout_of, linear_of}
-use Rattle.snd_fields.proofs.Numbers.{number_fits}
-use Rattle.snd_fields.specs.Field.{number}
+-- What holds of the layout that a list of bytes says.
+use Rattle.std.proofs.Common.{◌≡◌, inl, ℕ, Bool, false, List, All}
+use Rattle.std.specs.Prelude.{is_none}
+use Rattle.snd_container.proofs.EveryKind.{lies}
+use Rattle.snd_container.specs.Laws.{FileSays}
+use Rattle.snd_container.specs.Sound.{fixed_of}
 use Rattle.snd_fields.specs.Laws.{IsByte}
-use Rattle.snd_fields.specs.declared.field.Order.TheVariants.{Little}
-use Rattle.snd_layout.proofs.Formats.{format_fits}
-use Rattle.snd_layout.specs.Fit.{fit_refusal}
-use Rattle.snd_layout.specs.Format.{channels_of, coded_format, coding_of, coding_refusal, format_of, format_refusal, parameters, rate_of}
-use Rattle.snd_layout.specs.Opened.{EndsIn}
-use Rattle.snd_layout.specs.Params.{AreParams, Parameters, block_refusal, is_channel_count}
-use Rattle.snd_layout.specs.Refusals.{first_refusal, refuse_if, unless}
-use Rattle.snd_layout.specs.Shape.{IsPlaced, KeepsRule, Shape, end}
-use Rattle.snd_layout.specs.declared.codec.Codec.{Codec}
-use Rattle.snd_layout.specs.declared.codec.Codec.TheVariants.{Ima, Ms}
-use Rattle.snd_layout.specs.declared.kind.Kind.TheVariants.{Wave}
-use Rattle.snd_layout.specs.declared.refusal.OpenRefusal.{OpenRefusal}
-use Rattle.snd_layout.specs.declared.refusal.OpenRefusal.TheVariants.{BadChannels, BadRate}
-use Rattle.snd_wave.proofs.Counts.{reached}
-use Rattle.snd_wave.proofs.Opens.{Opens, opens}
-use Rattle.snd_wave.proofs.Shapes.{counted_bytes, keeps_rule, pieces_end}
-use Rattle.snd_wave.specs.Layout.{body_of, fact_chunk, fact_count, has_id, held, is_fact, outer_end, wave_front, wave_shape, wave_tail}
-use Rattle.snd_wave.specs.Parts.{IsFact}
+use Rattle.snd_layout.specs.Container.{LiesIn}
+use Rattle.snd_layout.specs.Shape.{KeepsRule, Shape}
+use Rattle.snd_layout.specs.declared.kind.Kind.TheVariants.{Voc}
+use Rattle.snd_modes.proofs.Rooms.{not_adpcm}
 
--- ---- the parameters that a format states
+-- the rule of layouts says nothing of what stands behind the data
+pub going_on_rule : (h : Shape) (t : Bool) → KeepsRule h → KeepsRule (record h { trailing = t })
+going_on_rule h t rule = record {
+  fits = rule.fits;
+  inner_size = rule.inner_size;
+  outer_size = rule.outer_size;
+  side_size = rule.side_size;
+  inner_end = rule.inner_end;
+  outer_end = rule.outer_end;
+  side_end = rule.side_end;
+  sound_start = rule.sound_start;
+  pieces_placed = rule.pieces_placed;
+  data_end = rule.data_end;
+  in_room = rule.in_room;
+  declared_fits = rule.declared_fits;
+}
 
-linear_blocks : (codec : Codec) (channels : ℕ) → is_none (linear_of codec) ≡ false → block_refusal channels codec ≡ None
-linear_blocks (Ima align per_block) channels linear = absurd (cc)
-linear_blocks (Ms align per_block) channels linear = absurd (cc)
-linear_blocks _ channels linear = refl
-
-some_channels : (c : ℕ) → refuse_if (not (is_channel_count c)) BadChannels ≡ None → (1 ≤ c) × (c ≤ 256)
-some_channels c is = elim (cases_Bool (is_channel_count c)) [
-  | inl good ↦ let parts = and_parts (nat_le 1 c) (nat_le c 256) good in (leb-true 1 c parts.0, leb-true c 256 parts.1)
-  | inr other ↦ absurd (let h = rw other at is in cc)
-]
-
-some_rate : (r : ℕ) → refuse_if (r == 0) BadRate ≡ None → 1 ≤ r
-some_rate r is = elim (cases_Bool (r == 0)) [
-  | inl none ↦ absurd (let h = rw none at is in cc)
-  | inr other ↦ elim (cases_lt 0 r) [ inl lt ↦ omega (arith, lt) | inr le ↦ absurd (eqb-false r 0 other (omega (arith, le))) ]
-]
-
-first_none : (a b c : Option OpenRefusal) → first_refusal (a ∷ b ∷ c ∷ []) ≡ None → (a ≡ None) × (b ≡ None)
-first_none (Some a) b c is = absurd (cc)
-first_none None (Some b) c is = absurd (cc)
-first_none None None c is = (refl, refl)
-
-unless_ok : (refusal : Option OpenRefusal) (p q : Parameters) → unless refusal p ≡ Ok q → (refusal ≡ None) × (p ≡ q)
-unless_ok None p q is = (refl, cc)
-unless_ok (Some refusal) p q is = absurd (cc)
-
-coded_good : (r : Result _ OpenRefusal) (b : List ℕ) (p : Parameters) → All IsByte b → coded_format r b ≡ Ok p → is_none (linear_of p.codec) ≡ false → AreParams p
-coded_good (Err refusal) b p bytes is linear = absurd (cc)
-coded_good (Ok coding) b p bytes is linear =
-    let good = unless_ok (format_refusal coding b) (parameters coding b) p is in
-    let none = first_none (refuse_if (not (is_channel_count (channels_of b))) BadChannels) (refuse_if (rate_of b == 0) BadRate) (coding_refusal coding b) good.0 in
-    let some = some_channels (channels_of b) none.0 in
-    let channels : p.channels ≡ channels_of b = sym (ap (λ (q : Parameters). q.channels) good.1) in
-    let rate : p.rate ≡ rate_of b = sym (ap (λ (q : Parameters). q.rate) good.1) in
-    let few : number Little b 4 4 < 2 ^ 32 = number_fits Little b 4 4 bytes in
+pub lies_in : (b : List ℕ) (h : Shape) → All IsByte b → FileSays b h → is_none (fixed_of h.params.codec) ≡ false → LiesIn b h
+lies_in b h bytes says linear =
+    let is = lies b (record h { trailing = says.goes_on }) bytes says.told (not_adpcm h.params.codec linear) in
     record {
-      some_channel = omega (arith, channels, some.0);
-      most_channels = omega (arith, channels, some.1);
-      some_rate = omega (arith, rate, some_rate (rate_of b) none.1);
-      most_rate = omega (arith, rate, few);
-      blocks = linear_blocks p.codec p.channels linear;
+      params = is.params;
+      rule = going_on_rule (record h { trailing = says.goes_on }) h.trailing is.rule;
+      within = is.within;
+      held = is.held;
+      room_ends = is.room_ends;
+      declared = is.declared;
     }
 
-good_params : (b : List ℕ) (p : Parameters) → All IsByte b → format_of b ≡ Ok p → is_none (linear_of p.codec) ≡ false → AreParams p
-good_params b p bytes is linear = coded_good (coding_of b) b p bytes is linear
-
--- ---- where the chunks lie
-
--- the chunks before the data are few and small, so that these begin early
-chain_end : (b id : List ℕ) (limit p q : ℕ) (chunks : List Chunk) → All IsByte b → IsChain (chunk_at Little b) id limit p chunks q → q ≤ p + length chunks * 2 ^ 33
-chain_end b id limit p q [] bytes chain = omega (arith, chain)
-chain_end b id limit p q (chunk ∷ chunks) bytes chain =
-    let head : IsHead Little b p chunk = is_head Little b p chunk chain.0.at in
-    let few : number Little b (p + 4) 4 < 2 ^ 32 = number_fits Little b (p + 4) 4 bytes in
-    let rest : q ≤ chunk.next + length chunks * 2 ^ 33 = chain_end b id limit chunk.next q chunks bytes chain.1 in
-    omega (arith, head.at, head.len, head.next, few, rest)
-
--- the chunks behind them end by the end of the whole
-pub tail_ends : (chunk_of : ℕ → Option Chunk) (limit n p : ℕ) → All (EndsBy limit) (tail chunk_of limit n p)
-unfolding tail
-tail_ends chunk_of limit zero p = All-nil (EndsBy limit)
-tail_ends chunk_of limit (suc n) p = one (chunk_of p) (λ q. tail_ends chunk_of limit n q)
-  where
-    one : (chunk : Option Chunk) → ((q : ℕ) → All (EndsBy limit) (tail chunk_of limit n q)) → All (EndsBy limit) (tail_from limit chunk (tail chunk_of limit n))
-    one None rest = All-nil (EndsBy limit)
-    one (Some chunk) rest = elim (cases_Bool (nat_le (chunk.at + chunk.len) limit)) [
-      | inl is ↦ rw is (All-cons (EndsBy limit) chunk (tail chunk_of limit n chunk.next) (leb-true (chunk.at + chunk.len) limit is) (rest chunk.next))
-      | inr other ↦ rw other (All-nil (EndsBy limit))
-    ]
-
-fact_placed : (last : ℕ) (sound : Chunk) (chunks : List Chunk) (fact : Option Chunk) → fact_chunk chunks ≡ fact → All (IsBetween 12 last) chunks → sound.at ≡ last + 8 → IfSome fact (IsFact sound)
-fact_placed last sound chunks None found between at = tt
-fact_placed last sound chunks (Some fact) found between at =
-    let has = find_has is_fact (IsBetween 12 last) chunks fact between found in
-    record { count = leb-true 4 fact.len (and_parts (has_id (codes "fact") fact) (nat_le 4 fact.len) has.1).1; before = omega (arith, has.0.before, at) }
-
--- what holds of the layout of a file
-pub record LiesIn (b : List ℕ) (h : Shape) : Type 0 where
-  pub kind : h.kind ≡ Wave
-  pub params : AreParams h.params
-  pub rule : KeepsRule h
-  pub declared : h.declared < 2 ^ 32
-  pub early : h.start < 2 ^ 42
-  pub within : h.start ≤ length b
-  pub held : end h h.frames ≤ length b
-
-module _ (b : List ℕ) (p : Parameters) (sound : Chunk) (bytes : All IsByte b) (good : AreParams p) (fits : fit_refusal Wave p ≡ None)
-    (reach : Reaches (chunk_at Little b) (codes "data") (length b) 257 12 (wave_front b).chunks sound) where
-  abbrev shape : Shape
-  shape = wave_shape b (wave_front b) p sound
-
-  head : IsHead Little b reach.last sound
-  head = is_head Little b reach.last sound reach.at
-
-  ordered : (12 ≤ reach.last) × All (IsBetween 12 reach.last) (wave_front b).chunks
-  ordered = in_order Little b (codes "data") (length b) 12 reach.last (wave_front b).chunks reach.chain
-
-  near : reach.last ≤ 12 + length (wave_front b).chunks * 2 ^ 33
-  near = chain_end b (codes "data") (length b) 12 reach.last (wave_front b).chunks bytes reach.chain
-
-  size_few : sound.len < 2 ^ 32
-  size_few =
-      let few : number Little b (reach.last + 4) 4 < 2 ^ 32 = number_fits Little b (reach.last + 4) 4 bytes in
-      omega (arith, head.len, few)
-
-  begins : sound.at ≤ 12 + 8 + 257 * 2 ^ 33
-  begins = omega (arith, near, head.at, reach.few)
-
-  sound_is : IsSound (2 ^ 63) 12 257 sound
-  sound_is = record { within = omega (arith, begins); behind = omega (arith, head.at, ordered.0); near = begins; len = size_few }
-
-  placed : All IsPlaced shape.pieces
-  placed =
-      let few : number Little b 4 4 < 2 ^ 32 = number_fits Little b 4 4 bytes in
-      let outer : outer_end b ≤ 2 ^ 63 - 1 = omega (arith, few) in
-      let before : All (EndsBy (2 ^ 63 - 1)) (wave_front b).chunks =
-      All-weaker (IsBetween 12 reach.last) (EndsBy (2 ^ 63 - 1)) (λ chunk is. omega (arith, is.before, begins, head.at)) (wave_front b).chunks ordered.1 in
-      let all : All (EndsIn (2 ^ 63 - 1)) shape.pieces =
-      pieces_end (2 ^ 63 - 1) (outer_end b) (wave_front b).chunks (wave_tail b (wave_front b) sound) shape.pieces outer before (tail_ends (chunk_at Little b) (outer_end b) _ _) refl in
-      All-weaker (EndsIn (2 ^ 63 - 1)) IsPlaced (λ piece is. omega (arith, is)) shape.pieces all
-
-  count : Option ℕ
-  count = option_map (fact_count b) (fact_chunk (wave_front b).chunks)
-
-  lies : LiesIn b shape
-  lies =
-      let some = held (length b) sound in
-      let fact = fact_placed reach.last sound (wave_front b).chunks (fact_chunk (wave_front b).chunks) refl ordered.1 head.at in
-      record {
-        kind = refl;
-        params = good;
-        rule = keeps_rule shape (fact_chunk (wave_front b).chunks) sound some (option_map (fact_count b) (fact_chunk (wave_front b).chunks)) refl refl refl refl refl refl refl good fits fact sound_is (omega arith) placed;
-        declared = size_few;
-        early = omega (arith, begins);
-        within = omega (arith, head.within, head.at);
-        held = omega (arith, counted_bytes p some (option_map (fact_count b) (fact_chunk (wave_front b).chunks)) good fits, head.within, head.at);
-      }
-
-pub lies_in : (b : List ℕ) (h : Shape) → All IsByte b → layout_of b ≡ Ok h → is_none (linear_of h.params.codec) ≡ false → LiesIn b h
-lies_in b h bytes is linear =
-    let from : Opens b (wave_front b) h = opens b h (wave_only b h is).1 in
-    let params_are : h.params ≡ from.params = ap (λ (s : Shape). s.params) from.shape in
-    let linear_too : is_none (linear_of from.params.codec) ≡ false = sym (ap (λ (p : Parameters). is_none (linear_of p.codec)) params_are) ∙ linear in
-    let format_bytes : All IsByte (body_of b from.format) = All-take IsByte from.format.len (drop from.format.at b) (All-drop IsByte from.format.at b bytes) in
-    let good : AreParams from.params = good_params (body_of b from.format) from.params format_bytes from.params_are linear_too in
-    rw from.shape (lies b from.params from.sound bytes good (format_fits (body_of b from.format) from.params from.params_are) (reached b from.sound from.sound_is))
+-- a Creative Voice file says its layout whether or not it goes on behind its data
+pub says_either : (b : List ℕ) (h : Shape) (t : Bool) → FileSays b h → h.kind ≡ Voc → FileSays b (record h { trailing = t })
+says_either b h t says voc = record { goes_on = says.goes_on; told = says.told; same = inl voc }

@@ -1,10 +1,11 @@
 -- The fields of an image: old or new, each as a whole.
 use Rattle.std.proofs.Common.{◌≡◌, ◌⊎◌, ◌∙◌, inl, ℕ, ◌+◌, ◌<◌, ◌≤◌, List, Option, None, Some, Ok, length, get_or, arith}
 use Rattle.std.specs.Prelude.{IfSome}
-use Rattle.snd_container.proofs.Images.{fields_stand_apart}
+use Rattle.snd_container.proofs.EveryKind.{apart}
 use Rattle.snd_container.proofs.Widths.{inner_value_fits, outer_value_fits, side_value_fits}
-use Rattle.snd_container.specs.Sound.{layout_of}
-use Rattle.snd_container.specs.Values.{FitsField, inner_value, outer_value, side_value}
+use Rattle.snd_container.specs.Laws.{FileSays}
+use Rattle.snd_layout.specs.Container.{FitsField}
+use Rattle.snd_container.specs.Values.{inner_value, outer_value, side_value}
 use Rattle.snd_disk.specs.Runs.{HasAt, IsInOneSector}
 use Rattle.snd_layout.specs.Shape.{EndsBy, KeepsRule, Shape}
 use Rattle.snd_layout.specs.declared.field.Field.{Field}
@@ -50,10 +51,10 @@ whole_some None c v x one either = inl tt
 whole_some (Some field) c v x one either = either one
 
 -- no two fields have a byte in common, whatever the frames and the declared length are
-pub fields_lie_apart : (b : List ℕ) (h : Shape) (n d : ℕ) → layout_of b ≡ Ok h → AllLieApart (recounted h n d)
-fields_lie_apart b h n d told =
-    let apart = fields_stand_apart b h told in
-    record { inner = record { outer = apart.outer; side = apart.side }; others = apart.others }
+pub fields_lie_apart : (b : List ℕ) (h : Shape) (n d : ℕ) → FileSays b h → AllLieApart (recounted h n d)
+fields_lie_apart b h n d says =
+    let lie = apart b h says in
+    record { inner = record { outer = lie.outer; side = lie.side }; others = lie.others }
 
 -- the values in a file whose fields say so many frames
 module _ (b : List ℕ) (h : Shape) (n : ℕ) (rule : KeepsRule h) (apart : AllLieApart h) (there : h.start ≤ length b) where

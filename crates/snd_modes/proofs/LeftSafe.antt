@@ -27,7 +27,7 @@ use Rattle.snd_modes.specs.Safe.{IsSafe}
 use Rattle.snd_modes.specs.SafeLaws.{Rests}
 use Rattle.snd_modes.specs.Updating.{UpdatesFile}
 use Rattle.snd_modes.proofs.EditedFiles.{updated_is_edited, updating_begins}
-use Rattle.snd_modes.proofs.EditedSteps.{is_free, leads_to_edited}
+use Rattle.snd_modes.proofs.EditedSteps.{leads_to_edited}
 use Rattle.snd_modes.proofs.SafeCuts.{cut_safe, sealed_safe}
 use Rattle.snd_modes.proofs.SafeImages.{at_rest, wider}
 use Rattle.snd_modes.proofs.SafeRests.{edited_apart, trimmed_safe}
@@ -95,9 +95,9 @@ module _ {D M : Type 0} {mode : ModeGhosts M} (d : Ghosts D) (opened : List ℕ)
     pub trimming_is_safe : ((known_of file).shape.trailing ≡ true → (known_of file).shape.kind ≡ Voc) → LeavesEach d disk (disk_of whole) (IsSafe e e') → Stands d.state whole (sealed_to e) → IsStable d.state d.may_leave (disk_of whole)
         → LeavesCutting d (known_of whole).shape (known_of whole).shape.frames (disk_of whole) last → LeavesEach d disk last (IsSafe e e')
     trimming_is_safe may first stands stable leaves =
-        let free = is_free opened e rest.edited (subst (λ (s : Shape). s.trailing ≡ true → s.kind ≡ Voc) rest.stands.shape may) in
+        let voc = subst (λ (s : Shape). s.trailing ≡ true → s.kind ≡ Voc) rest.stands.shape may in
         leaves_then d disk (disk_of whole) last (IsSafe e e') first
-        (leaves_weaker d (disk_of whole) last Cutting (IsSafe e e') (λ x cutting. trimmed_safe opened e e' x rest.edited rest.fit free cutting) (cut_behind stands stable leaves))
+        (leaves_weaker d (disk_of whole) last Cutting (IsSafe e e') (λ x cutting. trimmed_safe opened e e' x rest.edited rest.fit voc cutting) (cut_behind stands stable leaves))
 
 -- where a call leads to a state that rests
 pub rests_after : {D M : Type 0} {mode : ModeGhosts M} (d : Ghosts D) (opened : List ℕ) (new : File D M d mode) (e e' : Editing) → IsEdited opened e → Leads e e' → Rests e' → Stands d.state new e' → IsStable d.state d.may_leave (disk_of new)

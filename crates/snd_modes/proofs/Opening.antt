@@ -6,13 +6,13 @@ use Rattle.snd_layout.specs.declared.refusal.OpenRefusal.TheVariants.{NotBuilt}
 use Rattle.snd_layout.specs.Params.{data_bytes}
 use Rattle.snd_layout.specs.Shape.{Shape, end}
 use Rattle.snd_pcm.specs.Groups.{groups}
-use Rattle.snd_pcm.specs.Pcm.{byte_count, samples}
-use Rattle.snd_pcm.specs.declared.linear.Linear.{Linear}
-use Rattle.snd_container.specs.Sound.{decoded, decoded_as, layout_of, linear_of, sound_bytes}
+use Rattle.snd_container.specs.Fixed.{byte_count, samples}
+use Rattle.snd_container.specs.declared.fixed.Fixed.{Fixed}
+use Rattle.snd_container.specs.Sound.{decoded, decoded_as, layout_of, fixed_of, sound_bytes}
 use Rattle.snd_modes.specs.Editing.{Editing, first_editing, frames_read, opening_as, opening_of}
 use Rattle.snd_modes.proofs.SoundFrames.{count_frames, linear_bytes}
 
-pub opening_ok : (b : List ℕ) (s : Shape) → layout_of b ≡ Ok s → is_none (linear_of s.params.codec) ≡ false → opening_of b ≡ Ok (first_editing b s)
+pub opening_ok : (b : List ℕ) (s : Shape) → layout_of b ≡ Ok s → is_none (fixed_of s.params.codec) ≡ false → opening_of b ≡ Ok (first_editing b s)
 unfolding opening_of
 opening_ok b s is linear = ap (opening_as b) is ∙ ap (λ (t : Bool). if t then Err NotBuilt else Ok (first_editing b s)) linear
 
@@ -20,23 +20,23 @@ pub opening_refused : (b : List ℕ) (r : OpenRefusal) → layout_of b ≡ Err r
 unfolding opening_of
 opening_refused b r is = ap (opening_as b) is
 
-pub opening_not_built : (b : List ℕ) (s : Shape) → layout_of b ≡ Ok s → is_none (linear_of s.params.codec) ≡ true → opening_of b ≡ Err NotBuilt
+pub opening_not_built : (b : List ℕ) (s : Shape) → layout_of b ≡ Ok s → is_none (fixed_of s.params.codec) ≡ true → opening_of b ≡ Err NotBuilt
 unfolding opening_of
 opening_not_built b s is other = ap (opening_as b) is ∙ ap (λ (t : Bool). if t then Err NotBuilt else Ok (first_editing b s)) other
 
-count_as : (b : List ℕ) (s : Shape) (o : Option Linear) → linear_of s.params.codec ≡ o → is_none o ≡ false → 1 ≤ s.params.channels → end s s.frames ≤ length b
+count_as : (b : List ℕ) (s : Shape) (o : Option Fixed) → fixed_of s.params.codec ≡ o → is_none o ≡ false → 1 ≤ s.params.channels → end s s.frames ≤ length b
     → s.frames ≡ length (decoded s.params (sound_bytes b s))
 count_as b s None is linear some fits = absurd (cc)
 count_as b s (Some form) is linear some fits =
     let size : data_bytes s.params s.frames ≡ byte_count form * (s.params.channels * s.frames) = linear_bytes s.params form s.frames is in
-    sym (ap (λ (o : Option Linear). length (decoded_as o s.params.channels (sound_bytes b s))) is
+    sym (ap (λ (o : Option Fixed). length (decoded_as o s.params.channels (sound_bytes b s))) is
     ∙ ap (λ (n : ℕ). length (groups s.params.channels (samples form (take n (drop s.start b))))) size
     ∙ count_frames form b s.start s.frames s.params.channels (omega (arith, fits, size)) (omega (arith, some)))
 
 -- the frames that a layout counts are those that its bytes give
-pub count_opened : (b : List ℕ) (s : Shape) → is_none (linear_of s.params.codec) ≡ false → 1 ≤ s.params.channels → end s s.frames ≤ length b
+pub count_opened : (b : List ℕ) (s : Shape) → is_none (fixed_of s.params.codec) ≡ false → 1 ≤ s.params.channels → end s s.frames ≤ length b
     → s.frames ≡ length (decoded s.params (sound_bytes b s))
-count_opened b s linear some fits = count_as b s (linear_of s.params.codec) refl linear some fits
+count_opened b s linear some fits = count_as b s (fixed_of s.params.codec) refl linear some fits
 
 -- the frames of an editing state are those that its bytes give
 pub frames_of_bytes : (e : Editing) (s : Shape) (place k : ℕ) → s ≡ e.shape → place ≡ e.place → e.frames ≡ decoded e.shape.params (sound_bytes e.bytes e.shape)

@@ -1,5 +1,5 @@
 -- The frames of data that are overwritten, cut or sealed.
-use Rattle.std.proofs.Common.{◌≡◌, ◌∙◌, ap, sym, refl, inl, inr, ℕ, ◌+◌, ◌-◌, ◌*◌, ◌/◌, ◌<◌, ◌≤◌, Bool, true, false, ◌&&◌, ◌||◌, ℤ, List, [], ◌++◌, All, Option, None, Some, IfSome, length, take, drop, get_or, max, arith}
+use Rattle.std.proofs.Common.{◌≡◌, ◌∙◌, ap, sym, refl, inl, inr, ℕ, ◌+◌, ◌-◌, ◌*◌, ◌/◌, ◌<◌, ◌≤◌, Bool, true, false, ◌&&◌, ◌||◌, ℤ, List, [], ◌++◌, All, Option, None, Some, IfSome, length, map, take, drop, get_or, max, arith}
 use Rattle.std.specs.Prelude.{nat_le}
 use Rattle.std.proofs.Math.Nat.{mul-div_cancel_left}
 use Rattle.std.proofs.lemmas.Bool.{cases_lt, le-ltb}
@@ -9,12 +9,13 @@ use Rattle.snd_layout.specs.Params.{data_bytes}
 use Rattle.snd_layout.specs.Shape.{EndsBy, KeepsRule, Shape, end}
 use Rattle.snd_layout.specs.declared.field.Field.{Field}
 use Rattle.snd_patch.specs.Sealed.{SameBesideFields}
-use Rattle.snd_container.specs.Images.{is_in, is_in_fields, is_in_some}
+use Rattle.snd_layout.specs.Container.{is_in, is_in_fields, is_in_some}
 use Rattle.snd_pcm.specs.Groups.{first_groups}
-use Rattle.snd_pcm.specs.Pcm.{InRange, byte_count, samples, samples_bytes}
-use Rattle.snd_pcm.specs.declared.linear.Linear.{Linear}
-use Rattle.snd_pcm.proofs.RoundTrips.{count_of_bytes, samples_of_joined, samples_of_parts, samples_read_back}
-use Rattle.snd_pcm.proofs.Series.{byte_count_pos, length-first_groups, length-samples}
+use Rattle.snd_container.specs.Fixed.{InRange, byte_count, kept_number, samples, samples_bytes}
+use Rattle.snd_container.specs.declared.fixed.Fixed.{Fixed}
+use Rattle.snd_container.proofs.FixedSamples.{count_of_bytes, samples_of_joined, numbers_are_kept, samples_of_parts}
+use Rattle.snd_container.proofs.FixedSamples.{byte_count_pos, length-samples}
+use Rattle.snd_pcm.proofs.Series.{length-first_groups}
 use Rattle.snd_modes.specs.Edits.{put_frames}
 use Rattle.snd_modes.proofs.SoundFrames.{front_of_groups, groups_of_front, groups_of_piece, rest_of_groups}
 
@@ -57,7 +58,7 @@ module _ {X : Type 0} (k : ℕ) where
 
 -- ---- numbers of bytes that stand side by side
 
-module _ (form : Linear) where
+module _ (form : Fixed) where
   -- the samples of bytes behind some of them, where there are any
   samples_behind : (n : ℕ) (bytes : List ℕ) (all : ℕ) → length bytes ≡ byte_count form * all → samples form (drop (byte_count form * n) bytes) ≡ drop n (samples form bytes)
   samples_behind n bytes all size = elim (cases_lt all n) [
@@ -72,7 +73,7 @@ module _ (form : Linear) where
 
   pub samples_put : (p : ℕ) (bytes : List ℕ) (xs : List ℤ) (all : ℕ) → length bytes ≡ byte_count form * all → p ≤ all → All (InRange form) xs
       → samples form (take (byte_count form * p) bytes ++ samples_bytes form xs ++ drop (byte_count form * (p + length xs)) bytes)
-      ≡ take p (samples form bytes) ++ xs ++ drop (p + length xs) (samples form bytes)
+      ≡ take p (samples form bytes) ++ map (kept_number form) xs ++ drop (p + length xs) (samples form bytes)
   samples_put p bytes xs all size within fit =
       let w = byte_count form in
       let front : length (take (w * p) bytes) ≡ w * p = length-take-le (w * p) bytes (grind (arith, within, size)) in
@@ -82,8 +83,8 @@ module _ (form : Linear) where
       samples_of_joined form (take (w * p) bytes ++ samples_bytes form xs) (drop (w * (p + length xs)) bytes) (p + length xs) both
       ∙ ap (λ l. l ++ samples form (drop (w * (p + length xs)) bytes)) (samples_of_joined form (take (w * p) bytes) (samples_bytes form xs) p front
       ∙ ap (λ l. l ++ samples form (samples_bytes form xs)) (samples_of_parts form bytes p (grind (arith, within, size))).0
-      ∙ ap (λ l. take p (samples form bytes) ++ l) (samples_read_back form xs fit))
-      ∙ ap (λ l. take p (samples form bytes) ++ xs ++ l) (samples_behind (p + length xs) bytes all size)
+      ∙ ap (λ l. take p (samples form bytes) ++ l) (numbers_are_kept form xs fit))
+      ∙ ap (λ l. take p (samples form bytes) ++ map (kept_number form) xs ++ l) (samples_behind (p + length xs) bytes all size)
 
 -- ---- bytes put over data
 

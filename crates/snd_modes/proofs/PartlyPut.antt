@@ -13,9 +13,9 @@ use Rattle.snd_patch.proofs.Bytes.{over_beside}
 use Rattle.snd_patch.proofs.Moments.{leaves_by, leaves_made, leaves_then, leaves_weaker}
 use Rattle.snd_patch.proofs.Running.{still}
 use Rattle.snd_patch.specs.Images.{LeavesEach}
-use Rattle.snd_pcm.proofs.RoundTrips.{bytes_of_joined, count_of_bytes}
-use Rattle.snd_pcm.specs.Pcm.{byte_count, samples_bytes}
-use Rattle.snd_pcm.specs.declared.linear.Linear.{Linear}
+use Rattle.snd_container.proofs.FixedSamples.{bytes_of_joined, count_of_bytes}
+use Rattle.snd_container.specs.Fixed.{byte_count, samples_bytes}
+use Rattle.snd_container.specs.declared.fixed.Fixed.{Fixed}
 use Rattle.snd_modes.specs.Putting.{PutsPartly}
 use Rattle.snd_modes.specs.Safe.{IsPartly}
 use Rattle.snd_modes.specs.Writing.{PutsAt}
@@ -31,7 +31,7 @@ has_part c at p s q has j lt =
     let byte : get_or (p ++ s ++ q) (length p + j) 0 ≡ get_or s j 0 = grind (arith, places, lt) in
     subst (λ (k : ℕ). get_or c k 0 ≡ get_or s j 0) place (has (length p + j) (grind (arith, places, lt)) ∙ byte)
 
-module _ (form : Linear) (c : List ℕ) (at : ℕ) (xs : List ℤ) (done n : ℕ) (within : done + n ≤ length xs) where
+module _ (form : Fixed) (c : List ℕ) (at : ℕ) (xs : List ℤ) (done n : ℕ) (within : done + n ≤ length xs) where
   abbrev part : List ℤ
   part = take n (drop done xs)
 
@@ -108,7 +108,7 @@ tells_put state left_between at n a b puts l told = let then = puts.beside l tol
 
 module _ {D : Type 0} (d : Ghosts D) where
   -- so it is with some of the samples
-  pub part_partly : (form : Linear) (at : ℕ) (xs : List ℤ) (done n : ℕ) (a b : D) → done + n ≤ length xs
+  pub part_partly : (form : Fixed) (at : ℕ) (xs : List ℤ) (done n : ℕ) (a b : D) → done + n ≤ length xs
       → PutsPartly d (at + byte_count form * done) (samples_bytes form (take n (drop done xs))) a b → PutsPartly d at (samples_bytes form xs) a b
   part_partly form at xs done n a b within some old c l has fits told each =
       some old c l (has_samples form c at xs done n within has) (samples_within form c at xs done n within fits) told each

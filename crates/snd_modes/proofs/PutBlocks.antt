@@ -10,9 +10,11 @@ use Rattle.snd_disk.specs.State.{IsBetween, IsMeant, IsWritten, State}
 use Rattle.snd_disk.proofs.Chains.{goes_on_then}
 use Rattle.snd_patch.proofs.Bytes.{mix_beside, over_beside}
 use Rattle.snd_patch.proofs.Updating.{told_between, told_mapped}
-use Rattle.snd_pcm.specs.Pcm.{byte_count, samples_bytes}
-use Rattle.snd_pcm.specs.declared.linear.Linear.{Linear}
-use Rattle.snd_pcm.proofs.RoundTrips.{bytes_of_joined, count_of_bytes}
+use Rattle.snd_container.specs.Fixed.{byte_count, samples_bytes}
+use Rattle.snd_container.specs.declared.fixed.Fixed.{Fixed}
+use Rattle.snd_container.specs.declared.fixed.Fixed.TheVariants.{Linear, MuLaw, ALaw}
+use Rattle.snd_pcm.specs.Pcm.{samples_bytes as linear_bytes}
+use Rattle.snd_container.proofs.FixedSamples.{bytes_of_joined, count_of_bytes}
 use Rattle.snd_modes.specs.Writing.{PutsAt}
 
 -- ---- bytes put one behind the other
@@ -97,11 +99,13 @@ none_written s at there told = record {
   name = refl;
 }
 
-pub bytes_of_none : (form : Linear) → samples_bytes form [] ≡ []
-unfolding samples_bytes
-bytes_of_none form = refl
+pub bytes_of_none : (form : Fixed) → samples_bytes form [] ≡ []
+unfolding linear_bytes
+bytes_of_none (Linear form) = refl
+bytes_of_none MuLaw = refl
+bytes_of_none ALaw = refl
 
-pub no_samples_written : (form : Linear) (s : State) (at : ℕ) → at ≤ s.size → ((b : List ℕ) → s.contents ≡ Some b → s.size ≡ length b) → IsWritten at (samples_bytes form []) s s
+pub no_samples_written : (form : Fixed) (s : State) (at : ℕ) → at ≤ s.size → ((b : List ℕ) → s.contents ≡ Some b → s.size ≡ length b) → IsWritten at (samples_bytes form []) s s
 no_samples_written form s at there told = subst (λ (l : List ℕ). IsWritten at l s s) (sym (bytes_of_none form)) (none_written s at there told)
 
 pub bytes_split : (w done n : ℕ) → done ≤ n → w * n ≡ w * done + w * (n - done)
@@ -110,7 +114,7 @@ bytes_split w done n more =
     let whole : n ≡ done + left = omega (arith, more) in
     ap (λ (m : ℕ). w * m) whole ∙ (let e : w * (done + left) ≡ w * done + w * left = omega arith in e)
 
-pub samples_written : (form : Linear) (a b c : State) (at : ℕ) (xs : List ℤ) (done n : ℕ) → done ≤ n → n ≤ length xs → IsWritten at (samples_bytes form (take done xs)) a b
+pub samples_written : (form : Fixed) (a b c : State) (at : ℕ) (xs : List ℤ) (done n : ℕ) → done ≤ n → n ≤ length xs → IsWritten at (samples_bytes form (take done xs)) a b
     → IsWritten (at + byte_count form * done) (samples_bytes form (take (n - done) (drop done xs))) b c → IsWritten at (samples_bytes form (take n xs)) a c
 samples_written form a b c at xs done n more within first second =
     let front = samples_bytes form (take done xs) in

@@ -5,16 +5,13 @@ use Rattle.std.proofs.Math.Nat.{mul-le-mul_left}
 use Rattle.std.proofs.lemmas.Bool.{cases_lt}
 use Rattle.snd_layout.specs.Blocks.{is_adpcm}
 use Rattle.snd_layout.specs.Params.{Parameters, data_bytes}
-use Rattle.snd_layout.specs.Shape.{KeepsRule, Shape, end, kind_room, room}
+use Rattle.snd_layout.specs.Shape.{KeepsRule, Shape, end, room}
 use Rattle.snd_layout.specs.declared.codec.Codec.{Codec}
 use Rattle.snd_layout.specs.declared.codec.Codec.TheVariants.{Ima, Ms}
-use Rattle.snd_layout.specs.declared.field.Field.{Field}
-use Rattle.snd_layout.specs.declared.kind.Kind.{Kind}
-use Rattle.snd_layout.specs.declared.kind.Kind.TheVariants.{Wave, Rf64, W64, Au, Dns, Voc, Svx, Sphere}
-use Rattle.snd_container.specs.Sound.{linear_of}
-use Rattle.snd_container.specs.Values.{HasRoomFor}
-use Rattle.snd_pcm.specs.Pcm.{byte_count}
-use Rattle.snd_pcm.specs.declared.linear.Linear.{Linear}
+use Rattle.snd_container.specs.Sound.{fixed_of}
+use Rattle.snd_layout.specs.Container.{HasRoomFor}
+use Rattle.snd_container.specs.Fixed.{byte_count}
+use Rattle.snd_container.specs.declared.fixed.Fixed.{Fixed}
 use Rattle.snd_modes.proofs.SoundFrames.{linear_bytes}
 
 div_le : (n r a : ℕ) → 0 < a → n ≤ r / a → a * n ≤ r
@@ -26,7 +23,7 @@ le_div n r a some few = elim (cases_lt (r / a) n) [
   | inr le ↦ le
 ]
 
-pub room_holds : (p : Parameters) (form : Linear) (n r w channels : ℕ) → linear_of p.codec ≡ Some form → byte_count form ≡ w → p.channels ≡ channels → 0 < w * channels
+pub room_holds : (p : Parameters) (form : Fixed) (n r w channels : ℕ) → fixed_of p.codec ≡ Some form → byte_count form ≡ w → p.channels ≡ channels → 0 < w * channels
     → (n ≤ r / (w * channels) → data_bytes p n ≤ r) × (data_bytes p n ≤ r → n ≤ r / (w * channels))
 room_holds p form n r w channels is width count some =
     let bytes : data_bytes p n ≡ w * channels * n =
@@ -34,29 +31,18 @@ room_holds p form n r w channels is width count some =
     (λ few. omega (arith, bytes, div_le n r (w * channels) some few), λ few. le_div n r (w * channels) some (omega (arith, bytes, few)))
 
 -- linear samples stand in no blocks
-pub not_adpcm : (codec : Codec) → is_none (linear_of codec) ≡ false → is_adpcm codec ≡ false
+pub not_adpcm : (codec : Codec) → is_none (fixed_of codec) ≡ false → is_adpcm codec ≡ false
 not_adpcm (Ima align per_block) linear = absurd (cc)
 not_adpcm (Ms align per_block) linear = absurd (cc)
 not_adpcm _ linear = refl
 
--- data that have room in the head end on a disk
-room_ends : (kind : Kind) (p : Parameters) (start : ℕ) (inner : Field) → start < 2 ^ 62 → start + kind_room kind p start inner + 8 ≤ 2 ^ 63
-room_ends Wave p start inner early = omega arith
-room_ends Rf64 p start inner early = omega arith
-room_ends W64 p start inner early = omega arith
-room_ends Au p start inner early = omega arith
-room_ends Dns p start inner early = omega arith
-room_ends Voc p start inner early = grind arith
-room_ends Svx p start inner early = omega arith
-room_ends Sphere p start inner early = omega arith
-
 -- as many frames as there are, or as many as the head has room for
-pub may_count : (h : Shape) (n : ℕ) → KeepsRule h → is_none (linear_of h.params.codec) ≡ false → h.unknown_length ≡ false → h.start < 2 ^ 62
+pub may_count : (h : Shape) (n : ℕ) → KeepsRule h → is_none (fixed_of h.params.codec) ≡ false → h.unknown_length ≡ false → h.start + room h + 8 ≤ 2 ^ 63
     → (n ≡ h.frames) ⊎ (data_bytes h.params n ≤ room h) → HasRoomFor h n × (end h n + 8 ≤ 2 ^ 63)
-may_count h n rule linear known early (inl same) =
+may_count h n rule linear known roomy (inl same) =
     let ends : end h n + 8 ≤ 2 ^ 63 = subst (λ (m : ℕ). end h m + 8 ≤ 2 ^ 63) (sym same) rule.data_end in
     let few : data_bytes h.params n ≤ max (room h) h.declared = subst (λ (m : ℕ). data_bytes h.params m ≤ max (room h) h.declared) (sym same) (rule.in_room known) in
     (record { in_room = few; on_disk = omega (arith, ends); counted = λ wave blocks. absurd (let no = not_adpcm h.params.codec linear in cc) }, ends)
-may_count h n rule linear known early (inr few) =
-    let ends : end h n + 8 ≤ 2 ^ 63 = omega (arith, few, room_ends h.kind h.params h.start h.inner early) in
+may_count h n rule linear known roomy (inr few) =
+    let ends : end h n + 8 ≤ 2 ^ 63 = omega (arith, few, roomy) in
     (record { in_room = omega (arith, few); on_disk = omega (arith, ends); counted = λ wave blocks. absurd (let no = not_adpcm h.params.codec linear in cc) }, ends)

@@ -5,21 +5,21 @@ use Rattle.std.proofs.lemmas.List.{drop-drop, length-drop, length-take-le, nil_f
 use Rattle.std.proofs.lemmas.List.Elements.{All-append}
 use Rattle.std.proofs.lemmas.Slice.{take-put_mid}
 use borrow.Rule.Slice.PartMut.{put_mid}
-use Rattle.snd_pcm.proofs.RoundTrips.{samples_of_joined}
-use Rattle.snd_pcm.proofs.Series.{byte_count_pos, length-samples}
+use Rattle.snd_container.proofs.FixedSamples.{samples_of_joined}
+use Rattle.snd_container.proofs.FixedSamples.{byte_count_pos, length-samples}
 use Rattle.std.proofs.Math.Nat.{mul-div_cancel_left}
-use Rattle.snd_pcm.specs.Pcm.{byte_count, samples}
-use Rattle.snd_pcm.specs.declared.linear.Linear.{Linear}
+use Rattle.snd_container.specs.Fixed.{byte_count, samples}
+use Rattle.snd_container.specs.declared.fixed.Fixed.{Fixed}
 
 -- no bytes have no samples
-pub no_samples : (form : Linear) (bytes : List ℕ) → [] ≡ samples form (take (byte_count form * 0) bytes)
+pub no_samples : (form : Fixed) (bytes : List ℕ) → [] ≡ samples form (take (byte_count form * 0) bytes)
 no_samples form bytes =
     let w = byte_count form in
     let none : length (take (w * 0) bytes) ≡ w * 0 = length-take-le (w * 0) bytes (omega arith) in
     sym (nil_from_length _ (length-samples form (take (w * 0) bytes) ∙ ap (λ (m : ℕ). m / w) none ∙ mul-div_cancel_left 0 (byte_count_pos form)))
 
 -- the samples of the bytes that were read, and of those of the next block
-pub samples_joined : (form : Linear) (b : List ℕ) (at done count : ℕ) → at + byte_count form * (done + count) ≤ length b
+pub samples_joined : (form : Fixed) (b : List ℕ) (at done count : ℕ) → at + byte_count form * (done + count) ≤ length b
     → samples form (take (byte_count form * done) (drop at b)) ++ samples form (take (byte_count form * count) (drop (at + byte_count form * done) b))
     ≡ samples form (take (byte_count form * (done + count)) (drop at b))
 samples_joined form b at done count fits =
@@ -36,7 +36,7 @@ module _ (into taken : List ℤ) (done count room : ℕ) (within : done ≤ leng
   part : take (done + count) (put_mid done room into taken) ≡ take done into ++ taken
   part = take-put_mid done room into taken (done + count) (omega (arith, size)) within
 
-  pub samples_more : (form : Linear) (b : List ℕ) (at n : ℕ) → n ≡ count → at + byte_count form * (done + count) ≤ length b
+  pub samples_more : (form : Fixed) (b : List ℕ) (at n : ℕ) → n ≡ count → at + byte_count form * (done + count) ≤ length b
       → take done into ≡ samples form (take (byte_count form * done) (drop at b))
       → taken ≡ samples form (take (byte_count form * n) (drop (at + byte_count form * done) b))
       → take (done + count) (put_mid done room into taken) ≡ samples form (take (byte_count form * (done + count)) (drop at b))

@@ -1,38 +1,41 @@
 -- What a crash leaves while a file is sealed, while frames are cut off, and what stands behind the data, is safe.
-use Rattle.std.proofs.Common.{◌≡◌, ◌⊎◌, ◌∙◌, ap, sym, inl, inr, ⊎_elim, ℕ, ◌+◌, ◌*◌, ◌<◌, ◌≤◌, Bool, false, cond, List, Some, IfSome, length, take, get_or, refl, arith}
+use Rattle.std.proofs.Common.{◌≡◌, ◌⊎◌, ◌∙◌, ap, sym, inl, inr, ⊎_elim, ℕ, ◌+◌, ◌*◌, ◌<◌, ◌≤◌, Bool, false, true, cond, List, Some, IfSome, length, take, get_or, refl, arith}
 use Rattle.std.proofs.Math.Nat.{mul-pos}
 use Rattle.std.proofs.lemmas.Bool.{cases_lt, lt-ltb}
 use Rattle.std.proofs.lemmas.List.{take_all}
+use Rattle.snd_container.proofs.EveryKind.{voice}
 use Rattle.snd_container.proofs.Widths.{inner_value_fits, outer_value_fits}
-use Rattle.snd_container.specs.Images.{declared_end, outer_reach, KeepsHead, closed_end, is_in_fields}
-use Rattle.snd_container.specs.Sound.{decoded, linear_of}
-use Rattle.snd_container.specs.Values.{HasRoomFor, closing, inner_value, outer_value}
+use Rattle.snd_layout.specs.Container.{KeepsHead, is_in_fields}
+use Rattle.snd_container.specs.Values.{closed_end, closing, declared_end, inner_value, outer_reach, outer_value}
+use Rattle.snd_container.specs.Sound.{decoded, fixed_of}
 use Rattle.snd_disk.proofs.Lists.{length-over}
 use Rattle.snd_layout.specs.Params.{data_bytes}
 use Rattle.snd_layout.specs.Shape.{Shape, end}
+use Rattle.snd_layout.specs.declared.kind.Kind.TheVariants.{Voc}
 use Rattle.snd_patch.proofs.Images.{shrinks_from_to}
 use Rattle.snd_patch.proofs.Behind.{closes_from_to}
 use Rattle.snd_patch.specs.Images.{AllLieApart, HasNew, HasOld, IsClosing, IsCounting, IsCutting, IsGrowing, IsShrinking}
 use Rattle.snd_patch.specs.Sealed.{SameBesideFields, closed, over_closing, with_fewer}
-use Rattle.snd_pcm.proofs.Series.{byte_count_pos}
-use Rattle.snd_pcm.specs.Pcm.{byte_count}
-use Rattle.snd_pcm.specs.declared.linear.Linear.{Linear}
+use Rattle.snd_container.proofs.FixedSamples.{byte_count_pos}
+use Rattle.snd_container.specs.Fixed.{byte_count}
+use Rattle.snd_container.specs.declared.fixed.Fixed.{Fixed}
 use Rattle.snd_modes.specs.Editing.{Editing}
 use Rattle.snd_modes.specs.Edits.{cut_to}
 use Rattle.snd_modes.specs.Laws.{IsEdited}
 use Rattle.snd_modes.specs.Safe.{IsFit, IsSafe, IsSized}
 use Rattle.snd_modes.proofs.CutFrames.{front_decoded, may_count_fewer}
-use Rattle.snd_modes.proofs.EditedFiles.{begins_early, is_known, is_linear, longer_closed, some_channel}
+use Rattle.snd_modes.proofs.EditedSteps.{few_declared}
+use Rattle.snd_modes.proofs.EditedFiles.{is_known, is_linear, longer_closed, room_ends, some_channel}
 use Rattle.snd_modes.proofs.ImageFields.{fewer_inner, fewer_outer, fields_lie_apart, new_before, old_before, old_some_before, old_some_through, old_through}
 use Rattle.snd_modes.proofs.ImageFrames.{HasFrames, form_of, frames_in}
-use Rattle.snd_modes.proofs.ImageLayouts.{closed_declared, closed_near, declared_less, declared_more, inner_whole, new_count, old_count, outer_whole, reach_new, reach_old, reach_sized}
+use Rattle.snd_modes.proofs.ImageLayouts.{HoldsOld, closed_declared, declared_less, declared_more, inner_whole, new_count, old_count, outer_whole, reach_new, reach_old, reach_sized, still_holds}
 use Rattle.snd_modes.proofs.Overwritten.{data_stay}
-use Rattle.snd_modes.proofs.SafeImages.{Says, safe_new, safe_old}
+use Rattle.snd_modes.proofs.SafeImages.{ImageSays, safe_new, safe_old}
 use Rattle.snd_modes.proofs.Sealing.{end_is, ends_before}
 use Rattle.snd_modes.proofs.SoundFrames.{span_fits}
 
 -- the data of fewer frames are fewer
-end_less_by : (h : Shape) (form : Linear) → linear_of h.params.codec ≡ Some form → 1 ≤ h.params.channels → (n m : ℕ) → n < m → end h n < end h m
+end_less_by : (h : Shape) (form : Fixed) → fixed_of h.params.codec ≡ Some form → 1 ≤ h.params.channels → (n m : ℕ) → n < m → end h n < end h m
 end_less_by h form is some n m lt =
     let w = byte_count form in
     let c = h.params.channels in
@@ -40,11 +43,11 @@ end_less_by h form is some n m lt =
     omega (arith, one, span_fits w c n 1 m (omega (arith, lt)), end_is h form n is, end_is h form m is)
 
 pub end_less : (h : Shape) → HasFrames h → (n m : ℕ) → n < m → end h n < end h m
-end_less h has n m lt = let form = form_of (linear_of h.params.codec) has.linear in end_less_by h form.0 form.1 has.some n m lt
+end_less h has n m lt = let form = form_of (fixed_of h.params.codec) has.linear in end_less_by h form.0 form.1 has.some n m lt
 
 -- the first frames
 pub first_frames : (h : Shape) → HasFrames h → (n : ℕ) (b : List ℕ) → n ≤ h.frames → end h h.frames ≤ length b → end h n ≤ length b → frames_in h n b ≡ take n (frames_in h h.frames b)
-first_frames h has n b within fits fits' = let form = form_of (linear_of h.params.codec) has.linear in front_decoded b h form.0 n form.1 has.some within fits fits'
+first_frames h has n b within fits fits' = let form = form_of (fixed_of h.params.codec) has.linear in front_decoded b h form.0 n form.1 has.some within fits fits'
 
 -- what closes the data is there then
 pub closed_reaches : (b : List ℕ) (h : Shape) (n : ℕ) → closed_end h n ≤ length (closed b h n)
@@ -68,10 +71,10 @@ module _ (opened : List ℕ) (e : Editing) (ed : IsEdited opened e) (fit : IsFit
   has = record { linear = is_linear opened e ed; some = some_channel opened e ed }
 
   -- that say the old count
-  old_image : (e' : Editing) → h.start + h.declared ≤ length x → end h h.frames ≤ length x → SameBesideFields h h.frames b x → HasOld b x h.inner → outer_reach h x ≤ declared_end h → IsSafe e e' x
+  old_image : (e' : Editing) → HoldsOld h b x → end h h.frames ≤ length x → SameBesideFields h h.frames b x → HasOld b x h.inner → outer_reach h x ≤ declared_end h → IsSafe e e' x
   old_image e' there held same inner reach =
       let kept : KeepsHead h b x = λ i lt out. same i (omega (arith, lt)) out in
-      let says : Says opened e x h.frames h.declared = record {
+      let says : ImageSays opened e x h.frames h.declared = record {
         edited = ed;
         told = old_count opened e ed fit x free there kept inner reach;
         kept = kept;
@@ -81,15 +84,12 @@ module _ (opened : List ℕ) (e : Editing) (ed : IsEdited opened e) (fit : IsFit
       safe_old opened e x h.frames h.declared says e' (ap (decoded h.params) (data_stay h h.frames b x ed.rule ed.holds.held held same) ∙ sym ed.holds.sound)
 
   -- that say a new one
-  module _ (n : ℕ) (within : n ≤ h.frames) (there : closed_end h n ≤ length x) (same : SameBesideFields h n b x) (inner : HasNew (inner_value h n) x h.inner) (reach : outer_reach h x ≤ closed_end h n) where
-    held : end h n ≤ length x
-    held = omega (arith, there)
-
-    says_new : Says opened e x n (data_bytes h.params n)
+  module _ (n : ℕ) (within : n ≤ h.frames) (held : end h n ≤ length x) (same : SameBesideFields h n b x) (inner : HasNew (inner_value h n) x h.inner) (reach : outer_reach h x ≤ closed_end h n) where
+    says_new : ImageSays opened e x n (data_bytes h.params n)
     says_new =
         let kept : KeepsHead h b x = λ i lt out. same i (omega (arith, lt)) out in
-        let room : HasRoomFor h n = (may_count_fewer h n ed.rule (is_linear opened e ed) (is_known opened e ed) (begins_early opened e ed) within).0 in
-        record { edited = ed; told = new_count opened e ed fit x n free room kept inner there reach; kept = kept; there = held; tail = λ goes_on. absurd (cc) }
+        let room = may_count_fewer h n ed.rule (is_linear opened e ed) (is_known opened e ed) (room_ends opened e ed) within in
+        record { edited = ed; told = new_count opened e ed fit x n free room kept inner held reach; kept = kept; there = held; tail = λ goes_on. absurd (cc) }
 
     frames_new : frames_in h n x ≡ take n e.frames
     frames_new =
@@ -111,8 +111,8 @@ module _ (opened : List ℕ) (e : Editing) (ed : IsEdited opened e) (fit : IsFit
     less : end h to < end h h.frames
     less = end_less h has to h.frames fewer
 
-    closes : closed_end h to ≤ length b
-    closes = omega (arith, less, ed.holds.held, closed_near opened e ed fit to)
+    fewer_there : end h to ≤ length b
+    fewer_there = omega (arith, less, ed.holds.held)
 
     reach_fewer : outer_reach h x ≤ closed_end h to → outer_reach h x ≤ declared_end h
     reach_fewer reach = omega (arith, reach, closed_declared opened e ed fit to (omega (arith, less, declared_more opened e ed fit)))
@@ -121,27 +121,27 @@ module _ (opened : List ℕ) (e : Editing) (ed : IsEdited opened e) (fit : IsFit
     shrunk_safe shrinking =
         let size : length x ≡ length b = shrinking.fields.size in
         let with_old = λ (inner : HasOld b x h.inner) (reach : outer_reach h x ≤ declared_end h).
-        old_image (cut_to to e) (omega (arith, fit.there, size)) (omega (arith, ed.holds.held, size)) (λ i lt out. shrinking.fields.beside i out) inner reach in
+        old_image (cut_to to e) (still_holds opened e ed fit x free (omega (arith, size))) (omega (arith, ed.holds.held, size)) (λ i lt out. shrinking.fields.beside i out) inner reach in
         ⊎_elim
         (λ inner. with_old inner
         (⊎_elim (λ old. reach_old opened e ed fit x free old (omega (arith, size))) (λ new. reach_fewer (reach_new opened e ed fit x to new)) (outer_whole opened e ed fit b (outer_value h to) x shrinking.fields.outer)))
         (λ others.
         let reach = reach_new opened e ed fit x to others.0 in
         ⊎_elim (λ old. with_old old (reach_fewer reach))
-        (λ new. new_image to (omega (arith, fewer)) (omega (arith, closes, size)) (λ i lt out. shrinking.fields.beside i out) new reach (cut_to to e) refl)
+        (λ new. new_image to (omega (arith, fewer)) (omega (arith, fewer_there, size)) (λ i lt out. shrinking.fields.beside i out) new reach (cut_to to e) refl)
         (inner_whole opened e ed fit b (inner_value h to) x shrinking.fields.inner))
         shrinking.ordered
 
     -- behind whose data all is cut off
     module _ (cutting : IsCutting (with_fewer b h to) h to x) where
       begins : h.start ≤ length b
-      begins = omega (arith, closes)
+      begins = omega (arith, fewer_there)
 
       fields : IsShrinking b h to (with_fewer b h to)
       fields = (shrinks_from_to b h to ed.rule apart begins).1
 
-      long : closed_end h to ≤ length x
-      long = ⊎_elim (λ all. omega (arith, all, closes, fields.fields.size)) (λ cut. omega (arith, cut)) cutting.size
+      long : end h to ≤ length x
+      long = ⊎_elim (λ all. omega (arith, all, fewer_there, fields.fields.size)) (λ cut. omega (arith, cut)) cutting.size
 
       before : (i : ℕ) → i < h.start → get_or x i 0 ≡ get_or (with_fewer b h to) i 0
       before i lt = cutting.before i (omega (arith, lt))
@@ -178,14 +178,14 @@ module _ (opened : List ℕ) (e : Editing) (ed : IsEdited opened e) (fit : IsFit
   tail_safe e' sized cutting =
       let early : (i : ℕ) → i < h.start → get_or x i 0 ≡ get_or b i 0 = λ i lt. cutting.before i (omega (arith, lt)) in
       let long : closed_end h n ≤ length x = ⊎_elim (λ all. omega (arith, all, sized.closed)) (λ cut. omega (arith, cut)) cutting.size in
-      old_image e' (omega (arith, sized.declared, long)) (omega (arith, long)) (λ i lt out. cutting.before i lt)
+      old_image e' (⊎_elim (λ all. inl (omega (arith, all, sized.closed), omega (arith, all, long))) (λ few. inr (few, omega (arith, long))) sized.declared) (omega (arith, long)) (λ i lt out. cutting.before i lt)
       (old_before h.inner h.start x b ed.rule.inner_end early)
       (omega (arith, reach_sized opened e ed fit x sized (old_some_before h.outer h.start x b ed.rule.outer_end early), last))
 
   closing_safe : (e' : Editing) → IsClosing b h n x → IsSafe e e' x
   closing_safe e' part =
       let early : (i : ℕ) → i < h.start → get_or x i 0 ≡ get_or b i 0 = λ i lt. part.before i (omega (arith, lt)) in
-      old_image e' (omega (arith, fit.there, part.least)) (omega (arith, ed.holds.held, part.least)) (λ i lt out. part.before i lt)
+      old_image e' (still_holds opened e ed fit x free part.least) (omega (arith, ed.holds.held, part.least)) (λ i lt out. part.before i lt)
       (old_before h.inner h.start x b ed.rule.inner_end early)
       (reach_old opened e ed fit x free (old_some_before h.outer h.start x b ed.rule.outer_end early) (omega (arith, part.most, last)))
 
@@ -199,7 +199,7 @@ module _ (opened : List ℕ) (e : Editing) (ed : IsEdited opened e) (fit : IsFit
 
     says_old : HasOld c x h.inner → outer_reach h x ≤ declared_end h → IsSafe e e' x
     says_old old reach =
-        old_image e' (omega (arith, fit.there, shut.least, size)) (omega (arith, ed.holds.held, shut.least, size)) same
+        old_image e' (still_holds opened e ed fit x free (omega (arith, shut.least, size))) (omega (arith, ed.holds.held, shut.least, size)) same
         (old_through h.inner x c b old (old_before h.inner h.start c b ed.rule.inner_end early)) reach
 
     says_same : HasNew (inner_value h n) x h.inner → outer_reach h x ≤ closed_end h n → IsSafe e e' x
@@ -236,3 +236,22 @@ module _ (opened : List ℕ) (e : Editing) (ed : IsEdited opened e) (fit : IsFit
   pub sealed_safe : (e' : Editing) → IsClosing b h n x ⊎ IsCounting c h n x → IsSafe e e' x
   sealed_safe e' either =
       ⊎_elim (λ part. closing_safe e' part) (λ counting. ⊎_elim (λ more. growing_safe e' more.0 more.1) (λ less. shrinking_safe e' less.1) counting) either
+
+-- ---- a Creative Voice file that goes on behind its data, while all behind these is cut off
+
+pub voice_cut_safe : (opened : List ℕ) (e : Editing) (ed : IsEdited opened e) (fit : IsFit e) (goes_on : e.shape.trailing ≡ true) (voc : e.shape.kind ≡ Voc) (x : List ℕ) (e' : Editing)
+    → IsCutting e.bytes e.shape e.shape.frames x → IsSafe e e' x
+voice_cut_safe opened e ed fit goes_on voc x e' cutting =
+    let h = e.shape in
+    let b = e.bytes in
+    let early : (i : ℕ) → i < h.start → get_or x i 0 ≡ get_or b i 0 = λ i lt. cutting.before i (omega (arith, lt)) in
+    let held : end h h.frames ≤ length x = ⊎_elim (λ all. omega (arith, all, ed.holds.held)) (λ cut. omega (arith, cut)) cutting.size in
+    let says : ImageSays opened e x h.frames h.declared = record {
+      edited = ed;
+      told = voice h.kind b x h fit.told voc (few_declared opened e ed goes_on voc) held early;
+      kept = λ i lt out. early i lt;
+      there = held;
+      tail = λ is. inl voc;
+    } in
+    safe_old opened e x h.frames h.declared says e'
+    (ap (decoded h.params) (data_stay h h.frames b x ed.rule ed.holds.held held (λ i lt out. cutting.before i lt)) ∙ sym ed.holds.sound)

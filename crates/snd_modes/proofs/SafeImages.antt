@@ -2,30 +2,33 @@
 use Rattle.std.proofs.Common.{◌≡◌, ◌⊎◌, ◌∙◌, ap, sym, refl, inl, inr, ⊎_elim, ℕ, ◌<◌, ◌≤◌, ℤ, true, List, [], Ok, length, get_or, map, take, arith}
 use Rattle.std.proofs.lemmas.List.{ext_get_or, take_all}
 use Rattle.std.specs.Prelude.{Result}
-use Rattle.snd_container.specs.Sound.{Sound, kept_of, layout_of, sound_of}
+use Rattle.snd_container.specs.Laws.{FileSays}
+use Rattle.snd_container.specs.Sound.{Sound, kept_of, sound_of}
 use Rattle.snd_layout.specs.Shape.{Shape, end}
+use Rattle.snd_layout.specs.declared.kind.Kind.TheVariants.{Voc}
 use Rattle.snd_layout.specs.declared.piece.Piece.{Piece}
 use Rattle.snd_layout.specs.declared.refusal.OpenRefusal.{OpenRefusal}
 use Rattle.snd_modes.specs.Editing.{Editing}
 use Rattle.snd_modes.specs.Laws.{IsEdited}
-use Rattle.snd_container.specs.Images.{KeepsHead}
+use Rattle.snd_layout.specs.Container.{KeepsHead}
 use Rattle.snd_modes.specs.Safe.{IsSafe, IsUnwritten, acknowledged, chunks_of, frame_at}
 use Rattle.snd_modes.proofs.EditedFiles.{is_linear, some_channel}
 use Rattle.snd_modes.proofs.EditedSounds.{edited_pieces, image_pieces, sound_by}
 use Rattle.snd_modes.proofs.ImageFrames.{frames_in}
+use Rattle.snd_modes.proofs.KeptPieces.{SameTail}
 use Rattle.snd_modes.proofs.Opening.{count_opened}
 use Rattle.snd_modes.proofs.ImageFields.{recounted}
 
 -- what an image says that has the layout of an edited file, but for the frames and the declared length: its head and, where it
 -- goes on behind its data, its tail are that file's
-pub record Says (opened : List ℕ) (e : Editing) (x : List ℕ) (n d : ℕ) : Type 0 where
+pub record ImageSays (opened : List ℕ) (e : Editing) (x : List ℕ) (n d : ℕ) : Type 0 where
   pub edited : IsEdited opened e
-  pub told : layout_of x ≡ Ok (recounted e.shape n d)
+  pub told : FileSays x (recounted e.shape n d)
   pub kept : KeepsHead e.shape e.bytes x
   pub there : end e.shape n ≤ length x
-  pub tail : e.shape.trailing ≡ true → (length x ≡ length e.bytes) × ((i : ℕ) → end e.shape e.shape.frames ≤ i → get_or x i 0 ≡ get_or e.bytes i 0)
+  pub tail : e.shape.trailing ≡ true → (e.shape.kind ≡ Voc) ⊎ SameTail e.shape x e.bytes
 
-module _ (opened : List ℕ) (e : Editing) (x : List ℕ) (n d : ℕ) (says : Says opened e x n d) where
+module _ (opened : List ℕ) (e : Editing) (x : List ℕ) (n d : ℕ) (says : ImageSays opened e x n d) where
   abbrev h : Shape
   h = e.shape
 
@@ -45,10 +48,9 @@ module _ (opened : List ℕ) (e : Editing) (x : List ℕ) (n d : ℕ) (says : Sa
       let image : map (kept_of x) ed.head.pieces ≡ map (kept_of opened) ed.head.pieces =
       image_pieces opened e ed x begins (λ i lt out. says.kept i lt out ∙ ed.kept i lt out)
       (λ goes_on.
-      let mine = says.tail goes_on in
       let its = ed.stays goes_on in
       let ends : end h h.frames ≡ end ed.head ed.head.frames = ap (λ (s : Shape). end s s.frames) its.shape in
-      (mine.0 ∙ its.size, λ i behind. mine.1 i (omega (arith, ends, behind)) ∙ its.behind i behind)) in
+      ⊎_elim (λ voc. inl voc) (λ mine. inr (mine.0 ∙ its.size, λ i behind. mine.1 i (omega (arith, ends, behind)) ∙ its.behind i behind)) (says.tail goes_on)) in
       ap (λ (l : List Piece). map (kept_of x) l) pieces ∙ image ∙ sym (edited_pieces opened e ed) ∙ sym (ap (λ (l : List Piece). map (kept_of e.bytes) l) pieces)
 
   abbrev sound_is : Sound
@@ -134,8 +136,8 @@ chunks_are opened e ed = ap (λ (s : Shape). map (kept_of e.bytes) s.pieces) ed.
 
 pub same_file : (opened : List ℕ) (e g : Editing) → IsEdited opened e → IsEdited opened g → (g.shape.params ≡ e.shape.params) × (g.shape.kind ≡ e.shape.kind) × (chunks_of g ≡ chunks_of e)
 same_file opened e g ed of_g =
-    let one : ◌≡◌ {A = Result Shape OpenRefusal} (Ok of_g.head) (Ok ed.head) = sym of_g.opened ∙ ed.opened in
-    let head : of_g.head ≡ ed.head = cc in (
+    let one : ◌≡◌ {A = Result Shape OpenRefusal} (Ok (record of_g.head { trailing = of_g.opened.goes_on })) (Ok (record ed.head { trailing = ed.opened.goes_on })) = sym of_g.opened.told ∙ ed.opened.told in
+    let head : record of_g.head { trailing = of_g.opened.goes_on } ≡ record ed.head { trailing = ed.opened.goes_on } = cc in (
       ap (λ (s : Shape). s.params) of_g.shape ∙ ap (λ (s : Shape). s.params) head ∙ sym (ap (λ (s : Shape). s.params) ed.shape),
       ap (λ (s : Shape). s.kind) of_g.shape ∙ ap (λ (s : Shape). s.kind) head ∙ sym (ap (λ (s : Shape). s.kind) ed.shape),
       chunks_are opened g of_g ∙ ap (λ (s : Shape). map (kept_of opened) s.pieces) head ∙ sym (chunks_are opened e ed),
@@ -159,7 +161,7 @@ safe_across opened e g e' x ed of_g same safe =
     }
 
 -- a file at rest
-pub at_rest : (opened : List ℕ) (e : Editing) → IsEdited opened e → layout_of e.bytes ≡ Ok e.shape → IsSafe e e e.bytes
+pub at_rest : (opened : List ℕ) (e : Editing) → IsEdited opened e → FileSays e.bytes e.shape → IsSafe e e e.bytes
 at_rest opened e ed told =
     safe_old opened e e.bytes e.shape.frames e.shape.declared
-    (record { edited = ed; told = told; kept = λ i lt out. refl; there = ed.holds.held; tail = λ goes_on. (refl, λ i behind. refl) }) e (sym ed.holds.sound)
+    (record { edited = ed; told = told; kept = λ i lt out. refl; there = ed.holds.held; tail = λ goes_on. inr (refl, λ i behind. refl) }) e (sym ed.holds.sound)

@@ -1,45 +1,38 @@
 -- Where calls leave a file at rest: it says what its state knows, and its size is that of its frames.
-use Rattle.std.proofs.Common.{◌≡◌, ◌∙◌, ap, sym, subst, refl, inl, inr, ℕ, ◌+◌, ◌/◌, ◌<◌, ◌≤◌, ℤ, Bool, true, false, cond, List, All, Ok, length, get_or, max, arith}
+use Rattle.std.proofs.Common.{◌≡◌, ◌∙◌, ap, sym, subst, refl, inl, inr, ℕ, ◌+◌, ◌/◌, ◌<◌, ◌≤◌, ℤ, Bool, true, false, cond, List, All, Option, None, Some, length, get_or, max, arith}
 use Rattle.std.proofs.lemmas.Bool.{cases_Bool, cond_both, ltb-true}
-use Rattle.std.specs.Prelude.{IfSome, is_none, nat_lt}
-use Rattle.snd_container.proofs.OfKinds.{wave_only}
-use Rattle.snd_container.proofs.Images.{values_are_free}
+use Rattle.std.specs.Prelude.{IfSome, IsTrue, is_none, nat_lt}
+use Rattle.snd_container.proofs.EveryKind as every
+use Rattle.snd_container.specs.Laws.{FileSays}
 use Rattle.snd_container.proofs.Widths.{outer_value_fits}
-use Rattle.snd_container.specs.Sound.{layout_of, linear_of}
-use Rattle.snd_container.specs.Values.{outer_value}
+use Rattle.snd_container.specs.Values.{closed_end, outer_value}
 use Rattle.snd_fields.specs.Laws.{IsByte}
-use Rattle.snd_layout.specs.Shape.{KeepsRule, Shape, end}
+use Rattle.snd_layout.specs.Shape.{KeepsRule, Shape, end, is_outer_size}
+use Rattle.snd_layout.specs.declared.field.Field.{Field}
+use Rattle.snd_layout.specs.declared.kind.Kind.{Kind}
 use Rattle.snd_layout.specs.declared.kind.Kind.TheVariants.{Voc}
 use Rattle.snd_patch.proofs.Lists.{order_is_free, sealed_length, shrunk_length}
-use Rattle.snd_patch.specs.Images.{AllLieApart, HasNew}
+use Rattle.snd_patch.specs.Images.{AllLieApart, HasNew, IsCutting}
 use Rattle.snd_patch.specs.Sealed.{closed, counted, sealed, sealed_size, shrunk, with_fewer}
-use Rattle.snd_container.specs.Images.{closed_end}
-use Rattle.snd_wave.proofs.Opens.{Opens, opens}
-use Rattle.snd_wave.specs.Layout.{data_end, outer_end, wave_front}
 use Rattle.snd_modes.specs.Editing.{Editing}
 use Rattle.snd_modes.specs.Edits.{automatic_to, closed_behind, count_written, cut_off, cut_to, over_data, sealed_to, trimmed, trimmed_to, truncated_to, written_to}
 use Rattle.snd_modes.specs.Laws.{IsEdited, MayTruncate, reads, seals, seeks, seeks_to_write, sets_automatic, trims, truncates, writes}
 use Rattle.snd_modes.specs.SafeLaws.{AutomaticRests, CutRests, LeadsToRest, Rests, SealedRests, TrimmedIsSafe, TrimmedRests, WrittenRests}
 use Rattle.snd_modes.specs.WriteCalls.{MayWrite, is_whole_field}
 use Rattle.snd_modes.proofs.AreBytes.{bytes_off, bytes_sealed, bytes_shrunk, bytes_written}
-use Rattle.snd_modes.proofs.EditedFiles.{is_linear, longer_closed, off_before, off_length, sealed_is, sealed_is_edited, sealed_told, shrunk_says, trimmed_says}
+use Rattle.snd_modes.proofs.EditedFiles.{counted_stays, is_known, is_linear, longer_closed, off_before, off_length, room_ends, sealed_is, sealed_is_edited, sealed_same, sealed_told, shrunk_says, trimmed_says}
 use Rattle.snd_modes.proofs.EditedFrames.{closed_counted}
-use Rattle.snd_modes.proofs.EditedSteps.{is_free, may_cut, shut_there, then, then_edited}
-use Rattle.snd_modes.proofs.FileRules.{LiesIn, lies_in}
+use Rattle.snd_modes.proofs.EditedSteps.{cut_says, few_declared, may_cut, shut_there, then, then_edited, trimmed_voice}
+use Rattle.snd_modes.proofs.CutFrames.{closed_free, may_count_fewer}
 use Rattle.snd_modes.proofs.ImageFields.{fewer_outer, fields_lie_apart, new_before}
-use Rattle.snd_modes.proofs.SafeCuts.{tail_safe}
+use Rattle.snd_modes.proofs.SafeCuts.{tail_safe, voice_cut_safe}
 use Rattle.snd_modes.proofs.SafeImages.{safe_across}
 use Rattle.snd_modes.proofs.SealedFrames.{sealed_declared}
 
--- a file that goes on behind its data holds all that it declares
-pub trailing_there : (x : List ℕ) (h : Shape) → All IsByte x → layout_of x ≡ Ok h → is_none (linear_of h.params.codec) ≡ false → h.trailing ≡ true → h.start + h.declared ≤ length x
-trailing_there x h bytes told linear goes_on =
-    let lies : LiesIn x h = lies_in x h bytes told linear in
-    let from : Opens x (wave_front x) h = opens x h (wave_only x h told).1 in
-    let start : h.start ≡ from.sound.at = ap (λ (s : Shape). s.start) from.shape in
-    let size : h.declared ≡ from.sound.len = ap (λ (s : Shape). s.declared) from.shape in
-    let behind : data_end x from.sound < outer_end x = ltb-true (data_end x from.sound) (outer_end x) (sym (ap (λ (s : Shape). s.trailing) from.shape) ∙ goes_on) in
-    omega (arith, behind, start, size, lies.early, lies.declared)
+-- a field that is missing has any value
+if_none : (x v : List ℕ) (field : Option Field) → is_none field ≡ true → IfSome field (HasNew v x)
+if_none x v None none = tt
+if_none x v (Some field) none = absurd (cc)
 
 -- the fields of an edited file have no byte in common
 pub edited_apart : (file : List ℕ) (e : Editing) → IsEdited file e → AllLieApart e.shape
@@ -51,25 +44,25 @@ edited_apart file e ed = subst AllLieApart (sym ed.shape) (fields_lie_apart file
 abbrev holding : Editing → List ℕ → Shape → ℕ → Editing
 holding g x h n = record g { bytes = x; shape = counted h n }
 
-module _ (g : Editing) (x : List ℕ) (h : Shape) (n : ℕ) (free : h.trailing ≡ false) (bytes : All IsByte x) (told : layout_of x ≡ Ok (counted h n)) (whole : is_whole_field h ≡ true)
+module _ (g : Editing) (x : List ℕ) (h : Shape) (n : ℕ) (free : h.trailing ≡ false) (bytes : All IsByte x) (told : FileSays x (counted h n)) (whole : is_whole_field h ≡ true)
     (outer : IfSome h.outer (HasNew (outer_value h n) x)) (closes : closed_end h n ≤ length x) where
   there : h.start + (counted h n).declared ≤ length x
   there = omega (arith, sealed_declared h n free, closes)
 
   rests_free : Rests (holding g x h n)
   rests_free = (
-    record { bytes = bytes; told = told; there = there; whole = whole },
+    record { bytes = bytes; told = told; there = λ still. inl there; whole = whole },
     λ still. record {
-      outer = subst (λ (v : List ℕ). IfSome h.outer (HasNew v x)) (sym (values_are_free h n (counted h n).declared n).outer) outer;
-      declared = sealed_declared h n free;
+      outer = subst (λ (v : List ℕ). IfSome h.outer (HasNew v x)) (sym (every.free h n (counted h n).declared h.trailing n).outer) outer;
+      declared = inl (sealed_declared h n free);
       closed = omega (arith, closed_counted h n, closes);
     },
   )
 
-module _ (g : Editing) (x : List ℕ) (h : Shape) (n : ℕ) (goes_on : h.trailing ≡ true) (linear : is_none (linear_of h.params.codec) ≡ false) (bytes : All IsByte x) (told : layout_of x ≡ Ok (counted h n)) (whole : is_whole_field h ≡ true) where
+module _ (g : Editing) (x : List ℕ) (h : Shape) (n : ℕ) (goes_on : h.trailing ≡ true) (bytes : All IsByte x) (told : FileSays x (counted h n)) (whole : is_whole_field h ≡ true) where
   rests_trailing : Rests (holding g x h n)
   rests_trailing = (
-    record { bytes = bytes; told = told; there = trailing_there x (counted h n) bytes told linear goes_on; whole = whole },
+    record { bytes = bytes; told = told; there = λ free. absurd (cc); whole = whole },
     λ free. absurd (cc),
   )
 
@@ -88,10 +81,10 @@ module _ (b : List ℕ) (h : Shape) (n : ℕ) (rule : KeepsRule h) (apart : AllL
       omega (arith, sealed_length b h n rule held, size)
 
 -- any state that holds a sealed file
-sealed_holds_at : (g : Editing) (b : List ℕ) (h : Shape) (n : ℕ) → KeepsRule h → AllLieApart h → is_none (linear_of h.params.codec) ≡ false → end h n ≤ length b → All IsByte b
-    → layout_of (sealed b h n) ≡ Ok (counted h n) → is_whole_field h ≡ true → Rests (holding g (sealed b h n) h n)
-sealed_holds_at g b h n rule apart linear held are told whole = elim (cases_Bool h.trailing) [
-  | inl goes_on ↦ rests_trailing g (sealed b h n) h n goes_on linear (bytes_sealed h n b are) told whole
+sealed_holds_at : (g : Editing) (b : List ℕ) (h : Shape) (n : ℕ) → KeepsRule h → AllLieApart h → end h n ≤ length b → All IsByte b
+    → FileSays (sealed b h n) (counted h n) → is_whole_field h ≡ true → Rests (holding g (sealed b h n) h n)
+sealed_holds_at g b h n rule apart held are told whole = elim (cases_Bool h.trailing) [
+  | inl goes_on ↦ rests_trailing g (sealed b h n) h n goes_on (bytes_sealed h n b are) told whole
   | inr free ↦ rests_free g (sealed b h n) h n free (bytes_sealed h n b are) told whole (sealed_outer b h n rule apart free held) (sealed_closes b h n rule apart free held)
 ]
 
@@ -101,7 +94,7 @@ module _ (file : List ℕ) (e : Editing) (ed : IsEdited file e) (are : All IsByt
 
   pub automatic_rests : (on : Bool) → Rests (automatic_to on e)
   automatic_rests on =
-      sealed_holds_at (automatic_to on e) e.bytes h h.frames ed.rule (edited_apart file e ed) (is_linear file e ed) ed.holds.held are (sealed_told file e ed) whole
+      sealed_holds_at (automatic_to on e) e.bytes h h.frames ed.rule (edited_apart file e ed) ed.holds.held are (sealed_told file e ed) whole
 
   cut_rests : (to : ℕ) → to < h.frames → h.trailing ≡ false → Rests (cut_to to e)
   cut_rests to fewer free =
@@ -110,7 +103,8 @@ module _ (file : List ℕ) (e : Editing) (ed : IsEdited file e) (are : All IsByt
       let size : length (shrunk e.bytes h to) ≡ closed_end h to = shrunk_length e.bytes h to ed.rule may.0 in
       let early : (i : ℕ) → i < h.start → get_or (shrunk e.bytes h to) i 0 ≡ get_or (with_fewer e.bytes h to) i 0 = λ i lt. off_before (with_fewer e.bytes h to) h to i lt in
       rests_free (cut_to to e) (shrunk e.bytes h to) h to free (bytes_shrunk h to e.bytes are)
-      (shrunk_says file ed.head ed.bytes ed.opened ed.linear h ed.shape ed.rule free to may.1 e.bytes ed.kept may.0) whole
+      (shrunk_says file ed.head ed.bytes ed.opened ed.linear ed.known h ed.shape ed.rule free to may.1
+      (may_count_fewer h to ed.rule (is_linear file e ed) (is_known file e ed) (room_ends file e ed) (omega (arith, fewer))).1 e.bytes ed.kept may.0) whole
       (new_before h.outer (outer_value h to) h.start (shrunk e.bytes h to) (with_fewer e.bytes h to) (outer_value_fits h to ed.rule) ed.rule.outer_end early
       (fewer_outer e.bytes h to ed.rule apart (omega (arith, may.0))))
       (omega (arith, size))
@@ -127,21 +121,33 @@ module _ (file : List ℕ) (e : Editing) (ed : IsEdited file e) (are : All IsByt
       let put = sealed e.bytes h n in
       let early : (i : ℕ) → i < h.start → get_or (cut_off put h n) i 0 ≡ get_or put i 0 = λ i lt. off_before put h n i lt in
       rests_free e (trimmed e.bytes h n) h n free (bytes_off h n put (bytes_sealed h n e.bytes are))
-      (trimmed_says file ed.head ed.bytes ed.opened ed.linear h ed.shape ed.rule free n ed.in_room e.bytes ed.kept ed.holds.held) whole
+      (trimmed_says file ed.head ed.bytes ed.opened ed.linear ed.known h ed.shape ed.rule free n ed.in_room ed.rule.data_end e.bytes ed.kept ed.holds.held) whole
       (new_before h.outer (outer_value h n) h.start (cut_off put h n) put (outer_value_fits h n ed.rule) ed.rule.outer_end early
       (sealed_outer e.bytes h n ed.rule (edited_apart file e ed) free ed.holds.held))
       (omega (arith, off_length put h n))
 
+  trimmed_voice_rests : h.trailing ≡ true → h.kind ≡ Voc → Rests (trimmed_to e)
+  trimmed_voice_rests goes_on voc =
+      let few = few_declared file e ed goes_on voc in
+      let none : is_none h.outer ≡ true = subst (λ (k : Kind). IsTrue (is_outer_size k h.outer)) voc ed.rule.outer_size in
+      let size = off_length e.bytes h h.frames in
+      subst Rests (trimmed_voice file e ed goes_on voc) (
+        record { bytes = bytes_off h h.frames e.bytes are; told = cut_says file e ed goes_on voc; there = λ free. inr (voc, few); whole = whole },
+        λ free. record { outer = if_none (cut_off e.bytes h h.frames) (outer_value (record h { trailing = false }) h.frames) h.outer none; declared = inr (voc, few); closed = omega (arith, size, closed_free h h.frames) },
+      )
+
   pub trimmed_rests : (h.trailing ≡ true → h.kind ≡ Voc) → Rests (trimmed_to e)
-  trimmed_rests may =
-      let free = is_free file e ed may in
-      subst (λ (s : Shape). Rests (record e { bytes = trimmed e.bytes h h.frames; shape = s })) (ap (λ (t : Bool). record (counted h h.frames) { trailing = t }) free) (trimmed_free free)
+  trimmed_rests may = elim (cases_Bool h.trailing) [
+    | inl goes_on ↦ trimmed_voice_rests goes_on (may goes_on)
+    | inr free ↦
+        subst (λ (s : Shape). Rests (record e { bytes = trimmed e.bytes h h.frames; shape = s })) (ap (λ (t : Bool). record (counted h h.frames) { trailing = t }) free) (trimmed_free free)
+  ]
 
   pub written_rests : (xs : List ℤ) (may : MayWrite xs h e.write_place) → e.automatic ≡ true → Rests (written_to xs e)
   written_rests xs may on =
       let n = count_written h e.write_place (length xs / h.params.channels) in
       subst (λ (t : Bool). Rests (then file e ed xs may t)) (sym on)
-      (sealed_holds_at (then file e ed xs may true) (closed_behind (over_data e.bytes h e.write_place xs) h n) h n ed.rule (edited_apart file e ed) (is_linear file e ed) (shut_there file e ed xs may)
+      (sealed_holds_at (then file e ed xs may true) (closed_behind (over_data e.bytes h e.write_place xs) h n) h n ed.rule (edited_apart file e ed) (shut_there file e ed xs may)
       (bytes_written e.bytes h e.write_place xs n are) ((then_edited file e ed xs may true).told (inl refl)) whole)
 
 -- ---- each of them
@@ -163,10 +169,16 @@ written_rest file e xs ed are whole may on = written_rests file e ed are whole x
 
 -- from a sealed file all behind its data is cut off
 pub trimmed_safe : TrimmedIsSafe
-trimmed_safe file e e' x ed fit free cutting =
-    let then = sealed_is_edited file e ed in
-    let rests = automatic_rests file e ed fit.bytes fit.whole e.automatic in
-    safe_across file e (sealed_to e) e' x ed then refl (tail_safe file (sealed_to e) then rests.0 free x (sealed_to e) (rests.1 free) cutting)
+trimmed_safe file e e' x ed fit may cutting = elim (cases_Bool e.shape.trailing) [
+  | inl goes_on ↦
+      let h = e.shape in
+      let bytes : IsCutting e.bytes (counted h h.frames) h.frames x = subst (λ (b : List ℕ). IsCutting b (counted h h.frames) h.frames x) (sealed_same e.bytes h h.frames goes_on) cutting in
+      voice_cut_safe file e ed fit goes_on (may goes_on) x e' (subst (λ (s : Shape). IsCutting e.bytes s h.frames x) (counted_stays h goes_on) bytes)
+  | inr free ↦
+      let then = sealed_is_edited file e ed in
+      let rests = automatic_rests file e ed fit.bytes fit.whole e.automatic in
+      safe_across file e (sealed_to e) e' x ed then refl (tail_safe file (sealed_to e) then rests.0 free x (sealed_to e) (rests.1 free) cutting)
+]
 
 -- a state with other places
 moved : (e : Editing) (place write_place : ℕ) → Rests e → Rests (record e { place = place; write_place = write_place })

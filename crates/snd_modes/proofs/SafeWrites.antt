@@ -2,9 +2,10 @@
 use Rattle.std.proofs.Common.{◌≡◌, ◌∙◌, ap, sym, inl, inr, ⊎_elim, ℕ, ◌+◌, ◌/◌, ◌<◌, ◌≤◌, ℤ, Bool, false, true, cond, List, All, Ok, length, max, get_or, arith}
 use Rattle.std.proofs.lemmas.Bool.{cases_Bool, cases_lt, lt-ltb}
 use Rattle.std.specs.Prelude.{IfSome}
-use Rattle.snd_container.specs.Images.{declared_end, outer_reach, KeepsHead, closed_end}
-use Rattle.snd_container.specs.Sound.{decoded, layout_of, linear_of}
-use Rattle.snd_container.specs.Values.{HasRoomFor, closing, inner_value, outer_value}
+use Rattle.snd_layout.specs.Container.{KeepsHead}
+use Rattle.snd_container.specs.Values.{closed_end, closing, declared_end, inner_value, outer_reach, outer_value}
+use Rattle.snd_container.specs.Laws.{FileSays}
+use Rattle.snd_container.specs.Sound.{decoded, fixed_of}
 use Rattle.snd_disk.proofs.Lists.{length-over}
 use Rattle.snd_fields.specs.Laws.{IsByte}
 use Rattle.snd_layout.specs.Params.{data_bytes}
@@ -17,14 +18,14 @@ use Rattle.snd_modes.specs.Laws.{IsEdited}
 use Rattle.snd_modes.specs.Safe.{IsFit, IsPartly, IsSafe, IsSized, acknowledged, frame_at}
 use Rattle.snd_modes.specs.WriteCalls.{MayWrite}
 use Rattle.snd_modes.proofs.AreBytes.{bytes_coded, bytes_over, bytes_shut}
-use Rattle.snd_modes.proofs.EditedFiles.{begins_early, is_known, is_linear, some_channel}
+use Rattle.snd_modes.proofs.EditedFiles.{is_known, is_linear, room_ends, some_channel}
 use Rattle.snd_modes.proofs.EditedSteps.{grows, shut_before, shut_behind, shut_longer, shut_size, then_edited}
-use Rattle.snd_modes.proofs.ImageFrames.{HasFrames, SameFrame, frame_told_apart, frames_in, same_frame}
+use Rattle.snd_modes.proofs.ImageFrames.{HasFrames, frames_in, same_frame, same_mixed}
 use Rattle.snd_modes.proofs.ImageFields.{old_before, old_some_before, old_some_through, old_through}
-use Rattle.snd_modes.proofs.ImageLayouts.{closed_declared, closed_more, data_changed, declared_more, inner_whole, new_count, old_count, outer_whole, reach_new, reach_sized}
+use Rattle.snd_modes.proofs.ImageLayouts.{closed_declared, closed_more, data_changed, declared_more, inner_whole, new_count, old_count, outer_whole, reach_new, reach_sized, still_holds}
 use Rattle.snd_modes.proofs.Overwritten.{data_beside, data_stay}
 use Rattle.snd_modes.proofs.Rooms.{may_count}
-use Rattle.snd_modes.proofs.SafeImages.{Says, safe_mixed, safe_new}
+use Rattle.snd_modes.proofs.SafeImages.{ImageSays, safe_mixed, safe_new}
 use Rattle.snd_modes.proofs.Sealing.{ends_before}
 
 module _ (opened : List ℕ) (e : Editing) (ed : IsEdited opened e) (fit : IsFit e) (xs : List ℤ) (may : MayWrite xs e.shape e.write_place) where
@@ -60,7 +61,7 @@ module _ (opened : List ℕ) (e : Editing) (ed : IsEdited opened e) (fit : IsFit
   longer = omega (arith, shut_longer opened e ed xs may, put_length)
 
   are_bytes : All IsByte c
-  are_bytes = bytes_shut (over_data b h e.write_place xs) h n (bytes_over b (end h e.write_place) (coded h.params xs) fit.bytes (bytes_coded (linear_of h.params.codec) xs))
+  are_bytes = bytes_shut (over_data b h e.write_place xs) h n (bytes_over b (end h e.write_place) (coded h.params xs) fit.bytes (bytes_coded (fixed_of h.params.codec) xs))
 
   has : HasFrames h
   has = record { linear = is_linear opened e ed; some = some_channel opened e ed }
@@ -93,32 +94,31 @@ module _ (opened : List ℕ) (e : Editing) (ed : IsEdited opened e) (fit : IsFit
     x_behind : h.trailing ≡ true → (i : ℕ) → end h h.frames ≤ i → get_or x i 0 ≡ get_or b i 0
     x_behind goes_on i behind = ⊎_elim (λ old. old) (λ put. put ∙ shut_behind opened e ed xs may goes_on i behind) (part.each i)
 
-    x_told : layout_of x ≡ Ok h
+    x_told : FileSays x h
     x_told = elim (cases_Bool h.trailing) [
       | inl goes_on ↦ data_changed opened e ed fit x (x_size goes_on) (λ i place. ⊎_elim (λ early. x_before i early) (λ late. x_behind goes_on i late) place)
       | inr free ↦
           let outer : IfSome h.outer (HasOld b x) = old_some_before h.outer h.start x b ed.rule.outer_end x_before in
           let inner : HasOld b x h.inner = old_before h.inner h.start x b ed.rule.inner_end x_before in
           let reach : outer_reach h x ≤ declared_end h = omega (arith, reach_sized opened e ed fit x (sized free) outer, closed_declared opened e ed fit h.frames (declared_more opened e ed fit)) in
-          old_count opened e ed fit x free (omega (arith, fit.there, part.least)) (λ i lt out. x_before i lt) inner reach
+          old_count opened e ed fit x free (still_holds opened e ed fit x free part.least) (λ i lt out. x_before i lt) inner reach
     ]
 
-    -- a frame that is not written has one code
+    -- a frame that is not written has the same numbers in each of its bytes' mixes
     x_stays : (i : ℕ) → i < h.frames → frame_at new.frames i ≡ frame_at e.frames i → frame_at (frames_in h h.frames x) i ≡ frame_at e.frames i
     x_stays i lt same =
         let held : end h h.frames ≤ length x = omega (arith, ed.holds.held, part.least) in
-        let one : SameFrame h i c b = frame_told_apart h has n h.frames i c b (omega (arith, lt, more)) lt there ed.holds.held are_bytes fit.bytes (sym (new_frames i) ∙ same ∙ old_frames i) in
-        let each : SameFrame h i x b = λ j from to. ⊎_elim (λ old. old) (λ put. put ∙ one j from to) (part.each j) in
-        same_frame h has h.frames h.frames i x b lt lt held ed.holds.held each ∙ sym (old_frames i)
+        let numbers : frame_at (frames_in h h.frames b) i ≡ frame_at (frames_in h n c) i = sym (old_frames i) ∙ sym same ∙ new_frames i in
+        same_mixed h has h.frames n i b c x lt (omega (arith, lt, more)) ed.holds.held there held fit.bytes are_bytes numbers (λ j from to. part.each j) ∙ sym (old_frames i)
 
     pub written_safe : IsSafe e new x
     written_safe =
-        let says : Says opened e x h.frames h.declared = record {
+        let says : ImageSays opened e x h.frames h.declared = record {
           edited = ed;
           told = x_told;
           kept = λ i lt out. x_before i lt;
           there = omega (arith, ed.holds.held, part.least);
-          tail = λ goes_on. (x_size goes_on, λ i behind. x_behind goes_on i behind);
+          tail = λ goes_on. inr (x_size goes_on, λ i behind. x_behind goes_on i behind);
         } in
         safe_mixed opened e x h.frames h.declared says new ed.holds.count (omega (arith, more, count)) x_stays
 
@@ -134,24 +134,14 @@ module _ (opened : List ℕ) (e : Editing) (ed : IsEdited opened e) (fit : IsFit
     size : length x ≡ length c
     size = growing.fields.size
 
-    closes : closed_end h n ≤ length c
-    closes = elim (cases_lt h.frames n) [
-      | inl lt ↦
-          let is : c ≡ over_closing (over_data b h e.write_place xs) h n = ap (λ (t : Bool). cond t (over_closing (over_data b h e.write_place xs) h n) (over_data b h e.write_place xs)) (lt-ltb h.frames n lt) in
-          omega (arith, ap length is, length-over (over_data b h e.write_place xs) (end h n) (closing h n))
-      | inr le ↦
-          let same : h.frames ≡ n = omega (arith, more, le) in
-          omega (arith, ap (closed_end h) same, sized.closed, longer)
-    ]
-
     -- the new count, with the size of the whole that was there, or the new one
     says_new : HasNew (inner_value h n) x h.inner → outer_reach h x ≤ closed_end h n → IsSafe e new x
     says_new inner reach =
-        let room : HasRoomFor h n = (may_count h n ed.rule (is_linear opened e ed) (is_known opened e ed) (begins_early opened e ed) (grows opened e ed xs may)).0 in
+        let room = may_count h n ed.rule (is_linear opened e ed) (is_known opened e ed) (room_ends opened e ed) (grows opened e ed xs may) in
         let held : end h n ≤ length x = omega (arith, there, size) in
-        let says : Says opened e x n (data_bytes h.params n) = record {
+        let says : ImageSays opened e x n (data_bytes h.params n) = record {
           edited = ed;
-          told = new_count opened e ed fit x n free room kept inner (omega (arith, closes, size)) reach;
+          told = new_count opened e ed fit x n free room kept inner held reach;
           kept = kept;
           there = held;
           tail = λ goes_on. absurd (cc);
@@ -161,9 +151,9 @@ module _ (opened : List ℕ) (e : Editing) (ed : IsEdited opened e) (fit : IsFit
     says_old : HasOld b x h.inner → outer_reach h x ≤ declared_end h → IsSafe e new x
     says_old inner reach =
         let held : end h h.frames ≤ length x = omega (arith, ed.holds.held, longer, size) in
-        let says : Says opened e x h.frames h.declared = record {
+        let says : ImageSays opened e x h.frames h.declared = record {
           edited = ed;
-          told = old_count opened e ed fit x free (omega (arith, fit.there, longer, size)) kept inner reach;
+          told = old_count opened e ed fit x free (still_holds opened e ed fit x free (omega (arith, longer, size))) kept inner reach;
           kept = kept;
           there = held;
           tail = λ goes_on. absurd (cc);

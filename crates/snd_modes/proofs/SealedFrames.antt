@@ -5,7 +5,7 @@ use Rattle.snd_layout.specs.Params.{data_bytes}
 use Rattle.snd_layout.specs.Shape.{KeepsRule, Shape, end}
 use Rattle.snd_container.specs.Sound.{decoded, sound_bytes}
 use Rattle.snd_patch.specs.Sealed.{counted, sealed, sealed_size}
-use Rattle.snd_container.specs.Images.{closed_end}
+use Rattle.snd_container.specs.Values.{closed_end}
 use Rattle.snd_patch.proofs.Lists.{sealed_keeps}
 use Rattle.snd_modes.proofs.EditedFrames.{closed_counted}
 use Rattle.snd_modes.proofs.Overwritten.{data_stay}

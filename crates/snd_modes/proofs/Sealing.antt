@@ -8,14 +8,13 @@ use Rattle.snd_layout.specs.Shape.{KeepsRule, Shape, end, is_outer_size, is_side
 use Rattle.snd_layout.specs.declared.field.Field.{Field}
 use Rattle.snd_layout.specs.declared.kind.Kind.{Kind}
 use Rattle.snd_layout.specs.declared.kind.Kind.TheVariants.{Voc}
-use Rattle.snd_container.specs.Values.{outer_value, side_value}
+use Rattle.snd_container.specs.Values.{closed_end, outer_value, side_value}
 use Rattle.snd_patch.specs.Sealed.{closed, grown, over_closing, over_field, patched, sealed, with_fewer, with_fields, with_inner}
-use Rattle.snd_container.specs.Images.{closed_end}
 use Rattle.snd_patch.specs.Steps.{Updates}
-use Rattle.snd_container.specs.Sound.{linear_of}
-use Rattle.snd_pcm.specs.Pcm.{byte_count, samples_bytes}
-use Rattle.snd_pcm.specs.declared.linear.Linear.{Linear}
-use Rattle.snd_pcm.proofs.RoundTrips.{count_of_bytes}
+use Rattle.snd_container.specs.Sound.{fixed_of}
+use Rattle.snd_container.specs.Fixed.{byte_count, samples_bytes}
+use Rattle.snd_container.specs.declared.fixed.Fixed.{Fixed}
+use Rattle.snd_container.proofs.FixedSamples.{count_of_bytes}
 use Rattle.snd_modes.specs.Edits.{coded, coded_as}
 use Rattle.snd_modes.proofs.SoundFrames.{linear_bytes, span_fits}
 use Rattle.snd_modes.specs.Writing.{IsKeptUp, PutsAt, closed_size}
@@ -83,29 +82,29 @@ module _ {D : Type 0} (state : D → State) (left_between : D → ℕ → ℕ �
 
 -- ---- numbers over the data
 
-pub coded_is : (p : Parameters) (form : Linear) (xs : List ℤ) → linear_of p.codec ≡ Some form → samples_bytes form xs ≡ coded p xs
-coded_is p form xs is = sym (ap (λ (o : Option Linear). coded_as o xs) is)
+pub coded_is : (p : Parameters) (form : Fixed) (xs : List ℤ) → fixed_of p.codec ≡ Some form → samples_bytes form xs ≡ coded p xs
+coded_is p form xs is = sym (ap (λ (o : Option Fixed). coded_as o xs) is)
 
-pub length-coded : (p : Parameters) (form : Linear) (xs : List ℤ) → linear_of p.codec ≡ Some form → length (coded p xs) ≡ byte_count form * length xs
+pub length-coded : (p : Parameters) (form : Fixed) (xs : List ℤ) → fixed_of p.codec ≡ Some form → length (coded p xs) ≡ byte_count form * length xs
 length-coded p form xs is = sym (ap length (coded_is p form xs is)) ∙ (count_of_bytes form xs).0
 
-pub end_is : (h : Shape) (form : Linear) (n : ℕ) → linear_of h.params.codec ≡ Some form → h.start + byte_count form * (h.params.channels * n) ≡ end h n
+pub end_is : (h : Shape) (form : Fixed) (n : ℕ) → fixed_of h.params.codec ≡ Some form → h.start + byte_count form * (h.params.channels * n) ≡ end h n
 end_is h form n is = sym (ap (λ (m : ℕ). h.start + m) (linear_bytes h.params form n is))
 
 -- the data of fewer frames end earlier
-pub end_before : (h : Shape) (form : Linear) (n m : ℕ) → linear_of h.params.codec ≡ Some form → n ≤ m → end h n ≤ end h m
+pub end_before : (h : Shape) (form : Fixed) (n m : ℕ) → fixed_of h.params.codec ≡ Some form → n ≤ m → end h n ≤ end h m
 end_before h form n m is within =
     omega (arith, end_is h form n is, end_is h form m is, span_fits (byte_count form) h.params.channels n 0 m (omega (arith, within)))
 
 pub written_data : {E : Type 0} (r : Result Unit E) (old new : State) (at at' : ℕ) (s t : List ℕ) → at ≡ at' → s ≡ t → OnOk r (IsWritten at s old new) → OnOk r (IsWritten at' t old new)
 written_data r old new at at' s t is same done = subst (λ (m : ℕ). OnOk r (IsWritten m t old new)) is (subst (λ (l : List ℕ). OnOk r (IsWritten at l old new)) same done)
 
-end_before_as : (h : Shape) (o : Option Linear) (n m : ℕ) → linear_of h.params.codec ≡ o → is_none o ≡ false → n ≤ m → end h n ≤ end h m
+end_before_as : (h : Shape) (o : Option Fixed) (n m : ℕ) → fixed_of h.params.codec ≡ o → is_none o ≡ false → n ≤ m → end h n ≤ end h m
 end_before_as h None n m is linear within = absurd (cc)
 end_before_as h (Some form) n m is linear within = end_before h form n m is within
 
-pub ends_before : (h : Shape) (n m : ℕ) → is_none (linear_of h.params.codec) ≡ false → n ≤ m → end h n ≤ end h m
-ends_before h n m linear within = end_before_as h (linear_of h.params.codec) n m refl linear within
+pub ends_before : (h : Shape) (n m : ℕ) → is_none (fixed_of h.params.codec) ≡ false → n ≤ m → end h n ≤ end h m
+ends_before h n m linear within = end_before_as h (fixed_of h.params.codec) n m refl linear within
 
 -- what closes the data is there, once frames were written
 closed_after : (size : ℕ) (h : Shape) (n : ℕ) → h.frames ≤ n → (h.frames ≡ n → closed_end h n ≤ size) → closed_end h n ≤ closed_size size h n
@@ -114,7 +113,7 @@ closed_after size h n more there = elim (cases_lt h.frames n) [
   | inr le ↦ rw (le-ltb h.frames n le) (there (omega (arith, more, le)))
 ]
 
-pub still_kept_up : (h : Shape) (n old size new : ℕ) → is_none (linear_of h.params.codec) ≡ false → h.frames ≤ n → IsKeptUp h h.frames old → old ≤ size → new ≡ closed_size size h n → IsKeptUp h n new
+pub still_kept_up : (h : Shape) (n old size new : ℕ) → is_none (fixed_of h.params.codec) ≡ false → h.frames ≤ n → IsKeptUp h h.frames old → old ≤ size → new ≡ closed_size size h n → IsKeptUp h n new
 still_kept_up h n old size new linear more up later is = record {
   closed = subst (λ (m : ℕ). closed_end h n ≤ m) (sym is) (closed_after size h n more (λ same. subst (λ (m : ℕ). closed_end h m ≤ size) same (omega (arith, up.closed, later))));
   declared = λ other. omega (arith, up.declared other, ends_before h h.frames n linear more);

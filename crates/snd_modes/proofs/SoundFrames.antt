@@ -1,4 +1,4 @@
--- The frames of a linear sound, and those that a read of some of its bytes gives.
+-- The frames of a sound, and those that a read of some of its bytes gives.
 use Rattle.std.proofs.Common.{◌≡◌, ◌∙◌, ap, sym, subst, refl, ℕ, zero, suc, ◌+◌, ◌-◌, ◌*◌, ◌/◌, ◌<◌, ◌≤◌, List, ◌∷◌, ◌++◌, Option, Some, length, take, drop, arith}
 use Rattle.std.proofs.Math.Nat.{mul-div_cancel_left}
 use Rattle.std.proofs.lemmas.List.{drop-drop, drop-take, length-drop, length-take-le, take-take, take_at}
@@ -6,31 +6,36 @@ use Rattle.snd_layout.specs.Blocks.{block_align, block_frames}
 use Rattle.snd_layout.specs.Params.{Parameters, data_bytes}
 use Rattle.snd_layout.specs.Shape.{Shape, end}
 use Rattle.snd_layout.specs.declared.codec.Codec.{Codec}
-use Rattle.snd_layout.specs.declared.codec.Codec.TheVariants.{U8, S8, S16, S24, S32, Ima, Ms}
+use Rattle.snd_layout.specs.declared.codec.Codec.TheVariants.{U8, S8, S16, S24, S32, MuLaw, ALaw, Ima, Ms}
 use Rattle.snd_pcm.specs.Groups.{first_groups, groups}
-use Rattle.snd_pcm.specs.Pcm.{byte_count, samples}
+use Rattle.snd_container.specs.Fixed.{byte_count, samples}
 use Rattle.snd_pcm.specs.declared.linear.Linear as linear
-use Rattle.snd_pcm.specs.declared.linear.Linear.{Linear}
-use Rattle.snd_pcm.proofs.RoundTrips.{samples_of_parts}
-use Rattle.snd_pcm.proofs.Series.{byte_count_pos, length-first_groups, length-samples}
-use Rattle.snd_container.specs.Sound.{decoded, decoded_as, linear_of, sound_bytes}
+use Rattle.snd_container.specs.declared.fixed.Fixed as fixed
+use Rattle.snd_container.specs.declared.fixed.Fixed.{Fixed}
+use Rattle.snd_container.specs.declared.fixed.Fixed.TheVariants.{Linear}
+use Rattle.snd_container.proofs.FixedSamples.{samples_of_parts}
+use Rattle.snd_container.proofs.FixedSamples.{byte_count_pos, length-samples}
+use Rattle.snd_pcm.proofs.Series.{length-first_groups}
+use Rattle.snd_container.specs.Sound.{decoded, decoded_as, fixed_of, sound_bytes}
 
--- ---- the bytes of a frame of a linear codec
+-- ---- the bytes of a frame
 
-pub linear_align : (codec : Codec) (form : Linear) (channels : ℕ) → linear_of codec ≡ Some form → block_align channels codec ≡ byte_count form * channels
-linear_align U8 form channels is = let same : linear.TheVariants.U8 ≡ form = cc in subst (λ (f : Linear). channels ≡ byte_count f * channels) same (omega arith)
-linear_align S8 form channels is = let same : linear.TheVariants.S8 ≡ form = cc in subst (λ (f : Linear). channels ≡ byte_count f * channels) same (omega arith)
-linear_align (S16 order) form channels is = let same : linear.TheVariants.S16 order ≡ form = cc in subst (λ (f : Linear). 2 * channels ≡ byte_count f * channels) same (omega arith)
-linear_align (S24 order) form channels is = let same : linear.TheVariants.S24 order ≡ form = cc in subst (λ (f : Linear). 3 * channels ≡ byte_count f * channels) same (omega arith)
-linear_align (S32 order) form channels is = let same : linear.TheVariants.S32 order ≡ form = cc in subst (λ (f : Linear). 4 * channels ≡ byte_count f * channels) same (omega arith)
+pub linear_align : (codec : Codec) (form : Fixed) (channels : ℕ) → fixed_of codec ≡ Some form → block_align channels codec ≡ byte_count form * channels
+linear_align U8 form channels is = let same : Linear linear.TheVariants.U8 ≡ form = cc in subst (λ (f : Fixed). channels ≡ byte_count f * channels) same (omega arith)
+linear_align S8 form channels is = let same : Linear linear.TheVariants.S8 ≡ form = cc in subst (λ (f : Fixed). channels ≡ byte_count f * channels) same (omega arith)
+linear_align (S16 order) form channels is = let same : Linear (linear.TheVariants.S16 order) ≡ form = cc in subst (λ (f : Fixed). 2 * channels ≡ byte_count f * channels) same (omega arith)
+linear_align (S24 order) form channels is = let same : Linear (linear.TheVariants.S24 order) ≡ form = cc in subst (λ (f : Fixed). 3 * channels ≡ byte_count f * channels) same (omega arith)
+linear_align (S32 order) form channels is = let same : Linear (linear.TheVariants.S32 order) ≡ form = cc in subst (λ (f : Fixed). 4 * channels ≡ byte_count f * channels) same (omega arith)
+linear_align MuLaw form channels is = let same : fixed.TheVariants.MuLaw ≡ form = cc in subst (λ (f : Fixed). channels ≡ byte_count f * channels) same (omega arith)
+linear_align ALaw form channels is = let same : fixed.TheVariants.ALaw ≡ form = cc in subst (λ (f : Fixed). channels ≡ byte_count f * channels) same (omega arith)
 linear_align _ form channels is = absurd (cc)
 
-pub linear_frames : (codec : Codec) (form : Linear) → linear_of codec ≡ Some form → block_frames codec ≡ 1
+pub linear_frames : (codec : Codec) (form : Fixed) → fixed_of codec ≡ Some form → block_frames codec ≡ 1
 linear_frames (Ima align per_block) form is = absurd (cc)
 linear_frames (Ms align per_block) form is = absurd (cc)
 linear_frames _ form is = refl
 
-pub linear_bytes : (p : Parameters) (form : Linear) (n : ℕ) → linear_of p.codec ≡ Some form → data_bytes p n ≡ byte_count form * (p.channels * n)
+pub linear_bytes : (p : Parameters) (form : Fixed) (n : ℕ) → fixed_of p.codec ≡ Some form → data_bytes p n ≡ byte_count form * (p.channels * n)
 linear_bytes p form n is =
     ap (λ (m : ℕ). (n + m - 1) / m * block_align p.channels p.codec) (linear_frames p.codec form is)
     ∙ ap (λ (m : ℕ). (n + 1 - 1) / 1 * m) (linear_align p.codec form p.channels is)
@@ -38,7 +43,7 @@ linear_bytes p form n is =
     ∙ (let e : n * (byte_count form * p.channels) ≡ byte_count form * (p.channels * n) = omega arith in e)
 
 -- the bytes of the samples of so many frames
-pub frame_bytes : (codec : Codec) (form : Linear) (channels count places : ℕ) → linear_of codec ≡ Some form → places ≡ count * channels → byte_count form * places ≡ count * block_align channels codec
+pub frame_bytes : (codec : Codec) (form : Fixed) (channels count places : ℕ) → fixed_of codec ≡ Some form → places ≡ count * channels → byte_count form * places ≡ count * block_align channels codec
 frame_bytes codec form channels count places is room =
     ap (λ (m : ℕ). byte_count form * m) room
     ∙ (let e : byte_count form * (count * channels) ≡ count * (byte_count form * channels) = omega arith in e)
@@ -92,7 +97,7 @@ module _ {X : Type 0} (k : ℕ) where
 
 -- ---- the frames of a sound
 
-module _ (form : Linear) (b : List ℕ) (start frames channels : ℕ) (fits : start + byte_count form * (channels * frames) ≤ length b) where
+module _ (form : Fixed) (b : List ℕ) (start frames channels : ℕ) (fits : start + byte_count form * (channels * frames) ≤ length b) where
   abbrev pub held : List ℕ
   held = take (byte_count form * (channels * frames)) (drop start b)
 
@@ -140,7 +145,7 @@ module _ (form : Linear) (b : List ℕ) (start frames channels : ℕ) (fits : st
       ∙ ap (λ (m : ℕ). take count (drop place (first_groups channels m (samples form held)))) (sym (count_groups some))
 
 -- the frames that a layout counts, from a place on, as a read of their bytes gives them
-pub frames_told : (b : List ℕ) (s : Shape) (form : Linear) (place count : ℕ) → linear_of s.params.codec ≡ Some form → 1 ≤ s.params.channels → place + count ≤ s.frames
+pub frames_told : (b : List ℕ) (s : Shape) (form : Fixed) (place count : ℕ) → fixed_of s.params.codec ≡ Some form → 1 ≤ s.params.channels → place + count ≤ s.frames
     → end s s.frames ≤ length b
     → first_groups s.params.channels count (samples form (take (byte_count form * (s.params.channels * count)) (drop (s.start + byte_count form * (s.params.channels * place)) b)))
     ≡ take count (drop place (decoded s.params (sound_bytes b s)))
@@ -149,4 +154,4 @@ frames_told b s form place count is some within fits =
     let size : data_bytes s.params s.frames ≡ byte_count form * (c * s.frames) = linear_bytes s.params form s.frames is in
     frames_at form b s.start s.frames c (omega (arith, fits, size)) place count (omega (arith, some)) within
     ∙ ap (λ (n : ℕ). take count (drop place (groups c (samples form (take n (drop s.start b)))))) (sym size)
-    ∙ ap (λ (o : Option Linear). take count (drop place (decoded_as o c (sound_bytes b s)))) (sym is)
+    ∙ ap (λ (o : Option Fixed). take count (drop place (decoded_as o c (sound_bytes b s)))) (sym is)

@@ -4,7 +4,7 @@ use Rattle.std.specs.Prelude.{ℕ, ℤ, Bool, false, ◌+◌, ◌-◌, List, Res
 use Rattle.snd_layout.specs.declared.refusal.OpenRefusal.{OpenRefusal}
 use Rattle.snd_layout.specs.declared.refusal.OpenRefusal.TheVariants.{NotBuilt}
 use Rattle.snd_layout.specs.Shape.{Shape}
-use Rattle.snd_container.specs.Sound.{decoded, layout_of, linear_of, sound_bytes}
+use Rattle.snd_container.specs.Sound.{decoded, layout_of, fixed_of, sound_bytes}
 
 pub record Editing : Type 0 where
   pub bytes : List ℕ
@@ -30,10 +30,10 @@ first_editing b s = record {
   written = false;
 }
 
--- linear codecs are opened; the laws and ADPCM are not built yet
+-- codecs with a fixed number of bytes a sample are opened; ADPCM is not built yet
 abbrev pub opening_as : List ℕ → Result Shape OpenRefusal → Result Editing OpenRefusal
 opening_as b (Err refusal) = Err refusal
-opening_as b (Ok s) = if is_none (linear_of s.params.codec) then Err NotBuilt else Ok (first_editing b s)
+opening_as b (Ok s) = if is_none (fixed_of s.params.codec) then Err NotBuilt else Ok (first_editing b s)
 
 -- what opening a file of these bytes gives, or the first reason why it is not opened
 unfoldable pub opening_of : List ℕ → Result Editing OpenRefusal

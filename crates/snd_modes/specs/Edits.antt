@@ -5,20 +5,20 @@ use Rattle.snd_disk.specs.Bytes.{over}
 use Rattle.snd_layout.specs.Params.{Parameters}
 use Rattle.snd_layout.specs.Shape.{Shape, end}
 use Rattle.snd_pcm.specs.Groups.{groups}
-use Rattle.snd_pcm.specs.Pcm.{samples_bytes}
-use Rattle.snd_pcm.specs.declared.linear.Linear.{Linear}
-use Rattle.snd_container.specs.Sound.{linear_of}
+use Rattle.snd_container.specs.Fixed.{samples_bytes}
+use Rattle.snd_container.specs.declared.fixed.Fixed.{Fixed}
+use Rattle.snd_container.specs.Sound.{fixed_of, kept_numbers}
 use Rattle.snd_patch.specs.Sealed.{counted, over_closing, sealed, shrunk}
-use Rattle.snd_container.specs.Images.{closed_end}
+use Rattle.snd_container.specs.Values.{closed_end}
 use Rattle.snd_modes.specs.Editing.{Editing}
 
 -- the bytes of the numbers of frames, a number for each channel in turn
-abbrev pub coded_as : Option Linear → List ℤ → List ℕ
+abbrev pub coded_as : Option Fixed → List ℤ → List ℕ
 coded_as None xs = []
 coded_as (Some form) xs = samples_bytes form xs
 
 abbrev pub coded : Parameters → List ℤ → List ℕ
-coded p xs = coded_as (linear_of p.codec) xs
+coded p xs = coded_as (fixed_of p.codec) xs
 
 -- frames put over others from a place on
 abbrev pub put_frames : {X : Type 0} → List X → ℕ → List X → List X
@@ -47,14 +47,14 @@ written_bytes automatic b h place n xs = sealed_where automatic (closed_behind (
 abbrev pub written_shape : Bool → Shape → ℕ → Shape
 written_shape automatic h n = if automatic then counted h n else record h { frames = n }
 
--- the numbers of whole frames written at the place; k of them
+-- the numbers of whole frames written at the place, as the codec keeps them; k frames
 abbrev pub written_frames : ℕ → List ℤ → Editing → Editing
 written_frames k xs e =
     let n = count_written e.shape e.write_place k in
     record {
       bytes = written_bytes e.automatic e.bytes e.shape e.write_place n xs;
       shape = written_shape e.automatic e.shape n;
-      frames = put_frames e.frames e.write_place (groups e.shape.params.channels xs);
+      frames = put_frames e.frames e.write_place (groups e.shape.params.channels (kept_numbers e.shape.params xs));
       place = e.place;
       write_place = e.write_place + k;
       automatic = e.automatic;

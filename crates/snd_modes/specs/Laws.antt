@@ -2,13 +2,14 @@
 -- a file in the midst of a call or after one that failed, nor of what stands in it behind all that its head says it has.
 use Rattle.std.specs.Prelude.{◌≡◌, ◌⊎◌, ℕ, ℤ, ◌+◌, ◌<◌, ◌≤◌, Bool, true, false, List, All, Ok, get_or, is_none, length, max}
 use Rattle.snd_container.specs.Made.{new_file}
-use Rattle.snd_container.specs.Sound.{Sound, decoded, layout_of, linear_of, sound_bytes, sound_of}
+use Rattle.snd_container.specs.Laws.{FileSays}
+use Rattle.snd_container.specs.Sound.{Sound, decoded, layout_of, fixed_of, sound_bytes, sound_of}
 use Rattle.snd_fields.specs.Laws.{IsByte}
 use Rattle.snd_layout.specs.Params.{AreParams, Parameters, data_bytes}
 use Rattle.snd_layout.specs.Shape.{KeepsRule, Shape, end, room}
 use Rattle.snd_layout.specs.declared.kind.Kind.{Kind}
 use Rattle.snd_layout.specs.declared.kind.Kind.TheVariants.{Voc}
-use Rattle.snd_container.specs.Images.{KeepsHead}
+use Rattle.snd_layout.specs.Container.{KeepsHead}
 use Rattle.snd_modes.specs.Calls.{ReadLeaves, SeekLeaves}
 use Rattle.snd_modes.specs.Editing.{Editing, moved_by, moved_to, opening_of}
 use Rattle.snd_modes.specs.Edits.{automatic_to, moved_write_to, sealed_to, trimmed_to, truncated_to, written_to}
@@ -27,19 +28,20 @@ pub record HoldsFrames (e : Editing) : Type 0 where
 
 -- the layout is that of a file, and so are the length and every byte behind the data
 pub record KeepsTail (file : List ℕ) (head : Shape) (e : Editing) : Type 0 where
+  pub opened : layout_of file ≡ Ok head
   pub shape : e.shape ≡ head
   pub size : length e.bytes ≡ length file
   pub behind : (i : ℕ) → end head head.frames ≤ i → get_or e.bytes i 0 ≡ get_or file i 0
 
--- An editing state to which a file came that was opened, or made, with a layout. The state's layout is that, but for the frames
--- and the declared length, and its bytes before the data are the file's, but for the fields. The fields have room for the
+-- An editing state to which a file came that was opened, or made, and says a layout. The state's layout is that, but for the
+-- frames and the declared length, and its bytes before the data are the file's, but for the fields. The fields have room for the
 -- frames. Where the file goes on behind its data, all but these is as it was. Where updates are automatic, and there, the bytes
 -- say already what the state does.
 pub record IsEdited (file : List ℕ) (e : Editing) : Type 0 where
   pub head : Shape
   pub bytes : All IsByte file
-  pub opened : layout_of file ≡ Ok head
-  pub linear : is_none (linear_of head.params.codec) ≡ false
+  pub opened : FileSays file head
+  pub linear : is_none (fixed_of head.params.codec) ≡ false
   pub known : head.unknown_length ≡ false
   pub shape : e.shape ≡ record head { frames = e.shape.frames; declared = e.shape.declared }
   pub rule : KeepsRule e.shape
@@ -47,7 +49,7 @@ pub record IsEdited (file : List ℕ) (e : Editing) : Type 0 where
   pub stays : e.shape.trailing ≡ true → KeepsTail file head e
   pub holds : HoldsFrames e
   pub in_room : data_bytes head.params e.shape.frames ≤ max (room head) head.declared
-  pub told : (e.automatic ≡ true) ⊎ (e.shape.trailing ≡ true) → layout_of e.bytes ≡ Ok e.shape
+  pub told : (e.automatic ≡ true) ⊎ (e.shape.trailing ≡ true) → FileSays e.bytes e.shape
 
 -- ---- where editing begins
 
@@ -125,14 +127,24 @@ ReachedIsEdited = (file : List ℕ) (e : Editing) → All IsByte file → Reache
 abbrev pub as_opened : Editing → Editing
 as_opened e = record e { place = 0; write_place = 0; automatic = false; written = false }
 
--- Opened again, to be read or updated, the sealed file gives the state's layout and exactly its frames.
+abbrev pub going_on : Bool → Editing → Editing
+going_on t e = record e { shape = record e.shape { trailing = t } }
+
+-- Opened, to be read or updated, the bytes of a state give its layout and exactly its frames; a Creative Voice file may go on
+-- behind its data where an odd tail was closed.
+pub record OpensAgain (e : Editing) : Type 0 where
+  pub goes_on : Bool
+  pub opens : opening_of e.bytes ≡ Ok (as_opened (going_on goes_on e))
+  pub updates : updating_of e.bytes ≡ Ok (as_opened (going_on goes_on e))
+  pub same : (e.shape.kind ≡ Voc) ⊎ (goes_on ≡ e.shape.trailing)
+
+-- So do those of the sealed file.
 abbrev pub SealedReadsBack : Type 0
-SealedReadsBack = (file : List ℕ) (e : Editing) → IsEdited file e →
-    (opening_of (sealed_to e).bytes ≡ Ok (as_opened (sealed_to e))) × (updating_of (sealed_to e).bytes ≡ Ok (as_opened (sealed_to e)))
+SealedReadsBack = (file : List ℕ) (e : Editing) → IsEdited file e → OpensAgain (sealed_to e)
 
 -- Where updates are automatic, the file does so as it is.
 abbrev pub AutomaticReadsBack : Type 0
-AutomaticReadsBack = (file : List ℕ) (e : Editing) → IsEdited file e → e.automatic ≡ true → opening_of e.bytes ≡ Ok (as_opened e)
+AutomaticReadsBack = (file : List ℕ) (e : Editing) → IsEdited file e → e.automatic ≡ true → OpensAgain e
 
 -- The sealed file has the sound of the file that was opened or made, further chunks and all, but that its frames are the state's.
 abbrev pub KeepsSound : List ℕ → Editing → Type 0

@@ -5,29 +5,24 @@ use Rattle.snd_disk.specs.Device.{Tells}
 use Rattle.snd_disk.specs.State.{State}
 use Rattle.snd_layout.specs.Fit.{fit_refusal}
 use Rattle.snd_layout.specs.Params.{Parameters}
-use Rattle.snd_layout.specs.Shape.{Shape}
 use Rattle.snd_layout.specs.declared.error.OpenError.{OpenError}
 use Rattle.snd_layout.specs.declared.error.OpenError.TheVariants.{Refused}
 use Rattle.snd_layout.specs.declared.kind.Kind.{Kind}
 use Rattle.snd_layout.specs.declared.refusal.OpenRefusal.{OpenRefusal}
 use Rattle.snd_layout.specs.declared.refusal.OpenRefusal.TheVariants.{NotBuilt}
-use Rattle.snd_container.specs.Made.{new_file, new_layout}
-use Rattle.snd_container.specs.Sound.{linear_of}
+use Rattle.snd_container.specs.Made.{new_file, new_shape}
+use Rattle.snd_container.specs.Sound.{fixed_of}
 use Rattle.snd_modes.specs.declared.handle.File.{File}
 use Rattle.snd_modes.specs.declared.mode.Mode.{Ghosts as ModeGhosts}
 use Rattle.snd_modes.specs.Editing.{Editing, first_editing}
 use Rattle.snd_modes.specs.Handle.{Stands}
 
-abbrev pub made_as : List ℕ → Result Shape OpenRefusal → Result Editing OpenRefusal
-made_as b (Err refusal) = Err refusal
-made_as b (Ok s) = Ok (first_editing b s)
-
 abbrev pub making_as : Kind → Parameters → Option OpenRefusal → Result Editing OpenRefusal
 making_as kind p (Some refusal) = Err refusal
-making_as kind p None = if is_none (linear_of p.codec) then Err NotBuilt else made_as (new_file kind p) (new_layout kind p)
+making_as kind p None = if is_none (fixed_of p.codec) then Err NotBuilt else Ok (first_editing (new_file kind p) (new_shape kind p))
 
 -- The state in which a file of a kind begins that is made, or the first reason why it is not made: the kind does not hold the
--- parameters; the laws and ADPCM, and other kinds than WAVE, are not built yet.
+-- parameters; or its samples stand in blocks of ADPCM, which are not written yet.
 unfoldable pub making_of : Kind → Parameters → Result Editing OpenRefusal
 making_of kind p = making_as kind p (fit_refusal kind p)
 

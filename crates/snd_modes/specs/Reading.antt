@@ -8,43 +8,43 @@ use Rattle.snd_layout.specs.Params.{Parameters}
 use Rattle.snd_layout.specs.Shape.{Shape}
 use Rattle.snd_layout.specs.declared.codec.Codec.{Codec}
 use Rattle.snd_pcm.specs.Groups.{first_groups}
-use Rattle.snd_pcm.specs.Pcm.{InRange, byte_count, samples}
-use Rattle.snd_pcm.specs.declared.linear.Linear.{Linear}
-use Rattle.snd_container.specs.Sound.{decoded, linear_of, sound_bytes}
+use Rattle.snd_container.specs.Fixed.{InRange, byte_count, samples}
+use Rattle.snd_container.specs.declared.fixed.Fixed.{Fixed}
+use Rattle.snd_container.specs.Sound.{decoded, fixed_of, sound_bytes}
 use Rattle.snd_modes.specs.declared.handle.File.{File}
 use Rattle.snd_modes.specs.declared.mode.Mode.{Ghosts as ModeGhosts}
 use Rattle.snd_modes.specs.Editing.{Editing, frames_read}
 use Rattle.snd_modes.specs.Handle.{channels_of}
 
 -- so many samples of bytes, from a place on
-abbrev pub samples_at : Linear → List ℕ → ℕ → ℕ → List ℤ
+abbrev pub samples_at : Fixed → List ℕ → ℕ → ℕ → List ℤ
 samples_at form b at count = samples form (take (byte_count form * count) (drop at b))
 
 -- samples are those of bytes from a place on
-abbrev pub AreSamples : Linear → List ℕ → ℕ → List ℤ → Type 0
+abbrev pub AreSamples : Fixed → List ℕ → ℕ → List ℤ → Type 0
 AreSamples form b at xs = xs ≡ samples_at form b at (length xs)
 
 -- where the first of a slice were such samples, more of them are now
-abbrev pub ReadsOn : Linear → List ℕ → ℕ → ℕ → ℕ → List ℤ → List ℤ → Type 0
+abbrev pub ReadsOn : Fixed → List ℕ → ℕ → ℕ → ℕ → List ℤ → List ℤ → Type 0
 ReadsOn form b at done count old new = take done old ≡ samples_at form b at done → take count new ≡ samples_at form b at count
 
 -- the first of a slice are in the range of a form
-abbrev pub AreInRange : Linear → ℕ → List ℤ → Type 0
+abbrev pub AreInRange : Fixed → ℕ → List ℤ → Type 0
 AreInRange form count xs = All (InRange form) (take count xs)
 
 -- for so many samples no more than their bytes are asked of a disk
-abbrev pub AsksFor : {D : Type 0} → (D → State) → Linear → ℕ → D → D → Type 0
+abbrev pub AsksFor : {D : Type 0} → (D → State) → Fixed → ℕ → D → D → Type 0
 AsksFor state form count old new = AsksAtMost state (byte_count form * count) old new
 
--- samples are in the range of a linear codec
+-- samples are in the range of a codec
 abbrev pub FitCodec : Codec → List ℤ → Type 0
-FitCodec codec xs = (form : Linear) → linear_of codec ≡ Some form → All (InRange form) xs
+FitCodec codec xs = (form : Fixed) → fixed_of codec ≡ Some form → All (InRange form) xs
 
 -- a slice has so many frames of a sound, from a frame on
 abbrev pub HasFrames : List ℕ → Shape → ℕ → ℕ → List ℤ → Type 0
 HasFrames b s place count xs = first_groups s.params.channels count xs ≡ take count (drop place (decoded s.params (sound_bytes b s)))
 
--- the bytes of so many frames of a linear codec
+-- the bytes of so many frames of a codec with a fixed number of bytes for each
 abbrev pub bytes_of_frames : Parameters → ℕ → ℕ
 bytes_of_frames p count = count * block_align p.channels p.codec
 

@@ -1,13 +1,15 @@
 -- What a crash may leave of an open file without harm: a file that opens, with its parameters and its further chunks, with the
 -- frames that were acknowledged or those that the call under way acknowledges, and with every frame that this call does not
 -- write. That a crash leaves no more is this library's own promise, for files that are updated automatically.
-use Rattle.std.specs.Prelude.{◌≡◌, ◌⊎◌, ℕ, ◌+◌, ◌<◌, ◌≤◌, ℤ, true, List, [], All, Ok, IfSome, get_or, length, map, take}
-use Rattle.snd_container.specs.Sound.{Kept, Sound, kept_of, layout_of, sound_of}
-use Rattle.snd_container.specs.Values.{outer_value}
+use Rattle.std.specs.Prelude.{◌≡◌, ◌⊎◌, ℕ, ◌+◌, ◌<◌, ◌≤◌, ℤ, false, true, List, [], All, Ok, IfSome, get_or, length, map, take}
+use Rattle.snd_container.specs.Laws.{FileSays}
+use Rattle.snd_container.specs.Sound.{Kept, Sound, kept_of, sound_of}
+use Rattle.snd_container.specs.Values.{closed_end, outer_value}
 use Rattle.snd_disk.specs.Runs.{HasAt}
 use Rattle.snd_fields.specs.Laws.{IsByte}
 use Rattle.snd_layout.specs.Params.{data_bytes}
-use Rattle.snd_container.specs.Images.{closed_end}
+use Rattle.snd_layout.specs.Shape.{Shape}
+use Rattle.snd_layout.specs.declared.kind.Kind.TheVariants.{Voc}
 use Rattle.snd_modes.specs.Editing.{Editing}
 use Rattle.snd_modes.specs.WriteCalls.{is_whole_field}
 
@@ -40,18 +42,23 @@ pub record IsSafe (e e' : Editing) (x : List ℕ) : Type 0 where
 
 -- ---- where updates can be safe
 
--- The file says what the state knows of it, and holds all the data that it declares; the field that decides the count lies in
--- one sector; and the bytes are bytes, so that different ones are different numbers.
+-- a Creative Voice file that was trimmed declares no whole frame more than it has
+abbrev pub DeclaresFew : Shape → Type 0
+DeclaresFew h = (h.kind ≡ Voc) × (h.declared < data_bytes h.params (h.frames + 1))
+
+-- The file says what the state knows of it, and holds all the data that it declares where it does not go on behind them; the
+-- field that decides the count lies in one sector; and the bytes are bytes, so that of linear samples different
+-- ones are different numbers.
 pub record IsFit (e : Editing) : Type 0 where
   pub bytes : All IsByte e.bytes
-  pub told : layout_of e.bytes ≡ Ok e.shape
-  pub there : e.shape.start + e.shape.declared ≤ length e.bytes
+  pub told : FileSays e.bytes e.shape
+  pub there : e.shape.trailing ≡ false → (e.shape.start + e.shape.declared ≤ length e.bytes) ⊎ DeclaresFew e.shape
   pub whole : is_whole_field e.shape ≡ true
 
 -- .. and its size is that of its frames, with what closes them, where it does not go on behind them
 pub record IsSized (e : Editing) : Type 0 where
   pub outer : IfSome e.shape.outer (λ field. HasAt e.bytes field.at (outer_value e.shape e.shape.frames))
-  pub declared : e.shape.declared ≡ data_bytes e.shape.params e.shape.frames
+  pub declared : (e.shape.declared ≡ data_bytes e.shape.params e.shape.frames) ⊎ DeclaresFew e.shape
   pub closed : closed_end e.shape e.shape.frames ≤ length e.bytes
 
 -- ---- what a crash may leave while frames are written

@@ -1,7 +1,7 @@
 -- What a crash leaves of a file in the midst of a call that is safe. file is the one that was opened or made, e the state before
 -- the call, x what the crash leaves.
 use Rattle.std.specs.Prelude.{◌≡◌, ◌⊎◌, ℕ, ℤ, ◌/◌, ◌<◌, Bool, true, false, All, List, Ok, length}
-use Rattle.snd_container.specs.Sound.{layout_of}
+use Rattle.snd_container.specs.Laws.{FileSays}
 use Rattle.snd_fields.specs.Laws.{IsByte}
 use Rattle.snd_layout.specs.declared.kind.Kind.TheVariants.{Voc}
 use Rattle.snd_patch.specs.Images.{IsClosing, IsCounting, IsCutting, IsGrowing, IsShrinking}
@@ -16,7 +16,7 @@ use Rattle.snd_modes.specs.WriteCalls.{MayWrite, is_whole_field}
 
 -- a file that says what its state knows of it
 abbrev pub RestIsSafe : Type 0
-RestIsSafe = (file : List ℕ) (e : Editing) → IsEdited file e → layout_of e.bytes ≡ Ok e.shape → IsSafe e e e.bytes
+RestIsSafe = (file : List ℕ) (e : Editing) → IsEdited file e → FileSays e.bytes e.shape → IsSafe e e e.bytes
 
 -- What is safe at rest is so during each call from there, and during each that leads there.
 abbrev pub StaysSafe : Type 0
@@ -66,7 +66,7 @@ TailCutIsSafe = (file : List ℕ) (e e' : Editing) (x : List ℕ) → IsEdited f
     → IsCutting e.bytes e.shape e.shape.frames x → IsSafe e e' x
 
 abbrev pub TrimmedIsSafe : Type 0
-TrimmedIsSafe = (file : List ℕ) (e e' : Editing) (x : List ℕ) → IsEdited file e → IsFit e → e.shape.trailing ≡ false
+TrimmedIsSafe = (file : List ℕ) (e e' : Editing) (x : List ℕ) → IsEdited file e → IsFit e → (e.shape.trailing ≡ true → e.shape.kind ≡ Voc)
     → IsCutting (sealed_to e).bytes (sealed_to e).shape e.shape.frames x → IsSafe e e' x
 
 -- ---- at rest again

@@ -9,20 +9,19 @@ use Rattle.snd_layout.specs.declared.error.OpenError.{OpenError}
 use Rattle.snd_layout.specs.declared.error.OpenError.TheVariants.{Refused, AdpcmUpdate, UnknownLength, DiskFault, Memory}
 use Rattle.snd_layout.specs.declared.refusal.OpenRefusal.{OpenRefusal}
 use Rattle.snd_layout.specs.declared.refusal.OpenRefusal.TheVariants.{NotBuilt}
-use Rattle.snd_container.specs.Sound.{layout_of, linear_of}
+use Rattle.snd_container.specs.Sound.{layout_of, fixed_of}
 use Rattle.snd_modes.specs.declared.handle.File.{File}
 use Rattle.snd_modes.specs.declared.mode.Mode.{Ghosts as ModeGhosts}
 use Rattle.snd_modes.specs.Editing.{Editing, first_editing}
 use Rattle.snd_modes.specs.Handle.{Stands}
 
--- A file is updated in place where it is opened to be read, its samples stand in no blocks, and its head says its length. The
--- laws are not built yet.
+-- A file is updated in place where it is opened to be read, its samples stand in no blocks, and its head says its length.
 abbrev pub updating_as : List ℕ → Result Shape OpenRefusal → Result Editing OpenError
 updating_as b (Err refusal) = Err (Refused refusal)
 updating_as b (Ok s) =
     if is_adpcm s.params.codec then Err AdpcmUpdate
     else (if s.unknown_length then Err UnknownLength
-    else (if is_none (linear_of s.params.codec) then Err (Refused NotBuilt) else Ok (first_editing b s)))
+    else (if is_none (fixed_of s.params.codec) then Err (Refused NotBuilt) else Ok (first_editing b s)))
 
 -- what opening a file of these bytes to be updated gives, or the first reason why it is not opened
 unfoldable pub updating_of : List ℕ → Result Editing OpenError

@@ -8,11 +8,12 @@ use Rattle.snd_layout.specs.Params.{data_bytes}
 use Rattle.snd_layout.specs.Shape.{Shape}
 use Rattle.snd_layout.specs.declared.codec.Codec.{Codec}
 use Rattle.snd_layout.specs.declared.kind.Kind.TheVariants.{Voc}
-use Rattle.snd_container.specs.Sound.{linear_of}
-use Rattle.snd_container.specs.Images.{closed_end}
+use Rattle.snd_container.specs.Sound.{fixed_of}
+use Rattle.snd_container.specs.Values.{closed_end}
 use Rattle.snd_patch.specs.Steps.{StillTells}
-use Rattle.snd_pcm.specs.Pcm.{byte_count, samples_bytes}
-use Rattle.snd_pcm.specs.declared.linear.Linear.{Linear}
+use Rattle.snd_container.specs.Fixed.{byte_count, samples_bytes}
+use Rattle.snd_container.specs.declared.fixed.Fixed.{Fixed}
+use Rattle.snd_container.specs.declared.fixed.Fixed.TheVariants.{Linear}
 use Rattle.snd_pcm.specs.declared.linear.Linear.TheVariants.{S16}
 
 -- every byte but the n from a place on is as it was, and no more than n were passed to writes
@@ -24,20 +25,20 @@ pub record PutsAt {D : Type 0} (state : D → State) (left_between : D → ℕ �
   pub asked : (state new).asked ≡ (state old).asked
 
 -- of so many samples
-abbrev pub PutsSamples : {D : Type 0} → (D → State) → (D → ℕ → ℕ → List ℕ → Type 0) → Linear → ℕ → ℕ → D → D → Type 0
+abbrev pub PutsSamples : {D : Type 0} → (D → State) → (D → ℕ → ℕ → List ℕ → Type 0) → Fixed → ℕ → ℕ → D → D → Type 0
 PutsSamples state left_between form at count old new = PutsAt state left_between at (byte_count form * count) old new
 
 -- samples stand at a place
-abbrev pub HasWritten : {D : Type 0} → (D → State) → Linear → ℕ → List ℤ → D → D → Type 0
+abbrev pub HasWritten : {D : Type 0} → (D → State) → Fixed → ℕ → List ℤ → D → D → Type 0
 HasWritten state form at xs old new = IsWritten at (samples_bytes form xs) (state old) (state new)
 
 -- where samples have 16 bits, the lowest byte first, and a block has room for them, they stand at its front; also where the
 -- codec gives their form
-abbrev pub HoldsEarly : Linear → List ℤ → List ℕ → Type 0
-HoldsEarly form xs block = form ≡ S16 Little → 2 * length xs ≤ length block → take (2 * length xs) block ≡ samples_bytes (S16 Little) xs
+abbrev pub HoldsEarly : Fixed → List ℤ → List ℕ → Type 0
+HoldsEarly form xs block = form ≡ Linear (S16 Little) → 2 * length xs ≤ length block → take (2 * length xs) block ≡ samples_bytes (Linear (S16 Little)) xs
 
 abbrev pub HoldsCoded : Codec → List ℤ → List ℕ → Type 0
-HoldsCoded codec xs block = (form : Linear) → linear_of codec ≡ Some form → HoldsEarly form xs block
+HoldsCoded codec xs block = (form : Fixed) → fixed_of codec ≡ Some form → HoldsEarly form xs block
 
 -- the length, once what closes the data of n frames stands behind them, where these are more than there were
 abbrev pub closed_size : ℕ → Shape → ℕ → ℕ

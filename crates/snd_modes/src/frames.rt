@@ -2,17 +2,17 @@
 
 ghost use Rattle.std.specs.Prelude.{◌≡◌, ◌+◌, ◌-◌, ◌*◌, ◌≤◌, Some, false, OnOk, is_none, length, min};
 ghost use Rattle.snd_disk.specs.Device.{AsksAtMost, CountsOn, IfOkTold, OnlyReadsOn};
-ghost use Rattle.snd_pcm.specs.Pcm.{byte_count};
+ghost use Rattle.snd_container.specs.Fixed.{byte_count};
 ghost use Rattle.snd_layout.specs.Shape.{KeepsRule, end};
 ghost use Rattle.snd_layout.specs.Params.{AreParams};
-ghost use Rattle.snd_container.specs.Sound.{linear_of};
+ghost use Rattle.snd_container.specs.Sound.{fixed_of};
 ghost use Rattle.snd_modes.specs.Reading.{FitCodec, HasFrames, bytes_of_frames};
 
 use crate::codec::form_of;
 use crate::reads::read_run;
+use snd_container::Fixed;
 use snd_disk::{Disk, Step};
 use snd_layout::Layout;
-use snd_pcm::Linear;
 
 // What holds of every layout, and of its parameters.
 pub(crate) fn keeps_rules(layout: &Layout)
@@ -41,8 +41,8 @@ pub(crate) fn frames_ahead(layout: &Layout, place: u64, wanted: usize) -> usize
 }
 
 // The place of a frame's first byte.
-pub(crate) fn place_of(layout: &Layout, form: Linear, frame: u64) -> u64
-    requires linear { linear_of layout.now.params.codec ≡ Some form }
+pub(crate) fn place_of(layout: &Layout, form: Fixed, frame: u64) -> u64
+    requires linear { fixed_of layout.now.params.codec ≡ Some form }
     requires within { frame ≤ layout.now.frames }
     ensures { result ≡ layout.now.start + byte_count form * (layout.now.params.channels * frame) }
 {
@@ -58,7 +58,7 @@ pub(crate) fn read_from<D: Disk>(
     count: usize,
     into: &mut [i32],
 ) -> Result<(), Step>
-    requires linear { is_none (linear_of layout.now.params.codec) ≡ false }
+    requires linear { is_none (fixed_of layout.now.params.codec) ≡ false }
     requires held { end layout.now layout.now.frames ≤ (D.state disk.old).size }
     requires within { place + count ≤ layout.now.frames }
     requires room { length into.old ≡ count * layout.now.params.channels }

@@ -3,7 +3,7 @@
 ghost use Rattle.std.specs.Prelude.{◌≡◌, ◌+◌, ◌/◌, ◌<◌, ◌≤◌, ◌↔◌, false, IfErr, IfOk, IsTrue, OnOk, is_none, length};
 ghost use Rattle.snd_layout.specs.Params.{data_bytes};
 ghost use Rattle.snd_layout.specs.Shape.{KeepsRule, room as shape_room};
-ghost use Rattle.snd_container.specs.Sound.{linear_of};
+ghost use Rattle.snd_container.specs.Sound.{fixed_of};
 ghost use Rattle.snd_modes.specs.Reading.{FitCodec};
 ghost use Rattle.snd_modes.specs.WriteCalls.{IsGrowthRefusal, IsWriteRefusal, MayWrite, is_whole_field};
 ghost use Rattle.snd_modes.specs.Writing.{HoldsCoded};
@@ -18,7 +18,7 @@ use snd_layout::{Layout, one_sector};
 // Whether numbers are in the range of the codec. Where they are, the samples that are made
 // early then stand at the front of the block.
 fn fits_codec(layout: &Layout, from: &[i32], block: &mut [u8]) -> bool
-    requires { is_none (linear_of layout.now.params.codec) ≡ false }
+    requires { is_none (fixed_of layout.now.params.codec) ≡ false }
     ensures fit { IsTrue result ↔ FitCodec layout.now.params.codec from.now }
     ensures coded { IsTrue result → HoldsCoded layout.now.params.codec from.now block.new }
 {
@@ -30,7 +30,7 @@ fn fits_codec(layout: &Layout, from: &[i32], block: &mut [u8]) -> bool
 
 // Whether the head has room for the data of so many frames.
 fn has_room(layout: &Layout, frames: u64) -> bool
-    requires { is_none (linear_of layout.now.params.codec) ≡ false }
+    requires { is_none (fixed_of layout.now.params.codec) ≡ false }
     ensures { IsTrue result ↔ (data_bytes layout.now.params frames ≤ shape_room layout.now) }
 {
     let Some(form) = form_of(layout) else {
@@ -42,7 +42,7 @@ fn has_room(layout: &Layout, frames: u64) -> bool
 
 // Whether there may be so many frames, more than there are.
 fn may_grow(layout: &Layout, to: u64) -> Result<(), WriteError>
-    requires { is_none (linear_of layout.now.params.codec) ≡ false }
+    requires { is_none (fixed_of layout.now.params.codec) ≡ false }
     ensures free { OnOk result (layout.now.trailing ≡ false) }
     ensures in_room { OnOk result (data_bytes layout.now.params to ≤ shape_room layout.now) }
     ensures refused { IfErr result (IsGrowthRefusal layout.now to) }
@@ -64,7 +64,7 @@ pub(crate) fn end_of_write(
     from: &[i32],
     block: &mut [u8],
 ) -> Result<u64, WriteError>
-    requires linear { is_none (linear_of layout.now.params.codec) ≡ false }
+    requires linear { is_none (fixed_of layout.now.params.codec) ≡ false }
     requires placed { place ≤ layout.now.frames }
     ensures value { IfOk result (λ end. end ≡ place + length from.now / layout.now.params.channels) }
     ensures some { 1 ≤ layout.now.params.channels }

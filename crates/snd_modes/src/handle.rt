@@ -1,11 +1,11 @@
 //! The handle of one open file.
 
-ghost use Rattle.std.specs.Prelude.{◌≡◌, ◌≢◌, ◌<◌, ◌≤◌, ◌^◌, None, false, true, is_none};
-ghost use Rattle.snd_container.specs.Sound.{linear_of};
+ghost use Rattle.std.specs.Prelude.{◌≡◌, ◌≢◌, ◌+◌, ◌≤◌, ◌^◌, None, false, true, is_none};
+ghost use Rattle.snd_container.specs.Sound.{fixed_of};
 ghost use Rattle.snd_layout.specs.Params.{data_bytes};
-ghost use Rattle.snd_layout.specs.Shape.{end};
+ghost use Rattle.snd_layout.specs.Shape.{end, room};
 ghost use Rattle.snd_layout.specs.declared.kind.Kind.TheVariants.{Voc};
-ghost use Rattle.snd_container.specs.Images.{closed_end};
+ghost use Rattle.snd_container.specs.Values.{closed_end};
 
 use crate::mode::Mode;
 use crate::writes::BLOCK_BYTES;
@@ -31,8 +31,8 @@ pub struct File<'d, D: Disk, M: Mode> {
     ghost stands: { broken ≡ None → end layout layout.frames ≤ (D.state disk.now).size },
     ghost placed: { read_place ≤ layout.frames },
     ghost write_placed: { write_place ≤ layout.frames },
-    ghost linear: { is_none (linear_of layout.params.codec) ≡ false },
-    ghost early: { layout.start < 2 ^ 62 },
+    ghost linear: { is_none (fixed_of layout.params.codec) ≡ false },
+    ghost room_ends: { layout.start + room layout + 8 ≤ 2 ^ 63 },
     ghost sized: { M.WRITES ≡ true → layout.unknown_length ≡ false },
     ghost counted: { automatic ≡ true → broken ≡ None → layout.trailing ≡ false → layout.kind ≢ Voc → layout.declared ≡ data_bytes layout.params layout.frames },
     ghost closed: { automatic ≡ true → broken ≡ None → layout.trailing ≡ false → closed_end layout layout.frames ≤ (D.state disk.now).size },

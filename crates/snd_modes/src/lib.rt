@@ -22,7 +22,6 @@ mod updating;
 mod writes;
 mod writing;
 
-pub use codec::linear_form;
 pub use error::{AutoError, DiskFault, ReadError, SeekError, ShrinkError, UpdateError, WriteError};
 pub use handle::File;
 pub use making::create;

@@ -9,11 +9,10 @@ ghost use Rattle.snd_modes.specs.Loans.{answer_of, disk_after, loan_after};
 ghost use Rattle.snd_modes.specs.Making.{MakesFile, making_of};
 ghost use Rattle.snd_patch.specs.Steps.{StillTells};
 
-use crate::codec::linear_form;
 use crate::handle::File;
 use crate::mode::Write;
 use crate::open::at_first_frame;
-use snd_container::{fit, lay_head};
+use snd_container::{fit, fixed_form, lay_head};
 use snd_disk::Disk;
 use snd_layout::{Kind, OpenError, OpenRefusal, Params};
 use std::alloc::Global;
@@ -22,7 +21,7 @@ use std::alloc::Global;
 /// opens it to be written. It writes at most 2048 bytes and reads none.
 ///
 /// The answer is `Refused` with the first reason, by number, for which the kind does not hold the
-/// parameters, and `NotBuilt` where the kind or the codec is not built: then the disk is not touched.
+/// parameters, and `NotBuilt` where the codec is ADPCM: then the disk is not touched.
 /// `DiskFault` where a call of the disk failed; `Memory` where there is none. The disk comes back with it.
 pub fn create<'d, D: Disk>(
     alloc: Global,
@@ -43,7 +42,7 @@ pub fn create<'d, D: Disk>(
     if let Err(refusal) = fit(kind, params) {
         return Err((OpenError::Refused(refusal), disk));
     }
-    if linear_form(params.codec).is_none() {
+    if fixed_form(params.codec).is_none() {
         return Err((OpenError::Refused(OpenRefusal::NotBuilt), disk));
     }
     params.are_good();

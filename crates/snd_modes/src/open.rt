@@ -1,10 +1,10 @@
 //! Files that are opened.
 
-ghost use Rattle.std.specs.Prelude.{◌≡◌, ◌<◌, ◌≤◌, ◌^◌, List, ℕ, None, IfOk, false, is_none, true};
+ghost use Rattle.std.specs.Prelude.{◌≡◌, ◌+◌, ◌≤◌, ◌^◌, List, ℕ, None, IfOk, false, is_none, true};
 ghost use Rattle.snd_disk.specs.Device.{AsksAtMost, OnlyReadsOn, Tells};
 ghost use Rattle.snd_layout.specs.Opened.{CountsOpening};
-ghost use Rattle.snd_layout.specs.Shape.{end};
-ghost use Rattle.snd_container.specs.Sound.{linear_of};
+ghost use Rattle.snd_layout.specs.Shape.{end, room};
+ghost use Rattle.snd_container.specs.Sound.{fixed_of};
 ghost use Rattle.snd_modes.specs.Editing.{first_editing};
 ghost use Rattle.snd_modes.specs.Handle.{IsFresh, Stands, disk_of, known_of, loan_of};
 ghost use Rattle.snd_modes.specs.Loans.{OpensFile, answer_of, disk_after, loan_after};
@@ -26,8 +26,8 @@ pub(crate) fn at_first_frame<'d, D: Disk, M: Mode>(
     layout: Layout,
 ) -> File<'d, D, M>
     requires held { end layout layout.frames ≤ (D.state disk.old).size }
-    requires linear { is_none (linear_of layout.params.codec) ≡ false }
-    requires early { layout.start < 2 ^ 62 }
+    requires linear { is_none (fixed_of layout.params.codec) ≡ false }
+    requires room_ends { layout.start + room layout + 8 ≤ 2 ^ 63 }
     requires sized { M.WRITES ≡ true → layout.unknown_length ≡ false }
     ensures lends { loan_of result ≡ disk.entry.ghost_name }
     ensures same_disk { disk_of result ≡ disk.old }
@@ -52,7 +52,7 @@ pub(crate) fn at_first_frame<'d, D: Disk, M: Mode>(
 /// writes.
 ///
 /// The answer is `Refused` with the first reason, by number, for which the file is not opened, and
-/// `NotBuilt` where its codec is not linear; `DiskFault` where a call of the disk failed; `Memory` where
+/// `NotBuilt` where its codec is ADPCM; `DiskFault` where a call of the disk failed; `Memory` where
 /// there is none. The disk comes back with it.
 pub fn open_read<'d, D: Disk>(
     alloc: Global,

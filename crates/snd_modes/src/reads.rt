@@ -1,17 +1,17 @@
-//! Linear samples read from a disk, a block at a time.
+//! Samples read from a disk, a block at a time.
 
 ghost use Rattle.std.specs.Prelude.{◌+◌, ◌-◌, ◌*◌, ◌<◌, ◌≤◌, All, IfOk, OnOk, OnErr, length};
 ghost use Rattle.snd_disk.specs.Device.{CountsOn, IfOkTold, OnlyReadsOn};
-ghost use Rattle.snd_pcm.specs.Pcm.{InRange, byte_count};
+ghost use Rattle.snd_container.specs.Fixed.{InRange, byte_count};
 ghost use Rattle.snd_modes.specs.Reading.{AreInRange, AreSamples, AsksFor, ReadsOn};
 
+use snd_container::{Fixed, read_samples};
 use snd_disk::{Disk, Step, fill};
-use snd_pcm::{Linear, read_samples};
 
 const BLOCK_BYTES: usize = 16384;
 
 // Reads samples that the disk has from a place on, at most one block.
-fn read_block<D: Disk>(disk: &mut D, form: Linear, at: u64, into: &mut [i32]) -> Result<(), Step>
+fn read_block<D: Disk>(disk: &mut D, form: Fixed, at: u64, into: &mut [i32]) -> Result<(), Step>
     requires held { at + byte_count form * length into.old ≤ (D.state disk.old).size }
     requires small { byte_count form * length into.old ≤ 16384 }
     ensures told { IfOkTold D.state disk.old result (λ b _. AreSamples form b at into.new) }
@@ -30,7 +30,7 @@ fn read_block<D: Disk>(disk: &mut D, form: Linear, at: u64, into: &mut [i32]) ->
 // Reads on behind the first `done` samples, as far as one block goes. The answer is how many are done then.
 fn read_next<D: Disk>(
     disk: &mut D,
-    form: Linear,
+    form: Fixed,
     at: u64,
     into: &mut [i32],
     done: usize,
@@ -60,7 +60,7 @@ fn read_next<D: Disk>(
 // Reads the samples that a disk has from a place on, a block at a time.
 pub(crate) fn read_run<D: Disk>(
     disk: &mut D,
-    form: Linear,
+    form: Fixed,
     at: u64,
     into: &mut [i32],
 ) -> Result<(), Step>

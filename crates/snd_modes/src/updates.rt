@@ -4,11 +4,11 @@ ghost use Rattle.std.specs.Prelude.{◌≡◌, ◌+◌, ◌/◌, ◌<◌, ◌≤
 ghost use Rattle.snd_disk.specs.Device.{CountsOn, IsStable};
 ghost use Rattle.snd_disk.specs.State.{IsWritten};
 ghost use Rattle.snd_layout.specs.Params.{data_bytes};
-ghost use Rattle.snd_layout.specs.Shape.{end};
-ghost use Rattle.snd_container.specs.Sound.{linear_of};
-ghost use Rattle.snd_container.specs.Values.{HasRoomFor};
+ghost use Rattle.snd_layout.specs.Shape.{end, room};
+ghost use Rattle.snd_container.specs.Sound.{fixed_of};
+ghost use Rattle.snd_layout.specs.Container.{HasRoomFor};
 ghost use Rattle.snd_patch.specs.Images.{LeavesCutting};
-ghost use Rattle.snd_container.specs.Images.{closed_end};
+ghost use Rattle.snd_container.specs.Values.{closed_end};
 ghost use Rattle.snd_patch.specs.Steps.{Becomes, KeepsSize, MayCount, Updates};
 ghost use Rattle.snd_modes.specs.Edits.{closed_behind, coded, count_written, cut_off, sealed_where, written_bytes, written_shape};
 ghost use Rattle.snd_modes.specs.Putting.{LeavesFields, LeavesWritten, PutsClosing, PutsData};
@@ -33,7 +33,7 @@ fn write_data<D: Disk>(
     from: &[i32],
     block: &[u8],
 ) -> Result<(), Step>
-    requires linear { is_none (linear_of layout.now.params.codec) ≡ false }
+    requires linear { is_none (fixed_of layout.now.params.codec) ≡ false }
     requires fit { FitCodec layout.now.params.codec from.now }
     requires coded { HoldsCoded layout.now.params.codec from.now block.now }
     requires placed { place ≤ layout.now.frames }
@@ -119,7 +119,7 @@ fn put_frames<D: Disk>(
     block: &[u8],
     automatic: bool,
 ) -> Result<(), Step>
-    requires linear { is_none (linear_of layout.old.params.codec) ≡ false }
+    requires linear { is_none (fixed_of layout.old.params.codec) ≡ false }
     requires fit { FitCodec layout.old.params.codec from.now }
     requires coded { HoldsCoded layout.old.params.codec from.now block.now }
     requires placed { place ≤ layout.old.frames }
@@ -158,8 +158,8 @@ pub(crate) fn write_over<D: Disk>(
     block: &[u8],
     automatic: bool,
 ) -> Result<(), Step>
-    requires linear { is_none (linear_of layout.old.params.codec) ≡ false }
-    requires early { layout.old.start < 2 ^ 62 }
+    requires linear { is_none (fixed_of layout.old.params.codec) ≡ false }
+    requires room_ends { layout.old.start + room layout.old + 8 ≤ 2 ^ 63 }
     requires sized { layout.old.unknown_length ≡ false }
     requires placed { place ≤ layout.old.frames }
     requires held { end layout.old layout.old.frames ≤ (D.state disk.old).size }

@@ -1,15 +1,16 @@
-//! Linear samples written on a disk, a block at a time.
+//! Samples written on a disk, a block at a time.
 
 ghost use Rattle.std.specs.Prelude.{◌+◌, ◌-◌, ◌*◌, ◌<◌, ◌≤◌, ◌^◌, All, IfOk, OnErr, OnOk, drop, length, take};
 ghost use Rattle.snd_disk.specs.Device.{CountsOn};
 ghost use Rattle.snd_disk.specs.State.{IsWritten};
-ghost use Rattle.snd_pcm.specs.Pcm.{InRange, byte_count, samples_bytes};
+ghost use Rattle.snd_container.specs.Fixed.{InRange, byte_count, samples_bytes};
 ghost use Rattle.snd_modes.specs.Putting.{PutsPartly};
 ghost use Rattle.snd_modes.specs.Writing.{HasWritten, HoldsEarly, PutsAt, PutsSamples};
 
+use snd_container::{Fixed, put_samples};
 use snd_disk::{Disk, Failed, Step};
 use snd_fields::Order;
-use snd_pcm::{Linear, put_samples};
+use snd_pcm::Linear;
 
 pub(crate) const BLOCK_BYTES: usize = 16384;
 
@@ -30,7 +31,7 @@ fn write_bytes<D: Disk>(disk: &mut D, at: u64, bytes: &[u8]) -> Result<(), Step>
 // Writes samples at a place, at most one block, in which their bytes are made.
 fn write_block<D: Disk>(
     disk: &mut D,
-    form: Linear,
+    form: Fixed,
     at: u64,
     from: &[i32],
     block: &mut [u8; BLOCK_BYTES],
@@ -52,7 +53,7 @@ fn write_block<D: Disk>(
 // then.
 fn write_next<D: Disk>(
     disk: &mut D,
-    form: Linear,
+    form: Fixed,
     at: u64,
     from: &[i32],
     done: usize,
@@ -83,7 +84,7 @@ fn write_next<D: Disk>(
 
 // Writes samples, each in the range of the form, from a place on, a block at a time. The place is at most
 // the disk's end.
-fn write_blocks<D: Disk>(disk: &mut D, form: Linear, at: u64, from: &[i32]) -> Result<(), Step>
+fn write_blocks<D: Disk>(disk: &mut D, form: Fixed, at: u64, from: &[i32]) -> Result<(), Step>
     requires there { at ≤ (D.state disk.old).size }
     requires fits { at + byte_count form * length from.now < 2 ^ 63 }
     requires in_range { All (InRange form) from.now }
@@ -105,7 +106,7 @@ fn write_blocks<D: Disk>(disk: &mut D, form: Linear, at: u64, from: &[i32]) -> R
 // that are made early stand at the front of a block.
 pub(crate) fn write_run<D: Disk>(
     disk: &mut D,
-    form: Linear,
+    form: Fixed,
     at: u64,
     from: &[i32],
     block: &[u8],
@@ -120,7 +121,10 @@ pub(crate) fn write_run<D: Disk>(
     ensures faults { CountsOn D.state disk.old disk.new result }
 {
     // for no samples the disk is not called
-    if form == Linear::S16(Order::Little) && !from.is_empty() && from.len() <= block.len() / 2 {
+    if form == Fixed::Linear(Linear::S16(Order::Little))
+        && !from.is_empty()
+        && from.len() <= block.len() / 2
+    {
         return write_bytes(disk, at, &block[..2 * from.len()]);
     }
     write_blocks(disk, form, at, from)

@@ -2,7 +2,7 @@
 
 ghost use Rattle.std.specs.Prelude.{◌≡◌, ◌≤◌, None, Some, false, true, MatchResult, OnOk, length};
 ghost use Rattle.snd_disk.specs.Device.{CountsOn, GoesOnFrom, IsStable, WritesAtMost};
-ghost use Rattle.snd_container.specs.Images.{closed_end};
+ghost use Rattle.snd_container.specs.Values.{closed_end};
 ghost use Rattle.snd_modes.specs.Edits.{automatic_to, moved_write_to, sealed_to, state_after, written_to};
 ghost use Rattle.snd_modes.specs.Handle.{StandsAfter, disk_of, known_of, loan_of};
 ghost use Rattle.snd_modes.specs.Outcomes.{AsksNothing, CountsCall, KeepsBefore, KeepsFrames, StandsOn, TellsOn, WritesFrames, auto_outcome, update_outcome, write_outcome};

@@ -2,6 +2,7 @@ use Rattle.std.proofs.Common.{rules, ◌≡◌, ◌∙◌, ap, sym, ◌*◌, pos
 use Rattle.snd_fields.specs.declared.field.Order.TheVariants.{Little}
 use Rattle.snd_pcm.specs.Pcm.{InRange, high, low, sample_bytes}
 use Rattle.snd_pcm.specs.declared.linear.Linear.TheVariants.{S16}
+use Rattle.snd_container.specs.declared.fixed.Fixed.TheVariants.{Linear}
 use Rattle.snd_pcm.proofs.Ranges.{one_more}
 use Rattle.snd_modes.proofs.PutBlocks.{bytes_of_none}
 use Rattle.snd_modes.proofs.TestedSamples.{clamped, coded_more, length_kept}
@@ -11,7 +12,7 @@ pub loop-i-init : goal.loop-i-init
 loop-i-init c = record {
   size = c.requires;
   ends = (λ e k d lt. absurd (omega (arith, lt)), λ all. let e : (low (S16 Little) ≤ℤ pos 0) × (pos 0 ≤ℤ high (S16 Little)) = search rules in e);
-  put = λ all. sym (bytes_of_none (S16 Little));
+  put = λ all. sym (bytes_of_none (Linear (S16 Little)));
 }
 
 pub loop-i-preserved : goal.loop-i-preserved

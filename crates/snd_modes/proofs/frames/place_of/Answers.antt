@@ -1,6 +1,6 @@
 use Rattle.std.proofs.Common.{rules, ◌≡◌, ◌∙◌, ap, ℕ, ◌+◌, ◌*◌, arith}
 use Rattle.snd_layout.specs.Blocks.{block_align}
-use Rattle.snd_pcm.specs.Pcm.{byte_count}
+use Rattle.snd_container.specs.Fixed.{byte_count}
 use Rattle.snd_modes.proofs.SoundFrames.{linear_align}
 use Rattle.snd_modes.proofs.frames.place_of.Goals as goal
 

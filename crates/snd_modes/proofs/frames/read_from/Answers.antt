@@ -2,8 +2,8 @@ use Rattle.std.proofs.Common.{◌≡◌, ◌∙◌, ap, sym, ℕ, Some, ◌*◌,
 use Rattle.snd_layout.specs.Params.{data_bytes}
 use Rattle.snd_layout.specs.Shape.{end}
 use Rattle.snd_pcm.specs.Groups.{first_groups}
-use Rattle.snd_pcm.specs.Pcm.{byte_count, samples}
-use Rattle.snd_container.specs.Sound.{linear_of}
+use Rattle.snd_container.specs.Fixed.{byte_count, samples}
+use Rattle.snd_container.specs.Sound.{fixed_of}
 use Rattle.snd_modes.proofs.SoundFrames.{frame_bytes, frames_told, linear_bytes, span_fits}
 use Rattle.snd_modes.proofs.frames.read_from.Goals as goal
 
@@ -11,7 +11,7 @@ pub read_run-requires : goal.read_run-requires
 read_run-requires g c =
     let s = c.args.layout.now in
     let form = c.in-Some.form in
-    let is : linear_of s.params.codec ≡ Some form = sym c.in-Some.ensures.form in
+    let is : fixed_of s.params.codec ≡ Some form = sym c.in-Some.ensures.form in
     let size : data_bytes s.params s.frames ≡ byte_count form * (s.params.channels * s.frames) = linear_bytes s.params form s.frames is in
     let span = span_fits (byte_count form) s.params.channels c.args.place c.args.count s.frames c.requires.within in
     let room : byte_count form * length c.args.into.now ≡ byte_count form * (c.args.count * s.params.channels) = ap (λ (m : ℕ). byte_count form * m) c.requires.room in
@@ -23,7 +23,7 @@ returns-clause-told g c = λ b told.
     let form = c.in-Some.form in
     let w = byte_count form in
     let channels = s.params.channels in
-    let is : linear_of s.params.codec ≡ Some form = sym c.in-Some.ensures.form in
+    let is : fixed_of s.params.codec ≡ Some form = sym c.in-Some.ensures.form in
     let room : length c.read_run.new.into ≡ channels * c.args.count = omega (arith, c.requires.room, c.read_run.auto.into) in
     let fits : end s s.frames ≤ length b = omega (arith, c.requires.held, g.met.D.Disk.size_told c.args.disk.now b told) in
     ap (first_groups channels c.args.count) (c.in_ok-read_run.ensures.told b told)

@@ -1,6 +1,6 @@
 use Rattle.std.proofs.Common.{◌≡◌, ◌∙◌, ap, ℕ, ◌+◌, ◌-◌, ◌*◌, ◌≤◌, length, take, drop, arith}
 use Rattle.std.proofs.lemmas.List.{places}
-use Rattle.snd_pcm.specs.Pcm.{InRange, byte_count, samples}
+use Rattle.snd_container.specs.Fixed.{InRange, byte_count, samples}
 use Rattle.snd_modes.proofs.Runs.{all_more, samples_more}
 use Rattle.snd_modes.proofs.reads.read_next.Goals as goal
 

@@ -1,6 +1,6 @@
 use Rattle.std.proofs.Common.{rules, refl, subst, All, arith}
 use Rattle.std.proofs.lemmas.List.{take_all}
-use Rattle.snd_pcm.specs.Pcm.{InRange}
+use Rattle.snd_container.specs.Fixed.{InRange}
 use Rattle.snd_modes.proofs.Runs.{no_samples}
 use Rattle.snd_modes.proofs.reads.read_run.Goals as goal
 

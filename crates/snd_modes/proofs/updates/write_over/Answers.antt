@@ -39,7 +39,7 @@ put_frames-requires-clause-on_disk g c =
           inr (subst (λ (m : ℕ). data_bytes h.params m ≤ room h) same (c.requires.ready.in_room (omega (arith, lt, c.requires.count))))
       | inr le ↦ inl (omega (arith, to, le))
     ] in
-    (may_count h c.max-to.result c.keeps_rule.ensures c.requires.linear c.requires.sized c.requires.early either).1
+    (may_count h c.max-to.result c.keeps_rule.ensures c.requires.linear c.requires.sized c.requires.room_ends either).1
 
 pub returns-clause-updates : goal.returns-clause-updates
 returns-clause-updates g c =

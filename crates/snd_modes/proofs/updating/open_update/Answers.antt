@@ -1,6 +1,6 @@
 use Rattle.std.proofs.Common.{rules, ◌≡◌, ◌∙◌, true, false}
 use Rattle.std.specs.Prelude.{is_none}
-use Rattle.snd_container.specs.Sound.{linear_of}
+use Rattle.snd_container.specs.Sound.{fixed_of}
 use Rattle.snd_layout.specs.Blocks.{is_adpcm}
 use Rattle.snd_modes.specs.Editing.{first_editing}
 use Rattle.snd_modes.proofs.LeftSafe.{opens_at_rest}
@@ -25,14 +25,14 @@ pub returns-then-is_none-clause-opened : goal.returns-then-is_none-clause-opened
 returns-then-is_none-clause-opened g c = λ b told.
     let blocks : is_adpcm c.in-Ok.layout.params.codec ≡ false = search rules in
     let closed_end : c.in-Ok.layout.unknown_length ≡ false = search rules in
-    let law : is_none (linear_of c.in-Ok.layout.params.codec) ≡ true = search rules in
+    let law : is_none (fixed_of c.in-Ok.layout.params.codec) ≡ true = search rules in
     update_law b c.in-Ok.layout (c.in-Ok.ensures.opened b told) blocks closed_end law
 
 pub returns-clause-opened : goal.returns-clause-opened
 returns-clause-opened g c = λ b told.
     let blocks : is_adpcm c.in-Ok.layout.params.codec ≡ false = search rules in
     let closed_end : c.in-Ok.layout.unknown_length ≡ false = search rules in
-    let linear : is_none (linear_of c.in-Ok.layout.params.codec) ≡ false = search rules in (
+    let linear : is_none (fixed_of c.in-Ok.layout.params.codec) ≡ false = search rules in (
       first_editing b c.in-Ok.layout,
       update_ok b c.in-Ok.layout (c.in-Ok.ensures.opened b told) blocks closed_end linear,
       c.at_first_frame.ensures.stands b (c.open_layout.ensures.reads.keeps.contents ∙ told),

@@ -1,5 +1,5 @@
 use Rattle.std.proofs.Common.{◌∙◌, ap, subst, ℕ, List, length}
-use Rattle.snd_pcm.proofs.RoundTrips.{count_of_bytes}
+use Rattle.snd_container.proofs.FixedSamples.{count_of_bytes}
 use Rattle.snd_modes.specs.Putting.{PutsPartly}
 use Rattle.snd_modes.specs.Writing.{PutsAt}
 use Rattle.snd_modes.proofs.writes.write_block.Goals as goal

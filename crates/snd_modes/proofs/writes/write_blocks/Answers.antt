@@ -1,5 +1,5 @@
 use Rattle.std.proofs.Common.{◌+◌, ◌-◌, ◌*◌, refl, arith}
-use Rattle.snd_pcm.specs.Pcm.{byte_count, samples_bytes}
+use Rattle.snd_container.specs.Fixed.{byte_count, samples_bytes}
 use Rattle.snd_modes.proofs.PartlyPut.{none_partly, partly_then, tells_put}
 use Rattle.snd_modes.proofs.PutBlocks.{bytes_split, no_samples_written, none_put, puts_then, samples_written}
 use Rattle.snd_modes.proofs.writes.write_blocks.Goals as goal

@@ -1,5 +1,5 @@
 use Rattle.std.proofs.Common.{ℕ, ◌+◌, ◌-◌, ◌*◌, subst, drop, take, arith}
-use Rattle.snd_pcm.specs.Pcm.{samples_bytes}
+use Rattle.snd_container.specs.Fixed.{samples_bytes}
 use Rattle.snd_modes.specs.Putting.{PutsPartly}
 use Rattle.snd_modes.proofs.PartlyPut.{part_partly}
 use Rattle.snd_modes.proofs.writes.write_next.Goals as goal

@@ -1,10 +1,10 @@
 use Rattle.std.proofs.Common.{◌≡◌, ◌∙◌, ap, sym, subst, ℕ, ◌≤◌, false, List, Some, option_map, length, take, arith}
 use Rattle.std.specs.Prelude.{is_none}
 use Rattle.std.proofs.lemmas.List.{length-take}
-use Rattle.snd_container.specs.Sound.{linear_of}
+use Rattle.snd_container.specs.Sound.{fixed_of}
 use Rattle.snd_layout.specs.Shape.{KeepsRule, Shape, end}
 use Rattle.snd_patch.specs.Sealed.{counted, shrunk}
-use Rattle.snd_container.specs.Images.{closed_end}
+use Rattle.snd_container.specs.Values.{closed_end}
 use Rattle.snd_modes.proofs.CutFrames.{cut_decoded, may_count_fewer}
 use Rattle.snd_modes.proofs.EditedFrames.{closed_counted}
 use Rattle.snd_modes.proofs.LeftSafe.{cutting_is_safe}
@@ -33,7 +33,7 @@ returns-in-Ok-clause-stands g c = λ e stands.
       write_place = omega (arith, stands.write_place);
       automatic = stands.automatic;
       written = stands.written;
-      sound = ap (λ l. take to l) stands.sound ∙ cut_decoded e.bytes e.shape to (subst (λ (s : Shape). is_none (linear_of s.params.codec) ≡ false) stands.shape c.args.self.now.linear)
+      sound = ap (λ l. take to l) stands.sound ∙ cut_decoded e.bytes e.shape to (subst (λ (s : Shape). is_none (fixed_of s.params.codec) ≡ false) stands.shape c.args.self.now.linear)
           (subst KeepsRule stands.shape c.keeps_rules.ensures.rule) (subst (λ (s : Shape). 1 ≤ s.params.channels) stands.shape some) within fits long;
       count = omega (arith, within, stands.count, length-take to e.frames);
     }
@@ -42,7 +42,7 @@ pub shrink-requires-clause-counts : goal.shrink-requires-clause-counts
 shrink-requires-clause-counts g c =
     let h = c.args.self.now.layout in
     let held : end h h.frames ≤ (g.D.Disk.state c.args.self.now.disk.now).size = c.args.self.now.stands c.requires.working in
-    let room = may_count_fewer h c.args.to c.keeps_rules.ensures.rule c.args.self.now.linear (c.args.self.now.sized g.met.M.CanWrite.writes) c.args.self.now.early (omega (arith, c.requires.fewer)) in
+    let room = may_count_fewer h c.args.to c.keeps_rules.ensures.rule c.args.self.now.linear (c.args.self.now.sized g.met.M.CanWrite.writes) c.args.self.now.room_ends (omega (arith, c.requires.fewer)) in
     record { room = room.0; on_disk = room.1; there = omega (arith, held, ends_before h c.args.to h.frames c.args.self.now.linear (omega (arith, c.requires.fewer))) }
 
 pub invariant_of-self-clause-closed : goal.invariant_of-self-clause-closed

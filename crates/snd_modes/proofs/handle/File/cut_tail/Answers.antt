@@ -1,8 +1,8 @@
-use Rattle.std.proofs.Common.{◌≡◌, ◌∙◌, ap, subst, ℕ, ◌≤◌, List, Some, option_map, length, false, arith}
-use Rattle.snd_layout.specs.Shape.{KeepsRule, Shape, end}
-use Rattle.snd_container.specs.Images.{closed_end}
+use Rattle.std.proofs.Common.{◌≡◌, ◌∙◌, ap, sym, subst, ℕ, ◌+◌, ◌^◌, ◌≤◌, List, Some, option_map, length, false, arith}
+use Rattle.snd_layout.specs.Shape.{KeepsRule, Shape, end, room}
+use Rattle.snd_container.specs.Values.{closed_end}
 use Rattle.snd_modes.specs.Edits.{cut_off}
-use Rattle.snd_modes.proofs.CutFrames.{off_decoded}
+use Rattle.snd_modes.proofs.CutFrames.{closed_free, off_decoded}
 use Rattle.snd_modes.proofs.handle.File.cut_tail.Goals as goal
 
 pub returns-in-Ok-clause-stands : goal.returns-in-Ok-clause-stands
@@ -27,3 +27,11 @@ returns-in-Ok-clause-stands g c = λ e stands.
       sound = stands.sound ∙ off_decoded e.bytes e.shape (subst KeepsRule stands.shape c.keeps_rules.ensures.rule) fits long;
       count = stands.count;
     }
+
+pub invariant_of-self-clause-room_ends : goal.invariant_of-self-clause-room_ends
+invariant_of-self-clause-room_ends g c = subst (λ (s : Shape). s.start + room s + 8 ≤ 2 ^ 63) (sym c.in-Ok.ensures.layout) c.args.self.now.room_ends
+
+pub invariant_of-self-clause-closed : goal.invariant_of-self-clause-closed
+invariant_of-self-clause-closed g c = λ automatic working free.
+    let h = c.args.self.now.layout in
+    subst (λ (s : Shape). closed_end s s.frames ≤ (g.D.Disk.state c.cut_off.new.disk).size) (sym c.in-Ok.ensures.layout) (omega (arith, c.in-Ok.ensures.size, closed_free h h.frames))

@@ -1,7 +1,7 @@
-use Rattle.std.proofs.Common.{◌≡◌, ◌∙◌, ap, sym, subst, ℕ, ◌≤◌, List, Some, option_map, length, arith}
-use Rattle.snd_layout.specs.Shape.{KeepsRule, Shape, end}
+use Rattle.std.proofs.Common.{◌≡◌, ◌∙◌, ap, sym, subst, ℕ, ◌+◌, ◌^◌, ◌≤◌, List, Some, option_map, length, arith}
+use Rattle.snd_layout.specs.Shape.{KeepsRule, Shape, end, room}
 use Rattle.snd_patch.specs.Sealed.{counted, sealed}
-use Rattle.snd_container.specs.Images.{closed_end}
+use Rattle.snd_container.specs.Values.{closed_end}
 use Rattle.snd_modes.proofs.LeftSafe.{sealing_is_safe}
 use Rattle.snd_modes.proofs.SealedFrames.{sealed_closed, sealed_decoded, sealed_no_less}
 use Rattle.snd_modes.proofs.handle.File.seal_file.Goals as goal
@@ -39,3 +39,12 @@ returns-in-Ok-clause-leaves g c = λ opened e e' rest. sealing_is_safe g.D.Disk 
 
 pub returns-in-Err-clause-leaves : goal.returns-in-Err-clause-leaves
 returns-in-Err-clause-leaves g c = λ opened e e' rest. sealing_is_safe g.D.Disk opened c.args.self.now e rest c.seal.new.disk c.seal.ensures.leaves e' c.seal.ensures.still
+
+pub invariant_of-self-clause-room_ends : goal.invariant_of-self-clause-room_ends
+invariant_of-self-clause-room_ends g c = subst (λ (s : Shape). s.start + room s + 8 ≤ 2 ^ 63) (sym c.in-Ok.ensures.layout) c.args.self.now.room_ends
+
+pub invariant_of-self-clause-closed : goal.invariant_of-self-clause-closed
+invariant_of-self-clause-closed g c = λ automatic working free.
+    let h = c.args.self.now.layout in
+    subst (λ (s : Shape). closed_end s s.frames ≤ (g.D.Disk.state c.seal.new.disk).size) (sym c.in-Ok.ensures.layout)
+    (sealed_closed _ h h.frames _ c.in-Ok.ensures.size (sym (ap (λ (s : Shape). s.trailing) c.in-Ok.ensures.layout) ∙ free))
