@@ -6,14 +6,14 @@ use Rattle.snd_disk.specs.State.{AtMost}
 use Rattle.snd_layout.specs.declared.codec.Codec.{Codec}
 use Rattle.snd_layout.specs.declared.codec.Codec.TheVariants.{U8, S8, S16, S24, S32, MuLaw, ALaw, Ima, Ms}
 use Rattle.snd_layout.specs.Blocks.{block_align}
-use Rattle.snd_container.specs.Sound.{linear_of}
+use Rattle.snd_container.specs.Sound.{fixed_of}
 use Rattle.snd_layout.specs.Shape.{Shape}
 use Rattle.snd_modes.specs.Editing.{Editing, frames_left}
 use Rattle.snd_modes.specs.Handle.{Known}
 use Rattle.snd_script.specs.Rules.{read_known}
 
--- a frame of a linear codec has at most 1024 bytes
-pub linear_frame : (channels : ℕ) (codec : Codec) → is_none (linear_of codec) ≡ false → channels ≤ 256 → block_align channels codec ≤ 1024
+-- a frame of a codec with a fixed number of bytes a sample has at most 1024
+pub linear_frame : (channels : ℕ) (codec : Codec) → is_none (fixed_of codec) ≡ false → channels ≤ 256 → block_align channels codec ≤ 1024
 linear_frame channels U8 linear few = omega arith
 linear_frame channels S8 linear few = omega arith
 linear_frame channels (S16 order) linear few = omega arith

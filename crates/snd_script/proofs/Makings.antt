@@ -1,22 +1,20 @@
 -- A file is made where its kind and its codec are built.
-use Rattle.std.proofs.Common.{◌≡◌, ◌∙◌, ap, sym, subst, ℕ, [], false, Option, None, Some, Ok, Err}
+use Rattle.std.proofs.Common.{◌≡◌, ◌∙◌, ap, sym, subst, ℕ, false, Option, None, Some, Ok, Err}
 use Rattle.std.specs.Prelude.{Result, is_none}
-use Rattle.snd_container.specs.Made.{new_file, new_layout}
-use Rattle.snd_container.specs.Sound.{linear_of}
+use Rattle.snd_container.specs.Made.{new_file, new_shape}
+use Rattle.snd_container.specs.Sound.{fixed_of}
 use Rattle.snd_layout.specs.Fit.{fit_refusal}
 use Rattle.snd_layout.specs.Params.{Parameters, params_of, params_refusal}
 use Rattle.snd_layout.specs.Refusals.{unless}
 use Rattle.snd_layout.specs.declared.codec.Codec.{Codec}
 use Rattle.snd_layout.specs.declared.kind.Kind.{Kind}
-use Rattle.snd_layout.specs.declared.kind.Kind.TheVariants.{Wave}
 use Rattle.snd_layout.specs.declared.params.Params.{Params}
 use Rattle.snd_layout.specs.declared.refusal.OpenRefusal.{OpenRefusal}
 use Rattle.snd_modes.specs.Editing.{Editing, first_editing}
-use Rattle.snd_modes.specs.Making.{made_as, making_of}
-use Rattle.snd_modes.proofs.NewFiles.{making_by, making_refused}
+use Rattle.snd_modes.specs.Making.{making_of}
+use Rattle.snd_modes.proofs.NewFiles.{making_ok, making_refused}
 use Rattle.snd_script.specs.Edit.{Opening, as_opened, make_edit, open_edit_of}
 use Rattle.snd_script.specs.Opened.{MakesOf}
-use Rattle.snd_wave.specs.Written.{made_shape}
 
 -- parameters that are good are those that were asked
 good_params : (refusal : Option OpenRefusal) (q p : Parameters) → unless refusal q ≡ Ok p → q ≡ p
@@ -26,12 +24,11 @@ good_params (Some refusal) q p is = absurd (cc)
 asked_codec : (channels rate : ℕ) (codec : Codec) (p : Parameters) → params_of channels rate codec ≡ Ok p → codec ≡ p.codec
 asked_codec channels rate codec p is = ap (λ (x : Parameters). x.codec) (good_params (params_refusal channels rate codec) (record { channels = channels; rate = rate; codec = codec }) p is)
 
-pub wave_is_made : (kind : Kind) (channels rate : ℕ) (codec : Codec) (p : Parameters) → kind ≡ Wave → is_none (linear_of codec) ≡ false → params_of channels rate codec ≡ Ok p → fit_refusal kind p ≡ None
+pub kind_is_made : (kind : Kind) (channels rate : ℕ) (codec : Codec) (p : Parameters) → is_none (fixed_of codec) ≡ false → params_of channels rate codec ≡ Ok p → fit_refusal kind p ≡ None
     → (e : Editing) × (making_of kind p ≡ Ok e)
-wave_is_made kind channels rate codec p wave linear is fits = (
-  first_editing (new_file kind p) (made_shape p [] 0),
-  making_by kind p fits (sym (ap (λ (c : Codec). is_none (linear_of c)) (asked_codec channels rate codec p is)) ∙ linear)
-      ∙ ap (λ (k : Kind). made_as (new_file kind p) (new_layout k p)) wave,
+kind_is_made kind channels rate codec p linear is fits = (
+  first_editing (new_file kind p) (new_shape kind p),
+  making_ok kind p fits (sym (ap (λ (c : Codec). is_none (fixed_of c)) (asked_codec channels rate codec p is)) ∙ linear),
 )
 
 misfit : (kind : Kind) (asked : Result Parameters OpenRefusal) (p : Parameters) (refusal : OpenRefusal) → asked ≡ Ok p → fit_refusal kind p ≡ Some refusal → MakesOf kind asked (Err refusal)

@@ -4,15 +4,16 @@ use Rattle.std.specs.Prelude.{All, int_le, nat_lt}
 use Rattle.std.proofs.lemmas.Bool.{and_from, and_left, and_parts, cases_lt, cases_Bool, lt-ltb, le-ltb}
 use Rattle.std.proofs.lemmas.List.Elements.{All-weaker}
 use Rattle.std.proofs.lemmas.List.Sums.{AllPass-from_list_all, list_all-from_AllPass}
-use Rattle.snd_container.specs.Sound.{linear_of}
+use Rattle.snd_container.specs.Sound.{fixed_of}
 use Rattle.snd_layout.specs.Params.{data_bytes}
 use Rattle.snd_layout.specs.Shape.{Shape, room}
 use Rattle.snd_layout.specs.declared.codec.Codec.{Codec}
 use Rattle.snd_modes.specs.Handle.{Known}
 use Rattle.snd_modes.specs.Reading.{FitCodec}
 use Rattle.snd_modes.specs.WriteCalls.{AreFrames, MayCut, MayTrim, MayWrite, end_written, is_whole_field}
-use Rattle.snd_pcm.specs.Pcm.{InRange, high, low}
-use Rattle.snd_pcm.specs.declared.linear.Linear.{Linear}
+use Rattle.snd_container.specs.Fixed.{InRange, range_form}
+use Rattle.snd_container.specs.declared.fixed.Fixed.{Fixed}
+use Rattle.snd_pcm.specs.Pcm.{high, low}
 use Rattle.snd_script.specs.Rules.{are_between, auto_refusal, growth_refusal, is_between, is_voc, refused_if, trim_refusal, truncate_refusal, write_refusal}
 use Rattle.snd_script.specs.declared.refusal.Refusal.{Refusal}
 use Rattle.snd_script.specs.declared.refusal.Refusal.TheVariants.{PartFrame, SampleRange, SeekRange, TrailingData, ContainerFull, Straddle}
@@ -61,30 +62,31 @@ is_true : (b : Bool) → T b → b ≡ true
 is_true true holds = refl
 is_true false holds = absurd holds
 
-between_in : (form : Linear) (x : ℤ) → InRange form x → is_between form x ≡ true
+between_in : (form : Fixed) (x : ℤ) → InRange form x → is_between form x ≡ true
 between_in form x within = and_from _ _ (is_true _ within.0.le) (is_true _ within.1.le)
 
-in_between : (form : Linear) (x : ℤ) → is_between form x ≡ true → InRange form x
+in_between : (form : Fixed) (x : ℤ) → is_between form x ≡ true → InRange form x
 in_between form x test =
-    let both = and_parts (int_le (low form) x) (int_le x (high form)) test in
+    let both = and_parts (int_le (low (range_form form)) x) (int_le x (high (range_form form))) test in
     (record { le = subst T (sym both.0) tt }, record { le = subst T (sym both.1) tt })
 
-fit_between : (form : Option Linear) (xs : List ℤ) → ((f : Linear) → form ≡ Some f → All (InRange f) xs) → are_between form xs ≡ true
+fit_between : (form : Option Fixed) (xs : List ℤ) → ((f : Fixed) → form ≡ Some f → All (InRange f) xs) → are_between form xs ≡ true
 fit_between None xs fit = refl
 fit_between (Some form) xs fit = list_all-from_AllPass (is_between form) xs (All-weaker (InRange form) (λ x. is_between form x ≡ true) (between_in form) xs (fit form refl))
 
-between_fit : (form : Option Linear) (xs : List ℤ) → are_between form xs ≡ true → (f : Linear) → form ≡ Some f → All (InRange f) xs
+between_fit : (form : Option Fixed) (xs : List ℤ) → are_between form xs ≡ true → (f : Fixed) → form ≡ Some f → All (InRange f) xs
 between_fit None xs test f is = absurd (cc)
 between_fit (Some form) xs test f is =
     let all : All (InRange form) xs = All-weaker (λ x. is_between form x ≡ true) (InRange form) (in_between form) xs (AllPass-from_list_all (is_between form) xs test) in
-    subst (λ (l : Linear). All (InRange l) xs) (cc) all
+    let same : form ≡ f = cc in
+    subst (λ (l : Fixed). All (InRange l) xs) same all
 
-are_fit : (codec : Codec) (xs : List ℤ) → FitCodec codec xs → not (are_between (linear_of codec) xs) ≡ false
-are_fit codec xs fit = ap not (fit_between (linear_of codec) xs fit)
+are_fit : (codec : Codec) (xs : List ℤ) → FitCodec codec xs → not (are_between (fixed_of codec) xs) ≡ false
+are_fit codec xs fit = ap not (fit_between (fixed_of codec) xs fit)
 
-are_unfit : (codec : Codec) (xs : List ℤ) → (FitCodec codec xs → ⊥) → not (are_between (linear_of codec) xs) ≡ true
-are_unfit codec xs unfit = elim (cases_Bool (are_between (linear_of codec) xs)) [
-  | inl fit ↦ absurd (unfit (between_fit (linear_of codec) xs fit))
+are_unfit : (codec : Codec) (xs : List ℤ) → (FitCodec codec xs → ⊥) → not (are_between (fixed_of codec) xs) ≡ true
+are_unfit codec xs unfit = elim (cases_Bool (are_between (fixed_of codec) xs)) [
+  | inl fit ↦ absurd (unfit (between_fit (fixed_of codec) xs fit))
   | inr none ↦ ap not none
 ]
 
@@ -96,12 +98,12 @@ write_part xs h place part = is_refused (nat_lt 0 (length xs % h.params.channels
 pub write_range : (xs : List ℤ) (h : Shape) (place : ℕ) → length xs % h.params.channels ≡ 0 → (FitCodec h.params.codec xs → ⊥) → write_refusal xs place h ≡ Some SampleRange
 write_range xs h place whole unfit =
     not_refused (nat_lt 0 (length xs % h.params.channels)) PartFrame _ (no_rest _ whole)
-    ∙ is_refused (not (are_between (linear_of h.params.codec) xs)) SampleRange _ (are_unfit h.params.codec xs unfit)
+    ∙ is_refused (not (are_between (fixed_of h.params.codec) xs)) SampleRange _ (are_unfit h.params.codec xs unfit)
 
 write_frames : (xs : List ℤ) (h : Shape) (place : ℕ) → AreFrames xs h → write_refusal xs place h ≡ growth_refusal (end_written xs h place) h
 write_frames xs h place are =
     not_refused (nat_lt 0 (length xs % h.params.channels)) PartFrame _ (no_rest _ are.whole)
-    ∙ not_refused (not (are_between (linear_of h.params.codec) xs)) SampleRange _ (are_fit h.params.codec xs are.in_range)
+    ∙ not_refused (not (are_between (fixed_of h.params.codec) xs)) SampleRange _ (are_fit h.params.codec xs are.in_range)
 
 growth_by : (to : ℕ) (h : Shape) → h.frames < to → growth_refusal to h ≡ refused_if h.trailing TrailingData (refused_if (nat_lt (room h) (data_bytes h.params to)) ContainerFull None)
 growth_by to h lt = simp (lt-ltb h.frames to lt)

@@ -3,14 +3,14 @@ use Rattle.std.proofs.Common.{◌≡◌, ◌+◌, ◌*◌, ◌/◌, ◌≤◌, �
 use Rattle.std.proofs.Math.Nat.{div-mul-le_self, mul-le-mul_left}
 use Rattle.std.specs.Prelude.{is_none}
 use Rattle.snd_disk.specs.State.{AtMost}
-use Rattle.snd_container.specs.Sound.{linear_of}
+use Rattle.snd_container.specs.Sound.{fixed_of}
 use Rattle.snd_layout.specs.Blocks.{block_align}
 use Rattle.snd_layout.specs.declared.codec.Codec.{Codec}
 use Rattle.snd_layout.specs.declared.codec.Codec.TheVariants.{U8, S8, S16, S24, S32, MuLaw, ALaw, Ima, Ms}
 use Rattle.snd_modes.specs.Writing.{most_fields}
 
--- a number of a linear codec has at most 4 bytes
-linear_numbers : (channels : ℕ) (codec : Codec) → is_none (linear_of codec) ≡ false → block_align channels codec ≤ 4 * channels
+-- a number of a codec with a fixed number of bytes has at most 4
+linear_numbers : (channels : ℕ) (codec : Codec) → is_none (fixed_of codec) ≡ false → block_align channels codec ≤ 4 * channels
 linear_numbers channels U8 linear = omega arith
 linear_numbers channels S8 linear = omega arith
 linear_numbers channels (S16 order) linear = omega arith
@@ -32,7 +32,7 @@ whole_numbers n channels align most =
     let turned : n / channels * (4 * channels) ≡ 4 * (n / channels * channels) = grind arith in
     omega (arith, frames, numbers, turned)
 
-pub written_for_numbers : (old new n channels : ℕ) (codec : Codec) (automatic : Bool) → is_none (linear_of codec) ≡ false
+pub written_for_numbers : (old new n channels : ℕ) (codec : Codec) (automatic : Bool) → is_none (fixed_of codec) ≡ false
     → AtMost old (n / channels * block_align channels codec + 8 + most_fields automatic) new → AtMost old (4 * n + 72) new
 written_for_numbers old new n channels codec automatic linear written =
     let numbers : n / channels * block_align channels codec ≤ 4 * n = whole_numbers n channels _ (linear_numbers channels codec linear) in

@@ -15,7 +15,7 @@ use Rattle.snd_modes.specs.Editing.{Editing, opening_of}
 use Rattle.snd_modes.specs.Making.{making_of}
 use Rattle.snd_modes.specs.Updating.{updating_of}
 use Rattle.snd_script.specs.Desk.{Desk, Mode, OpenFile, is_pinned, pinned, reading, updating, writing, closed_desk, files_closed, open_desk}
-use Rattle.snd_script.specs.Rules.{FileEdited, Rule, is_built, is_close, linear_word, rule_of}
+use Rattle.snd_script.specs.Rules.{FileEdited, Rule, fixed_word, is_built, is_close, rule_of}
 use Rattle.snd_script.specs.Replies.{Answer, nothing, says, refuses, file_line, ok_line}
 use Rattle.snd_script.specs.declared.refusal.Refusal.{Refusal}
 use Rattle.snd_script.specs.declared.refusal.Refusal.TheVariants.{Open, AdpcmUpdate, UnknownLength, BadCommand, LineTooLong, NotOpen, MissingFile, NotBuilt}
@@ -90,7 +90,7 @@ make_edit_of files name kind channels rate (Some codec) = make_edit files name k
 abbrev pub edit_first : Files → Said → Edited
 edit_first files (Said.open_read name) = open_edit files name Opening.for_reading (files name)
 edit_first files (Said.open_update name) = open_edit files name Opening.for_updating (files name)
-edit_first files (Said.create kind codec channels rate name) = make_edit_of files name kind channels rate (linear_word codec)
+edit_first files (Said.create kind codec channels rate name) = make_edit_of files name kind channels rate (fixed_word codec)
 edit_first files said = refused NotOpen (closed_desk files)
 
 abbrev pub edit_closed : Files → Said → Edited

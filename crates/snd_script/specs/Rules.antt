@@ -4,19 +4,20 @@ use Rattle.std.specs.List.{list_all}
 use Rattle.snd_command.specs.Said.{Said}
 use Rattle.snd_command.specs.declared.tables.CodecWord.{CodecWord}
 use Rattle.snd_command.specs.declared.tables.CodecWord.TheVariants as word
-use Rattle.snd_container.specs.Sound.{linear_of}
+use Rattle.snd_container.specs.Sound.{fixed_of}
 use Rattle.snd_layout.specs.Params.{data_bytes}
 use Rattle.snd_layout.specs.Shape.{Shape, room}
 use Rattle.snd_layout.specs.declared.codec.Codec.{Codec}
 use Rattle.snd_layout.specs.declared.codec.Codec.TheVariants as codec
 use Rattle.snd_layout.specs.declared.kind.Kind.{Kind}
-use Rattle.snd_layout.specs.declared.kind.Kind.TheVariants.{Voc, Wave}
+use Rattle.snd_layout.specs.declared.kind.Kind.TheVariants.{Voc}
 use Rattle.snd_modes.specs.Editing.{Editing, frames_left, frames_read, moved_by, moved_to}
 use Rattle.snd_modes.specs.Edits.{automatic_to, moved_write_to, sealed_to, trimmed_to, truncated_to, written_to}
 use Rattle.snd_modes.specs.Handle.{Known}
 use Rattle.snd_modes.specs.WriteCalls.{end_written, is_whole_field, known_cut, known_sealed, known_trimmed, known_written}
 use Rattle.snd_pcm.specs.Pcm.{high, low}
-use Rattle.snd_pcm.specs.declared.linear.Linear.{Linear}
+use Rattle.snd_container.specs.Fixed.{range_form}
+use Rattle.snd_container.specs.declared.fixed.Fixed.{Fixed}
 use Rattle.snd_script.specs.Desk.{Mode, is_pinned, pinned, reading, reads, updating, writes, writing}
 use Rattle.snd_script.specs.Replies.{Answer, nothing, says, file_line, ok_line, frames_text}
 use Rattle.snd_script.specs.declared.refusal.Refusal.{Refusal}
@@ -31,11 +32,11 @@ refused_if so refusal else_by = if so then Some refusal else else_by
 abbrev pub seek_refusal : ℕ → Shape → Option Refusal
 seek_refusal n h = refused_if (nat_lt h.frames n) SeekRange None
 
--- each number lies in the range of a linear codec
-abbrev pub is_between : Linear → ℤ → Bool
-is_between form x = int_le (low form) x && int_le x (high form)
+-- each number lies in the range of a codec
+abbrev pub is_between : Fixed → ℤ → Bool
+is_between form x = int_le (low (range_form form)) x && int_le x (high (range_form form))
 
-abbrev pub are_between : Option Linear → List ℤ → Bool
+abbrev pub are_between : Option Fixed → List ℤ → Bool
 are_between None xs = true
 are_between (Some form) xs = list_all (is_between form) xs
 
@@ -48,7 +49,7 @@ growth_refusal to h =
 abbrev pub write_refusal : List ℤ → ℕ → Shape → Option Refusal
 write_refusal xs place h =
     refused_if (nat_lt 0 (length xs % h.params.channels)) PartFrame
-    (refused_if (not (are_between (linear_of h.params.codec) xs)) SampleRange (growth_refusal (end_written xs h place) h))
+    (refused_if (not (are_between (fixed_of h.params.codec) xs)) SampleRange (growth_refusal (end_written xs h place) h))
 
 -- the file is cut to so many frames, or cut behind its data
 abbrev pub truncate_refusal : ℕ → Shape → Option Refusal
@@ -124,7 +125,7 @@ seek_write_rule n = record (telling (λ e. says_of (ok_line n) (moved_write_to n
 abbrev pub seek_both_rule : ℕ → Rule
 seek_both_rule n = record (telling (λ e. says_of (ok_line n) (moved_write_to n (moved_to n e))) (λ k. record k { place = n; write_place = n })) { refusal = λ place h. seek_refusal n h }
 
--- `read`: as many frames as are wanted and are left; a frame of a linear codec has at most 1024 bytes
+-- `read`: as many frames as are wanted and are left; a frame of a codec that is read has at most 1024 bytes
 abbrev pub read_known : ℕ → Known → Known
 read_known n k = record k { place = k.place + min n (k.shape.frames - k.place) }
 
@@ -160,22 +161,20 @@ auto_rule on = changing 72 (λ place h. auto_refusal on h) (λ e. says_of (ok_li
 
 -- ---- which commands there are
 
--- the codec that a word names, where it is linear; the laws and ADPCM are not built yet
-abbrev pub linear_word : CodecWord → Option Codec
-linear_word word.U8 = Some codec.U8
-linear_word word.S8 = Some codec.S8
-linear_word (word.S16 order) = Some (codec.S16 order)
-linear_word (word.S24 order) = Some (codec.S24 order)
-linear_word (word.S32 order) = Some (codec.S32 order)
-linear_word other = None
+-- the codec that a word names, where its samples have a fixed number of bytes; ADPCM is not built yet
+abbrev pub fixed_word : CodecWord → Option Codec
+fixed_word word.U8 = Some codec.U8
+fixed_word word.S8 = Some codec.S8
+fixed_word (word.S16 order) = Some (codec.S16 order)
+fixed_word (word.S24 order) = Some (codec.S24 order)
+fixed_word (word.S32 order) = Some (codec.S32 order)
+fixed_word word.MuLaw = Some codec.MuLaw
+fixed_word word.ALaw = Some codec.ALaw
+fixed_word other = None
 
-abbrev pub is_wave : Kind → Bool
-is_wave Wave = true
-is_wave kind = false
-
--- commands, kinds and codecs that are not built yet are refused before all else
+-- commands and codecs that are not built yet are refused before all else
 abbrev pub is_built : Said → Bool
-is_built (Said.create kind codec channels rate name) = is_wave kind && is_some (linear_word codec)
+is_built (Said.create kind codec channels rate name) = is_some (fixed_word codec)
 is_built (Said.set_chunk id hex) = false
 is_built (Said.set_string key text) = false
 is_built (Said.set_bext key text) = false

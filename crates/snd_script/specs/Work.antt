@@ -2,7 +2,7 @@
 use Rattle.std.specs.Prelude.{◌≡◌, ◌⊎◌, ◌≤◌, ℕ, ℤ, List, Bool, true, false, Option, None, Some, Result, Ok, Err, IfErr, IfOk, IsErrOf, MatchResult, is_none}
 use Rattle.std.specs.Borrow.{MutBor}
 use Rattle.snd_command.specs.Said.{Said}
-use Rattle.snd_container.specs.Sound.{linear_of}
+use Rattle.snd_container.specs.Sound.{fixed_of}
 use Rattle.snd_disk.specs.Shelf.{Files}
 use Rattle.snd_disk.specs.Device.{AsksAtMost, GoesOnFrom, IsStable, OnlyReadsOn, Tells, WritesAtMost}
 use Rattle.snd_disk.specs.State.{State}
@@ -10,7 +10,6 @@ use Rattle.snd_disk.specs.declared.disk.Disk.{Ghosts}
 use Rattle.snd_disk.specs.declared.disk.Step.{Step}
 use Rattle.snd_disk.specs.declared.streams.Sink.{Ghosts as SinkMeaning}
 use Rattle.snd_layout.specs.Params.{params_of}
-use Rattle.snd_layout.specs.declared.kind.Kind.TheVariants.{Wave}
 use Rattle.snd_modes.specs.Editing.{Editing, frames_left, frames_read, moved_by}
 use Rattle.snd_modes.specs.Edits.{sealed_to}
 use Rattle.snd_modes.specs.Handle.{Known, Stands, channels_of, disk_of, known_of, loan_of}
@@ -76,9 +75,9 @@ work_name (Update name) = Some name.now
 work_name (Make kind codec channels rate name) = Some name.now
 work_name work = None
 
--- what is made is a WAVE file of linear samples
+-- what is made has samples of a fixed number of bytes each
 abbrev pub IsBuiltWork : Work → Type 0
-IsBuiltWork (Make kind codec channels rate name) = (kind ≡ Wave) × (is_none (linear_of codec) ≡ false)
+IsBuiltWork (Make kind codec channels rate name) = is_none (fixed_of codec) ≡ false
 IsBuiltWork work = Unit {0}
 
 -- this is done for what is said

@@ -4,9 +4,8 @@ ghost use Rattle.std.specs.Prelude.{◌≡◌, ◌≤◌, List, ℕ, Some, false
 ghost use Rattle.snd_command.specs.Forms.{is_name};
 ghost use Rattle.snd_command.specs.Line.{command_of};
 ghost use Rattle.snd_command.specs.Said.{line_said};
-ghost use Rattle.snd_container.specs.Sound.{linear_of};
+ghost use Rattle.snd_container.specs.Sound.{fixed_of};
 ghost use Rattle.snd_layout.specs.Params.{params_of};
-ghost use Rattle.snd_layout.specs.declared.kind.Kind.TheVariants.{Wave};
 ghost use Rattle.snd_script.specs.Desk.{closed_desk};
 ghost use Rattle.snd_script.specs.Edit.{edit_closed, edit_line};
 ghost use Rattle.snd_script.specs.Kept.{KeepsUnless, LeavesLines, how_writes};
@@ -85,8 +84,7 @@ fn serve_name<S: Shelf, R: Source, O: Sink>(
 
 // The parameters of a file that is to be made, where its kind holds them.
 fn params_for(kind: Kind, codec: Codec, channels: u64, rate: u64) -> Result<Params, OpenRefusal>
-    requires wave { kind ≡ Wave }
-    requires linear { is_none (linear_of codec) ≡ false }
+    requires linear { is_none (fixed_of codec) ≡ false }
     ensures made { MakesOf kind (params_of channels rate codec) result }
 {
     let params = Params::new(channels, rate, codec)?;

@@ -16,7 +16,7 @@ pub fn held_refusal(stays: bool, said: LineCommand<'_, '_>) -> Option<Refusal>
         return None;
     }
     match said {
-        LineCommand::Create { kind, codec, .. } if !is_made(kind, codec) => Some(Refusal::NotBuilt),
+        LineCommand::Create { codec, .. } if !is_made(codec) => Some(Refusal::NotBuilt),
         LineCommand::OpenRead { .. }
         | LineCommand::OpenUpdate { .. }
         | LineCommand::Create { .. }

@@ -2,7 +2,7 @@
 
 ghost use Rattle.std.specs.Prelude.{◌≡◌, ◌&&◌, is_some};
 ghost use Rattle.snd_command.specs.Said.{Said, line_said};
-ghost use Rattle.snd_script.specs.Rules.{is_wave, linear_word};
+ghost use Rattle.snd_script.specs.Rules.{fixed_word};
 ghost use Rattle.snd_script.specs.Work.{WorksFor, WritesFor};
 
 use arrayvec::ArrayVec;
@@ -44,9 +44,9 @@ pub enum Work<'a> {
     NotBuilt,
 }
 
-// The codec that a word names, where it is linear.
-fn linear_word(word: CodecWord) -> Option<Codec>
-    ensures { result ≡ linear_word word }
+// The codec that a word names, where its samples have a fixed number of bytes.
+fn fixed_word(word: CodecWord) -> Option<Codec>
+    ensures { result ≡ fixed_word word }
 {
     match word {
         CodecWord::U8 => Some(Codec::U8),
@@ -54,30 +54,26 @@ fn linear_word(word: CodecWord) -> Option<Codec>
         CodecWord::S16(order) => Some(Codec::S16(order)),
         CodecWord::S24(order) => Some(Codec::S24(order)),
         CodecWord::S32(order) => Some(Codec::S32(order)),
-        CodecWord::MuLaw | CodecWord::ALaw | CodecWord::Ima | CodecWord::Ms => None,
+        CodecWord::MuLaw => Some(Codec::MuLaw),
+        CodecWord::ALaw => Some(Codec::ALaw),
+        CodecWord::Ima | CodecWord::Ms => None,
     }
 }
 
-fn is_wave(kind: Kind) -> bool
-    ensures { result ≡ is_wave kind }
+/// Whether a file with the samples that a word names is made.
+pub fn is_made(word: CodecWord) -> bool
+    ensures { result ≡ is_some (fixed_word word) }
 {
-    matches!(kind, Kind::Wave)
-}
-
-/// Whether a file of this kind and codec is made.
-pub fn is_made(kind: Kind, word: CodecWord) -> bool
-    ensures { result ≡ (is_wave kind && is_some (linear_word word)) }
-{
-    is_wave(kind) && linear_word(word).is_some()
+    fixed_word(word).is_some()
 }
 
 // What is done to make a file.
 fn make_of(kind: Kind, word: CodecWord, channels: u64, rate: u64, name: &[u8]) -> Work<'_>
     ensures { WorksFor (Said.create kind word channels rate name.now) result }
 {
-    match linear_word(word) {
-        Some(codec) if is_wave(kind) => Work::Make(kind, codec, channels, rate, name),
-        _ => Work::NotBuilt,
+    match fixed_word(word) {
+        Some(codec) => Work::Make(kind, codec, channels, rate, name),
+        None => Work::NotBuilt,
     }
 }
 

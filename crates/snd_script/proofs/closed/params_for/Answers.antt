@@ -1,5 +1,5 @@
 use Rattle.std.proofs.Common.{rules}
-use Rattle.snd_script.proofs.Makings.{misfit_is_refused, wave_is_made}
+use Rattle.snd_script.proofs.Makings.{misfit_is_refused, kind_is_made}
 use Rattle.snd_script.proofs.closed.params_for.Goals as goal
 
 pub returns-in_err-fit : goal.returns-in_err-fit
@@ -9,5 +9,5 @@ returns-in_err-fit c = record {
 
 pub returns : goal.returns
 returns c = record {
-  made = (search rules, wave_is_made c.args.kind c.args.channels c.args.rate c.args.codec c.in_ok-params.params c.requires.wave c.requires.linear (search rules) (search rules));
+  made = (search rules, kind_is_made c.args.kind c.args.channels c.args.rate c.args.codec c.in_ok-params.params c.requires.linear (search rules) (search rules));
 }
