@@ -62,8 +62,8 @@ static KINDS: [(&[u8], &[u8]); 5] = [
     (b"FORM\0\0\0\0AIFF", b"snd: a.wav: error 2 FloatRate\n"),
     (b"caff", b"snd: a.wav: error 2 FloatRate\n"),
     (b"FORM\0\0\0\0ILBM", b"snd: a.wav: error 1 NotSound\n"),
-    (b"FORM\0\0\0\x048SVX", b"snd: a.wav: error 99 NotBuilt\n"),
-    (b".snd", b"snd: a.wav: error 99 NotBuilt\n"),
+    (b"FORM\0\0\0\x048SVX", b"snd: a.wav: error 6 NoFormat\n"),
+    (b".snd", b"snd: a.wav: error 3 ShortHeader\n"),
 ];
 
 /// That `info` refuses a file of these bytes, with this message and nothing else.

@@ -135,8 +135,8 @@ static ROWS: [Row; 22] = [
         fact: Some(3),
         data: b"\xff\x7f\0",
         described: "name a.wav\nkind wave\ncodec ulaw\nchannels 1\nrate 100\nframes 3\nduration 00:00:00.030\n",
-        read: NOT_BUILT,
-        status: 1,
+        read: "ok 3 1 100 wave ulaw\nok 3\n0\n0\n-32124\nok 3\n",
+        status: 0,
     },
     // mu-law, two channels
     Row {
@@ -144,8 +144,8 @@ static ROWS: [Row; 22] = [
         fact: Some(3),
         data: b"\xff\x7f\0\x80\xd5\x55",
         described: "name a.wav\nkind wave\ncodec ulaw\nchannels 2\nrate 100\nframes 3\nduration 00:00:00.030\n",
-        read: NOT_BUILT,
-        status: 1,
+        read: "ok 3 2 100 wave ulaw\nok 3\n0 0\n-32124 32124\n716 -716\nok 3\n",
+        status: 0,
     },
     // mu-law, three channels, by the extensible form
     Row {
@@ -153,8 +153,8 @@ static ROWS: [Row; 22] = [
         fact: Some(3),
         data: b"\xff\x7f\0\x80\xd5\x55\x2a\xaa\x01",
         described: "name a.wav\nkind wave\ncodec ulaw\nchannels 3\nrate 100\nframes 3\nduration 00:00:00.030\n",
-        read: NOT_BUILT,
-        status: 1,
+        read: "ok 3 3 100 wave ulaw\nok 3\n0 0 -32124\n32124 716 -716\n-5372 5372 -31100\nok 3\n",
+        status: 0,
     },
     // A-law, one channel
     Row {
@@ -162,8 +162,8 @@ static ROWS: [Row; 22] = [
         fact: Some(3),
         data: b"\xff\x7f\0",
         described: "name a.wav\nkind wave\ncodec alaw\nchannels 1\nrate 100\nframes 3\nduration 00:00:00.030\n",
-        read: NOT_BUILT,
-        status: 1,
+        read: "ok 3 1 100 wave alaw\nok 3\n848\n-848\n-5504\nok 3\n",
+        status: 0,
     },
     // A-law, two channels
     Row {
@@ -171,8 +171,8 @@ static ROWS: [Row; 22] = [
         fact: Some(3),
         data: b"\xff\x7f\0\x80\xd5\x55",
         described: "name a.wav\nkind wave\ncodec alaw\nchannels 2\nrate 100\nframes 3\nduration 00:00:00.030\n",
-        read: NOT_BUILT,
-        status: 1,
+        read: "ok 3 2 100 wave alaw\nok 3\n848 -848\n-5504 5504\n8 -8\nok 3\n",
+        status: 0,
     },
     // A-law, three channels, by the extensible form
     Row {
@@ -180,8 +180,8 @@ static ROWS: [Row; 22] = [
         fact: Some(3),
         data: b"\xff\x7f\0\x80\xd5\x55\x2a\xaa\x01",
         described: "name a.wav\nkind wave\ncodec alaw\nchannels 3\nrate 100\nframes 3\nduration 00:00:00.030\n",
-        read: NOT_BUILT,
-        status: 1,
+        read: "ok 3 3 100 wave alaw\nok 3\n848 -848 -5504\n5504 8 -8\n-32256 32256 -5248\nok 3\n",
+        status: 0,
     },
     // IMA ADPCM in blocks of 9 frames, one channel
     Row {

@@ -5,6 +5,8 @@
 #[cfg(test)]
 mod conditions;
 #[cfg(test)]
+mod crash;
+#[cfg(test)]
 mod kinds;
 mod memory;
 #[cfg(test)]

@@ -193,7 +193,7 @@ static SCRIPTS: [(&str, &str, u8); 12] = [
         1,
     ),
     (
-        "create au pcm_8 1 1 a\ncreate au pcm_16_be 1 1 a\ntap peak\nget chunks\nseek w 0\n",
+        "create au pcm_8 1 1 a\ncreate wave ima 1 8000 a\ntap peak\nget chunks\nseek w 0\n",
         "error 40 BadCommand\nerror 99 NotBuilt\nerror 99 NotBuilt\nerror 99 NotBuilt\nerror 42 NotOpen\n",
         1,
     ),

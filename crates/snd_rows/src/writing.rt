@@ -23,7 +23,7 @@ struct Row {
 const STRADDLING: &[u8] =
     b"RIFF\xfe\x01\0\0WAVEfmt \x10\0\0\0\x01\0\x01\0@\x1f\0\0\x80>\0\0\x02\0\x10\0abcd\xce\x01\0\0\0\0\0\0\0\0\0\0\0\0\0\0\0\0\0\0\0\0\0\0\0\0\0\0\0\0\0\0\0\0\0\0\0\0\0\0\0\0\0\0\0\0\0\0\0\0\0\0\0\0\0\0\0\0\0\0\0\0\0\0\0\0\0\0\0\0\0\0\0\0\0\0\0\0\0\0\0\0\0\0\0\0\0\0\0\0\0\0\0\0\0\0\0\0\0\0\0\0\0\0\0\0\0\0\0\0\0\0\0\0\0\0\0\0\0\0\0\0\0\0\0\0\0\0\0\0\0\0\0\0\0\0\0\0\0\0\0\0\0\0\0\0\0\0\0\0\0\0\0\0\0\0\0\0\0\0\0\0\0\0\0\0\0\0\0\0\0\0\0\0\0\0\0\0\0\0\0\0\0\0\0\0\0\0\0\0\0\0\0\0\0\0\0\0\0\0\0\0\0\0\0\0\0\0\0\0\0\0\0\0\0\0\0\0\0\0\0\0\0\0\0\0\0\0\0\0\0\0\0\0\0\0\0\0\0\0\0\0\0\0\0\0\0\0\0\0\0\0\0\0\0\0\0\0\0\0\0\0\0\0\0\0\0\0\0\0\0\0\0\0\0\0\0\0\0\0\0\0\0\0\0\0\0\0\0\0\0\0\0\0\0\0\0\0\0\0\0\0\0\0\0\0\0\0\0\0\0\0\0\0\0\0\0\0\0\0\0\0\0\0\0\0\0\0\0\0\0\0\0\0\0\0\0\0\0\0\0\0\0\0\0\0\0\0\0\0\0\0\0\0\0\0\0\0\0\0\0\0\0\0\0\0\0\0\0\0\0\0\0\0\0\0\0\0\0\0\0\0\0\0\0\0\0\0\0\0\0\0\0\0\0\0\0\0\0\0\0\0\0\0\0\0\0\0\0\0\0\0\0\0\0\0\0\0\0\0\0\0\0\0\0\0\0\0\0\0\0\0\0\0\0\0\0\0\0\0\0\0\0\0\0\0\0\0\0\0\0\0\0\0\0\0\0\0\0\0\0\0\0\0\0\0data\x04\0\0\0\x01\0\xff\xff";
 
-static ROWS: [Row; 5] = [
+static ROWS: [Row; 6] = [
     // trailing chunks forbid growth and allow overwriting
     Row {
         name: "t.wav",
@@ -54,6 +54,15 @@ static ROWS: [Row; 5] = [
         answers: "ok 0 1 8000 wave pcm_16_le\nerror 23 SampleRange\nok 1\nok 1\n",
         status: 1,
         after: b"RIFF&\0\0\0WAVEfmt \x10\0\0\0\x01\0\x01\0@\x1f\0\0\x80>\0\0\x02\0\x10\0data\x02\0\0\0\xff\x7f",
+    },
+    // a law keeps of each number the one that its byte stands for, and its file states the frames in a `fact`
+    Row {
+        name: "m.wav",
+        before: None,
+        script: "create wave ulaw 1 8000 m.wav\nwrite 0 -1 1000\nwrite 32768\nclose\nopen u m.wav\nread 3\nseek w 2\nwrite -1000\nclose\n",
+        answers: "ok 0 1 8000 wave ulaw\nok 3\nerror 23 SampleRange\nok 3\nok 3 1 8000 wave ulaw\nok 3\n0\n0\n988\nok 2\nok 1\nok 3\n",
+        status: 1,
+        after: b"RIFF6\0\0\0WAVEfmt \x12\0\0\0\x07\0\x01\0@\x1f\0\0@\x1f\0\0\x01\0\x08\0\0\0fact\x04\0\0\0\x03\0\0\0data\x03\0\0\0\xff\x7f\x4e\0",
     },
     // a count field across a sector edge forbids automatic update
     Row {
@@ -90,7 +99,7 @@ static PINNED: [Row; 3] = [
     Row {
         name: "a.wav",
         before: Some(PLAIN),
-        script: "create wave ulaw 1 8000 b.wav\ncreate wave pcm_u8 1 8000 b.wav\nopen r b.wav\nopen u a.wav\nauto off\nauto on\nclosed\nseek w 2\nwrite 7\nseek w 0\nwrite 5\nread 1\n",
+        script: "create wave ima 1 8000 b.wav\ncreate wave pcm_u8 1 8000 b.wav\nopen r b.wav\nopen u a.wav\nauto off\nauto on\nclosed\nseek w 2\nwrite 7\nseek w 0\nwrite 5\nread 1\n",
         answers: "ok 2 1 8000 wave pcm_16_le\nok 2\nerror 99 NotBuilt\nerror 65 Pinned\nerror 65 Pinned\nerror 65 Pinned\nerror 65 Pinned\nerror 65 Pinned\nerror 40 BadCommand\nok 2\nok 1\nok 0\nok 1\nok 1\n5\n",
         status: 1,
         after: GROWN,
@@ -106,23 +115,23 @@ static PINNED: [Row; 3] = [
     },
 ];
 
-/// What stands afterwards: the status, what was printed, and the file's bytes.
+/// What stands afterwards: the status, what was printed, and the file's disk.
 #[derive(Drop)]
-struct Left {
-    status: u8,
-    out: Vec<u8>,
-    file: Option<Vec<u8>>,
+pub struct Left {
+    pub status: u8,
+    pub out: Vec<u8>,
+    pub disk: Option<MemoryDisk>,
 }
 
 /// Where a device fails: at a call of the disk, of the script, or of the output, counted from 1; 0 for none.
 #[derive(Clone, Copy)]
-struct Failing {
-    disk: u64,
-    script: u64,
-    put: u64,
+pub struct Failing {
+    pub disk: u64,
+    pub script: u64,
+    pub put: u64,
 }
 
-const NONE: Failing = Failing {
+pub const NONE: Failing = Failing {
     disk: 0,
     script: 0,
     put: 0,
@@ -158,7 +167,7 @@ fn run_over<S: Shelf>(
 }
 
 /// Runs a script over one file, or over another one alone, where a call fails.
-fn run_script(
+pub fn run_script(
     alloc: Global,
     words: &[&str],
     name: &str,
@@ -176,16 +185,13 @@ fn run_script(
     let mut shelf = MemoryShelf::new(alloc);
     shelf.put(there, MemoryDisk::new(alloc, bytes, calls)?)?;
     let (status, out) = run_over(alloc, words, &mut shelf, script, failing)?;
-    let file = match shelf.take(name, false) {
-        Ok(disk) => Some(disk.bytes().to_vec(alloc)?),
-        Err(_) => None,
-    };
-    Ok(Left { status, out, file })
+    let disk = shelf.take(name, false).ok();
+    Ok(Left { status, out, disk })
 }
 
 fn has(rt: &impl Abort, left: &Left, bytes: &[u8]) {
-    match &left.file {
-        Some(file) => assert_eq!(rt; file.as_slice(), bytes),
+    match &left.disk {
+        Some(disk) => assert_eq!(rt; disk.bytes(), bytes),
         None => assert!(rt; false),
     }
 }
@@ -336,7 +342,7 @@ fn a_disk_that_fails_ends_the_run(rt: HostRuntime) -> Result<(), Fail> {
         }
         assert_eq!(rt; left.status, 3);
         assert!(rt; all.as_slice().starts_with(left.out.as_slice()));
-        assert!(rt; left.file.is_some());
+        assert!(rt; left.disk.is_some());
     }
     assert!(rt; false);
     Ok(())
