@@ -26,15 +26,21 @@ pub struct Job {
     pub change: Option<Change>,
 }
 
-/// A file of so many frames of linear samples of so many bits.
-fn linear_file(bits: u64, channels: u64, frames: u64) -> Option<Creation> {
-    let codec = match bits {
-        8 => Codec::U8,
-        16 => Codec::S16(Order::Little),
-        24 => Codec::S24(Order::Little),
-        32 => Codec::S32(Order::Little),
-        _ => return None,
-    };
+/// The codec of a word: linear samples of so many bits, or one of the laws.
+fn codec_of(word: &str) -> Option<Codec> {
+    match word {
+        "8" => Some(Codec::U8),
+        "16" => Some(Codec::S16(Order::Little)),
+        "24" => Some(Codec::S24(Order::Little)),
+        "32" => Some(Codec::S32(Order::Little)),
+        "ulaw" => Some(Codec::MuLaw),
+        "alaw" => Some(Codec::ALaw),
+        _ => None,
+    }
+}
+
+/// A file of so many frames.
+fn file_of(codec: Codec, channels: u64, frames: u64) -> Option<Creation> {
     let params = Params::new(channels, RATE, codec).ok()?;
     Some(Creation { params, frames })
 }
@@ -44,11 +50,11 @@ fn number_of(word: Option<String>) -> Option<u64> {
 }
 
 fn creation_of(words: &mut env::Args) -> Option<Job> {
-    let bits = number_of(words.next())?;
+    let codec = codec_of(words.next()?.as_str())?;
     let channels = number_of(words.next())?;
     let frames = number_of(words.next())?;
     Some(Job {
-        creation: Some(linear_file(bits, channels, frames)?),
+        creation: Some(file_of(codec, channels, frames)?),
         change: None,
     })
 }
@@ -80,7 +86,7 @@ fn both() -> Option<Job> {
         frames: 2,
     };
     Some(Job {
-        creation: Some(linear_file(16, 2, 5000)?),
+        creation: Some(file_of(Codec::S16(Order::Little), 2, 5000)?),
         change: Some(change),
     })
 }

@@ -1,7 +1,8 @@
 //! Writes frames through the library, for measuring. `write_bench create NAME BITS CHANNELS FRAMES` makes
-//! a WAVE file. `write_bench update NAME on|off FROM FRAMES` writes so many frames over those of a file
-//! that is there, from a frame on, and past its end, with automatic updates or without. `write_bench both
-//! NAME` makes a small file and updates it. A line tells after each step how many frames there are.
+//! a WAVE file of so many bits a sample; `ulaw` and `alaw` in place of the bits make one of G.711.
+//! `write_bench update NAME on|off FROM FRAMES` writes so many frames over those of a file that is there,
+//! from a frame on, and past its end, with automatic updates or without. `write_bench both NAME` makes a
+//! small file and updates it. A line tells after each step how many frames there are.
 #![tactic(auto)]
 
 mod job;
@@ -10,10 +11,10 @@ ghost use Rattle.std.specs.Prelude.{◌≡◌, ◌<◌, ◌≤◌, false};
 ghost use Rattle.snd_modes.specs.Handle.{disk_of, loan_of};
 
 use job::{Change, Creation, Job, job_of};
+use snd_container::{Fixed, fixed_form};
 use snd_disk::{Disk, FolderShelf, Shelf};
 use snd_layout::Kind;
-use snd_modes::{CanWrite, File, Update, create, linear_form, open_update};
-use snd_pcm::Linear;
+use snd_modes::{CanWrite, File, Update, create, open_update};
 use std::alloc::Global;
 use std::io::Write;
 use std::process::ExitCode;
@@ -29,10 +30,10 @@ enum Stop {
 }
 
 /// By how many bits a number of 32 bits is shortened to one of a form.
-fn shift_of(form: Linear) -> u32
+fn shift_of(form: Fixed) -> u32
     ensures { result < 32 }
 {
-    32 - u32::from(form.width())
+    32 - u32::from(form.range_form().width())
 }
 
 /// Fills a slice with the numbers of a linear congruential generator, shortened.
@@ -47,7 +48,7 @@ fn fill(block: &mut [i32], shift: u32)
 }
 
 /// How many numbers a block has: those of as many frames as there is room for.
-fn numbers_of_block(form: Linear, channels: u16) -> usize
+fn numbers_of_block(form: Fixed, channels: u16) -> usize
     ensures some { 1 ≤ result }
     ensures most { result ≤ 16384 }
 {
@@ -61,7 +62,7 @@ fn write_blocks<D: Disk, M: CanWrite>(file: &mut File<'_, D, M>, frames: u64) ->
     ensures name { (D.state (disk_of file.new)).name ≡ (D.state (disk_of file.old)).name }
 {
     let params = file.params();
-    let form = linear_form(params.codec)?;
+    let form = fixed_form(params.codec)?;
     let whole = numbers_of_block(form, params.channels);
     let numbers = frames.checked_mul(u64::from(params.channels))?;
     let mut block = [0; BLOCK_BYTES];
