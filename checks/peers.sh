@@ -1,43 +1,45 @@
 #!/usr/bin/env bash
-# WAVE files that sox, ffmpeg and libsndfile's programs make, described and read by the built program. The parameters, the
-# frames and the chunks are compared with what the file's own chunks say, and the parameters and frames with what soxi,
+# Files of all kinds that sox, ffmpeg and libsndfile's programs make, described and read by the built program. The parameters, the
+# frames and the chunks are compared with what the file's own head says, and the parameters and frames with what soxi,
 # sndfile-info and ffprobe say; every sample of a file that is read is compared with what each of the other programs decodes.
-# Needs Python 3. Of the Debian packages sox, ffmpeg and sndfile-programs what is missing is skipped, with a line for each; a
-# program that is there and fails is a failure.
+# Files of theirs that are refused are refused by the number that their head asks for. What a program is known to do otherwise
+# stands in a table with the reason, and is skipped with a line. Needs Python 3. Of the Debian packages sox, ffmpeg and
+# sndfile-programs what is missing is skipped, with a line for each; a program that is there and fails is a failure.
 set -u
 source "$(dirname "$(readlink -f "${BASH_SOURCE[0]}")")/built_program.bash"
 PYTHONDONTWRITEBYTECODE=1 PYTHONPATH=$top/checks python3 - "$program" <<'PY'
 import math
 import random
-import re
-import shutil
 import struct
 import subprocess
 import sys
 
+import kinds
 from common import Cases, run
+from readers import Readers
 
 program = sys.argv[1]
 cases = Cases("peers")
 # The codecs whose frames are not read yet, which open refuses. What leaves this list is compared sample by sample.
-NOT_READ = {"ulaw", "alaw", "ima", "ms"}
-LINEAR = {"pcm_u8": 8, "pcm_16_le": 16, "pcm_24_le": 24, "pcm_32_le": 32}
+NOT_READ = {"ima", "ms"}
 TAGS = {7: "ulaw", 6: "alaw", 0x11: "ima", 2: "ms"}
-SOX = {"pcm_u8": "unsigned-integer -b 8", "pcm_16_le": "signed-integer -b 16", "pcm_24_le": "signed-integer -b 24", "pcm_32_le": "signed-integer -b 32",
-       "ulaw": "mu-law", "alaw": "a-law", "ima": "ima-adpcm", "ms": "ms-adpcm"}
-SNDFILE = {"pcm_u8": "pcmu8", "pcm_16_le": "pcm16", "pcm_24_le": "pcm24", "pcm_32_le": "pcm32", "ulaw": "ulaw", "alaw": "alaw", "ima": "ima-adpcm", "ms": "ms-adpcm"}
-FFMPEG = {"pcm_u8": "pcm_u8", "pcm_16_le": "pcm_s16le", "pcm_24_le": "pcm_s24le", "pcm_32_le": "pcm_s32le", "ulaw": "pcm_mulaw", "alaw": "pcm_alaw", "ima": "adpcm_ima_wav", "ms": "adpcm_ms"}
+SOX = {"pcm_u8": "unsigned-integer -b 8", "pcm_s8": "signed-integer -b 8", "ulaw": "mu-law", "alaw": "a-law", "ima": "ima-adpcm", "ms": "ms-adpcm"}
+SOX |= {codec: f"signed-integer -b {kinds.width(codec)}" for codec in (*kinds.LITTLE, *kinds.BIG)}
+SNDFILE = {"pcm_u8": "pcmu8", "pcm_s8": "pcms8", "ulaw": "ulaw", "alaw": "alaw", "ima": "ima-adpcm", "ms": "ms-adpcm"}
+SNDFILE |= {codec: f"pcm{kinds.width(codec)}" for codec in (*kinds.LITTLE, *kinds.BIG)}
+FFMPEG = {"pcm_u8": "pcm_u8", "pcm_s8": "pcm_s8", "ulaw": "pcm_mulaw", "alaw": "pcm_alaw", "ima": "adpcm_ima_wav", "ms": "adpcm_ms"}
+FFMPEG |= {codec: f"pcm_s{codec[4:].replace('_', '')}" for codec in (*kinds.LITTLE, *kinds.BIG)}
+WAVE = (*kinds.HOLDS["wave"], "ima", "ms")
 
+# What each program makes beside WAVE files: kinds, and of each its codecs.
+SOX_KINDS = {"w64": kinds.HOLDS["w64"], "au": kinds.HOLDS["au"], "voc": ("pcm_u8", "pcm_16_le"), "svx": ("pcm_s8",), "sphere": ("pcm_16_le", "pcm_16_be", "ulaw")}
+SNDFILE_KINDS = {"rf64": kinds.HOLDS["rf64"], "w64": (*kinds.HOLDS["w64"], "ima", "ms"), "au": kinds.HOLDS["au"], "dns": kinds.HOLDS["dns"],
+                 "voc": kinds.HOLDS["voc"], "svx": ("pcm_s8",), "sphere": ("pcm_16_le", "pcm_16_be")}
+FFMPEG_KINDS = {"rf64": kinds.HOLDS["rf64"], "w64": kinds.HOLDS["w64"], "au": kinds.HOLDS["au"], "voc": kinds.HOLDS["voc"]}
 
-def has(*names):
-    missing = [name for name in names if not shutil.which(name)]
-    if missing:
-        print(f"peers: skipped: what {' and '.join(names)} make and say, since {missing[0]} is not installed")
-    return not missing
-
-
-def out_of(*words):
-    return subprocess.run(words, check=True, capture_output=True).stdout
+# What is known of makers: the frames that a file holds behind those that its head says are not compared.
+SHORT = {("sox", "pcm_16_le", "voc"): "its VOC blocks of 16 bits say 8 bytes less than they hold, and what a block says counts"}
+SHORT |= {("ffmpeg", codec, "voc"): "its VOC files have a block for each packet, and the first counts" for codec in kinds.HOLDS["voc"]}
 
 
 def source(name, channels, rate, frames):
@@ -52,130 +54,176 @@ def source(name, channels, rate, frames):
         file.write(struct.pack("<4sI4s4sIHHIIHH4sI", b"RIFF", 36 + len(data), b"WAVE", b"fmt ", 16, 1, channels, rate, 4 * channels * rate, 4 * channels, 32, b"data", len(data)) + data)
 
 
-def stated(name):
-    """What the chunks of a file say: codec, channels, rate, frames, and the lines of its further chunks."""
-    with open(name, "rb") as file:
-        b = file.read()
-    at, chunks = 12, []
-    while at + 8 <= len(b):
-        size = struct.unpack_from("<I", b, at + 4)[0]
-        chunks.append((b[at:at + 4], b[at + 8:at + 8 + size], size))
-        at += 8 + size + size % 2
-    body = next(it for name, it, _ in chunks if name == b"fmt ")
-    data = next(it for name, it, _ in chunks if name == b"data")
-    fact = next((it for name, it, _ in chunks if name == b"fact"), None)
+def fmt_of(body):
+    """The codec, the channels, the rate, the align and the frames of a block that a `fmt ` body says."""
     tag, channels, rate, _, align, bits = struct.unpack_from("<HHIIHH", body)
     tag = struct.unpack_from("<H", body, 24)[0] if tag == 0xFFFE else tag
-    codec = TAGS.get(tag) or next(it for it, width in LINEAR.items() if width == bits)
-    frames = len(data) // align
-    if codec in ("ima", "ms"):
-        frames *= struct.unpack_from("<H", body, 18)[0]
-        frames = min(frames, struct.unpack("<I", fact)[0]) if fact else frames
-    shown = lambda id: "".join("_" if it == 32 else chr(it) if 33 <= it <= 126 else "?" for it in id)
-    rest = [f"chunk {shown(id)} {size}" for id, _, size in chunks if id not in (b"fmt ", b"data", b"fact", b"JUNK", b"junk", b"FLLR", b"PAD ")]
-    return codec, channels, rate, frames, rest
+    codec = TAGS.get(tag) or ("pcm_u8" if bits == 8 else f"pcm_{bits}_le")
+    return codec, channels, rate, align, struct.unpack_from("<H", body, 18)[0] if codec in NOT_READ else 1
 
 
-def said(name):
-    """The channels, the rate and the frames of a file, as each program that is installed says them."""
-    found = {}
-    if tools["sox"]:
-        found["soxi"] = tuple(int(out_of("soxi", it, name)) for it in ("-c", "-r", "-s"))
-    if tools["sndfile"]:
-        text = out_of("sndfile-info", name).decode("latin-1")
-        found["sndfile-info"] = tuple(int(re.search(rf"^{it} *: (\d+)", text, re.M)[1]) for it in ("Channels", "Sample Rate", "Frames"))
-    if tools["ffmpeg"]:
-        text = out_of("ffprobe", "-v", "error", "-show_entries", "stream=channels,sample_rate,duration_ts", "-of", "default=noprint_wrappers=1", name).decode()
-        found["ffprobe"] = tuple(int(re.search(rf"^{it}=(\d+)", text, re.M)[1]) for it in ("channels", "sample_rate", "duration_ts"))
-    return found
+class Blocks(kinds.Stated):
+    """What the head of a file of ADPCM blocks says."""
+
+    def __init__(self, kind, body, data, count, rest=()):
+        self.kind, self.rest, self.data = kind, list(rest), b""
+        self.codec, self.channels, self.rate, align, each = fmt_of(body)
+        self.frames = len(data) // align * each
+        self.frames = self.frames if count is None else min(self.frames, count)
 
 
-def decoded(name, maker, bits):
-    """The samples of a file, as each installed program but its maker decodes them; its maker's where there is no other."""
-    found = {}
-    if tools["sox"]:
-        found["sox"] = out_of("sox", name, "-t", "raw", "-e", "signed-integer", "-b", "32", "-L", "-")
-    if tools["ffmpeg"]:
-        found["ffmpeg"] = out_of("ffmpeg", "-v", "error", "-i", name, "-f", "s32le", "-c:a", "pcm_s32le", "-")
-    if tools["sndfile"]:
-        out_of("sndfile-convert", "-pcm32", name, "decoded.au")
-        with open("decoded.au", "rb") as file:
-            au = file.read()
-        body = au[struct.unpack_from(">I", au, 4)[0]:]
-        found["sndfile"] = struct.pack(f"<{len(body) // 4}i", *struct.unpack(f">{len(body) // 4}i", body))
-        subprocess.run(["rm", "decoded.au"], check=True)
-    if len(found) > 1:
-        found.pop(maker, None)
-    return {tool: [it >> (32 - bits) for it in struct.unpack(f"<{len(raw) // 4}i", raw)] for tool, raw in found.items()}
+def stated(name):
+    """What the head of a file says."""
+    with open(name, "rb") as file:
+        b = file.read()
+    if b[:4] == b"RIFF":
+        chunks = kinds.riff_chunks(b, "<")
+        bodies = {id: b[at:at + many] for id, at, many in reversed(chunks)}
+        if fmt_of(bodies[b"fmt "])[0] in NOT_READ:
+            count = struct.unpack("<I", bodies[b"fact"])[0] if b"fact" in bodies else None
+            return Blocks("wave", bodies[b"fmt "], bodies[b"data"], count, [(id, many) for id, _, many in chunks if id not in (b"fmt ", b"data", b"fact")])
+    if b[:4] == b"riff":
+        at, bodies = 40, {}
+        while at + 24 <= len(b) and b"data" not in bodies:
+            many = max(struct.unpack_from("<Q", b, at + 16)[0], 24)
+            bodies.setdefault(b[at:at + 4], b[at + 24:at + many])
+            at += many + -many % 8
+        if fmt_of(bodies[b"fmt "])[0] in NOT_READ:
+            return Blocks("w64", bodies[b"fmt "], bodies[b"data"], struct.unpack("<Q", bodies[b"fact"])[0] if b"fact" in bodies else None)
+    return kinds.stated(b)
 
 
-def examine(name, maker, codec, channels, rate):
-    """The faults of what the program says of a file, and reads of it."""
-    *parameters, frames, rest = stated(name)
-    wrong = [] if parameters == [codec, channels, rate] else [f"{maker} made {parameters}"]
-    for tool, numbers in said(name).items():
+def readings(name, it, samples):
+    """The faults of what the program reads of a file, for what it is to read."""
+    rows = [" ".join(map(str, samples[i:i + it.channels])) for i in range(0, len(samples), it.channels)]
+    head = f"ok {it.frames} {it.channels} {it.rate} {it.kind} {it.codec}"
+    asked, replies = [f"open r {name}", "info"], [head, head]
+    for at in range(0, it.frames + 1, 1024):
+        asked.append("read 1024")
+        replies += [f"ok {len(rows[at:at + 1024])}", *rows[at:at + 1024]]
+    for at in (it.frames - 1, it.frames // 2, 0, it.frames, it.frames + 1):
+        asked += [f"seek r {at}", "read 3"]
+        replies.append(f"ok {at}" if at <= it.frames else "error 24 SeekRange")
+        replies += [f"ok {len(rows[at:at + 3])}", *rows[at:at + 3]]
+    asked.append("close")
+    replies.append(f"ok {it.frames}")
+    return run(program, ["script"], "".join(f"{line}\n" for line in asked).encode(), "".join(f"{line}\n" for line in replies).encode(), b"", 1)
+
+
+def examine(name, maker, parameters):
+    """The faults of what the program says of a file, and reads of it. The parameters are its kind, codec, channels and rate."""
+    it = stated(name)
+    short = readers.skip(maker, SHORT.get((maker, it.codec, it.kind)))
+    found = (it.kind, it.codec, it.channels, it.rate)
+    wrong = [] if found == parameters else [f"{maker} made {found}"]
+    for tool, numbers in readers.said(name, it, maker).items():
         # programs differ on how many frames of the last ADPCM block count
-        if numbers[:2] != (channels, rate) or codec not in ("ima", "ms") and numbers[2] != frames:
-            wrong.append(f"{tool} says {numbers}, and the file {(channels, rate, frames)}")
-    ms = frames * 1000 // rate
-    lines = [f"name {name}", "kind wave", f"codec {codec}", f"channels {channels}", f"rate {rate}", f"frames {frames}",
-             f"duration {ms // 3600000:02}:{ms // 60000 % 60:02}:{ms // 1000 % 60:02}.{ms % 1000:03}", *rest]
-    wrong += run(program, ["info", name], b"", "".join(f"{it}\n" for it in lines).encode(), b"", 0)
-    if codec in NOT_READ:
+        many = 2 if short or it.codec in NOT_READ else 3
+        if numbers[:many] != [it.channels, it.rate, it.frames][:min(many, len(numbers))]:
+            wrong.append(f"{tool} says {numbers}, and the file {(it.channels, it.rate, it.frames)}")
+    wrong += run(program, ["info", name], b"", "".join(f"{line}\n" for line in it.lines(name)).encode(), b"", 0)
+    if it.codec in NOT_READ:
         return wrong + run(program, ["script"], f"open r {name}\ninfo\n".encode(), b"error 99 NotBuilt\nerror 42 NotOpen\n", b"", 1)
-    for tool, samples in decoded(name, maker, LINEAR.get(codec, 16)).items():
-        rows = [" ".join(map(str, samples[i:i + channels])) for i in range(0, len(samples), channels)]
-        head = f"ok {frames} {channels} {rate} wave {codec}"
-        asked, replies = [f"open r {name}", "info"], [head, head]
-        for at in range(0, frames + 1, 1024):
-            asked.append("read 1024")
-            replies += [f"ok {len(rows[at:at + 1024])}", *rows[at:at + 1024]]
-        for at in (frames - 1, frames // 2, 0, frames, frames + 1):
-            asked += [f"seek r {at}", "read 3"]
-            replies.append(f"ok {at}" if at <= frames else "error 24 SeekRange")
-            replies += [f"ok {len(rows[at:at + 3])}", *rows[at:at + 3]]
-        asked.append("close")
-        replies.append(f"ok {frames}")
-        faults = run(program, ["script"], "".join(f"{it}\n" for it in asked).encode(), "".join(f"{it}\n" for it in replies).encode(), b"", 1)
-        wrong += [f"as {tool} decodes: {it}" for it in faults]
+    for tool, samples in readers.decoded(name, it, maker).items():
+        samples = samples[:it.frames * it.channels] if short else samples
+        wrong += [f"as {tool} decodes: {fault}" for fault in readings(name, it, samples)]
+        # and what the bytes themselves are
+        wrong += [f"{tool} decodes other numbers than the bytes say"] * (samples != kinds.numbers_of(it.codec, it.data))
     return wrong
 
 
-def made(maker, codec, channels, rate, *command, name=None):
-    """Has a program make a file, and examines it."""
-    name = name or f"{maker}-{channels}-{rate}-{codec}.wav"
+def make(name, *command):
+    """Has a program make a file, and gives the faults."""
     ran = subprocess.run([it.replace("NAME", name) for it in command], capture_output=True)
-    if ran.returncode:
-        cases.case(name, [f"{command[0]} failed: {ran.stderr.decode('latin-1')[-200:]}"])
-        return
+    return [f"{command[0]} failed: {ran.stderr.decode('latin-1')[-200:]}"] if ran.returncode else []
+
+
+def made(maker, kind, codec, channels, rate, *command, name=None):
+    """Has a program make a file, and examines it."""
+    suffix = "svx" if (maker, kind) == ("sndfile", "svx") else kinds.SUFFIX[kind]
+    name = name or f"{maker}-{kind}-{channels}-{rate}-{codec}.{suffix}"
+    wrong = make(name, *command)
     try:
-        cases.case(name, examine(name, maker, codec, channels, rate))
-    except (subprocess.CalledProcessError, StopIteration, struct.error, TypeError, ValueError) as error:
+        cases.case(name, wrong or examine(name, maker, (kind, codec, channels, rate)))
+    except (subprocess.CalledProcessError, KeyError, StopIteration, struct.error, TypeError, ValueError) as error:
         cases.case(name, [f"{error!r}"])
 
 
-tools = {"sox": has("sox", "soxi"), "sndfile": has("sndfile-convert", "sndfile-info", "sndfile-metadata-set"), "ffmpeg": has("ffmpeg", "ffprobe")}
+def refused(name, error, *command):
+    """Has a program make a file that is refused."""
+    wrong = make(name, *command)
+    wrong = wrong or run(program, ["info", name], b"", b"", f"snd: {name}: error {error}\n".encode(), 1)
+    cases.case(name, wrong or run(program, ["script"], f"open r {name}\nopen u {name}\n".encode(), f"error {error}\n".encode() * 2, b"", 1))
+
+
+def channels_of(kind):
+    return [it for it in (1, 2, 3) if it <= kinds.MOST.get(kind, 3)]
+
+
+readers = Readers("peers")
+tools = readers.tools
 if not any(tools.values()):
     print("peers: skipped: none of sox, ffmpeg and sndfile-programs is installed")
     sys.exit(0)
-for channels in (1, 2, 5):
+for channels in (1, 2, 3, 5):
     for rate in (8000, 44100):
         source(f"source-{channels}-{rate}.wav", channels, rate, 2500)
 if tools["sox"]:
-    for codec, words in SOX.items():
-        for channels in (1, 2) if codec in ("ima", "ms") else (1, 2, 5):
+    def by_sox(codec, *more):
+        return "-e", *SOX[codec].split(), *more
+    for codec in WAVE:
+        for channels in (1, 2) if codec in NOT_READ else (1, 2, 5):
             for rate in (8000, 44100):
-                made("sox", codec, channels, rate, "sox", "-D", f"source-{channels}-{rate}.wav", "-e", *words.split(), "NAME")
+                made("sox", "wave", codec, channels, rate, "sox", "-D", f"source-{channels}-{rate}.wav", *by_sox(codec, "NAME"))
+    for kind, codecs in SOX_KINDS.items():
+        for codec in codecs:
+            for channels in channels_of(kind):
+                order = ["-B" if codec.endswith("be") else "-L"] if kind == "sphere" else []
+                made("sox", kind, codec, channels, 8000, "sox", "-D", f"source-{channels}-8000.wav", *order, *by_sox(codec, "NAME"))
+    # whose size of the data is unknown, as it reads without a length and writes into a pipe
+    made("sox", "au", "pcm_16_be", 2, 8000, "bash", "-c", "sox -D --ignore-length -t wav - -b 16 -t au - <source-2-8000.wav | cat >NAME", name="sox-pipe.au")
+    cases.case("sox-pipe.au is not updated", run(program, ["script"], b"open u sox-pipe.au\n", b"error 21 UnknownLength\n", b"", 1))
+    refused("sox-stereo.8svx", "11 BadChannels", "sox", "-D", "source-2-8000.wav", "NAME")
+    refused("sox-little.au", "1 NotSound", "sox", "-D", "source-1-8000.wav", "-L", "NAME")
+    refused("sox-float.au", "10 FloatSamples", "sox", "-D", "source-1-8000.wav", *"-e floating-point -b 32 NAME".split())
+    # its head says linear samples of one byte
+    refused("sox-alaw.sph", "4 BadField", "sox", "-D", "source-1-8000.wav", "-e", "a-law", "NAME")
+    refused("sox.aiff", "2 FloatRate", "sox", "-D", "source-1-8000.wav", "NAME")
 if tools["sndfile"]:
-    for codec, word in SNDFILE.items():
+    for codec in WAVE:
         for channels in (1, 2):
-            made("sndfile", codec, channels, 44100, "sndfile-convert", f"-{word}", f"source-{channels}-44100.wav", "NAME")
+            made("sndfile", "wave", codec, channels, 44100, "sndfile-convert", f"-{SNDFILE[codec]}", f"source-{channels}-44100.wav", "NAME")
     # with a broadcast extension
-    made("sndfile", "pcm_16_le", 2, 44100, "sndfile-metadata-set", "--bext-description", "a bell", "--bext-originator", "checks", "sndfile-2-44100-pcm_16_le.wav", "NAME", name="sndfile-bext.wav")
+    made("sndfile", "wave", "pcm_16_le", 2, 44100, "sndfile-metadata-set", "--bext-description", "a bell", "--bext-originator", "checks",
+         "sndfile-wave-2-44100-pcm_16_le.wav", "NAME", name="sndfile-bext.wav")
+    for kind, codecs in SNDFILE_KINDS.items():
+        for codec in codecs:
+            for channels in (1, 2) if codec in NOT_READ else channels_of(kind):
+                order = ["-endian=little"] if kind == "dns" else ["-endian=big"] if (kind, codec) == ("sphere", "pcm_16_be") else []
+                # a rate that VOC holds exactly
+                rate = 8000 if kind == "voc" else 44100
+                made("sndfile", kind, codec, channels, rate, "sndfile-convert", *order, f"-{SNDFILE[codec]}", f"source-{channels}-{rate}.wav", "NAME")
+    # a size of the form that the lines are not to have
+    for codec in ("ulaw", "alaw", "pcm24", "pcm32", "pcms8"):
+        refused(f"sndfile-{codec}.sph", "4 BadField", "sndfile-convert", f"-{codec}", "source-1-8000.wav", "NAME")
+    for suffix in ("au", "w64", "rf64"):
+        refused(f"sndfile-float.{suffix}", "10 FloatSamples", "sndfile-convert", "-float32", "source-2-8000.wav", "NAME")
+    refused("sndfile-16sv.svx", "1 NotSound", "sndfile-convert", "-pcm16", "source-1-8000.wav", "NAME")
+    for suffix in ("aiff", "caf"):
+        refused(f"sndfile.{suffix}", "2 FloatRate", "sndfile-convert", "-pcm16", "source-1-8000.wav", "NAME")
+    refused("sndfile-gsm.w64", "9 UnknownCodec", "sndfile-convert", "-gsm610", "source-1-8000.wav", "NAME")
 if tools["ffmpeg"]:
-    for codec, word in FFMPEG.items():
+    def by_ffmpeg(codec, *more):
+        return "-metadata", "title=bell", "-c:a", FFMPEG[codec], *more
+    for codec in WAVE:
         for channels in (1, 2):
             # with a LIST chunk, as ffmpeg writes it
-            made("ffmpeg", codec, channels, 8000, "ffmpeg", "-v", "error", "-y", "-i", f"source-{channels}-8000.wav", "-metadata", "title=bell", "-c:a", word, "NAME")
-cases.end(sum(count for tool, count in {"sox": 44, "sndfile": 17, "ffmpeg": 16}.items() if tools[tool]))
+            made("ffmpeg", "wave", codec, channels, 8000, "ffmpeg", "-v", "error", "-y", "-i", f"source-{channels}-8000.wav", *by_ffmpeg(codec, "NAME"))
+    for kind, codecs in FFMPEG_KINDS.items():
+        for codec in codecs:
+            for channels in channels_of(kind):
+                form = ["-f", "wav", "-rf64", "always"] if kind == "rf64" else []
+                made("ffmpeg", kind, codec, channels, 8000, "ffmpeg", "-v", "error", "-y", "-i", f"source-{channels}-8000.wav", *by_ffmpeg(codec, *form, "NAME"))
+    refused("ffmpeg-float.w64", "10 FloatSamples", "ffmpeg", "-v", "error", "-y", "-i", "source-2-8000.wav", "-c:a", "pcm_f32le", "NAME")
+cases.end(sum(count for tool, count in {"sox": 44 + 50 + 7, "sndfile": 17 + 91 + 12, "ffmpeg": 16 + 62 + 1}.items() if tools[tool]))
 PY

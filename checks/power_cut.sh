@@ -1,6 +1,6 @@
 #!/usr/bin/env bash
 # What a power cut leaves of a file that `snd script --auto` updates. Scripts of random edits with fixed seeds run on real files
-# under strace. From its calls each image is rebuilt that a cut may leave at each moment: the file's length and each sector of 512
+# under strace: many on WAVE files of linear samples in all shapes, and some on files of each other kind and of the laws of G.711. From its calls each image is rebuilt that a cut may leave at each moment: the file's length and each sector of 512
 # bytes as last synced or as any write or cut since then meant it. All such mixes are tried where they are few, and else random
 # ones with a fixed seed. Each is opened and read by the program: it must have its parameters and its further chunks, the frames
 # that were acknowledged or those of the command under way, and each frame that this command does not write. What is wanted comes
@@ -20,22 +20,22 @@ import struct
 import subprocess
 import sys
 
+import kinds
 from common import SECONDS, Cases, first_difference
 
 program = sys.argv[1]
 cases = Cases("power_cut")
 SECTOR, MOST, RUNS, LINES, LEAST = 512, 64, 432, 40, 20000
+# how many scripts of each further kind, and of a WAVE file by each law
+OTHERS = 4
 CODECS = {8: "pcm_u8", 16: "pcm_16_le", 24: "pcm_24_le", 32: "pcm_32_le"}
 RATE = 8000
 
 
 # ---- the files
 
-def coded(bits, frames):
-    numbers = [x for frame in frames for x in frame]
-    if bits == 8:
-        return bytes(x + 128 for x in numbers)
-    return b"".join((x % (1 << bits)).to_bytes(bits // 8, "little") for x in numbers)
+def coded(codec, frames):
+    return kinds.coded(codec, [x for frame in frames for x in frame])
 
 
 def chunk(id, body):
@@ -48,14 +48,39 @@ class Shape:
     def __init__(self, before=b"", behind=b"", fact=False, front=b"", part=False, loose=b""):
         self.before, self.behind, self.fact, self.front, self.part, self.loose = before, behind, fact, front, part, loose
 
-    def bytes(self, bits, channels, frames, given=False):
+    def bytes(self, codec, channels, frames, given=False):
+        bits = kinds.width(codec)
         align = channels * bits // 8
-        data = coded(bits, frames) + (b"p" * (align - 1) if given and self.part else b"")
+        data = coded(codec, frames) + (b"p" * (align - 1) if given and self.part else b"")
         body = b"WAVE" + chunk(b"fmt ", struct.pack("<HHIIHH", 1, channels, RATE, RATE * align, align, bits))
         body += self.front + (chunk(b"fact", struct.pack("<I", len(frames))) if self.fact else b"") + self.before
         body += chunk(b"data", data) + self.behind
         size = 7 if given and self.loose else len(body)
         return b"RIFF" + struct.pack("<I", size) + body + (self.loose if given else b"")
+
+
+class Other:
+    """A file of another kind, or of a law. RF64 and 8SVX files have chunks before the data."""
+
+    behind, part, loose = b"", False, b""
+
+    def __init__(self, kind):
+        self.kind = kind
+
+    def bytes(self, codec, channels, frames, given=False):
+        data = coded(codec, frames)
+        if self.kind == "rf64":
+            return kinds.riff("rf64", codec, channels, RATE, data, NOTES)
+        if self.kind == "svx":
+            return kinds.svx(RATE, data, kinds.chunk(b"NAME", b"kept", ">") + kinds.chunk(b"abcd", b"odd", ">"))
+        return kinds.whole_file(self.kind, codec, channels, RATE, [x for frame in frames for x in frame])
+
+    def further(self, image):
+        """The chunks of an image, or None where it is no such file."""
+        try:
+            return kinds.stated(image).rest
+        except (KeyError, IndexError, struct.error, ValueError):
+            return None
 
 
 NOTES = chunk(b"LIST", b"INFOINAM" + struct.pack("<I", 6) + b"notes\0") + chunk(b"abcd", b"odd")
@@ -70,6 +95,9 @@ SHAPES = {
     "a part of a frame at the end": Shape(NOTES, part=True),
     "a wrong size and bytes behind it": Shape(loose=b"loose ends"),
 }
+
+
+OTHER = {f"another kind: {kind}": (kind, codecs) for kind, codecs in (*kinds.HOLDS.items(), ("wave", kinds.LAWS)) if kind != "wave" or codecs == kinds.LAWS}
 
 
 def further(image):
@@ -94,12 +122,13 @@ def further(image):
 class Model:
     """What the lines of a script do to a list of frames, and what they answer."""
 
-    def __init__(self, bits, channels, frames, grows):
-        self.bits, self.channels, self.frames, self.grows = bits, channels, frames, grows
+    def __init__(self, kind, codec, channels, frames, grows):
+        self.kind, self.codec, self.channels, self.frames, self.grows = kind, codec, channels, frames, grows
+        self.bits = kinds.width(codec)
         self.read_at = self.write_at = 0
 
     def shown(self):
-        return f"ok {len(self.frames)} {self.channels} {RATE} wave {CODECS[self.bits]}"
+        return f"ok {len(self.frames)} {self.channels} {RATE} {self.kind} {self.codec}"
 
     def answer(self, line):
         words = line.split()
@@ -130,6 +159,7 @@ class Model:
             return "error 22 PartFrame"
         if any(not -high <= x < high for x in numbers):
             return "error 23 SampleRange"
+        numbers = kinds.kept(self.codec, numbers)
         new = [tuple(numbers[i:i + self.channels]) for i in range(0, len(numbers), self.channels)]
         if self.write_at + len(new) > len(self.frames) and not self.grows:
             return "error 25 TrailingData"
@@ -184,6 +214,9 @@ def random_lines(dice, model):
             at = min(at, max(many - 1, 0))
             count = max(min(count, many - at), 1)
         new = random_frames(dice, bits, channels, count)
+        if model.codec == "ulaw":
+            # those that mean 0 by its other byte
+            new = [tuple(0 if -4 < x < 0 else x for x in frame) for frame in new]
         return [f"seek w {at}", write_of([x for frame in new for x in frame])]
     if what == "cut":
         return [f"truncate {dice.choice([many, max(many - 1, 0), dice.randint(many // 2, many), dice.randint(0, many)])}"]
@@ -349,13 +382,21 @@ class Run:
 
     def __init__(self, seed):
         self.dice = random.Random(f"power cut {seed}")
-        self.name = list(SHAPES)[seed % len(SHAPES)]
-        self.shape, self.bits, self.channels = SHAPES[self.name], 8 * (1 + seed // 9 % 4), 1 + seed // 36 % 3
+        if seed < RUNS:
+            self.name = list(SHAPES)[seed % len(SHAPES)]
+            self.shape, self.kind, self.codec, self.channels = SHAPES[self.name], "wave", CODECS[8 * (1 + seed // 9 % 4)], 1 + seed // 36 % 3
+            self.further = further
+        else:
+            self.name, time = list(OTHER)[(seed - RUNS) % len(OTHER)], (seed - RUNS) // len(OTHER)
+            self.kind, codecs = OTHER[self.name]
+            self.shape, self.codec, self.channels = Other(self.kind), codecs[time * len(codecs) // OTHERS], 1 + time % min(kinds.MOST.get(self.kind, 3), 3)
+            self.further = self.shape.further
         many = self.dice.randint(100, 500) if self.shape.behind else self.dice.choice([0, 1, 7, self.dice.randint(30, 300)])
-        frames = random_frames(self.dice, self.bits, self.channels, many)
-        self.first = self.shape.bytes(self.bits, self.channels, frames, True)
-        self.chunks = further(self.first)
-        model = Model(self.bits, self.channels, frames, not self.shape.behind)
+        frames = random_frames(self.dice, kinds.width(self.codec), self.channels, many)
+        frames = [tuple(kinds.kept(self.codec, it)) for it in frames]
+        self.first = self.shape.bytes(self.codec, self.channels, frames, True)
+        self.chunks = self.further(self.first)
+        model = Model(self.kind, self.codec, self.channels, frames, not self.shape.behind)
         self.replies, self.states, lines = [model.shown(), f"ok {len(frames)}"], [frames, frames, frames], []
         while len(lines) < LINES:
             for line in random_lines(self.dice, model):
@@ -384,20 +425,20 @@ class Run:
         wrong += [f"a call that is not known: {it[1]}" for it in self.events if it[0] == "unknown"]
         wrong += [f"{len(held) - 1} writes or cuts are not synced at the end"] * (len(held) > 1)
         wrong += first_difference("the file, and what its calls make of it", self.last, held[-1])
-        want = self.shape.bytes(self.bits, self.channels, self.states[-1])
+        want = self.shape.bytes(self.codec, self.channels, self.states[-1])
         return wrong + first_difference("the file at the end", self.last[:len(want)] if self.shape.loose or self.shape.part else self.last, want)
 
     def unsafe(self, out, image, answer):
         """Why an image is not safe when so many replies are out, or None."""
         opened, frames, closed = answer
         old, new = self.states[out], self.states[min(out + 1, len(self.states) - 1)]
-        if opened != f"ok {len(frames)} {self.channels} {RATE} wave {CODECS[self.bits]}" or closed != f"ok {len(frames)}":
+        if opened != f"ok {len(frames)} {self.channels} {RATE} {self.kind} {self.codec}" or closed != f"ok {len(frames)}":
             return f"it says {opened!r} and {closed!r}, and has {len(frames)} frames"
         if len(frames) not in (len(old), len(new)):
             return f"it has {len(frames)} frames, for {len(old)} or {len(new)}"
-        if further(image) != self.chunks:
+        if self.further(image) != self.chunks:
             return "its further chunks are others"
-        behind = self.chunks[1] + len(coded(self.bits, old))
+        behind = self.chunks[1] + len(coded(self.codec, old)) if self.shape.behind else 0
         if self.shape.behind and image[behind:] != self.first[behind:]:
             return "what stands behind the data is other"
         was, will = self.texts[id(old)], self.texts[id(new)]
@@ -471,18 +512,18 @@ def sizes_unsynced(run, events):
 
 images_tried = moments_tried = in_flight = unsafe_found = 0
 WRONG = {it: 0 for it in (whole_first, whole_last, data_unsynced, sizes_unsynced)}
-for seed in range(RUNS):
+for seed in range(RUNS + OTHERS * len(OTHER)):
     name = f"run {seed}"
     try:
         run = Run(seed)
-        name += f": {run.channels} times {run.bits} bits, {run.name}"
+        name += f": {run.channels} times {run.codec}, {run.name}"
         found, held = moments(run.dice, run.first, run.events, run.replies)
         total, faults, told = run.judge(found, 50)
         images_tried, moments_tried, unsafe_found = images_tried + total, moments_tried + len(found), unsafe_found + len(faults)
         in_flight += sum(len(each) for _, each in found if len(each) > 1)
         wrong = run.wrong_end(held) + faults + told
         # some runs, of each shape and each width
-        for change in WRONG if seed % 23 == 0 else ():
+        for change in WRONG if seed % 23 == 0 and seed < RUNS else ():
             events = list(run.events)
             change(run, events)
             WRONG[change] += len(run.judge(moments(run.dice, run.first, events, run.replies)[0], 0)[1])
@@ -493,5 +534,5 @@ for change, many in WRONG.items():
     cases.case(f"a wrong trace: {change.__doc__}", [] if many else ["no image that is not safe was found"])
 cases.case("the number of images", [] if in_flight >= LEAST else [f"{in_flight} at moments that leave more than one, for {LEAST} or more"])
 print(f"power_cut: images that are not safe, of wrong traces: {', '.join(f'{change.__name__} {many}' for change, many in WRONG.items())}")
-cases.end(RUNS + len(WRONG) + 1, f"; {images_tried} images at {moments_tried} moments ({in_flight} at those that leave more than one), {unsafe_found} unsafe")
+cases.end(RUNS + OTHERS * len(OTHER) + len(WRONG) + 1, f"; {images_tried} images at {moments_tried} moments ({in_flight} at those that leave more than one), {unsafe_found} unsafe")
 PY

@@ -103,13 +103,22 @@ for codec, bits in BITS.items():
             + ["error 22 PartFrame" if channels > 1 else "error 40 BadCommand", line_of(codec, channels, 8000, 1), "ok 1"], 1,
             {"o.wav": made(codec, channels, 8000, [[0] * channels])})
 
+# the laws of G.711 keep of each number the one that its byte stands for
+for codec, tag, data, kept, zeros, zero in (("ulaw", 7, b"\xff\x7f\xce\x4e\x80\0", ["0 0", "988 -988", "32124 -32124"], b"\xff\xff", "0 0"),
+                                           ("alaw", 6, b"\xd5\x55\xfa\x7a\xaa\x2a", ["8 -8", "1008 -1008", "32256 -32256"], b"\xd5\xd5", "8 8")):
+    start = struct.pack("<4sI4s4sIHHIIHHH4sII4sI", b"RIFF", 50 + len(data), b"WAVE", b"fmt ", 18, tag, 2, 8000, 16000, 2, 8, 0, b"fact", 4, 3, b"data", len(data))
+    run(f"{codec}, what is kept", [f"create wave {codec} 2 8000 o.wav", "write 0 -1 1000 -1000 32767 -32768", "write 32768 0", "write 0 -32769", "close", "open u o.wav", "read 9", "seek w 1", "write 0 0",
+        "seek r 0", "read 9", "close"],
+        [line_of(codec, 2, 8000, 0), "ok 3", "error 23 SampleRange", "error 23 SampleRange", "ok 3", line_of(codec, 2, 8000, 3), "ok 3", *kept, "ok 1", "ok 1", "ok 0", "ok 3", kept[0], zero, kept[2], "ok 3"], 1,
+        {"o.wav": start + data[:2] + zeros + data[4:]})
+
 two = [[1, -1], [2, -2]]
 old = {"a.wav": made("pcm_16_le", 2, 44100, two), "other": b"stays"}
 opened = line_of("pcm_16_le", 2, 44100, 2)
 run("refusals, and nothing changes", ["write 1", "update", "close", "open u none.wav", "create wave pcm_16_be 1 1 n.wav", "create wave pcm_16_le 0 1 n.wav", "create wave pcm_16_le 257 1 n.wav",
-    "create wave pcm_16_le 1 0 n.wav", "create au pcm_16_be 1 1 n.wav", "create wave ulaw 1 1 n.wav", "open r a.wav", "open u a.wav", "create wave pcm_u8 1 1 n.wav", "create au pcm_u8 1 1 n.wav",
+    "create wave pcm_16_le 1 0 n.wav", "create au pcm_u8 1 1 n.wav", "create wave ima 1 1 n.wav", "open r a.wav", "open u a.wav", "create wave pcm_u8 1 1 n.wav", "create wave ima 1 1 n.wav",
     "write 1 1", "truncate 1", "trim", "update", "auto on", "auto off", "seek w 0", "seek rw 2", "seek r 3", "set cue 1", "close"],
-    ["error 42 NotOpen"] * 3 + ["error 56 MissingFile", "error 18 BadPair", "error 11 BadChannels", "error 11 BadChannels", "error 12 BadRate", "error 99 NotBuilt", "error 99 NotBuilt", opened]
+    ["error 42 NotOpen"] * 3 + ["error 56 MissingFile", "error 18 BadPair", "error 11 BadChannels", "error 11 BadChannels", "error 12 BadRate", "error 18 BadPair", "error 99 NotBuilt", opened]
     + ["error 43 AlreadyOpen"] * 2 + ["error 99 NotBuilt"] + ["error 44 WrongMode"] * 7 + ["ok 2", "error 24 SeekRange", "error 99 NotBuilt", "ok 2"], 1, old, old)
 run("a file that is made is not read", ["create wave pcm_u8 1 8000 n.wav", "write 1", "read 1", "seek r 0", "seek rw 0", "write 2", "truncate 9", "truncate 1"],
     [line_of("pcm_u8", 1, 8000, 0), "ok 1", "error 44 WrongMode", "error 44 WrongMode", "ok 0", "ok 1", "error 24 SeekRange", "ok 1"], 1, {"n.wav": made("pcm_u8", 1, 8000, [[2]])})
@@ -307,5 +316,5 @@ else:
     print("scripts: skipped: a full disk, since no file system can be mounted")
     skipped += 1
 os.rmdir(folder)
-cases.end(24 + 4 + 3 + 12 + 8 + 9 + 5 + 6 + 3 - skipped)
+cases.end(24 + 4 + 2 + 3 + 12 + 8 + 9 + 5 + 6 + 3 - skipped)
 PY
