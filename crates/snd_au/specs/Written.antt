@@ -1,7 +1,6 @@
 -- An AU file as it is made, after the manual page au(4) of Solaris (Sun Microsystems): the mark and five numbers, and no
 -- remark before the data.
-use Rattle.std.specs.Prelude.{ℕ, ◌≤◌, false, List, [], ◌++◌, None, codes, length}
-use Rattle.snd_disk.specs.State.{IsMeant, Rises, State}
+use Rattle.std.specs.Prelude.{ℕ, false, List, [], ◌++◌, None, codes}
 use Rattle.snd_fields.specs.Field.{bytes_of}
 use Rattle.snd_fields.specs.declared.field.Order.{Order}
 use Rattle.snd_fields.specs.declared.field.Order.TheVariants.{Little, Big}
@@ -9,8 +8,6 @@ use Rattle.snd_layout.specs.Params.{Parameters}
 use Rattle.snd_layout.specs.Shape.{Shape}
 use Rattle.snd_layout.specs.declared.codec.Codec.{Codec}
 use Rattle.snd_layout.specs.declared.codec.Codec.TheVariants.{S8, S16, S24, S32, MuLaw, ALaw}
-use Rattle.snd_layout.specs.declared.error.OpenError.{OpenError}
-use Rattle.snd_layout.specs.declared.error.OpenError.TheVariants.{DiskFault}
 use Rattle.snd_au.specs.Layout.{kind_of}
 
 abbrev pub mark : Order → List ℕ
@@ -49,12 +46,3 @@ made_shape order p = record {
   reserve = None;
   pieces = [];
 }
-
--- where a disk tells what it holds, it holds these bytes
-abbrev pub Becomes : List ℕ → State → State → Type 0
-Becomes bytes old new = IsMeant (length bytes) (λ _. bytes) old new
-
--- The only reason that a head is not laid is a fault of the disk.
-abbrev pub IsLayCause : ℕ → ℕ → OpenError → Type 0
-IsLayCause old new (DiskFault step) = (old ≤ new) × Rises old new
-IsLayCause old new _ = ⊥

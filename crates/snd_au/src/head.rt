@@ -3,19 +3,19 @@
 ghost use Rattle.std.specs.Prelude.{◌≡◌, ◌≤◌, IfErr, IfOk, None, OnOk, is_some, length};
 ghost use Rattle.snd_disk.specs.Device.{GoesOnFrom, WritesAtMost};
 ghost use Rattle.snd_layout.specs.Fit.{fit_refusal};
+ghost use Rattle.snd_layout.specs.Laid.{HoldsJust, IsLayCause};
 ghost use Rattle.snd_layout.specs.Opened.{CountsOpening};
 ghost use Rattle.snd_au.specs.Layout.{kind_of};
-ghost use Rattle.snd_au.specs.Written.{Becomes, IsLayCause, au_head, made_shape, mark};
+ghost use Rattle.snd_au.specs.Written.{au_head, made_shape, mark};
 
 use crate::codecs::encoding_of;
 use crate::layout::{DATA_SIZE, kind_of};
 use crate::numbers::HEAD_SIZE;
 use crate::put::{put_all, put_number};
-use crate::steps::write_whole;
 use arrayvec::ArrayVec;
 use snd_disk::Disk;
 use snd_fields::Order;
-use snd_layout::{Layout, OpenError, Params, PieceList};
+use snd_layout::{Layout, OpenError, Params, PieceList, write_whole};
 use std::alloc::Global;
 
 // The mark of a byte order.
@@ -74,7 +74,7 @@ pub fn lay_head<D: Disk>(
     params: Params,
 ) -> Result<Layout, OpenError>
     requires { fit_refusal (kind_of order) params ≡ None }
-    ensures laid { OnOk result (Becomes (au_head order params) (D.state disk.old) (D.state disk.new)) }
+    ensures laid { OnOk result (HoldsJust (au_head order params) (D.state disk.old) (D.state disk.new)) }
     ensures layout { IfOk result (λ l. l ≡ made_shape order params) }
     ensures cause { IfErr result (IsLayCause (D.state disk.old).faults (D.state disk.new).faults) }
     ensures faults { CountsOpening D.state disk.old disk.new result }

@@ -7,7 +7,6 @@ mod laws;
 mod layout;
 mod numbers;
 mod put;
-mod steps;
 #[cfg(test)]
 mod tests;
 mod values;

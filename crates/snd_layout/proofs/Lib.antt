@@ -1,3 +1,4 @@
 pub mod Formats
 pub mod Frames
+pub mod Replaced
 pub mod RoundTrips

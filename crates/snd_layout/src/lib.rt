@@ -1,5 +1,6 @@
 //! What a sound file says of itself: its kind, its parameters and its layout, and why it is refused.
-//! Nothing here reads a file, and nothing allocates but the list of pieces.
+//! Nothing here reads a file, nothing but `write_whole` writes one, and nothing allocates but the list of
+//! pieces.
 #![tactic(auto)]
 
 mod codec;
@@ -9,6 +10,7 @@ mod fit;
 mod format;
 mod kind;
 mod laws;
+mod laying;
 mod layout;
 mod params;
 mod piece;
@@ -23,6 +25,7 @@ pub use field::{Field, one_sector};
 pub use format::read_fmt;
 pub use kind::Kind;
 pub use laws::written_format_reads_back;
+pub use laying::write_whole;
 pub use layout::Layout;
 pub use params::Params;
 pub use piece::{Piece, PieceList};

@@ -4,17 +4,17 @@ ghost use Rattle.std.specs.Prelude.{◌≡◌, ◌≤◌, [], None, is_some, OnO
 ghost use Rattle.arrayvec.specs.ArrayVec.{array_vec_len};
 ghost use Rattle.snd_disk.specs.Device.{GoesOnFrom, WritesAtMost};
 ghost use Rattle.snd_layout.specs.Fit.{fit_refusal};
+ghost use Rattle.snd_layout.specs.Laid.{HoldsJust, IsLayCause};
 ghost use Rattle.snd_layout.specs.Opened.{CountsOpening};
 ghost use Rattle.snd_layout.specs.declared.kind.Kind.TheVariants.{Rf64};
-ghost use Rattle.snd_wave.specs.Written.{Becomes, IsLayCause};
 ghost use Rattle.snd_rf64.specs.Written.{made_shape, plain_start, rf64_head, top};
 
 use crate::layout::{INNER, OUTER, SIDE};
 use crate::values::put_long;
 use arrayvec::ArrayVec;
 use snd_disk::Disk;
-use snd_layout::{Codec, Kind, Layout, OpenError, Params, PieceList, put_fmt};
-use snd_wave::{put_all, put_chunk, put_number, write_whole};
+use snd_layout::{Codec, Kind, Layout, OpenError, Params, PieceList, put_fmt, write_whole};
+use snd_wave::{put_all, put_chunk, put_number};
 use std::alloc::Global;
 
 /// A size of 32 bits that says nothing.
@@ -95,7 +95,7 @@ fn plain_layout(alloc: Global, params: Params) -> Layout
 /// `DiskFault`, where a call of the disk failed.
 pub fn lay_head<D: Disk>(alloc: Global, disk: &mut D, params: Params) -> Result<Layout, OpenError>
     requires { fit_refusal Rf64 params ≡ None }
-    ensures laid { OnOk result (Becomes (rf64_head params []) (D.state disk.old) (D.state disk.new)) }
+    ensures laid { OnOk result (HoldsJust (rf64_head params []) (D.state disk.old) (D.state disk.new)) }
     ensures layout { IfOk result (λ l. l ≡ made_shape params []) }
     ensures cause { IfErr result (IsLayCause (D.state disk.old).faults (D.state disk.new).faults) }
     ensures faults { CountsOpening D.state disk.old disk.new result }

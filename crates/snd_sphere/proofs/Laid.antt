@@ -1,22 +1,6 @@
 -- A head that is laid.
-use Rattle.std.proofs.Common.{◌≡◌, ℕ, ◌-◌, List, [], ◌++◌, Option, None, Some, refl, ap, ◌∙◌, take, length, option_map, replicate, arith}
+use Rattle.std.proofs.Common.{◌≡◌, ℕ, ◌-◌, List, [], ◌++◌, ap, ◌∙◌, take, length, replicate, arith}
 use Rattle.std.proofs.lemmas.List.{take-replicate}
-use Rattle.snd_disk.specs.State.{IsCut, IsMeant, State}
-
-option_twice : (o : Option (List ℕ)) (f : List ℕ → List ℕ) (bytes : List ℕ) → option_map (λ (b : List ℕ). bytes) (option_map f o) ≡ option_map (λ (b : List ℕ). bytes) o
-option_twice None f bytes = refl
-option_twice (Some b) f bytes = refl
-
--- a write of all behind a cut of all
-pub laid : (old mid new : State) (bytes : List ℕ) → IsCut 0 old mid → IsMeant (length bytes) (λ b. bytes) mid new → IsMeant (length bytes) (λ b. bytes) old new
-laid old mid new bytes cut put = record {
-  size = put.size;
-  contents = put.contents ∙ ap (option_map (λ (b : List ℕ). bytes)) cut.contents ∙ option_twice old.contents (take 0) bytes;
-  name = put.name ∙ cut.name;
-}
-
-pub becomes_as : (old new : State) (bytes head : List ℕ) → IsMeant (length bytes) (λ b. bytes) old new → bytes ≡ head → IsMeant (length head) (λ b. head) old new
-becomes_as old new bytes head put is = record { size = put.size ∙ ap length is; contents = put.contents ∙ ap (λ (l : List ℕ). option_map (λ (b : List ℕ). l) old.contents) is; name = put.name }
 
 -- bytes that were put behind one another
 pub joined : (i0 i1 i2 i3 i4 i5 a b put_c put_d put_e c d e : List ℕ) → i0 ≡ [] → i1 ≡ i0 ++ a → i2 ≡ i1 ++ put_c → i3 ≡ i2 ++ b → i4 ≡ i3 ++ put_d → i5 ≡ i4 ++ put_e

@@ -1,14 +1,11 @@
 -- A SPHERE file as it is made, after "SPeech HEader REsources (SPHERE) 2.6" (National Institute of Standards and Technology,
 -- 1995), header structure. The order of the lines, and the ten digits of the count, are this library's own rules.
-use Rattle.std.specs.Prelude.{ℕ, ◌+◌, ◌-◌, ◌≤◌, List, [], ◌++◌, None, codes, decimal, false, length, replicate}
-use Rattle.snd_disk.specs.State.{IsMeant, Rises, State}
+use Rattle.std.specs.Prelude.{ℕ, ◌+◌, ◌-◌, List, [], ◌++◌, None, codes, decimal, false, length, replicate}
 use Rattle.snd_fields.specs.declared.field.Order.TheVariants.{Little, Big}
 use Rattle.snd_layout.specs.Params.{Parameters}
 use Rattle.snd_layout.specs.Shape.{Shape}
 use Rattle.snd_layout.specs.declared.codec.Codec.{Codec}
 use Rattle.snd_layout.specs.declared.codec.Codec.TheVariants.{S16, ALaw}
-use Rattle.snd_layout.specs.declared.error.OpenError.{OpenError}
-use Rattle.snd_layout.specs.declared.error.OpenError.TheVariants.{DiskFault}
 use Rattle.snd_layout.specs.declared.kind.Kind.TheVariants.{Sphere}
 
 -- the lines that say how samples are coded, with the line feed before them
@@ -41,12 +38,3 @@ made_shape p = record {
   reserve = None;
   pieces = [];
 }
-
--- where a disk tells what it holds, it holds these bytes
-abbrev pub Becomes : List ℕ → State → State → Type 0
-Becomes bytes old new = IsMeant (length bytes) (λ _. bytes) old new
-
--- The only reason that a head is not laid is a fault of the disk.
-abbrev pub IsLayCause : ℕ → ℕ → OpenError → Type 0
-IsLayCause old new (DiskFault step) = (old ≤ new) × Rises old new
-IsLayCause old new _ = ⊥

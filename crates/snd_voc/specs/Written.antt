@@ -1,15 +1,12 @@
 -- A Creative Voice file as it is made, after "The Developer Kit for Sound Blaster Series" (Creative Labs, 1991), appendix
 -- "Creative Voice File Format": a head of 26 bytes of version 1.20, and one block of type 9.
-use Rattle.std.specs.Prelude.{ℕ, ◌≤◌, false, List, [], ◌∷◌, ◌++◌, None, codes, length}
-use Rattle.snd_disk.specs.State.{IsMeant, Rises, State}
+use Rattle.std.specs.Prelude.{ℕ, false, List, [], ◌∷◌, ◌++◌, None, codes}
 use Rattle.snd_fields.specs.Field.{bytes_of}
 use Rattle.snd_fields.specs.declared.field.Order.TheVariants.{Little}
 use Rattle.snd_layout.specs.Params.{Parameters}
 use Rattle.snd_layout.specs.Shape.{Shape}
 use Rattle.snd_layout.specs.declared.codec.Codec.{Codec}
 use Rattle.snd_layout.specs.declared.codec.Codec.TheVariants.{S16, MuLaw, ALaw}
-use Rattle.snd_layout.specs.declared.error.OpenError.{OpenError}
-use Rattle.snd_layout.specs.declared.error.OpenError.TheVariants.{DiskFault}
 use Rattle.snd_layout.specs.declared.kind.Kind.TheVariants.{Voc}
 
 -- the bits of a sample, and the number of a codec
@@ -51,12 +48,3 @@ made_shape p = record {
   reserve = None;
   pieces = [];
 }
-
--- where a disk tells what it holds, it holds these bytes
-abbrev pub Becomes : List ℕ → State → State → Type 0
-Becomes bytes old new = IsMeant (length bytes) (λ _. bytes) old new
-
--- The only reason that a head is not laid is a fault of the disk.
-abbrev pub IsLayCause : ℕ → ℕ → OpenError → Type 0
-IsLayCause old new (DiskFault step) = (old ≤ new) × Rises old new
-IsLayCause old new _ = ⊥

@@ -1,8 +1,7 @@
 -- The head of a file, as it is put together.
-use Rattle.std.proofs.Common.{◌≡◌, ℕ, ◌+◌, ◌-◌, Bool, true, false, List, [], ◌∷◌, ◌++◌, Option, None, Some, length, take, replicate, refl, sym, ap, ◌∙◌, append_assoc, arith}
+use Rattle.std.proofs.Common.{◌≡◌, ℕ, ◌+◌, ◌-◌, Bool, true, false, List, [], ◌∷◌, ◌++◌, length, replicate, sym, ap, ◌∙◌, append_assoc, arith}
 use Rattle.std.proofs.lemmas.List.{append-nil, places, same_lists}
-use Rattle.std.specs.Prelude.{codes, option_map}
-use Rattle.snd_disk.specs.State.{IsCut, IsMeant, State}
+use Rattle.std.specs.Prelude.{codes}
 use Rattle.snd_fields.specs.Field.{bytes_of}
 use Rattle.snd_fields.specs.declared.field.Order.TheVariants.{Little}
 use Rattle.snd_layout.specs.Params.{Parameters}
@@ -48,18 +47,3 @@ whole_put p start format one two three four five six seven eight at body a b c d
     joined (codes "riff") riff_end (bytes_of Little 8 start) (codes "wave") id_end (chunk_bytes (codes "fmt ") format) (fact_bytes p.codec) (head_bytes (codes "data") 0) one two three four five six seven eight a b c d e f g h
     ∙ ap (λ n. codes "riff" ++ (riff_end ++ (bytes_of Little 8 n ++ (codes "wave" ++ (id_end ++ (chunk_bytes (codes "fmt ") format ++ (fact_bytes p.codec ++ head_bytes (codes "data") 0))))))) at
     ∙ ap (λ (l : List ℕ). codes "riff" ++ (riff_end ++ (bytes_of Little 8 (start_of p.codec) ++ (codes "wave" ++ (id_end ++ (chunk_bytes (codes "fmt ") l ++ (fact_bytes p.codec ++ head_bytes (codes "data") 0))))))) body
-
-option_twice : (o : Option (List ℕ)) (meant : List ℕ → List ℕ) (y : List ℕ) → option_map (λ (b : List ℕ). y) (option_map meant o) ≡ option_map (λ (b : List ℕ). y) o
-option_twice None meant y = refl
-option_twice (Some b) meant y = refl
-
--- a write of all behind a cut of all
-pub laid : (old mid new : State) (bytes : List ℕ) → IsCut 0 old mid → IsMeant (length bytes) (λ b. bytes) mid new → IsMeant (length bytes) (λ b. bytes) old new
-laid old mid new bytes cut put = record {
-  size = put.size;
-  contents = put.contents ∙ ap (option_map (λ (b : List ℕ). bytes)) cut.contents ∙ option_twice old.contents (take 0) bytes;
-  name = put.name ∙ cut.name;
-}
-
-pub becomes_as : (old new : State) (bytes head : List ℕ) → IsMeant (length bytes) (λ b. bytes) old new → bytes ≡ head → IsMeant (length head) (λ b. head) old new
-becomes_as old new bytes head put is = record { size = put.size ∙ ap length is; contents = put.contents ∙ ap (λ (l : List ℕ). option_map (λ (b : List ℕ). l) old.contents) is; name = put.name }

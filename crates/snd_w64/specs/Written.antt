@@ -1,8 +1,7 @@
 -- A Wave64 file as it is made, after "Sony Wave64" (Sony Media Software): `riff`, the size of the whole, `wave`, and chunks, each
 -- from a multiple of 8 on, among them `fmt ` and at last `data`. A `fact` chunk with the count of the frames stands before the
 -- data of all codecs but linear ones; its form and the order of the chunks are this library's own rules.
-use Rattle.std.specs.Prelude.{ℕ, ◌+◌, ◌-◌, Bool, true, false, not, ◌&&◌, List, [], ◌∷◌, ◌++◌, Option, None, Some, codes, length, replicate, if◌then◌else◌, ◌≤◌}
-use Rattle.snd_disk.specs.State.{IsMeant, Rises, State}
+use Rattle.std.specs.Prelude.{ℕ, ◌+◌, ◌-◌, Bool, true, false, not, ◌&&◌, List, [], ◌∷◌, ◌++◌, Option, None, Some, codes, length, replicate, if◌then◌else◌}
 use Rattle.snd_fields.specs.Field.{bytes_of}
 use Rattle.snd_fields.specs.declared.field.Order.TheVariants.{Little}
 use Rattle.snd_layout.specs.Blocks.{is_adpcm}
@@ -11,8 +10,6 @@ use Rattle.snd_layout.specs.Shape.{Shape}
 use Rattle.snd_layout.specs.Written.{written_format}
 use Rattle.snd_layout.specs.declared.codec.Codec.{Codec}
 use Rattle.snd_layout.specs.declared.codec.Codec.TheVariants.{MuLaw, ALaw, Ima, Ms}
-use Rattle.snd_layout.specs.declared.error.OpenError.{OpenError}
-use Rattle.snd_layout.specs.declared.error.OpenError.TheVariants.{DiskFault}
 use Rattle.snd_layout.specs.declared.field.Field.{Field}
 use Rattle.snd_layout.specs.declared.kind.Kind.TheVariants.{W64}
 use Rattle.snd_w64.specs.Layout.{id_end, raised}
@@ -76,12 +73,3 @@ made_shape p = record {
   reserve = None;
   pieces = [];
 }
-
--- where a disk tells what it holds, it holds these bytes
-abbrev pub Becomes : List ℕ → State → State → Type 0
-Becomes bytes old new = IsMeant (length bytes) (λ _. bytes) old new
-
--- The only reason that a head is not laid is a fault of the disk.
-abbrev pub IsLayCause : ℕ → ℕ → OpenError → Type 0
-IsLayCause old new (DiskFault step) = (old ≤ new) × Rises old new
-IsLayCause old new _ = ⊥

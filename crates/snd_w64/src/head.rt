@@ -1,20 +1,20 @@
 //! The head of a file that is made.
 
 ghost use Rattle.std.specs.Prelude.{◌≡◌, ◌+◌, ◌≤◌, ◌++◌, None, is_some, length, OnOk, IfErr, IfOk};
-ghost use Rattle.snd_disk.specs.Device.{CountsOn, GoesOnFrom, WritesAtMost};
-ghost use Rattle.snd_disk.specs.State.{IsCut};
+ghost use Rattle.snd_disk.specs.Device.{GoesOnFrom, WritesAtMost};
 ghost use Rattle.arrayvec.specs.ArrayVec.{array_vec_len};
 ghost use Rattle.snd_layout.specs.Fit.{fit_refusal};
+ghost use Rattle.snd_layout.specs.Laid.{HoldsJust, IsLayCause};
 ghost use Rattle.snd_layout.specs.Opened.{CountsOpening};
 ghost use Rattle.snd_layout.specs.declared.kind.Kind.TheVariants.{W64};
-ghost use Rattle.snd_w64.specs.Written.{Becomes, IsLayCause, fact_bytes, has_fact, inner_at, made_shape, side_at, start_of, w64_head};
+ghost use Rattle.snd_w64.specs.Written.{fact_bytes, has_fact, inner_at, made_shape, side_at, start_of, w64_head};
 
 use crate::layout::WHOLE_SIZE;
 use crate::put::{put_all, put_chunk, put_head, put_number};
 use crate::walk::ID_END;
 use arrayvec::ArrayVec;
-use snd_disk::{Disk, Step};
-use snd_layout::{Codec, Field, Kind, Layout, OpenError, Params, PieceList, put_fmt};
+use snd_disk::Disk;
+use snd_layout::{Codec, Field, Kind, Layout, OpenError, Params, PieceList, put_fmt, write_whole};
 use std::alloc::Global;
 
 /// The last 12 bytes of the identifier `riff`.
@@ -132,62 +132,12 @@ fn plain_layout(alloc: Global, params: Params) -> Layout
     }
 }
 
-// Cuts a disk to nothing.
-fn clear<D: Disk>(disk: &mut D) -> Result<(), Step>
-    ensures done { OnOk result (IsCut 0 (D.state disk.old) (D.state disk.new)) }
-    ensures faults { CountsOn D.state disk.old disk.new result }
-    ensures name { (D.state disk.new).name ≡ (D.state disk.old).name }
-    ensures told { is_some (D.state disk.new).contents ≡ is_some (D.state disk.old).contents }
-    ensures time { GoesOnFrom D.state D.left_between disk.old disk.new }
-    ensures written { (D.state disk.new).written ≡ (D.state disk.old).written }
-    ensures asked { (D.state disk.new).asked ≡ (D.state disk.old).asked }
-{
-    let Ok(()) = disk.cut(0) else {
-        return Err(Step::Cut);
-    };
-    Ok(())
-}
-
-// Writes all bytes of an empty disk.
-fn fill<D: Disk>(disk: &mut D, bytes: &[u8]) -> Result<(), Step>
-    requires empty { (D.state disk.old).size ≡ 0 }
-    requires few { length bytes.now ≤ 2048 }
-    ensures done { OnOk result (Becomes bytes.now (D.state disk.old) (D.state disk.new)) }
-    ensures faults { CountsOn D.state disk.old disk.new result }
-    ensures name { (D.state disk.new).name ≡ (D.state disk.old).name }
-    ensures told { is_some (D.state disk.new).contents ≡ is_some (D.state disk.old).contents }
-    ensures time { GoesOnFrom D.state D.left_between disk.old disk.new }
-    ensures written { WritesAtMost D.state 2048 disk.old disk.new }
-    ensures asked { (D.state disk.new).asked ≡ (D.state disk.old).asked }
-{
-    let Ok(()) = disk.write_at(0, bytes) else {
-        return Err(Step::Write);
-    };
-    Ok(())
-}
-
-// Replaces what a disk holds by these bytes.
-fn write_whole<D: Disk>(disk: &mut D, bytes: &[u8]) -> Result<(), Step>
-    requires { length bytes.now ≤ 2048 }
-    ensures done { OnOk result (Becomes bytes.now (D.state disk.old) (D.state disk.new)) }
-    ensures faults { CountsOn D.state disk.old disk.new result }
-    ensures name { (D.state disk.new).name ≡ (D.state disk.old).name }
-    ensures told { is_some (D.state disk.new).contents ≡ is_some (D.state disk.old).contents }
-    ensures time { GoesOnFrom D.state D.left_between disk.old disk.new }
-    ensures written { WritesAtMost D.state 2048 disk.old disk.new }
-    ensures asked { (D.state disk.new).asked ≡ (D.state disk.old).asked }
-{
-    clear(disk)?;
-    fill(disk, bytes)?;
-    Ok(())
-}
-
 /// Makes a disk a Wave64 file with these parameters and no frames, whatever it held before. A
 /// Wave64 file holds the parameters. It writes at most 2048 bytes and reads none. The only error is
 /// `DiskFault`, where a call of the disk failed.
 pub fn lay_head<D: Disk>(alloc: Global, disk: &mut D, params: Params) -> Result<Layout, OpenError>
     requires { fit_refusal W64 params ≡ None }
-    ensures laid { OnOk result (Becomes (w64_head params) (D.state disk.old) (D.state disk.new)) }
+    ensures laid { OnOk result (HoldsJust (w64_head params) (D.state disk.old) (D.state disk.new)) }
     ensures layout { IfOk result (λ l. l ≡ made_shape params) }
     ensures cause { IfErr result (IsLayCause (D.state disk.old).faults (D.state disk.new).faults) }
     ensures faults { CountsOpening D.state disk.old disk.new result }

@@ -10,13 +10,14 @@ use Rattle.snd_chunks.specs.Chunks.{padded_end}
 use Rattle.snd_chunks.specs.Written.{NewChunk, all_placed, chunk_bytes, chunks_bytes}
 use Rattle.snd_fields.specs.declared.field.Order.TheVariants.{Little}
 use Rattle.snd_layout.specs.Fit.{fit_refusal}
+use Rattle.snd_layout.specs.Laid.{HoldsJust}
 use Rattle.snd_layout.specs.declared.kind.Kind.TheVariants.{Wave}
 use Rattle.snd_layout.specs.Params.{AreParams, Parameters, data_bytes}
 use Rattle.snd_layout.specs.Shape.{IsPlaced, Shape}
 use Rattle.snd_layout.specs.declared.piece.Piece.{Piece}
 use Rattle.snd_wave.specs.Changes.{IsPlan, first_place, head_shape}
 use Rattle.snd_wave.specs.Put.{IsHeadOf, with_piece}
-use Rattle.snd_wave.specs.Written.{Becomes, MayBeMade, MayBePiece, head_size, made_pieces, made_shape, wave_head}
+use Rattle.snd_wave.specs.Written.{MayBeMade, MayBePiece, head_size, made_pieces, made_shape, wave_head}
 use Rattle.snd_wave.specs.declared.plan.Plan.{Plan}
 use Rattle.snd_wave.proofs.Made.{length-head_for, no_bytes_yet}
 use Rattle.snd_wave.proofs.NewHeads.{bytes-append, format_few, no_bytes, size_least}
@@ -121,7 +122,7 @@ plain_may p good fits =
     let none : data_bytes p 0 ≡ 0 = no_bytes_yet p good fits in
     record { params = good; fits = fits; pieces_are = All-nil MayBePiece; few = omega arith; in_room = omega (arith, none); counted = λ adpcm. omega arith }
 
-pub plain_head_laid : (old new : State) (h : Shape) (p : Parameters) → AreParams p → fit_refusal Wave p ≡ None → h ≡ made_shape p [] 0 → Becomes (wave_head p []) old new → IsHeadOf new h p []
+pub plain_head_laid : (old new : State) (h : Shape) (p : Parameters) → AreParams p → fit_refusal Wave p ≡ None → h ≡ made_shape p [] 0 → HoldsJust (wave_head p []) old new → IsHeadOf new h p []
 plain_head_laid old new h p good fits shape laid = record {
   laid = record { may = plain_may p good fits; shape = shape };
   size = laid.size ∙ length-head_for p [] 0;

@@ -123,18 +123,3 @@ plain_shape p start inner side pieces good fits at inner_is side_is none =
     ap (λ k. shape_with p start 0 k inner side false pieces) (sym (no_bytes_yet p good fits))
     ∙ same_shape p start (head_size p []) 0 0 (data_bytes p 0) inner _ side _ false false pieces (made_pieces p []) size refl
     (inner_is ∙ ap (inner_at p.codec) size) (side_is ∙ ap (side_at p.codec) size) refl (none ∙ sym (no_pieces_yet p))
-
-option_twice : (o : Option (List ℕ)) (meant : List ℕ → List ℕ) (y : List ℕ) → option_map (λ (b : List ℕ). y) (option_map meant o) ≡ option_map (λ (b : List ℕ). y) o
-option_twice None meant y = refl
-option_twice (Some b) meant y = refl
-
--- a write of all behind a cut of all
-pub laid : (old mid new : State) (bytes : List ℕ) → IsCut 0 old mid → IsMeant (length bytes) (λ b. bytes) mid new → IsMeant (length bytes) (λ b. bytes) old new
-laid old mid new bytes cut put = record {
-  size = put.size;
-  contents = put.contents ∙ ap (option_map (λ (b : List ℕ). bytes)) cut.contents ∙ option_twice old.contents (take 0) bytes;
-  name = put.name ∙ cut.name;
-}
-
-pub becomes_as : (old new : State) (bytes head : List ℕ) → IsMeant (length bytes) (λ b. bytes) old new → bytes ≡ head → IsMeant (length head) (λ b. head) old new
-becomes_as old new bytes head put is = record { size = put.size ∙ ap length is; contents = put.contents ∙ ap (λ (l : List ℕ). option_map (λ (b : List ℕ). l) old.contents) is; name = put.name }

@@ -3,7 +3,6 @@
 -- chunk with the count of the frames stands before the data of all codecs but linear ones, after "New Multimedia Data Types
 -- and Data Techniques" 3.0 (Microsoft, 1994). The order of the chunks and the filler are this library's own rules.
 use Rattle.std.specs.Prelude.{◌≡◌, ℕ, ◌+◌, ◌-◌, ◌^◌, ◌<◌, ◌≤◌, Bool, true, false, not, ◌&&◌, List, [], ◌∷◌, ◌++◌, All, Option, None, Some, Ok, codes, drop, length, map, replicate, take, if◌then◌else◌}
-use Rattle.snd_disk.specs.State.{IsMeant, Rises, State}
 use Rattle.snd_chunks.specs.Chunks.{padded_end}
 use Rattle.snd_chunks.specs.Written.{NewChunk, all_placed, chunks_bytes, head_bytes, pad, placed}
 use Rattle.snd_fields.specs.Field.{bytes_of}
@@ -16,8 +15,6 @@ use Rattle.snd_layout.specs.Shape.{Shape}
 use Rattle.snd_layout.specs.Written.{written_format}
 use Rattle.snd_layout.specs.declared.codec.Codec.{Codec}
 use Rattle.snd_layout.specs.declared.codec.Codec.TheVariants.{MuLaw, ALaw, Ima, Ms}
-use Rattle.snd_layout.specs.declared.error.OpenError.{OpenError}
-use Rattle.snd_layout.specs.declared.error.OpenError.TheVariants.{DiskFault}
 use Rattle.snd_layout.specs.declared.field.Field.{Field}
 use Rattle.snd_layout.specs.declared.kind.Kind.TheVariants.{Wave}
 use Rattle.snd_layout.specs.declared.piece.Piece.{Piece}
@@ -157,12 +154,3 @@ plain_start ALaw = 58
 plain_start (Ima align per_block) = 60
 plain_start (Ms align per_block) = 90
 plain_start codec = 44
-
--- where a disk tells what it holds, it holds these bytes
-abbrev pub Becomes : List ℕ → State → State → Type 0
-Becomes bytes old new = IsMeant (length bytes) (λ _. bytes) old new
-
--- The only reason that a head is not laid is a fault of the disk.
-abbrev pub IsLayCause : ℕ → ℕ → OpenError → Type 0
-IsLayCause old new (DiskFault step) = (old ≤ new) × Rises old new
-IsLayCause old new _ = ⊥

@@ -1,21 +1,21 @@
 //! The head of a file that is made.
 
 ghost use Rattle.std.specs.Prelude.{◌≡◌, ◌+◌, ◌≤◌, ◌++◌, [], None, is_some, length, OnOk, IfErr, IfOk};
-ghost use Rattle.snd_disk.specs.Device.{CountsOn, GoesOnFrom, WritesAtMost};
+ghost use Rattle.snd_disk.specs.Device.{GoesOnFrom, WritesAtMost};
 ghost use Rattle.arrayvec.specs.ArrayVec.{array_vec_len};
 ghost use Rattle.snd_chunks.specs.Written.{chunks_bytes};
 ghost use Rattle.snd_fields.specs.declared.field.Order.TheVariants.{Little};
 ghost use Rattle.snd_layout.specs.Fit.{fit_refusal};
+ghost use Rattle.snd_layout.specs.Laid.{HoldsJust, IsLayCause};
 ghost use Rattle.snd_layout.specs.Opened.{CountsOpening};
 ghost use Rattle.snd_layout.specs.declared.kind.Kind.TheVariants.{Wave};
 ghost use Rattle.snd_wave.specs.Put.{IsHeadOf};
-ghost use Rattle.snd_wave.specs.Written.{Becomes, IsLayCause, has_fact, inner_at, made_shape, new_fact, plain_start, side_at, wave_head};
+ghost use Rattle.snd_wave.specs.Written.{has_fact, inner_at, made_shape, new_fact, plain_start, side_at, wave_head};
 
 use crate::put::{put_all, put_chunk, put_number};
-use crate::steps::cut_to;
 use arrayvec::ArrayVec;
-use snd_disk::{Disk, Step};
-use snd_layout::{Codec, Field, Kind, Layout, OpenError, Params, PieceList, put_fmt};
+use snd_disk::Disk;
+use snd_layout::{Codec, Field, Kind, Layout, OpenError, Params, PieceList, put_fmt, write_whole};
 use std::alloc::Global;
 
 pub(crate) fn has_fact(params: &Params) -> bool
@@ -127,46 +127,12 @@ fn plain_layout(alloc: Global, params: Params) -> Layout
     }
 }
 
-// Writes all bytes of an empty disk.
-fn fill<D: Disk>(disk: &mut D, bytes: &[u8]) -> Result<(), Step>
-    requires empty { (D.state disk.old).size ≡ 0 }
-    requires few { length bytes.now ≤ 2048 }
-    ensures done { OnOk result (Becomes bytes.now (D.state disk.old) (D.state disk.new)) }
-    ensures faults { CountsOn D.state disk.old disk.new result }
-    ensures name { (D.state disk.new).name ≡ (D.state disk.old).name }
-    ensures told { is_some (D.state disk.new).contents ≡ is_some (D.state disk.old).contents }
-    ensures time { GoesOnFrom D.state D.left_between disk.old disk.new }
-    ensures written { WritesAtMost D.state 2048 disk.old disk.new }
-    ensures asked { (D.state disk.new).asked ≡ (D.state disk.old).asked }
-{
-    let Ok(()) = disk.write_at(0, bytes) else {
-        return Err(Step::Write);
-    };
-    Ok(())
-}
-
-/// Replaces what a disk holds by these bytes.
-pub fn write_whole<D: Disk>(disk: &mut D, bytes: &[u8]) -> Result<(), Step>
-    requires { length bytes.now ≤ 2048 }
-    ensures done { OnOk result (Becomes bytes.now (D.state disk.old) (D.state disk.new)) }
-    ensures faults { CountsOn D.state disk.old disk.new result }
-    ensures name { (D.state disk.new).name ≡ (D.state disk.old).name }
-    ensures told { is_some (D.state disk.new).contents ≡ is_some (D.state disk.old).contents }
-    ensures time { GoesOnFrom D.state D.left_between disk.old disk.new }
-    ensures written { WritesAtMost D.state 2048 disk.old disk.new }
-    ensures asked { (D.state disk.new).asked ≡ (D.state disk.old).asked }
-{
-    cut_to(disk, 0)?;
-    fill(disk, bytes)?;
-    Ok(())
-}
-
 /// Makes a disk a WAVE file with these parameters, no frames and no pieces, whatever it held before. A
 /// WAVE file holds the parameters. It writes at most 2048 bytes and reads none. The only error is
 /// `DiskFault`, where a call of the disk failed.
 pub fn lay_head<D: Disk>(alloc: Global, disk: &mut D, params: Params) -> Result<Layout, OpenError>
     requires { fit_refusal Wave params ≡ None }
-    ensures laid { OnOk result (Becomes (wave_head params []) (D.state disk.old) (D.state disk.new)) }
+    ensures laid { OnOk result (HoldsJust (wave_head params []) (D.state disk.old) (D.state disk.new)) }
     ensures layout { IfOk result (λ l. l ≡ made_shape params [] 0) }
     ensures head { IfOk result (λ l. IsHeadOf (D.state disk.new) l params []) }
     ensures cause { IfErr result (IsLayCause (D.state disk.old).faults (D.state disk.new).faults) }

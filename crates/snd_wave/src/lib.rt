@@ -21,7 +21,7 @@ mod tests;
 mod values;
 
 pub use changing::put_piece;
-pub use head::{lay_head, write_whole};
+pub use head::lay_head;
 pub use laws::{keeps_laws, made_files_read_back};
 pub use layout::open_layout;
 pub use parts::{Parts, parts_of};

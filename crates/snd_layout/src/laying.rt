@@ -1,9 +1,9 @@
-//! The calls of a disk that replace what it holds.
+//! The head of a file that is made: it replaces what a disk holds.
 
 ghost use Rattle.std.specs.Prelude.{◌≡◌, ◌≤◌, OnOk, is_some, length};
 ghost use Rattle.snd_disk.specs.Device.{CountsOn, GoesOnFrom, WritesAtMost};
 ghost use Rattle.snd_disk.specs.State.{IsCut};
-ghost use Rattle.snd_au.specs.Written.{Becomes};
+ghost use Rattle.snd_layout.specs.Laid.{HoldsJust};
 
 use snd_disk::{Disk, Step};
 
@@ -24,10 +24,10 @@ fn empty<D: Disk>(disk: &mut D) -> Result<(), Step>
 }
 
 // Writes all bytes of an empty disk.
-fn fill_empty<D: Disk>(disk: &mut D, bytes: &[u8]) -> Result<(), Step>
+fn fill<D: Disk>(disk: &mut D, bytes: &[u8]) -> Result<(), Step>
     requires empty { (D.state disk.old).size ≡ 0 }
     requires few { length bytes.now ≤ 2048 }
-    ensures done { OnOk result (Becomes bytes.now (D.state disk.old) (D.state disk.new)) }
+    ensures done { OnOk result (HoldsJust bytes.now (D.state disk.old) (D.state disk.new)) }
     ensures faults { CountsOn D.state disk.old disk.new result }
     ensures name { (D.state disk.new).name ≡ (D.state disk.old).name }
     ensures told { is_some (D.state disk.new).contents ≡ is_some (D.state disk.old).contents }
@@ -41,10 +41,11 @@ fn fill_empty<D: Disk>(disk: &mut D, bytes: &[u8]) -> Result<(), Step>
     Ok(())
 }
 
-/// Replaces what a disk holds by these bytes.
-pub(crate) fn write_whole<D: Disk>(disk: &mut D, bytes: &[u8]) -> Result<(), Step>
+/// Replaces what a disk holds by these bytes, of which there are at most 2048. It reads nothing. The error
+/// is the call of the disk that failed; what the disk holds then is not said.
+pub fn write_whole<D: Disk>(disk: &mut D, bytes: &[u8]) -> Result<(), Step>
     requires { length bytes.now ≤ 2048 }
-    ensures done { OnOk result (Becomes bytes.now (D.state disk.old) (D.state disk.new)) }
+    ensures done { OnOk result (HoldsJust bytes.now (D.state disk.old) (D.state disk.new)) }
     ensures faults { CountsOn D.state disk.old disk.new result }
     ensures name { (D.state disk.new).name ≡ (D.state disk.old).name }
     ensures told { is_some (D.state disk.new).contents ≡ is_some (D.state disk.old).contents }
@@ -53,6 +54,6 @@ pub(crate) fn write_whole<D: Disk>(disk: &mut D, bytes: &[u8]) -> Result<(), Ste
     ensures asked { (D.state disk.new).asked ≡ (D.state disk.old).asked }
 {
     empty(disk)?;
-    fill_empty(disk, bytes)?;
+    fill(disk, bytes)?;
     Ok(())
 }
