@@ -1,18 +1,15 @@
 -- The laws of layouts hold for files of every kind, since they hold for each.
-use Rattle.std.proofs.Common.{◌≡◌, ◌⊎◌, ◌∙◌, ap, sym, subst, refl, inl, inr, ℕ, ◌+◌, ◌<◌, ◌≤◌, Bool, true, false, List, [], All, Result, None, Some, Ok, Err, length, take, get_or, arith}
-use Rattle.std.specs.Prelude.{IfSome}
+use Rattle.std.proofs.Common.{◌≡◌, ◌∙◌, ap, sym, refl, inl, inr, ℕ, ◌<◌, ◌≤◌, Bool, false, List, All, Result, None, Ok, Err, length, take, get_or, arith}
 use Rattle.snd_fields.specs.Laws.{IsByte}
 use Rattle.snd_fields.specs.declared.field.Order.TheVariants.{Little, Big}
 use Rattle.snd_layout.specs.Blocks.{is_adpcm}
-use Rattle.snd_layout.specs.Container.{AreBytes, ClosesNear, Container, EndsAreInOrder, FieldsApart, FillsFields, FitsField, FitsFields, IsNew, KeepsHead, KeepsLaws, LiesIn, MayBeCounted, NewCountReadsBack, OldCountReadsBack, OuterIsWithin, OuterReaches, OuterStops, PiecesStay, SameOutsideDataReadsBack, SameValues, Says, VoiceDeclares, VoiceReadsBack, counted_shape}
+use Rattle.snd_layout.specs.Container.{AreBytes, ClosesNear, EndsAreInOrder, FieldsApart, FillsFields, FitsFields, IsNew, KeepsHead, KeepsLaws, LiesIn, MayBeCounted, NewCountReadsBack, OldCountReadsBack, OuterIsWithin, OuterReaches, OuterStops, PiecesStay, SameOutsideDataReadsBack, SameValues, Says, VoiceDeclares, VoiceReadsBack, counted_shape}
 use Rattle.snd_layout.specs.Fit.{fit_refusal}
 use Rattle.snd_layout.specs.Params.{AreParams, Parameters}
-use Rattle.snd_layout.specs.Shape.{KeepsRule, Shape, end}
-use Rattle.snd_layout.specs.declared.field.Field.{Field}
+use Rattle.snd_layout.specs.Shape.{KeepsRule, Shape}
 use Rattle.snd_layout.specs.declared.kind.Kind.{Kind}
 use Rattle.snd_layout.specs.declared.kind.Kind.TheVariants.{Wave, Rf64, W64, Au, Dns, Voc, Svx, Sphere}
 use Rattle.snd_layout.specs.declared.refusal.OpenRefusal.{OpenRefusal}
-use Rattle.snd_layout.specs.declared.refusal.OpenRefusal.TheVariants.{NotBuilt}
 use Rattle.snd_container.proofs.Marks.{SameMarks, kind_of_marks, recognised_too}
 use Rattle.snd_container.specs.Kinds.{container_of}
 use Rattle.snd_container.specs.Laws.{FileSays, KeepAllLaws}

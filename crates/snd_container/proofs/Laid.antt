@@ -6,11 +6,12 @@ use Rattle.snd_layout.specs.Fit.{fit_refusal}
 use Rattle.snd_layout.specs.Params.{AreParams, Parameters}
 use Rattle.snd_layout.specs.Shape.{Shape}
 use Rattle.snd_layout.specs.declared.kind.Kind.{Kind}
-use Rattle.snd_container.proofs.Heads.{plain_head}
+use Rattle.snd_wave.proofs.Changed.{head_laid}
 use Rattle.snd_container.proofs.EveryKind.{laws_of}
+use Rattle.snd_container.proofs.Heads.{of_kind}
 use Rattle.snd_container.specs.Kinds.{container_of}
 use Rattle.snd_container.specs.Made.{new_file}
-use Rattle.snd_container.specs.Put.{IsHeadOf, IsHeadOfKind, IsPlainHead}
+use Rattle.snd_container.specs.Put.{IsHeadOf, heads_of}
 
 -- what becomes of the disk
 abbrev pub IsLaid : {T E : Type 0} → Result T E → Kind → Parameters → State → State → Type 0
@@ -19,15 +20,18 @@ IsLaid r kind p old new = OnOk r (IsMeant (length (new_file kind p)) (λ b. new_
 pub laid : {T E : Type 0} (r : Result T E) (kind known : Kind) (p : Parameters) (old new : State) → kind ≡ known → IsLaid r known p old new → IsLaid r kind p old new
 laid r kind known p old new is done = subst (λ (k : Kind). IsLaid r k p old new) (sym is) done
 
--- and what it holds then, of a kind whose files keep no pieces
-abbrev pub IsPlain : Kind → Type 0
-IsPlain known = (disk : State) (h : Shape) (p : Parameters) → IsPlainHead (container_of known) disk h p [] → IsHeadOfKind known disk h p []
+-- and what it holds then: the head without pieces is that of a new file
+pub record IsPlain (known : Kind) (p : Parameters) : Type 0 where
+  pub may : (heads_of known).may p []
+  pub shape : (heads_of known).shape p [] ≡ (container_of known).made p
+  pub head : (heads_of known).head p [] ≡ (container_of known).head p
 
-pub holds_plain : {E : Type 0} (r : Result Shape E) (known : Kind) (p : Parameters) (old new : State) → IsPlain known → ((h : Shape) → h ≡ (container_of known).made p → h.kind ≡ known)
+pub holds_plain : {E : Type 0} (r : Result Shape E) (known : Kind) (p : Parameters) (old new : State) → IsPlain known p → ((h : Shape) → h ≡ (container_of known).made p → h.kind ≡ known)
     → IfOk r (λ h. h ≡ (container_of known).made p) → IsLaid r known p old new → IfOk r (λ h. IsHeadOf new h p [])
 holds_plain (Err error) known p old new plain kind made done = tt
 holds_plain (Ok h) known p old new plain kind made done =
-    subst (λ (k : Kind). IsHeadOfKind k new h p []) (sym (kind h made)) (plain new h p (plain_head known p h old new made done))
+    of_kind known new h p [] (kind h made)
+    (head_laid (heads_of known) old new h p plain.may (made ∙ sym plain.shape) (subst (λ l. IsMeant (length l) (λ b. l) old new) (sym plain.head) done))
 
 -- the kind of what is made
 pub made_kind : (known : Kind) (p : Parameters) (good : AreParams p) → fit_refusal known p ≡ None → (h : Shape) → h ≡ (container_of known).made p → h.kind ≡ known

@@ -1,5 +1,5 @@
 -- The layout of a file whose kind is known.
-use Rattle.std.proofs.Common.{◌≡◌, ◌⊎◌, inl, inr, ℕ, List, take, Result, Ok, Err, refl, sym, ap, subst, ◌∙◌}
+use Rattle.std.proofs.Common.{◌≡◌, ℕ, List, take, Result, Ok, Err, sym, ap, subst, ◌∙◌}
 use Rattle.snd_disk.specs.Device.{Tells}
 use Rattle.snd_disk.specs.State.{State}
 use Rattle.snd_layout.specs.Opened.{OpensAs}
@@ -7,9 +7,7 @@ use Rattle.snd_layout.specs.Shape.{Shape}
 use Rattle.snd_layout.specs.declared.error.OpenError.{OpenError}
 use Rattle.snd_layout.specs.declared.error.OpenError.TheVariants.{Refused}
 use Rattle.snd_layout.specs.declared.kind.Kind.{Kind}
-use Rattle.snd_layout.specs.declared.kind.Kind.TheVariants.{Wave, Rf64, W64, Au, Dns, Voc, Svx, Sphere}
 use Rattle.snd_layout.specs.declared.refusal.OpenRefusal.{OpenRefusal}
-use Rattle.snd_layout.specs.declared.refusal.OpenRefusal.TheVariants.{NotBuilt}
 use Rattle.snd_container.specs.Recognised.{recognised}
 use Rattle.snd_container.specs.Sound.{layout_as, layout_of, layout_of_kind}
 

@@ -1,5 +1,5 @@
 -- The laws of layouts, for files of every kind.
-use Rattle.std.specs.Prelude.{◌≡◌, ℕ, Bool, true, false, List, All, Ok, None}
+use Rattle.std.specs.Prelude.{◌≡◌, ℕ, Bool, false, List, All, Ok, None}
 use Rattle.snd_fields.specs.Laws.{IsByte}
 use Rattle.snd_layout.specs.Blocks.{is_adpcm}
 use Rattle.snd_layout.specs.Container.{AreBytes, ClosesNear, EndsAreInOrder, FieldsApart, FillsFields, FitsFields, IsNew, LiesIn, NewCountReadsBack, OldCountReadsBack, OuterIsWithin, OuterReaches, OuterStops, PiecesStay, SameOutsideDataReadsBack, SameValues, Says, VoiceDeclares, VoiceReadsBack}

@@ -1,5 +1,5 @@
 -- Pieces that are put into a file that is made.
-use Rattle.std.specs.Prelude.{◌≡◌, ℕ, List, [], ◌∷◌, ◌++◌, Some, length}
+use Rattle.std.specs.Prelude.{◌≡◌, ℕ, List, [], ◌∷◌, ◌++◌}
 use Rattle.snd_chunks.specs.Written.{NewChunk}
 use Rattle.snd_disk.specs.State.{State}
 use Rattle.snd_layout.specs.Container.{Container}
@@ -8,52 +8,53 @@ use Rattle.snd_layout.specs.Shape.{Shape}
 use Rattle.snd_layout.specs.declared.kind.Kind.{Kind}
 use Rattle.snd_layout.specs.declared.kind.Kind.TheVariants.{Wave, Rf64, W64, Au, Dns, Voc, Svx, Sphere}
 use Rattle.snd_container.specs.Kinds.{container_of}
-use Rattle.snd_wave.specs.Put as wave
-use Rattle.snd_wave.specs.Put.{with_piece}
+use Rattle.snd_rf64.specs.Put.{rf64_heads}
+use Rattle.snd_svx.specs.Put.{svx_heads}
+use Rattle.snd_svx.specs.Written as svx
+use Rattle.snd_wave.specs.Heads.{Heads, IsHeadIn, with_piece}
+use Rattle.snd_wave.specs.Put.{wave_heads}
 use Rattle.snd_wave.specs.Written.{MayBePiece}
 
 -- a chunk that a file of a kind may keep beside its sound
 abbrev pub MayBePieceOf : Kind → NewChunk → Type 0
 MayBePieceOf Wave piece = MayBePiece piece
-MayBePieceOf Rf64 piece = ⊥
+MayBePieceOf Rf64 piece = MayBePiece piece
 MayBePieceOf W64 piece = ⊥
 MayBePieceOf Au piece = ⊥
 MayBePieceOf Dns piece = ⊥
 MayBePieceOf Voc piece = ⊥
-MayBePieceOf Svx piece = ⊥
+MayBePieceOf Svx piece = svx.MayBePiece piece
 MayBePieceOf Sphere piece = ⊥
 
--- A disk holds nothing but the head of a file without pieces and frames, where it tells what it holds; and a layout is that of
--- this head.
-pub record IsPlainHead (c : Container) (disk : State) (h : Shape) (p : Parameters) (pieces : List NewChunk) : Type 0 where
-  pub plain : pieces ≡ []
-  pub shape : h ≡ c.made p
-  pub size : disk.size ≡ length (c.head p)
-  pub contents : (b : List ℕ) → disk.contents ≡ Some b → b ≡ c.head p
+-- the heads of a container whose files keep no pieces
+abbrev pub plain_heads : Container → Heads
+plain_heads c = record { may = λ p pieces. pieces ≡ []; shape = λ p pieces. c.made p; head = λ p pieces. c.head p }
 
--- A disk holds nothing but the head of a file with these pieces and no frames; pieces are put into WAVE files alone.
-abbrev pub IsHeadOfKind : Kind → State → Shape → Parameters → List NewChunk → Type 0
-IsHeadOfKind Wave disk h p pieces = wave.IsHeadOf disk h p pieces
-IsHeadOfKind Rf64 disk h p pieces = IsPlainHead (container_of Rf64) disk h p pieces
-IsHeadOfKind W64 disk h p pieces = IsPlainHead (container_of W64) disk h p pieces
-IsHeadOfKind Au disk h p pieces = IsPlainHead (container_of Au) disk h p pieces
-IsHeadOfKind Dns disk h p pieces = IsPlainHead (container_of Dns) disk h p pieces
-IsHeadOfKind Voc disk h p pieces = IsPlainHead (container_of Voc) disk h p pieces
-IsHeadOfKind Svx disk h p pieces = IsPlainHead (container_of Svx) disk h p pieces
-IsHeadOfKind Sphere disk h p pieces = IsPlainHead (container_of Sphere) disk h p pieces
+-- the heads of a kind, with pieces where its files keep them
+abbrev pub heads_of : Kind → Heads
+heads_of Wave = wave_heads
+heads_of Rf64 = rf64_heads
+heads_of W64 = plain_heads (container_of W64)
+heads_of Au = plain_heads (container_of Au)
+heads_of Dns = plain_heads (container_of Dns)
+heads_of Voc = plain_heads (container_of Voc)
+heads_of Svx = svx_heads
+heads_of Sphere = plain_heads (container_of Sphere)
 
+-- a disk holds nothing but the head of a file with these pieces and no frames, where it tells what it holds; and a layout is that
+-- of this head
 abbrev pub IsHeadOf : State → Shape → Parameters → List NewChunk → Type 0
-IsHeadOf disk h p pieces = IsHeadOfKind h.kind disk h p pieces
+IsHeadOf disk h p pieces = IsHeadIn (heads_of h.kind) disk h p pieces
 
 -- .. of some pieces
 abbrev pub HoldsHead : State → Shape → Type 0
 HoldsHead disk h = (p : Parameters) × (pieces : List NewChunk) × IsHeadOf disk h p pieces
 
--- the head of any pieces becomes that of these pieces with one put, or with one more
+-- the head of any pieces becomes that of the same kind of these pieces with one put, or with one more
 abbrev pub PutsPiece : {D : Type 0} → (D → State) → D → D → Shape → Shape → ℕ → NewChunk → Type 0
 PutsPiece state old new h h' place piece =
-    (p : Parameters) (pieces : List NewChunk) → IsHeadOf (state old) h p pieces → IsHeadOf (state new) h' p (with_piece pieces place piece)
+    (p : Parameters) (pieces : List NewChunk) → IsHeadOf (state old) h p pieces → IsHeadIn (heads_of h.kind) (state new) h' p (with_piece pieces place piece)
 
 abbrev pub AddsPiece : {D : Type 0} → (D → State) → D → D → Shape → Shape → NewChunk → Type 0
 AddsPiece state old new h h' piece =
-    (p : Parameters) (pieces : List NewChunk) → IsHeadOf (state old) h p pieces → IsHeadOf (state new) h' p (pieces ++ piece ∷ [])
+    (p : Parameters) (pieces : List NewChunk) → IsHeadOf (state old) h p pieces → IsHeadIn (heads_of h.kind) (state new) h' p (pieces ++ piece ∷ [])

@@ -3,7 +3,7 @@
 ghost use Rattle.std.specs.Prelude.{◌≡◌, ◌<◌, ◌≤◌, ◌==◌, IfErr, OnErr, OnOk, if◌then◌else◌, is_some, length};
 ghost use Rattle.snd_disk.specs.Device.{AsksAtMost, GoesOnFrom, OnlyReadsOn, WritesAtMost};
 ghost use Rattle.snd_layout.specs.declared.error.PieceError.TheVariants.{Memory};
-ghost use Rattle.snd_wave.specs.Put.{CountsPutting, new_piece};
+ghost use Rattle.snd_wave.specs.Heads.{CountsPutting, new_piece};
 ghost use Rattle.snd_container.specs.Put.{AddsPiece, HoldsHead, MayBePieceOf, PutsPiece};
 
 use snd_disk::Disk;
@@ -42,8 +42,9 @@ pub fn put_piece<D: Disk>(
 {
     match layout.kind {
         Kind::Wave => snd_wave::put_piece(disk, layout, place, id, body),
-        Kind::Rf64 | Kind::W64 | Kind::Au | Kind::Dns | Kind::Voc | Kind::Svx | Kind::Sphere =>
-            unreachable!(),
+        Kind::Rf64 => snd_rf64::put_piece(disk, layout, place, id, body),
+        Kind::Svx => snd_svx::put_piece(disk, layout, place, id, body),
+        Kind::W64 | Kind::Au | Kind::Dns | Kind::Voc | Kind::Sphere => unreachable!(),
     }
 }
 

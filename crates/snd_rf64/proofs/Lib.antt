@@ -6,4 +6,5 @@ pub mod KeptPieces
 pub mod Lies
 pub mod Made
 pub mod NewFiles
+pub mod Putting
 pub mod Contained

@@ -81,7 +81,7 @@ plain_shape p start pieces fits at none =
 
 -- ---- a new file
 
-no_pieces : (p : Parameters) → AreParams p → fit_refusal Rf64 p ≡ None → MayBeMade p []
+pub no_pieces : (p : Parameters) → AreParams p → fit_refusal Rf64 p ≡ None → MayBeMade p []
 no_pieces p good fits = record { params = good; fits = fits; pieces_are = All-nil MayBePiece; few = omega arith }
 
 top_bytes : (s : ℕ) → All IsByte (top s)

@@ -18,13 +18,13 @@ use snd_wave::{put_all, put_chunk, put_number};
 use std::alloc::Global;
 
 /// A size of 32 bits that says nothing.
-const NO_SIZE: u64 = 0xffff_ffff;
+pub(crate) const NO_SIZE: u64 = 0xffff_ffff;
 
 /// The bytes of `ds64` that has an empty table.
 const SIZES_LEN: u64 = 28;
 
-// Where the data begin.
-fn plain_start(params: &Params) -> u64
+/// Where the data begin.
+pub(crate) fn plain_start(params: &Params) -> u64
     ensures value { result ≡ plain_start params.now.codec }
     ensures least { 80 ≤ result }
     ensures most { result ≤ 82 }

@@ -1,12 +1,19 @@
-//! The laws of a container, proved of RF64. The function does nothing: its contract is the laws.
+//! The laws of RF64 files, proved of every file. The functions do nothing: their contracts are the laws.
 
 ghost use Rattle.snd_layout.specs.Container.{KeepsLaws};
 ghost use Rattle.snd_layout.specs.declared.kind.Kind.TheVariants.{Rf64};
 ghost use Rattle.snd_rf64.specs.Container.{rf64};
+ghost use Rattle.snd_rf64.specs.Put.{HeadReadsBack};
 
 /// An RF64 file that is edited says what it should: where its fields are partly old and partly new, as a
 /// crash leaves them, it has the old count of frames or the new one; a change of its data changes
 /// nothing else; its pieces stay; and what is made reads back.
 pub fn keeps_laws()
     ensures { KeepsLaws Rf64 rf64 }
+{}
+
+/// A head that is made, with any pieces that a file may keep, has the layout that it says.
+#[tactic(auto, using(crate::proofs::Putting::heads_read_back))]
+pub fn made_heads_read_back()
+    ensures { HeadReadsBack }
 {}

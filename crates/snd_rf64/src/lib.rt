@@ -1,6 +1,7 @@
 //! RF64 files: WAVE files whose sizes have 64 bits.
 #![tactic(auto)]
 
+mod changing;
 mod ends;
 mod head;
 mod laws;
@@ -10,7 +11,8 @@ mod sizes;
 mod tests;
 mod values;
 
+pub use changing::put_piece;
 pub use head::lay_head;
-pub use laws::keeps_laws;
+pub use laws::{keeps_laws, made_heads_read_back};
 pub use layout::open_layout;
 pub use values::{closing_bytes, inner_bytes, outer_bytes, room, side_bytes};

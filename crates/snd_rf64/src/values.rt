@@ -17,7 +17,7 @@ use snd_layout::Layout;
 const MOST_END: u64 = 1 << 62;
 
 /// The bytes at the beginning that the size of the whole does not count.
-const NOT_COUNTED: u64 = 8;
+pub(crate) const NOT_COUNTED: u64 = 8;
 
 // The data bytes of so many frames of a layout.
 fn bytes_in(layout: &Layout, frames: u64) -> u64

@@ -5,7 +5,9 @@ pub mod FieldValues
 pub mod Images
 pub mod Layouts
 pub mod Lies
+pub mod Made
 pub mod NewFiles
 pub mod Opens
 pub mod PlainHeads
+pub mod Putting
 pub mod Sizes

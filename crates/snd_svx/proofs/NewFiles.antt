@@ -65,7 +65,7 @@ first = placed (codes "VHDR") 12 20
 abbrev body : Chunk
 body = placed (codes "BODY") 40 0
 
-abbrev new_voice : ℕ → Header
+abbrev pub new_voice : ℕ → Header
 new_voice rate = record { rate = rate; octaves = 1; compression = 0 }
 
 pub walk_is : (rate : ℕ) → svx_front (svx_head (voice rate) []) ≡ record { chunks = first ∷ []; ending = AtSound body }
@@ -81,7 +81,7 @@ rate_read rate few =
 abbrev by_test : Bool → ℕ → Result Header OpenRefusal
 by_test none rate = unless (first_refusal (refuse_if false BadChannels ∷ refuse_if none BadRate ∷ refuse_if (is_packed (new_voice rate)) PackedBody ∷ [])) (new_voice rate)
 
-good_voice : (rate : ℕ) → 1 ≤ rate → voice_by false (new_voice rate) ≡ Ok (new_voice rate)
+pub good_voice : (rate : ℕ) → 1 ≤ rate → voice_by false (new_voice rate) ≡ Ok (new_voice rate)
 good_voice rate some =
     let other : (rate == 0) ≡ false = ne_eqb rate 0 (λ none. omega (arith, none, some)) in
     ap (λ (t : Bool). by_test t rate) other

@@ -1,5 +1,6 @@
 pub mod Container
 pub mod Layout
 pub mod Parts
+pub mod Put
 pub mod Values
 pub mod Written

@@ -2,17 +2,19 @@
 -- the chunks of "EA IFF 85: Standard for Interchange Format Files" (Jerry Morrison, Electronic Arts, 1985): `FORM`, the size of
 -- all that follows, `8SVX`, and chunks: `VHDR` first and at last `BODY`. The order of the others and the filler are this
 -- library's own rules.
-use Rattle.std.specs.Prelude.{ℕ, ◌+◌, ◌-◌, false, List, [], ◌∷◌, ◌++◌, codes, length, map, replicate, if◌then◌else◌}
+use Rattle.std.specs.Prelude.{◌≡◌, ℕ, ◌+◌, ◌-◌, ◌≤◌, false, List, [], ◌∷◌, ◌++◌, All, None, codes, length, map, replicate, if◌then◌else◌}
 use Rattle.snd_chunks.specs.Chunks.{padded_end}
-use Rattle.snd_chunks.specs.Written.{NewChunk, all_placed, chunks_bytes, head_bytes}
+use Rattle.snd_chunks.specs.Written.{NewChunk, all_placed, chunks_bytes, head_bytes, placed}
 use Rattle.snd_fields.specs.Field.{bytes_of}
 use Rattle.snd_fields.specs.declared.field.Order.TheVariants.{Big}
-use Rattle.snd_layout.specs.Params.{Parameters, data_bytes}
+use Rattle.snd_layout.specs.Fit.{fit_refusal}
+use Rattle.snd_layout.specs.Params.{AreParams, Parameters, data_bytes}
 use Rattle.snd_layout.specs.Sector.{is_in_one_sector}
 use Rattle.snd_layout.specs.Shape.{Shape}
+use Rattle.snd_layout.specs.declared.kind.Kind.TheVariants.{Svx}
 use Rattle.snd_layout.specs.declared.piece.Piece.{Piece}
 use Rattle.snd_wave.specs.Layout.{piece_of}
-use Rattle.snd_svx.specs.Layout.{shape_of}
+use Rattle.snd_svx.specs.Layout.{is_own, shape_of}
 use Rattle.snd_svx.specs.Values.{form_size}
 
 -- The voice header of so many frames: all of them sound once, and none is repeated; the rate; one octave, not packed; and the
@@ -62,3 +64,16 @@ made_pieces pieces = map (piece_of false) (all_placed (padded_end 20 20) pieces)
 -- what a file says of itself that is made
 unfoldable pub made_shape : Parameters → List NewChunk → ℕ → Shape
 made_shape p pieces frames = shape_of p (head_size p pieces) frames (data_bytes p frames) 20 false (made_pieces pieces)
+
+-- a chunk that a file may keep beside its sound
+pub record MayBePiece (piece : NewChunk) : Type 0 where
+  pub four : length piece.id ≡ 4
+  pub other : is_own (placed piece.id 0 0) ≡ false
+  pub few : length piece.body ≤ 65536
+
+-- what may be made: an 8SVX file holds the parameters, and there are at most 240 pieces
+pub record MayBeMade (p : Parameters) (pieces : List NewChunk) : Type 0 where
+  pub params : AreParams p
+  pub fits : fit_refusal Svx p ≡ None
+  pub pieces_are : All MayBePiece pieces
+  pub few : length pieces ≤ 240

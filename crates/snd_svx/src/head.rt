@@ -17,10 +17,11 @@ use snd_disk::Disk;
 use snd_layout::{Field, Kind, Layout, OpenError, Params, PieceList, write_whole};
 use std::alloc::Global;
 
-/// The place of the data, and of the one-shot samples of the voice header.
+/// The place of the data.
 const START: u64 = 48;
 
-const COUNT_AT: u64 = 20;
+/// The place of the one-shot samples of the voice header.
+pub(crate) const COUNT_AT: u64 = 20;
 
 /// The bytes of a voice header.
 const HEADER_SIZE: u64 = 20;

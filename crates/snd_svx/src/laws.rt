@@ -3,9 +3,16 @@
 ghost use Rattle.snd_layout.specs.Container.{KeepsLaws};
 ghost use Rattle.snd_layout.specs.declared.kind.Kind.TheVariants.{Svx};
 ghost use Rattle.snd_svx.specs.Container.{svx};
+ghost use Rattle.snd_svx.specs.Put.{HeadReadsBack};
 
 /// 8SVX files are a container: their layouts keep the laws of all containers. The function does nothing:
 /// its contract is the laws.
 pub fn keeps_laws()
     ensures { KeepsLaws Svx svx }
+{}
+
+/// A head that is made, with any pieces that a file may keep, has the layout that it says.
+#[tactic(auto, using(crate::proofs::Made::heads_read_back))]
+pub fn made_heads_read_back()
+    ensures { HeadReadsBack }
 {}

@@ -30,7 +30,7 @@ const MOST_CHUNKS: usize = 256;
 const BODY: Id4 = Id4(*b"BODY");
 
 /// The size of the whole.
-const FORM_SIZE: Field = Field { at: 4, size: 4 };
+pub(crate) const FORM_SIZE: Field = Field { at: 4, size: 4 };
 
 /// The greatest declared length.
 const MOST_DECLARED: u64 = (1 << 63) - 1;

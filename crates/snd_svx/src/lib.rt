@@ -1,6 +1,7 @@
 //! 8SVX files.
 #![tactic(auto)]
 
+mod changing;
 mod ends;
 mod head;
 mod header;
@@ -13,7 +14,8 @@ mod reads;
 mod tests;
 mod values;
 
+pub use changing::put_piece;
 pub use head::lay_head;
-pub use laws::keeps_laws;
+pub use laws::{keeps_laws, made_heads_read_back};
 pub use layout::open_layout;
 pub use values::{closing_bytes, inner_bytes, outer_bytes, room, side_bytes};

@@ -16,7 +16,7 @@ use Rattle.snd_layout.specs.Written.{bits_per_sample, bytes_per_second, extensio
 use Rattle.snd_layout.specs.declared.codec.Codec.{Codec}
 use Rattle.snd_layout.specs.declared.codec.Codec.TheVariants.{MuLaw, ALaw, Ima, Ms}
 use Rattle.snd_layout.specs.declared.field.Field.{Field}
-use Rattle.snd_wave.proofs.HeadValues.{chunks-append}
+use Rattle.snd_wave.proofs.Relaying.{chunks-joined}
 use Rattle.snd_wave.specs.Container.{wave}
 use Rattle.snd_wave.specs.Values.{closing, count_bytes, inner_value, outer_value, riff_size, side_value}
 use Rattle.snd_wave.specs.Written.{chunks_before, filler, has_fact, head_for, head_size, junk, new_fact, new_format, riff_head, wave_head}
@@ -115,7 +115,7 @@ before_bytes : (p : Parameters) → is_adpcm p.codec ≡ false → All IsByte (c
 unfolding chunks_before
 before_bytes p plain =
     two_chunks (new_format p) (filler p [] ++ new_fact p.codec 0) (from_test (codes "fmt ") refl, format_bytes p plain)
-    (subst (All IsByte) (sym (chunks-append (filler p []) (new_fact p.codec 0))) (both (chunks_bytes Little (filler p [])) (chunks_bytes Little (new_fact p.codec 0)) (filler_bytes _) (fact_bytes (has_fact p.codec))))
+    (subst (All IsByte) (sym (chunks-joined Little (filler p []) (new_fact p.codec 0))) (both (chunks_bytes Little (filler p [])) (chunks_bytes Little (new_fact p.codec 0)) (filler_bytes _) (fact_bytes (has_fact p.codec))))
 
 pub head_bytes_are : (p : Parameters) → is_adpcm p.codec ≡ false → All IsByte (wave_head p [])
 unfolding head_for riff_head head_bytes

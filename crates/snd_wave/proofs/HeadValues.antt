@@ -13,18 +13,13 @@ use Rattle.snd_layout.specs.Shape.{Shape}
 use Rattle.snd_wave.specs.Sealed.{HeadIsCounted, with_values}
 use Rattle.snd_wave.specs.Values.{inner_value, outer_value, riff_size, side_value}
 use Rattle.snd_wave.specs.Written.{chunks_before, filler, has_fact, head_for, head_size, made_shape, new_fact, new_format, riff_head}
+use Rattle.snd_wave.proofs.Relaying.{chunks-joined}
 use Rattle.snd_wave.proofs.Made.{adpcm_has_fact}
 use Rattle.snd_wave.proofs.NewHeads.{fact_bytes, size_is}
 
 -- the middle of three parts is replaced
 put_mid : (a v0 c v : List ℕ) (at : ℕ) → at ≡ length a → length v ≡ length v0 → with_field (a ++ v0 ++ c) at v ≡ a ++ v ++ c
 put_mid a v0 c v at is same = same_lists _ _ (grind (arith, places)) (λ i d lt. grind (arith, places))
-
--- the bytes of joined chunks are joined
-pub chunks-append : (xs ys : List NewChunk) → chunks_bytes Little (xs ++ ys) ≡ chunks_bytes Little xs ++ chunks_bytes Little ys
-unfolding chunks_bytes
-chunks-append [] ys = refl
-chunks-append (x ∷ xs) ys = ap (λ (l : List ℕ). chunk_bytes Little x ++ l) (chunks-append xs ys) ∙ sym (append_assoc (chunk_bytes Little x) (chunks_bytes Little xs) (chunks_bytes Little ys))
 
 -- two fields, of which the later is put first
 two : (a r0 r x d0 d z : List ℕ) (at_r at_d : ℕ) → at_r ≡ length a → at_d ≡ length a + length r0 + length x → length r ≡ length r0 → length d ≡ length d0
@@ -68,7 +63,7 @@ module _ (p : Parameters) (pieces : List NewChunk) where
   unfolding chunks_before
   chunks_are n =
       let regroup : new_format p ∷ (pieces ++ (filler p pieces ++ new_fact p.codec n)) ≡ first_chunks ++ new_fact p.codec n = ap (λ (l : List NewChunk). new_format p ∷ l) (sym (append_assoc pieces (filler p pieces) (new_fact p.codec n))) in
-      ap (chunks_bytes Little) regroup ∙ chunks-append first_chunks (new_fact p.codec n)
+      ap (chunks_bytes Little) regroup ∙ chunks-joined Little first_chunks (new_fact p.codec n)
 
   size : (n : ℕ) → head_size p pieces ≡ 20 + length (chunks_bytes Little first_chunks) + length (chunks_bytes Little (new_fact p.codec n))
   size n = omega (arith, size_is p pieces n, ap length (chunks_are n), length-append (chunks_bytes Little first_chunks) (chunks_bytes Little (new_fact p.codec n)))

@@ -23,5 +23,6 @@ pub mod Putting
 pub mod Relaying
 pub mod Shapes
 pub mod Sizes
+pub mod Splits
 pub mod Standing
 pub mod Widths

@@ -13,6 +13,7 @@ use Rattle.snd_layout.specs.Sector.{is_in_one_sector}
 use Rattle.snd_layout.specs.Written.{extension, written_format}
 use Rattle.snd_layout.specs.declared.codec.Codec.{Codec}
 use Rattle.snd_layout.specs.declared.codec.Codec.TheVariants.{U8, S8, S16, S24, S32, MuLaw, ALaw, Ima, Ms}
+use Rattle.snd_wave.proofs.Relaying.{length-joined}
 use Rattle.snd_wave.specs.Layout.{is_own}
 use Rattle.snd_wave.specs.Written.{MadeInOneSector, MayBePiece, chunks_before, filler, has_fact, head_size, inner_size, junk, new_fact, new_format, start_without_filler}
 
@@ -85,10 +86,7 @@ chunks_few p pieces frames =
 
 -- the bytes of joined chunks are joined
 pub bytes-append : (xs ys : List NewChunk) → length (chunks_bytes Little (xs ++ ys)) ≡ length (chunks_bytes Little xs) + length (chunks_bytes Little ys)
-unfolding chunks_bytes
-bytes-append [] ys = omega arith
-bytes-append (x ∷ xs) ys =
-    omega (arith, length-chunks_bytes Little x (xs ++ ys), length-chunks_bytes Little x xs, bytes-append xs ys)
+bytes-append xs ys = length-joined Little xs ys
 
 pub no_bytes : length (chunks_bytes Little []) ≡ 0
 unfolding chunks_bytes

@@ -1,26 +1,38 @@
--- A head into which a piece is put is the head of the pieces with that one.
-use Rattle.std.proofs.Common.{◌≡◌, ℕ, ◌+◌, ◌-◌, ◌%◌, ◌<◌, ◌^◌, List, [], ◌∷◌, ◌++◌, length, take, drop, refl, sym, ap, ◌∙◌, arith, length-append, append_assoc}
-use Rattle.std.proofs.lemmas.List.{append-nil, places, same_lists, take-append-drop}
-use Rattle.std.specs.Prelude.{codes}
-use Rattle.snd_disk.specs.Bytes.{over}
+-- The head of a WAVE file into which a piece is put.
+use Rattle.std.proofs.Common.{◌≡◌, ℕ, ◌+◌, ◌-◌, ◌%◌, ◌<◌, ◌≤◌, List, [], ◌∷◌, ◌++◌, Bool, None, cond, true, false, length, refl, sym, ap, ◌∙◌, arith, length-append, append_assoc}
+use Rattle.std.proofs.lemmas.List.{append-nil}
+use Rattle.std.proofs.lemmas.List.Elements.{All-weaker}
+use Rattle.std.specs.Prelude.{codes, if◌then◌else◌, replicate}
 use Rattle.snd_chunks.proofs.WrittenChunks.{length-chunk_bytes, length-chunks_bytes}
 use Rattle.snd_chunks.specs.Written.{NewChunk, chunk_bytes, chunks_bytes, head_bytes, pad}
 use Rattle.snd_fields.specs.Field.{bytes_of}
+use Rattle.snd_fields.specs.declared.field.Order.{Order}
 use Rattle.snd_fields.specs.declared.field.Order.TheVariants.{Little}
-use Rattle.snd_layout.specs.Params.{Parameters, data_bytes}
-use Rattle.snd_wave.specs.Changes.{IsPlan, changed, closing_at, first_place}
-use Rattle.snd_wave.specs.Put.{with_piece}
+use Rattle.snd_layout.specs.Fit.{fit_refusal}
+use Rattle.snd_layout.specs.Params.{AreParams, Parameters, data_bytes}
+use Rattle.snd_layout.specs.Sector.{is_in_one_sector}
+use Rattle.snd_layout.specs.Shape.{Shape}
+use Rattle.snd_layout.specs.declared.codec.Codec.{Codec}
+use Rattle.snd_layout.specs.declared.codec.Codec.TheVariants.{U8, S8, S16, S24, S32, MuLaw, ALaw, Ima, Ms}
+use Rattle.snd_layout.specs.declared.kind.Kind.TheVariants.{Wave}
+use Rattle.snd_layout.specs.declared.piece.Piece.{Piece}
+use Rattle.snd_wave.specs.Heads.{IsLayoutIn, with_piece}
+use Rattle.snd_wave.specs.Put.{closing_at, closing_behind, filler_at, filler_for, first_place, head_shape, wave_heads}
+use Rattle.snd_wave.specs.Relaid.{AreStanding, IsSmall, standing}
 use Rattle.snd_wave.specs.Values.{riff_size}
-use Rattle.snd_wave.specs.Written.{chunks_before, filler, head_for, head_size, new_fact, new_format, riff_head, start_without_filler, wave_head}
-use Rattle.snd_wave.specs.declared.plan.Plan.{Plan}
-use Rattle.snd_wave.proofs.HeadValues.{chunks-append}
-use Rattle.snd_wave.proofs.Made.{length-riff_head}
+use Rattle.snd_wave.specs.Written.{MayBeMade, MayBePiece, chunks_before, filler, has_fact, head_for, head_size, junk, made_pieces, made_shape, new_fact, new_format, plain_start, riff_head, start_without_filler, wave_head}
+use Rattle.snd_wave.specs.declared.rest.Closing.{Closing}
+use Rattle.snd_wave.proofs.Made.{length-head_for, no_bytes_yet}
+use Rattle.snd_wave.proofs.NewHeads.{fact_bytes, format_few, format_size}
+use Rattle.snd_wave.proofs.Planning.{new_are, new_few}
+use Rattle.snd_wave.proofs.Relaying.{chunks-joined}
+use Rattle.snd_wave.proofs.Splits.{Closes, IsSplit}
 
 -- a chunk put behind others, with its pad
-pub chunk_added : (old id body none named head second third fourth : List ℕ) → none ≡ [] → named ≡ none ++ id → head ≡ named ++ bytes_of Little 4 (length body) → second ≡ old ++ head → third ≡ second ++ body → fourth ≡ third ++ pad (length body)
-    → fourth ≡ old ++ chunk_bytes Little (record { id = id; body = body })
+pub chunk_added : (order : Order) (old id body none named head second third fourth : List ℕ) → none ≡ [] → named ≡ none ++ id → head ≡ named ++ bytes_of order 4 (length body) → second ≡ old ++ head → third ≡ second ++ body → fourth ≡ third ++ pad (length body)
+    → fourth ≡ old ++ chunk_bytes order (record { id = id; body = body })
 unfolding chunk_bytes head_bytes
-chunk_added old id body none named head second third fourth one two three four five six = rw (six, five, four, three, two, one) (simp append_assoc)
+chunk_added order old id body none named head second third fourth one two three four five six = rw (six, five, four, three, two, one) (simp append_assoc)
 
 pub odd_pad : (n : ℕ) (old : List ℕ) → n % 2 ≡ 1 → old ++ 0 ∷ [] ≡ old ++ pad n
 odd_pad n old odd = rw odd refl
@@ -28,66 +40,153 @@ odd_pad n old odd = rw odd refl
 pub even_pad : (n : ℕ) (old : List ℕ) → (n % 2 ≡ 1 → ⊥) → old ≡ old ++ pad n
 even_pad n old even = let zero : n % 2 ≡ 0 = omega (arith, even) in rw zero (sym (append-nil old))
 
--- bytes put behind others, and in the place of as many
-over_end : (x t : List ℕ) (at : ℕ) → at ≡ length x → over x at t ≡ x ++ t
-over_end x t at is = same_lists _ _ (grind (arith, places)) (λ i d lt. grind (arith, places))
+-- ---- what closes a head
 
-over_part : (a s z v : List ℕ) (at : ℕ) → at ≡ length a → length v ≡ length s → over (a ++ s ++ z) at v ≡ a ++ v ++ z
-over_part a s z v at is same = same_lists _ _ (grind (arith, places)) (λ i d lt. grind (arith, places))
+-- the filler, where it is needed
+filler_parts : (old j b z e : List ℕ) → e ≡ [] → ((old ++ j) ++ b) ++ z ≡ old ++ (((j ++ b) ++ z ++ []) ++ e)
+filler_parts old j b z e none = rw none (simp (append_assoc, append-nil))
 
-first_part : (x y : List ℕ) (at : ℕ) → at ≡ length x → take at (x ++ y) ≡ x
-first_part x y at is = same_lists _ _ (grind (arith, places)) (λ i d lt. grind (arith, places))
+pub filler_put : (order : Order) (at size : ℕ) (one : Bool) (old named sized all : List ℕ) → one ≡ is_in_one_sector at size → one ≡ false → named ≡ old ++ codes "JUNK" → sized ≡ named ++ bytes_of order 4 8 → all ≡ sized ++ replicate 8 0
+    → all ≡ old ++ chunks_bytes order (filler_for at size)
+unfolding chunks_bytes chunk_bytes head_bytes
+filler_put order at size one old named sized all is apart a b c =
+    let needed : is_in_one_sector at size ≡ false = sym is ∙ apart in
+    c ∙ ap (λ (l : List ℕ). l ++ replicate 8 0) (b ∙ ap (λ (l : List ℕ). l ++ bytes_of order 4 8) a) ∙ filler_parts old (codes "JUNK") (bytes_of order 4 8) (replicate 8 0) [] refl
+    ∙ ap (λ (t : Bool). old ++ chunks_bytes order (if t then [] else junk ∷ [])) (sym needed)
 
-middle_part : (x m y : List ℕ) (from count : ℕ) → from ≡ length x → count ≡ length m → take count (drop from (x ++ (m ++ y))) ≡ m
-middle_part x m y from count is same = same_lists _ _ (grind (arith, places)) (λ i d lt. grind (arith, places))
+pub no_filler_put : (order : Order) (at size : ℕ) (one : Bool) (old : List ℕ) → one ≡ is_in_one_sector at size → one ≡ true → old ≡ old ++ chunks_bytes order (filler_for at size)
+unfolding chunks_bytes
+no_filler_put order at size one old is within =
+    let unneeded : is_in_one_sector at size ≡ true = sym is ∙ within in
+    rw unneeded (sym (append-nil old))
 
--- what is changed, by its parts: the mark, the size, the form, the chunks before the piece, and what stands behind them
-changed_parts : (a s v f c t x m y n z b : List ℕ) (four at from count : ℕ) → b ≡ ((a ++ s ++ f) ++ c) ++ t → four ≡ length a → length v ≡ length s → at ≡ length ((a ++ s ++ f) ++ c) → b ≡ x ++ (m ++ y) → from ≡ length x → count ≡ length m
-    → over (over (take at b) at (n ++ take count (drop from b) ++ z)) four v ≡ ((a ++ v ++ f) ++ c) ++ ((n ++ m) ++ z)
-changed_parts a s v f c t x m y n z b four at from count whole mark same at_is whole' from_is count_is =
-    let front : take at b ≡ (a ++ s ++ f) ++ c = ap (take at) whole ∙ first_part ((a ++ s ++ f) ++ c) t at at_is in
-    let behind : take count (drop from b) ≡ m = ap (λ (l : List ℕ). take count (drop from l)) whole' ∙ middle_part x m y from count from_is count_is in
-    let joined : ((a ++ s ++ f) ++ c) ++ (n ++ m ++ z) ≡ a ++ s ++ (f ++ c ++ (n ++ m ++ z)) = simp append_assoc in
-    let back : a ++ v ++ (f ++ c ++ (n ++ m ++ z)) ≡ ((a ++ v ++ f) ++ c) ++ ((n ++ m) ++ z) = simp append_assoc in
-    rw (front, behind) (ap (λ (l : List ℕ). over l four v) (over_end ((a ++ s ++ f) ++ c) (n ++ m ++ z) at at_is ∙ joined) ∙ over_part a s (f ++ c ++ (n ++ m ++ z)) v four mark same ∙ back)
+first_by : (c r : ℕ) (codec : Codec) → plain_start codec - 8 - length (chunks_bytes Little (new_fact codec 0)) ≡ first_place (record { channels = c; rate = r; codec = codec })
+unfolding chunks_bytes chunk_bytes head_bytes
+first_by c r U8 = refl
+first_by c r S8 = refl
+first_by c r (S16 order) = refl
+first_by c r (S24 order) = refl
+first_by c r (S32 order) = refl
+first_by c r MuLaw = refl
+first_by c r ALaw = refl
+first_by c r (Ima align per_block) = refl
+first_by c r (Ms align per_block) = refl
 
-regrouped : (r c y f n d : List ℕ) → r ++ (c ++ (y ++ (f ++ n))) ++ d ≡ (r ++ c) ++ (y ++ (f ++ n ++ d))
-regrouped r c y f n d = simp append_assoc
+-- the first piece stands behind the format
+pub first_is : (p : Parameters) → plain_start p.codec - 8 - length (chunks_bytes Little (new_fact p.codec 0)) ≡ first_place p
+first_is p = first_by p.channels p.rate p.codec
 
-module _ (p : Parameters) (none : data_bytes p 0 ≡ 0) where
-  chunks_are : (xs ys f c : List NewChunk) → chunks_bytes Little (new_format p ∷ ((xs ++ ys) ++ (f ++ c))) ≡ chunks_bytes Little (new_format p ∷ xs) ++ (chunks_bytes Little ys ++ (chunks_bytes Little f ++ chunks_bytes Little c))
-  chunks_are xs ys f c =
-      ap (λ (l : List NewChunk). chunks_bytes Little (new_format p ∷ l)) (append_assoc xs ys (f ++ c)) ∙ chunks-append (new_format p ∷ xs) (ys ++ (f ++ c))
-      ∙ ap (λ (l : List ℕ). chunks_bytes Little (new_format p ∷ xs) ++ l) (chunks-append ys (f ++ c) ∙ ap (λ (l : List ℕ). chunks_bytes Little ys ++ l) (chunks-append f c))
+-- the count of no frames has 12 bytes, where there is one
+pub fact_there : (codec : Codec) (has : Bool) → has ≡ has_fact codec → has ≡ true → 12 ≡ length (chunks_bytes Little (new_fact codec 0))
+fact_there codec has is there = sym (fact_bytes codec 0 ∙ ap (λ (t : Bool). cond t 12 0) (sym is ∙ there))
 
-  -- a head by its first pieces and the others
-  split : (xs ys : List NewChunk) → wave_head p (xs ++ ys) ≡ (riff_head (riff_size (head_size p (xs ++ ys)) 0) ++ chunks_bytes Little (new_format p ∷ xs)) ++ (chunks_bytes Little ys ++ closing_at p.codec (start_without_filler p (xs ++ ys)))
-  unfolding head_for chunks_before closing_at
-  split xs ys =
-      ap (λ (n : ℕ). riff_head (riff_size (head_size p (xs ++ ys)) n) ++ chunks_bytes Little (new_format p ∷ ((xs ++ ys) ++ (filler p (xs ++ ys) ++ new_fact p.codec 0))) ++ head_bytes Little (codes "data") n) none
-      ∙ ap (λ (l : List ℕ). riff_head (riff_size (head_size p (xs ++ ys)) 0) ++ l ++ head_bytes Little (codes "data") 0) (chunks_are xs ys (filler p (xs ++ ys)) (new_fact p.codec 0))
-      ∙ regrouped (riff_head (riff_size (head_size p (xs ++ ys)) 0)) (chunks_bytes Little (new_format p ∷ xs)) (chunks_bytes Little ys) (chunks_bytes Little (filler p (xs ++ ys))) (chunks_bytes Little (new_fact p.codec 0)) (head_bytes Little (codes "data") 0)
+pub fact_missing : (codec : Codec) (has : Bool) → has ≡ has_fact codec → has ≡ false → 0 ≡ length (chunks_bytes Little (new_fact codec 0))
+fact_missing codec has is none = sym (fact_bytes codec 0 ∙ ap (λ (t : Bool). cond t 12 0) (sym is ∙ none))
 
-  split_at : (k : ℕ) (pieces : List NewChunk) → wave_head p pieces ≡ (riff_head (riff_size (head_size p pieces) 0) ++ chunks_bytes Little (new_format p ∷ take k pieces)) ++ (chunks_bytes Little (drop k pieces) ++ closing_at p.codec (start_without_filler p pieces))
-  split_at k pieces =
-      let whole : take k pieces ++ drop k pieces ≡ pieces = take-append-drop k pieces in
-      ap (wave_head p) (sym whole) ∙ split (take k pieces) (drop k pieces)
-      ∙ ap (λ (l : List NewChunk). (riff_head (riff_size (head_size p l) 0) ++ chunks_bytes Little (new_format p ∷ take k pieces)) ++ (chunks_bytes Little (drop k pieces) ++ closing_at p.codec (start_without_filler p l))) whole
+-- what closes a head, put together
+pub closing_put : (codec : Codec) (end fact start : ℕ) (none filled counted sound all : List ℕ) → fact ≡ length (chunks_bytes Little (new_fact codec 0)) → start ≡ end + 8 + fact → none ≡ [] → filled ≡ none ++ chunks_bytes Little (filler_at codec start)
+    → counted ≡ filled ++ chunks_bytes Little (new_fact codec 0) → sound ≡ counted ++ codes "data" → all ≡ sound ++ bytes_of Little 4 0 → all ≡ closing_behind codec end
+unfolding closing_at head_bytes
+closing_put codec end fact start none filled counted sound all long at empty one two three four = rw (four, three, two, one, empty, at, long) (simp append_assoc)
 
-  front_size : (n : ℕ) (xs : List NewChunk) → length (riff_head n ++ chunks_bytes Little (new_format p ∷ xs)) ≡ first_place p + length (chunks_bytes Little xs)
-  front_size n xs =
-      omega (arith, length-append (riff_head n) (chunks_bytes Little (new_format p ∷ xs)), length-riff_head n, length-chunks_bytes Little (new_format p) xs, length-chunk_bytes Little (new_format p) 12 refl)
+-- ---- how a head is split
 
-  pub head_changed : (pieces : List NewChunk) (place : ℕ) (piece : NewChunk) (change : Plan) → IsPlan p pieces place piece change → change.start < 2 ^ 32
-      → changed change piece (wave_head p pieces) ≡ wave_head p (with_piece pieces place piece)
-  unfolding riff_head chunks_bytes
-  head_changed pieces place piece change plan few =
-      let new : List NewChunk = with_piece pieces place piece in
-      let r : ℕ = riff_size (head_size p pieces) 0 in
-      let size : change.start - 8 ≡ riff_size (head_size p new) 0 = omega (arith, plan.starts, few) in
-      changed_parts (codes "RIFF") (bytes_of Little 4 r) (bytes_of Little 4 (change.start - 8)) (codes "WAVE") (chunks_bytes Little (new_format p ∷ take place pieces)) (chunks_bytes Little (drop place pieces) ++ closing_at p.codec (start_without_filler p pieces))
-      (riff_head r ++ chunks_bytes Little (new_format p ∷ take (place + 1) pieces)) (chunks_bytes Little (drop (place + 1) pieces)) (closing_at p.codec (start_without_filler p pieces)) (chunk_bytes Little piece) change.closing.items (wave_head p pieces) 4 change.at change.from change.count
-      (split_at place pieces) refl refl (plan.at_head ∙ sym (front_size r (take place pieces))) (split_at (place + 1) pieces) (plan.from_behind ∙ sym (front_size r (take (place + 1) pieces))) plan.counted
-      ∙ ap (λ (k : ℕ). ((codes "RIFF" ++ bytes_of Little 4 k ++ codes "WAVE") ++ chunks_bytes Little (new_format p ∷ take place pieces)) ++ ((chunk_bytes Little piece ++ chunks_bytes Little (drop (place + 1) pieces)) ++ change.closing.items)) size
-      ∙ ap (λ (l : List ℕ). (riff_head (riff_size (head_size p new) 0) ++ chunks_bytes Little (new_format p ∷ take place pieces)) ++ ((chunk_bytes Little piece ++ chunks_bytes Little (drop (place + 1) pieces)) ++ l)) plan.closed
-      ∙ sym (split (take place pieces) (piece ∷ drop (place + 1) pieces))
+abbrev pub wave_mark : List ℕ
+wave_mark = codes "RIFF"
+
+abbrev pub wave_size : ℕ → List ℕ
+wave_size n = bytes_of Little 4 (riff_size n 0)
+
+abbrev pub wave_form : Parameters → List ℕ
+wave_form p = codes "WAVE" ++ chunks_bytes Little (new_format p ∷ [])
+
+regrouped : (r s w c y f n d : List ℕ) → (r ++ s ++ w) ++ (c ++ (y ++ (f ++ n))) ++ d ≡ (r ++ s ++ (w ++ (c ++ []))) ++ (y ++ (f ++ n ++ d))
+regrouped r s w c y f n d = simp (append_assoc, append-nil)
+
+-- where the data would begin without a filler
+start_is : (p : Parameters) (pieces : List NewChunk) → start_without_filler p pieces ≡ first_place p + length (chunks_bytes Little pieces) + 8 + length (chunks_bytes Little (new_fact p.codec 0))
+unfolding start_without_filler
+start_is p pieces = omega (arith, length-chunks_bytes Little (new_format p) pieces, length-chunk_bytes Little (new_format p) 12 refl)
+
+module _ (p : Parameters) (good : AreParams p) (fits : fit_refusal Wave p ≡ None) where
+  none : data_bytes p 0 ≡ 0
+  none = no_bytes_yet p good fits
+
+  chunks_are : (pieces f c : List NewChunk) → chunks_bytes Little (pieces ++ (f ++ c)) ≡ chunks_bytes Little pieces ++ (chunks_bytes Little f ++ chunks_bytes Little c)
+  chunks_are pieces f c = chunks-joined Little pieces (f ++ c) ∙ ap (λ (l : List ℕ). chunks_bytes Little pieces ++ l) (chunks-joined Little f c)
+
+  split_by : (pieces : List NewChunk) → wave_head p pieces ≡ (wave_mark ++ wave_size (head_size p pieces) ++ wave_form p) ++ (chunks_bytes Little pieces ++ closing_at p.codec (start_without_filler p pieces))
+  unfolding head_for riff_head chunks_before closing_at chunks_bytes
+  split_by pieces =
+      ap (λ (n : ℕ). riff_head (riff_size (head_size p pieces) n) ++ chunks_bytes Little (new_format p ∷ (pieces ++ (filler p pieces ++ new_fact p.codec 0))) ++ head_bytes Little (codes "data") n) none
+      ∙ ap (λ (l : List ℕ). riff_head (riff_size (head_size p pieces) 0) ++ (chunk_bytes Little (new_format p) ++ l) ++ head_bytes Little (codes "data") 0) (chunks_are pieces (filler p pieces) (new_fact p.codec 0))
+      ∙ regrouped wave_mark (wave_size (head_size p pieces)) (codes "WAVE") (chunk_bytes Little (new_format p)) (chunks_bytes Little pieces) (chunks_bytes Little (filler p pieces)) (chunks_bytes Little (new_fact p.codec 0)) (head_bytes Little (codes "data") 0)
+
+  split : (pieces : List NewChunk) → wave_head p pieces ≡ (wave_mark ++ wave_size (length (wave_head p pieces)) ++ wave_form p) ++ (chunks_bytes Little pieces ++ closing_behind p.codec (first_place p + length (chunks_bytes Little pieces)))
+  split pieces =
+      split_by pieces ∙ ap (λ (n : ℕ). (wave_mark ++ wave_size n ++ wave_form p) ++ (chunks_bytes Little pieces ++ closing_at p.codec (start_without_filler p pieces))) (sym (length-head_for p pieces 0))
+      ∙ ap (λ (n : ℕ). (wave_mark ++ wave_size (length (wave_head p pieces)) ++ wave_form p) ++ (chunks_bytes Little pieces ++ closing_at p.codec n)) (start_is p pieces)
+
+  begins : (n : ℕ) → length (wave_mark ++ wave_size n ++ wave_form p) ≡ first_place p
+  unfolding chunks_bytes
+  begins n =
+      omega (
+        arith,
+        length-append wave_mark (wave_size n ++ wave_form p),
+        length-append (wave_size n) (wave_form p),
+        length-append (codes "WAVE") (chunks_bytes Little (new_format p ∷ [])),
+        length-append (chunk_bytes Little (new_format p)) [],
+        length-chunk_bytes Little (new_format p) 12 refl,
+      )
+
+  pub wave_split : IsSplit wave_heads p Little (first_place p) wave_mark (wave_form p) wave_size (closing_behind p.codec)
+  wave_split = record { split = split; first_is = begins; wide = λ m n. refl }
+
+  -- the new layout
+  pub new_shape : (start : ℕ) (pieces : List NewChunk) (anew : List Piece) → start ≡ length (wave_head p pieces) → anew ≡ standing (first_place p) pieces → head_shape p start anew ≡ made_shape p pieces 0
+  unfolding made_shape made_pieces standing
+  new_shape start pieces anew starts stand =
+      ap (λ (k : ℕ). head_shape p k anew) (starts ∙ length-head_for p pieces 0) ∙ ap (λ (l : List Piece). head_shape p (head_size p pieces) l) stand
+      ∙ ap (λ (n : ℕ). record (head_shape p (head_size p pieces) (made_pieces p pieces)) { declared = n }) (sym none)
+
+pub first_least : (p : Parameters) → 36 ≤ first_place p
+first_least p = omega (arith, format_size p)
+
+pub first_most : (p : Parameters) → first_place p ≤ 90
+first_most p = omega (arith, format_few p)
+
+-- how it is closed
+pub closes : (p q : Parameters) (end : ℕ) (close : Closing) → q ≡ p → end + 4096 ≤ 16777216 → close.order ≡ Little → close.bytes.items ≡ closing_behind q.codec end → length close.bytes.items ≤ 38 → close.size_at ≡ 4 → close.size.items ≡ bytes_of Little 4 (end + length close.bytes.items - 8)
+    → Closes Little wave_mark wave_size (closing_behind p.codec) end close
+closes p q end close same low order bytes few there size =
+    let riff : end + length close.bytes.items - 8 ≡ riff_size (end + length close.bytes.items) 0 = omega (arith, low, few) in
+    record { ordered = order; there = there; closed = bytes ∙ ap (λ (r : Parameters). closing_behind r.codec end) same; sized = size ∙ ap (bytes_of Little 4) riff }
+
+-- ---- what the layout of a head says
+
+piece_small : (piece : NewChunk) → MayBePiece piece → IsSmall piece
+piece_small piece is = record { four = is.four; few = is.few }
+
+pub small : (piece : NewChunk) → MayBePiece piece → IsSmall piece
+small piece is = piece_small piece is
+
+module _ (h : Shape) (p : Parameters) (pieces : List NewChunk) (is : IsLayoutIn wave_heads h p pieces) where
+  pub made_params : h.params ≡ p
+  unfolding made_shape
+  made_params = ap (λ (s : Shape). s.params) is.shape
+
+  pub stands : AreStanding (first_place p) h.pieces pieces
+  unfolding made_shape made_pieces standing
+  stands = record { small = All-weaker MayBePiece IsSmall piece_small pieces is.may.pieces_are; few = is.may.few; stand = ap (λ (s : Shape). s.pieces) is.shape }
+
+  pub new_may : (place : ℕ) (piece : NewChunk) → MayBePiece piece → place ≤ length pieces → place < 240 → MayBeMade p (with_piece pieces place piece) 0
+  new_may place piece may within few =
+      let none : data_bytes p 0 ≡ 0 = no_bytes_yet p is.may.params is.may.fits in
+      record {
+        params = is.may.params;
+        fits = is.may.fits;
+        pieces_are = new_are pieces place piece MayBePiece is.may.pieces_are may;
+        few = new_few pieces place piece within few is.may.few;
+        in_room = omega (arith, none);
+        counted = λ adpcm. omega arith;
+      }

@@ -1,51 +1,58 @@
--- Pieces that are put into a file that is made, before its first frame.
-use Rattle.std.specs.Prelude.{◌≡◌, ℕ, ◌+◌, ◌≤◌, List, ◌∷◌, ◌++◌, Result, Ok, Err, Some, drop, take}
-use Rattle.snd_disk.specs.State.{Rises, State}
-use Rattle.snd_chunks.specs.Written.{NewChunk}
+-- Pieces that are put into a WAVE file that is made, before its first frame.
+use Rattle.std.specs.Prelude.{ℕ, ◌+◌, ◌-◌, false, List, [], ◌∷◌, ◌++◌, None, Some, codes, length, if◌then◌else◌}
+use Rattle.snd_disk.specs.State.{State}
+use Rattle.snd_chunks.specs.Chunks.{padded_end}
+use Rattle.snd_chunks.specs.Written.{NewChunk, chunks_bytes, head_bytes}
+use Rattle.snd_fields.specs.declared.field.Order.TheVariants.{Little}
 use Rattle.snd_layout.specs.Params.{Parameters}
+use Rattle.snd_layout.specs.Sector.{is_in_one_sector}
 use Rattle.snd_layout.specs.Shape.{Shape}
-use Rattle.snd_layout.specs.declared.error.PieceError.{PieceError}
-use Rattle.snd_layout.specs.declared.error.PieceError.TheVariants.{DiskFault, Memory}
-use Rattle.snd_wave.specs.Written.{MayBeMade, head_size, made_shape, wave_head}
+use Rattle.snd_layout.specs.Written.{written_format}
+use Rattle.snd_layout.specs.declared.codec.Codec.{Codec}
+use Rattle.snd_layout.specs.declared.kind.Kind.TheVariants.{Wave}
+use Rattle.snd_layout.specs.declared.piece.Piece.{Piece}
+use Rattle.snd_wave.specs.Heads.{Heads, IsHeadIn}
+use Rattle.snd_wave.specs.Written.{MayBeMade, inner_at, inner_size, junk, made_shape, new_fact, side_at, wave_head}
 
--- a piece that is put
-abbrev pub new_piece : List ℕ → List ℕ → NewChunk
-new_piece id body = record { id = id; body = body }
+abbrev pub wave_heads : Heads
+wave_heads = record { may = λ p pieces. MayBeMade p pieces 0; shape = λ p pieces. made_shape p pieces 0; head = wave_head }
 
--- the pieces with another in the place of one, or behind them all
-abbrev pub with_piece : List NewChunk → ℕ → NewChunk → List NewChunk
-with_piece pieces place piece = take place pieces ++ piece ∷ drop (place + 1) pieces
+abbrev pub IsHeadOf : State → Shape → Parameters → List NewChunk → Type 0
+IsHeadOf disk h p pieces = IsHeadIn wave_heads disk h p pieces
 
--- a layout is that of a head with these pieces and no frames
-pub record IsLayoutOf (h : Shape) (p : Parameters) (pieces : List NewChunk) : Type 0 where
-  pub may : MayBeMade p pieces 0
-  pub shape : h ≡ made_shape p pieces 0
+-- the filler before what lies so in a file
+abbrev pub filler_for : ℕ → ℕ → List NewChunk
+filler_for at size = if is_in_one_sector at size then [] else junk ∷ []
 
--- .. and a disk holds nothing but this head, where it tells what it holds
-pub record IsHeadOf (disk : State) (h : Shape) (p : Parameters) (pieces : List NewChunk) : Type 0 where
-  pub laid : IsLayoutOf h p pieces
-  pub size : disk.size ≡ head_size p pieces
-  pub contents : (b : List ℕ) → disk.contents ≡ Some b → b ≡ wave_head p pieces
+-- the filler of a head whose data would begin at a place without it
+abbrev pub filler_at : Codec → ℕ → List NewChunk
+filler_at codec start = filler_for (start - inner_size codec) (inner_size codec)
 
--- .. of some pieces
-abbrev pub IsHeadLayout : Shape → Type 0
-IsHeadLayout h = (p : Parameters) × (pieces : List NewChunk) × IsLayoutOf h p pieces
+-- what stands behind the pieces in such a head: the filler, the count, and the head of data of no bytes
+unfoldable pub closing_at : Codec → ℕ → List ℕ
+closing_at codec start = chunks_bytes Little (filler_at codec start) ++ chunks_bytes Little (new_fact codec 0) ++ head_bytes Little (codes "data") 0
 
-abbrev pub HoldsHead : State → Shape → Type 0
-HoldsHead disk h = (p : Parameters) × (pieces : List NewChunk) × IsHeadOf disk h p pieces
+-- .. by the place where the pieces end
+abbrev pub closing_behind : Codec → ℕ → List ℕ
+closing_behind codec end = closing_at codec (end + 8 + length (chunks_bytes Little (new_fact codec 0)))
 
--- the head of any pieces becomes that of these pieces with one put
-abbrev pub PutsPiece : {D : Type 0} → (D → State) → D → D → Shape → Shape → ℕ → NewChunk → Type 0
-PutsPiece state old new h h' place piece =
-    (p : Parameters) (pieces : List NewChunk) → IsHeadOf (state old) h p pieces → IsHeadOf (state new) h' p (with_piece pieces place piece)
+-- the place behind the format
+abbrev pub first_place : Parameters → ℕ
+first_place p = padded_end 20 (length (written_format p))
 
--- A piece is not put for a fault alone, or for want of memory.
-abbrev pub IsPutCause : ℕ → ℕ → PieceError → Type 0
-IsPutCause old new (DiskFault step) = (old ≤ new) × Rises old new
-IsPutCause old new Memory = new ≡ old
-IsPutCause old new _ = ⊥
-
--- the count of faults rises where the answer is a fault of the disk, and there alone
-abbrev pub CountsPutting : {D T : Type 0} → (D → State) → D → D → Result T PieceError → Type 0
-CountsPutting state old new (Ok value) = (state new).faults ≡ (state old).faults
-CountsPutting state old new (Err error) = IsPutCause (state old).faults (state new).faults error
+-- what a head says without frames, whose data begin at a place
+abbrev pub head_shape : Parameters → ℕ → List Piece → Shape
+head_shape p start pieces = record {
+  kind = Wave;
+  params = p;
+  start = start;
+  frames = 0;
+  declared = 0;
+  inner = inner_at p.codec start;
+  outer = Some (record { at = 4; size = 4 });
+  side = side_at p.codec start;
+  trailing = false;
+  unknown_length = false;
+  reserve = None;
+  pieces = pieces;
+}

@@ -6,14 +6,14 @@ ghost use Rattle.snd_layout.specs.Fit.{fit_refusal};
 ghost use Rattle.snd_layout.specs.Shape.{IsPlaced};
 ghost use Rattle.snd_layout.specs.declared.error.PieceError.TheVariants.{Memory};
 ghost use Rattle.snd_layout.specs.declared.kind.Kind.TheVariants.{Wave};
-ghost use Rattle.snd_wave.specs.Changes.{CanChange, IsChanged, head_shape};
-ghost use Rattle.snd_wave.specs.Put.{CountsPutting, HoldsHead, PutsPiece, new_piece};
+ghost use Rattle.snd_wave.specs.Heads.{CountsPutting, HoldsHeadIn, PutsPieceIn, new_piece};
+ghost use Rattle.snd_wave.specs.Put.{head_shape, wave_heads};
 ghost use Rattle.snd_wave.specs.Written.{MayBePiece};
 
+use crate::change::change_head;
+use crate::closing::{closing_of, first_place};
 use crate::head::{inner_of, side_of};
 use crate::plan::{Plan, plan_piece};
-use crate::rest::rest_of;
-use crate::steps::replace_from;
 use snd_disk::Disk;
 use snd_fields::Id4;
 use snd_layout::{Field, Kind, Layout, Params, PieceError, PieceList};
@@ -44,31 +44,6 @@ fn layout_with(params: Params, start: u64, pieces: PieceList) -> Layout
     }
 }
 
-// Changes the head that a disk holds as it was planned.
-fn change_head<D: Disk>(
-    alloc: Global,
-    disk: &mut D,
-    plan: &Plan,
-    id: Id4,
-    body: &[u8],
-) -> Result<(), PieceError>
-    requires { CanChange plan.now (new_piece id.0 body.now) (D.state disk.old).size }
-    ensures done { OnOk result (IsChanged plan.now (new_piece id.0 body.now) (D.state disk.old) (D.state disk.new)) }
-    ensures unchanged { IfErr result (λ e. e ≡ Memory → OnlyReadsOn D.state D.may_leave D.left_between disk.old disk.new) }
-    ensures faults { CountsPutting D.state disk.old disk.new result }
-    ensures name { (D.state disk.new).name ≡ (D.state disk.old).name }
-    ensures told { is_some (D.state disk.new).contents ≡ is_some (D.state disk.old).contents }
-    ensures time { GoesOnFrom D.state D.left_between disk.old disk.new }
-    ensures written { WritesAtMost D.state 16777216 disk.old disk.new }
-    ensures asked { AsksAtMost D.state plan.now.count disk.old disk.new }
-{
-    let rest = rest_of(alloc, disk, plan, id, body)?;
-    match replace_from(disk, plan.at, rest.as_slice(), plan.start - 8) {
-        Ok(()) => Ok(()),
-        Err(step) => Err(PieceError::DiskFault(step)),
-    }
-}
-
 /// Puts a piece into a WAVE file that is made, in the place of the piece at `place`, or behind them all
 /// where `place` is their number. The disk holds the head of the layout, with no frames; afterwards it
 /// holds the head with that piece, and the layout is that of this head. The
@@ -84,12 +59,12 @@ pub fn put_piece<D: Disk>(
     id: Id4,
     body: &[u8],
 ) -> Result<(), PieceError>
-    requires head { HoldsHead (D.state disk.old) layout.old }
+    requires head { HoldsHeadIn wave_heads (D.state disk.old) layout.old }
     requires place { place ≤ length layout.old.pieces }
     requires few { place < 240 }
     requires may { MayBePiece (new_piece id.0 body.now) }
-    ensures put { OnOk result (PutsPiece D.state disk.old disk.new layout.old layout.new place (new_piece id.0 body.now)) }
-    ensures head { OnOk result (HoldsHead (D.state disk.new) layout.new) }
+    ensures put { OnOk result (PutsPieceIn wave_heads D.state disk.old disk.new layout.old layout.new place (new_piece id.0 body.now)) }
+    ensures head { OnOk result (HoldsHeadIn wave_heads (D.state disk.new) layout.new) }
     ensures kept { OnErr result (layout.new ≡ layout.old) }
     ensures unchanged { IfErr result (λ e. e ≡ Memory → OnlyReadsOn D.state D.may_leave D.left_between disk.old disk.new) }
     ensures faults { CountsPutting D.state disk.old disk.new result }
@@ -100,9 +75,11 @@ pub fn put_piece<D: Disk>(
     ensures asked { AsksAtMost D.state (if place == length layout.old.pieces then 0 else 16777216) disk.old disk.new }
 {
     let alloc = layout.pieces.allocator();
-    let plan = plan_piece(layout, place, id, body)?;
-    change_head(alloc, disk, &plan, id, body)?;
-    let Plan { start, pieces, .. } = plan;
+    let plan = plan_piece(&layout.pieces, first_place(&layout.params), place, id, body)?;
+    let closing = closing_of(&layout.params, plan.end);
+    change_head(alloc, disk, &plan, &closing, id, body)?;
+    let start = plan.end + closing.bytes.len() as u64;
+    let Plan { pieces, .. } = plan;
     *layout = layout_with(layout.params, start, pieces);
     Ok(())
 }

@@ -1,6 +1,7 @@
 //! WAVE files.
 #![tactic(auto)]
 
+mod change;
 mod changing;
 mod closing;
 mod ends;
@@ -20,12 +21,16 @@ mod steps;
 mod tests;
 mod values;
 
+pub use change::change_head;
 pub use changing::put_piece;
+pub use closing::put_filler;
 pub use head::lay_head;
 pub use laws::{keeps_laws, made_files_read_back};
 pub use layout::open_layout;
 pub use parts::{Parts, parts_of};
 pub use pieces::add_pieces;
-pub use put::{put_all, put_chunk, put_number, put_pad};
+pub use plan::{Plan, plan_piece};
+pub use put::{put_all, put_chunk, put_number, put_pad, put_size};
 pub use reads::read_format;
+pub use rest::Closing;
 pub use values::{closing_bytes, inner_bytes, outer_bytes, room, side_bytes};

@@ -1,33 +1,28 @@
-//! What changes in a head as a piece is put into it.
+//! Where pieces stand in a head into which one is put.
 
-ghost use Rattle.std.specs.Prelude.{◌≡◌, ◌+◌, ◌<◌, ◌≤◌, All, IfOk, drop, length, slice_get};
+ghost use Rattle.std.specs.Prelude.{◌≡◌, ◌+◌, ◌^◌, ◌<◌, ◌≤◌, ◌==◌, All, IfOk, drop, if◌then◌else◌, length, slice_get};
 ghost use Rattle.snd_layout.specs.Shape.{IsPlaced};
 ghost use Rattle.snd_wave.specs.Changes.{Plans};
-ghost use Rattle.snd_wave.specs.Put.{IsHeadLayout, new_piece};
-ghost use Rattle.snd_wave.specs.Relaid.{behind_piece};
-ghost use Rattle.snd_wave.specs.Written.{MayBePiece};
+ghost use Rattle.snd_wave.specs.Heads.{new_piece};
+ghost use Rattle.snd_wave.specs.Relaid.{DoStand, IsSmall, behind_piece};
 
-use crate::closing::{closing_of, first_place};
 use crate::laying::lay_pieces;
-use arrayvec::ArrayVec;
 use snd_fields::Id4;
-use snd_layout::{Layout, Piece, PieceList};
+use snd_layout::{Piece, PieceList};
 use std::alloc::AllocError;
 
-/// What changes in a head as a piece is put into it.
+/// What changes among the pieces of a head as one is put into it.
 #[derive(Drop)]
-pub(crate) struct Plan {
+pub struct Plan {
     /// The place of the piece's head.
-    pub(crate) at: u64,
+    pub at: u64,
     /// From where on the pieces behind it stand.
-    pub(crate) from: u64,
+    pub from: u64,
     /// The bytes of these pieces.
-    pub(crate) count: u64,
-    /// What stands behind them.
-    pub(crate) closing: ArrayVec<u8, 128>,
-    /// Where the data begin.
-    pub(crate) start: u64,
-    pub(crate) pieces: PieceList,
+    pub count: u64,
+    /// Where the pieces end then.
+    pub end: u64,
+    pub pieces: PieceList,
 }
 
 // The pieces behind the one at a place.
@@ -52,39 +47,42 @@ fn end_of(pieces: &[Piece], place: usize, end: u64) -> u64
     }
 }
 
-/// What changes in the head of a layout as a piece is put in the place of one, or behind them all.
-pub(crate) fn plan_piece(
-    layout: &Layout,
+/// What changes among pieces that stand one behind the other from the place `first` on, as a piece is put
+/// in the place of one, or behind them all. They are at most 240 afterwards, with at most 65536 bytes each.
+pub fn plan_piece(
+    pieces: &PieceList,
+    first: u64,
     place: usize,
     id: Id4,
     body: &[u8],
 ) -> Result<Plan, AllocError>
-    requires made { IsHeadLayout layout.now }
-    requires place { place ≤ length layout.now.pieces }
+    requires stand { DoStand first pieces.now }
+    requires first { first ≤ 128 }
+    requires place { place ≤ length pieces.now }
     requires few { place < 240 }
-    requires may { MayBePiece (new_piece id.0 body.now) }
-    ensures planned { IfOk result (Plans layout.now place (new_piece id.0 body.now)) }
-    ensures few { IfOk result (λ plan. length plan.closing.items ≤ 38) }
+    requires small { IsSmall (new_piece id.0 body.now) }
+    ensures planned { IfOk result (Plans first pieces.now place (new_piece id.0 body.now)) }
+    ensures least { IfOk result (λ plan. first ≤ plan.end) }
+    ensures most { IfOk result (λ plan. plan.end + 4096 ≤ 2 ^ 24) }
+    ensures placed { IfOk result (λ plan. All IsPlaced plan.pieces) }
+    ensures asked { IfOk result (λ plan. plan.count ≤ (if place == length pieces.now then 0 else 16777216)) }
 {
-    layout.keeps_rule();
-    let old = layout.pieces.as_slice();
+    let old = pieces.as_slice();
     let piece = Piece {
         id,
         at: 0,
         len: body.len() as u64,
         after: false,
     };
-    let mut pieces = PieceList::new(layout.pieces.allocator());
-    let at = lay_pieces(&mut pieces, first_place(&layout.params), &old[..place])?;
+    let mut pieces = PieceList::new(pieces.allocator());
+    let at = lay_pieces(&mut pieces, first, &old[..place])?;
     let next = lay_pieces(&mut pieces, at, &[piece])?;
     let end = lay_pieces(&mut pieces, next, pieces_behind(old, place))?;
-    let closing = closing_of(&layout.params, end);
     Ok(Plan {
         at,
         from: end_of(old, place, at),
         count: end - next,
-        start: end + closing.len() as u64,
-        closing,
+        end,
         pieces,
     })
 }

@@ -7,6 +7,7 @@ ghost use Rattle.snd_fields.specs.Field.{bytes_of};
 ghost use Rattle.snd_fields.specs.declared.field.Order.TheVariants.{Little};
 
 use arrayvec::ArrayVec;
+use snd_fields::Order;
 
 /// Puts bytes behind the others.
 pub fn put_all<const N: usize>(into: &mut ArrayVec<u8, N>, bytes: &[u8])
@@ -30,6 +31,19 @@ pub fn put_number<const N: usize>(into: &mut ArrayVec<u8, N>, value: u64)
     into.push(second);
     into.push(third);
     into.push(fourth);
+}
+
+/// Puts the lowest 4 bytes of a number behind the others, in a byte order.
+pub fn put_size<const N: usize>(into: &mut ArrayVec<u8, N>, order: Order, value: u64)
+    requires { array_vec_len into.old + 4 ≤ N }
+    ensures items { into.new.items ≡ into.old.items ++ bytes_of order 4 value }
+    ensures len { array_vec_len into.new ≡ array_vec_len into.old + 4 }
+{
+    let [first, second, third, fourth, ..] = value.to_le_bytes();
+    match order {
+        Order::Little => put_all(into, &[first, second, third, fourth]),
+        Order::Big => put_all(into, &[fourth, third, second, first]),
+    }
 }
 
 /// Puts a zero behind an odd number of bytes.

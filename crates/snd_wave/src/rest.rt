@@ -3,25 +3,37 @@
 ghost use Rattle.std.specs.Prelude.{◌≡◌, ◌+◌, ◌≤◌, ◌++◌, IfOk, OnOk, drop, length, take};
 ghost use Rattle.snd_chunks.specs.Written.{chunk_bytes};
 ghost use Rattle.snd_disk.specs.Device.{AsksAtMost, IfOkTold, OnlyReadsOn};
-ghost use Rattle.snd_fields.specs.declared.field.Order.TheVariants.{Little};
-ghost use Rattle.snd_wave.specs.Changes.{rest_from, rest_size};
-ghost use Rattle.snd_wave.specs.Put.{CountsPutting, new_piece};
+ghost use Rattle.snd_wave.specs.Changes.{rest_from};
+ghost use Rattle.snd_wave.specs.Heads.{CountsPutting, new_piece};
 
 use crate::plan::Plan;
-use crate::put::{put_all, put_number};
+use crate::put::{put_all, put_size};
 use arrayvec::ArrayVec;
 use snd_disk::{Disk, fill};
-use snd_fields::Id4;
+use snd_fields::{Id4, Order};
 use snd_layout::PieceError;
 use std::alloc::{AllocError, Global};
 
+/// How a head is closed behind its pieces, and the size of the whole that it says then.
+#[derive(Drop)]
+pub struct Closing {
+    /// The byte order of the sizes of chunks.
+    pub order: Order,
+    /// What stands behind the pieces.
+    pub bytes: ArrayVec<u8, 128>,
+    /// The place of the size of the whole.
+    pub size_at: u64,
+    /// What it says.
+    pub size: ArrayVec<u8, 8>,
+}
+
 // Puts a chunk behind the others.
-fn add_chunk(into: &mut Vec<u8>, id: Id4, body: &[u8]) -> Result<(), AllocError>
-    ensures { OnOk result (into.new.items ≡ into.old.items ++ chunk_bytes Little (new_piece id.0 body.now)) }
+fn add_chunk(into: &mut Vec<u8>, order: Order, id: Id4, body: &[u8]) -> Result<(), AllocError>
+    ensures { OnOk result (into.new.items ≡ into.old.items ++ chunk_bytes order (new_piece id.0 body.now)) }
 {
     let mut head: ArrayVec<u8, 8> = ArrayVec::new();
     put_all(&mut head, &id.0);
-    put_number(&mut head, body.len() as u64);
+    put_size(&mut head, order, body.len() as u64);
     into.extend_from_slice(head.as_slice())?;
     into.extend_from_slice(body)?;
     if body.len() % 2 == 1 {
@@ -57,20 +69,21 @@ pub(crate) fn rest_of<D: Disk>(
     alloc: Global,
     disk: &mut D,
     plan: &Plan,
+    closing: &Closing,
     id: Id4,
     body: &[u8],
 ) -> Result<Vec<u8>, PieceError>
     requires { plan.now.from + plan.now.count ≤ (D.state disk.old).size }
-    ensures bytes { IfOkTold D.state disk.old result (λ b v. v.items ≡ rest_from plan.now (new_piece id.0 body.now) b) }
-    ensures size { IfOk result (λ v. length v.items ≡ rest_size plan.now (new_piece id.0 body.now)) }
+    ensures bytes { IfOkTold D.state disk.old result (λ b v. v.items ≡ rest_from plan.now closing.now (new_piece id.0 body.now) b) }
+    ensures size { IfOk result (λ v. length v.items ≡ length (chunk_bytes closing.now.order (new_piece id.0 body.now)) + plan.now.count + length closing.now.bytes.items) }
     ensures faults { CountsPutting D.state disk.old disk.new result }
     ensures reads { OnlyReadsOn D.state D.may_leave D.left_between disk.old disk.new }
     ensures asked { AsksAtMost D.state plan.now.count disk.old disk.new }
 {
     let behind = read_bytes(alloc, disk, plan.from, plan.count)?;
     let mut rest = Vec::new(alloc);
-    add_chunk(&mut rest, id, body)?;
+    add_chunk(&mut rest, closing.order, id, body)?;
     rest.extend_from_slice(behind.as_slice())?;
-    rest.extend_from_slice(plan.closing.as_slice())?;
+    rest.extend_from_slice(closing.bytes.as_slice())?;
     Ok(rest)
 }

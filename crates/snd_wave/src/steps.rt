@@ -5,15 +5,10 @@ ghost use Rattle.snd_disk.specs.Device.{CountsOn, GoesOnFrom, WritesAtMost};
 ghost use Rattle.snd_disk.specs.State.{IsCut, IsWritten};
 ghost use Rattle.snd_wave.specs.Changes.{IsReplaced};
 
-use crate::put::put_number;
-use arrayvec::ArrayVec;
 use snd_disk::{Disk, Step};
 
-/// The place of the size of the whole.
-const SIZE_AT: u64 = 4;
-
-/// Shortens a disk to a length.
-pub(crate) fn cut_to<D: Disk>(disk: &mut D, len: u64) -> Result<(), Step>
+// Shortens a disk to a length.
+fn cut_to<D: Disk>(disk: &mut D, len: u64) -> Result<(), Step>
     requires { len ≤ (D.state disk.old).size }
     ensures done { OnOk result (IsCut len (D.state disk.old) (D.state disk.new)) }
     ensures faults { CountsOn D.state disk.old disk.new result }
@@ -46,27 +41,26 @@ fn put_bytes<D: Disk>(disk: &mut D, at: u64, bytes: &[u8]) -> Result<(), Step>
     Ok(())
 }
 
-/// Replaces what a disk holds from a place on by these bytes, and puts the size of the whole.
+/// Replaces what a disk holds from a place on by these bytes, and puts the size of the whole at another.
 pub(crate) fn replace_from<D: Disk>(
     disk: &mut D,
     at: u64,
     bytes: &[u8],
-    size: u64,
+    size_at: u64,
+    size: &[u8],
 ) -> Result<(), Step>
     requires there { at ≤ (D.state disk.old).size }
-    requires early { 8 ≤ at }
+    requires early { size_at + length size.now ≤ at }
     requires few { at + length bytes.now < 2 ^ 63 }
-    ensures done { OnOk result (IsReplaced at bytes.now size (D.state disk.old) (D.state disk.new)) }
+    ensures done { OnOk result (IsReplaced at bytes.now size_at size.now (D.state disk.old) (D.state disk.new)) }
     ensures faults { CountsOn D.state disk.old disk.new result }
     ensures name { (D.state disk.new).name ≡ (D.state disk.old).name }
     ensures told { is_some (D.state disk.new).contents ≡ is_some (D.state disk.old).contents }
     ensures time { GoesOnFrom D.state D.left_between disk.old disk.new }
-    ensures written { WritesAtMost D.state (length bytes.now + 4) disk.old disk.new }
+    ensures written { WritesAtMost D.state (length bytes.now + length size.now) disk.old disk.new }
     ensures asked { (D.state disk.new).asked ≡ (D.state disk.old).asked }
 {
-    let mut number: ArrayVec<u8, 4> = ArrayVec::new();
-    put_number(&mut number, size);
     cut_to(disk, at)?;
     put_bytes(disk, at, bytes)?;
-    put_bytes(disk, SIZE_AT, number.as_slice())
+    put_bytes(disk, size_at, size)
 }

@@ -1,4 +1,4 @@
-use Rattle.std.proofs.Common.{◌≡◌, ℕ, List, ap, length, arith, rules, subst, sym}
+use Rattle.std.proofs.Common.{◌≡◌, ap, length, arith, rules}
 use Rattle.snd_container.proofs.Widths.{few_in_inner, inner_value_fits}
 use Rattle.snd_container.specs.Values.{inner_value}
 use Rattle.snd_container.proofs.fields.inner_bytes.Goals as goal

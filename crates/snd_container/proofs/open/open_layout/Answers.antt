@@ -1,4 +1,4 @@
-use Rattle.std.proofs.Common.{rules, ap, ◌∙◌, ◌≡◌, Ok, Err}
+use Rattle.std.proofs.Common.{rules, ◌≡◌, Ok}
 use Rattle.snd_layout.specs.declared.kind.Kind.TheVariants.{Wave, Rf64, W64, Au, Dns, Voc, Svx, Sphere}
 use Rattle.snd_container.proofs.OfKinds.{found_as, opens_by, refused_by}
 use Rattle.snd_container.proofs.open.open_layout.Goals as goal

@@ -1,11 +1,31 @@
+use Rattle.std.proofs.Common.{◌≡◌, sym, ap, ◌∙◌}
 use Rattle.std.proofs.lemmas.Result.{on_ok_weaker}
-use Rattle.snd_container.proofs.Heads.{holds_of_kind, only_wave, puts_of_kind}
-use Rattle.snd_wave.specs.Put.{new_piece}
+use Rattle.snd_container.proofs.Heads.{holds_of_kind, puts_of_kind, rf64_says, svx_says, wave_says}
+use Rattle.snd_layout.specs.Shape.{Shape}
+use Rattle.snd_layout.specs.declared.kind.Kind.TheVariants.{Rf64, Svx, Wave}
+use Rattle.snd_wave.specs.Heads.{new_piece}
 use Rattle.snd_container.proofs.pieces.put_piece.Goals as goal
 
-pub returns-clause-put : goal.returns-clause-put
-returns-clause-put g c =
-    on_ok_weaker c.put_piece.result (λ put. puts_of_kind g.D.Disk.state c.args.disk.now c.put_piece.new.disk c.args.layout.now c.put_piece.new.layout c.args.place (new_piece c.args.id.0 c.args.body.now) (only_wave c.args.layout.now.kind (new_piece c.args.id.0 c.args.body.now) c.requires.may) put) c.put_piece.ensures.put
+pub returns-in-Wave-clause-put : goal.returns-in-Wave-clause-put
+returns-in-Wave-clause-put g c =
+    let kind : c.args.layout.now.kind ≡ Wave = sym (ap (λ (s : Shape). s.kind) c.layout.view_is) ∙ c.in-Wave.is in
+    on_ok_weaker c.put_piece.result (λ put. puts_of_kind Wave g.D.Disk.state c.args.disk.now c.put_piece.new.disk c.args.layout.now c.put_piece.new.layout c.args.place (new_piece c.args.id.0 c.args.body.now) kind put) c.put_piece.ensures.put
 
-pub returns-clause-head : goal.returns-clause-head
-returns-clause-head g c = on_ok_weaker c.put_piece.result (λ head. holds_of_kind (g.D.Disk.state c.put_piece.new.disk) c.put_piece.new.layout head) c.put_piece.ensures.head
+pub returns-in-Wave-clause-head : goal.returns-in-Wave-clause-head
+returns-in-Wave-clause-head g c = on_ok_weaker c.put_piece.result (λ head. holds_of_kind Wave wave_says (g.D.Disk.state c.put_piece.new.disk) c.put_piece.new.layout head) c.put_piece.ensures.head
+
+pub returns-in-Rf64-clause-put : goal.returns-in-Rf64-clause-put
+returns-in-Rf64-clause-put g c =
+    let kind : c.args.layout.now.kind ≡ Rf64 = sym (ap (λ (s : Shape). s.kind) c.layout.view_is) ∙ c.in-Rf64.is in
+    on_ok_weaker c.put_piece-in-Rf64.result (λ put. puts_of_kind Rf64 g.D.Disk.state c.args.disk.now c.put_piece-in-Rf64.new.disk c.args.layout.now c.put_piece-in-Rf64.new.layout c.args.place (new_piece c.args.id.0 c.args.body.now) kind put) c.put_piece-in-Rf64.ensures.put
+
+pub returns-in-Rf64-clause-head : goal.returns-in-Rf64-clause-head
+returns-in-Rf64-clause-head g c = on_ok_weaker c.put_piece-in-Rf64.result (λ head. holds_of_kind Rf64 rf64_says (g.D.Disk.state c.put_piece-in-Rf64.new.disk) c.put_piece-in-Rf64.new.layout head) c.put_piece-in-Rf64.ensures.head
+
+pub returns-in-Svx-clause-put : goal.returns-in-Svx-clause-put
+returns-in-Svx-clause-put g c =
+    let kind : c.args.layout.now.kind ≡ Svx = sym (ap (λ (s : Shape). s.kind) c.layout.view_is) ∙ c.in-Svx.is in
+    on_ok_weaker c.put_piece-in-Svx.result (λ put. puts_of_kind Svx g.D.Disk.state c.args.disk.now c.put_piece-in-Svx.new.disk c.args.layout.now c.put_piece-in-Svx.new.layout c.args.place (new_piece c.args.id.0 c.args.body.now) kind put) c.put_piece-in-Svx.ensures.put
+
+pub returns-in-Svx-clause-head : goal.returns-in-Svx-clause-head
+returns-in-Svx-clause-head g c = on_ok_weaker c.put_piece-in-Svx.result (λ head. holds_of_kind Svx svx_says (g.D.Disk.state c.put_piece-in-Svx.new.disk) c.put_piece-in-Svx.new.layout head) c.put_piece-in-Svx.ensures.head

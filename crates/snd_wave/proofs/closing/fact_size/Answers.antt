@@ -1,4 +1,4 @@
-use Rattle.snd_wave.proofs.Planning.{fact_missing, fact_there}
+use Rattle.snd_wave.proofs.Putting.{fact_missing, fact_there}
 use Rattle.snd_wave.proofs.closing.fact_size.Goals as goal
 
 pub returns-then-has_fact-clause-size : goal.returns-then-has_fact-clause-size
