@@ -1,8 +1,8 @@
 -- The bytes of an open file are bytes, whatever calls do to it.
-use Rattle.std.proofs.Common.{◌≡◌, subst, ℕ, ◌+◌, ◌-◌, ◌/◌, ◌%◌, ℤ, Bool, true, ◌&&◌, List, [], ◌∷◌, ◌++◌, All, Option, None, Some, length, take, drop, replicate, refl, arith}
-use Rattle.std.proofs.lemmas.Bool.{and_parts, cond_both, ltb-true}
-use Rattle.std.proofs.lemmas.List.Elements.{All-append, All-cons, All-drop, All-nil, All-replicate, All-take}
-use Rattle.std.specs.Prelude.{◌==◌, codes, nat_le, nat_lt}
+use Rattle.std.proofs.Common.{subst, ℕ, ◌+◌, ◌-◌, ◌/◌, ℤ, Bool, List, ◌++◌, All, Option, None, Some, length, take, drop, replicate, arith}
+use Rattle.std.proofs.lemmas.Bool.{cond_both}
+use Rattle.std.proofs.lemmas.List.Elements.{All-append, All-drop, All-nil, All-replicate, All-take}
+use Rattle.std.specs.Prelude.{nat_le, nat_lt}
 use Rattle.snd_container.specs.Sound.{fixed_of}
 use Rattle.snd_container.proofs.EveryKind.{bytes}
 use Rattle.snd_container.specs.Values.{closed_end, closing, inner_value, outer_value, side_value}

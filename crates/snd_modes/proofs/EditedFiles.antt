@@ -15,7 +15,7 @@ use Rattle.snd_layout.specs.declared.error.OpenError.{OpenError}
 use Rattle.snd_layout.specs.declared.refusal.OpenRefusal.{OpenRefusal}
 use Rattle.snd_patch.proofs.Bytes.{over_beside, take_before}
 use Rattle.snd_patch.proofs.Lists.{closed_same, order_is_free, sealed_keeps, sealed_length, shrunk_keeps, shrunk_length}
-use Rattle.snd_patch.specs.Sealed.{FieldsLieApart, closed, counted, over_closing, patched, sealed, sealed_size, shrunk, with_fewer, with_fields}
+use Rattle.snd_patch.specs.Sealed.{FieldsLieApart, closed, counted, over_closing, patched, sealed, shrunk, with_fewer, with_fields}
 use Rattle.snd_layout.specs.Container.{KeepsHead, LiesIn}
 use Rattle.snd_modes.specs.Editing.{Editing, first_editing, moved_to, opening_as, opening_of}
 use Rattle.snd_modes.specs.Edits.{automatic_to, cut_off, moved_write_to, sealed_to}

@@ -8,9 +8,6 @@ use Rattle.snd_disk.proofs.Lists.{length-over}
 use Rattle.snd_layout.specs.Params.{Parameters, data_bytes}
 use Rattle.snd_layout.specs.Shape.{KeepsRule, Shape, end}
 use Rattle.snd_container.specs.Sound.{decoded, decoded_as, fixed_of, kept_as, kept_numbers, sound_bytes}
-use Rattle.snd_layout.specs.declared.kind.Kind.{Kind}
-use Rattle.snd_layout.specs.declared.kind.Kind.TheVariants.{Wave}
-use Rattle.snd_chunks.specs.Written.{pad}
 use Rattle.snd_container.proofs.EveryKind.{free}
 use Rattle.snd_container.specs.Values.{closed_end}
 use Rattle.snd_patch.specs.Sealed.{SameBesideFields, counted, over_closing, sealed}

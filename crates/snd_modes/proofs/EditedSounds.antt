@@ -1,5 +1,5 @@
 -- The sound of an edited file that is sealed.
-use Rattle.std.proofs.Common.{◌≡◌, ◌⊎◌, ◌∙◌, ap, sym, subst, inr, ℕ, ◌≤◌, ℤ, Bool, true, false, cond, List, None, Ok, Err, length, get_or, map, arith}
+use Rattle.std.proofs.Common.{◌≡◌, ◌⊎◌, ◌∙◌, ap, sym, subst, inr, ℕ, ◌≤◌, ℤ, Bool, true, false, cond, List, Ok, Err, length, map, arith}
 use Rattle.std.specs.Prelude.{Result, is_none}
 use Rattle.snd_container.specs.Laws.{FileSays}
 use Rattle.snd_container.specs.Sound.{Kept, Sound, decoded, kept_of, fixed_of, sound_bytes, sound_in, sound_of}

@@ -1,5 +1,5 @@
 -- The fields of an image: old or new, each as a whole.
-use Rattle.std.proofs.Common.{◌≡◌, ◌⊎◌, ◌∙◌, inl, ℕ, ◌+◌, ◌<◌, ◌≤◌, List, Option, None, Some, Ok, length, get_or, arith}
+use Rattle.std.proofs.Common.{◌≡◌, ◌⊎◌, ◌∙◌, inl, ℕ, ◌+◌, ◌<◌, ◌≤◌, List, Option, None, Some, length, get_or, arith}
 use Rattle.std.specs.Prelude.{IfSome}
 use Rattle.snd_container.proofs.EveryKind.{apart}
 use Rattle.snd_container.proofs.Widths.{inner_value_fits, outer_value_fits, side_value_fits}

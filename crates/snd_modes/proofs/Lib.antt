@@ -1,5 +1,7 @@
 pub mod AreBytes
 pub mod AtRest
+pub mod BareHeads
+pub mod Blanks
 pub mod CarriedOut
 pub mod CutFrames
 pub mod EditedFiles
@@ -8,10 +10,14 @@ pub mod EditedSounds
 pub mod EditedSteps
 pub mod FileRules
 pub mod FramesPut
+pub mod HeadBytes
+pub mod HeadLaws
+pub mod HeadProps
 pub mod ImageFields
 pub mod ImageFrames
 pub mod ImageLayouts
 pub mod KeptPieces
+pub mod KindHeads
 pub mod LeftSafe
 pub mod MadeFiles
 pub mod NewFiles
@@ -21,6 +27,9 @@ pub mod Overwritten
 pub mod PartlyPut
 pub mod PartlyWritten
 pub mod PutBlocks
+pub mod PutHeads
+pub mod ReadBodies
+pub mod Rf64Heads
 pub mod Rooms
 pub mod Runs
 pub mod SafeCuts
@@ -31,4 +40,6 @@ pub mod SealedFrames
 pub mod SealedHeads
 pub mod Sealing
 pub mod SoundFrames
+pub mod SvxHeads
 pub mod TestedSamples
+pub mod WaveHeads

@@ -1,5 +1,5 @@
 -- A file that is made is one that may be opened to be updated.
-use Rattle.std.proofs.Common.{◌≡◌, ◌∙◌, ap, sym, refl, inl, inr, Bool, true, false, cond, All, Option, None, Some, Ok, Err}
+use Rattle.std.proofs.Common.{◌≡◌, ◌∙◌, ap, sym, refl, inl, inr, Bool, false, cond, All, Option, None, Some, Ok, Err}
 use Rattle.std.proofs.lemmas.Bool.{cases_Bool}
 use Rattle.std.specs.Prelude.{Result, is_none}
 use Rattle.snd_container.proofs.EveryKind.{made}

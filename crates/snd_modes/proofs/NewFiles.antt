@@ -1,5 +1,5 @@
 -- What a file that is made says of itself.
-use Rattle.std.proofs.Common.{◌≡◌, ◌∙◌, ap, sym, subst, refl, inl, inr, ℕ, ◌+◌, ◌*◌, ◌^◌, ◌≤◌, Bool, true, false, cond, List, [], Option, None, Some, Ok, Err, length, arith}
+use Rattle.std.proofs.Common.{◌≡◌, ◌∙◌, ap, sym, subst, refl, ℕ, ◌+◌, ◌*◌, ◌^◌, ◌≤◌, Bool, true, false, cond, Option, None, Some, Ok, Err, length, arith}
 use Rattle.std.specs.Prelude.{Result, is_none}
 use Rattle.snd_container.proofs.EveryKind.{lies, made}
 use Rattle.snd_container.specs.Made.{IsMakeCause, new_file, new_shape}

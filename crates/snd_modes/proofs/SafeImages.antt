@@ -1,5 +1,5 @@
 -- When an image is safe: what it owes the state before a call and the state to which the call leads.
-use Rattle.std.proofs.Common.{◌≡◌, ◌⊎◌, ◌∙◌, ap, sym, refl, inl, inr, ⊎_elim, ℕ, ◌<◌, ◌≤◌, ℤ, true, List, [], Ok, length, get_or, map, take, arith}
+use Rattle.std.proofs.Common.{◌≡◌, ◌⊎◌, ◌∙◌, ap, sym, refl, inl, inr, ⊎_elim, ℕ, ◌<◌, ◌≤◌, ℤ, true, List, [], Ok, length, map, take, arith}
 use Rattle.std.proofs.lemmas.List.{ext_get_or, take_all}
 use Rattle.std.specs.Prelude.{Result}
 use Rattle.snd_container.specs.Laws.{FileSays}

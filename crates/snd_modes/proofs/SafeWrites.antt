@@ -1,9 +1,9 @@
 -- What a crash leaves while frames are written, and while the head is brought up to them, is safe.
-use Rattle.std.proofs.Common.{◌≡◌, ◌∙◌, ap, sym, inl, inr, ⊎_elim, ℕ, ◌+◌, ◌/◌, ◌<◌, ◌≤◌, ℤ, Bool, false, true, cond, List, All, Ok, length, max, get_or, arith}
-use Rattle.std.proofs.lemmas.Bool.{cases_Bool, cases_lt, lt-ltb}
+use Rattle.std.proofs.Common.{◌≡◌, ◌∙◌, ap, sym, inl, inr, ⊎_elim, ℕ, ◌+◌, ◌/◌, ◌<◌, ◌≤◌, ℤ, false, true, List, All, length, max, get_or, arith}
+use Rattle.std.proofs.lemmas.Bool.{cases_Bool}
 use Rattle.std.specs.Prelude.{IfSome}
 use Rattle.snd_layout.specs.Container.{KeepsHead}
-use Rattle.snd_container.specs.Values.{closed_end, closing, declared_end, inner_value, outer_reach, outer_value}
+use Rattle.snd_container.specs.Values.{closed_end, declared_end, inner_value, outer_reach, outer_value}
 use Rattle.snd_container.specs.Laws.{FileSays}
 use Rattle.snd_container.specs.Sound.{decoded, fixed_of}
 use Rattle.snd_disk.proofs.Lists.{length-over}
@@ -11,7 +11,7 @@ use Rattle.snd_fields.specs.Laws.{IsByte}
 use Rattle.snd_layout.specs.Params.{data_bytes}
 use Rattle.snd_layout.specs.Shape.{Shape, end}
 use Rattle.snd_patch.specs.Images.{HasNew, HasOld, IsGrowing}
-use Rattle.snd_patch.specs.Sealed.{SameBesideFields, over_closing}
+use Rattle.snd_patch.specs.Sealed.{SameBesideFields}
 use Rattle.snd_modes.specs.Editing.{Editing}
 use Rattle.snd_modes.specs.Edits.{closed_behind, coded, count_written, over_data, written_to}
 use Rattle.snd_modes.specs.Laws.{IsEdited}

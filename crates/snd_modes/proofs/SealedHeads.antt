@@ -1,5 +1,5 @@
 -- What a file says whose fields were brought up to a number of frames.
-use Rattle.std.proofs.Common.{◌≡◌, ◌⊎◌, ◌∙◌, ap, sym, subst, refl, inl, inr, ℕ, ◌+◌, ◌-◌, ◌%◌, ◌^◌, ◌<◌, ◌≤◌, Bool, true, false, ◌||◌, cond, List, All, Some, Ok, length, get_or, max, arith}
+use Rattle.std.proofs.Common.{◌≡◌, ◌∙◌, ap, sym, subst, ℕ, ◌+◌, ◌^◌, ◌<◌, ◌≤◌, Bool, true, false, cond, List, All, Some, length, get_or, max, arith}
 use Rattle.std.specs.Prelude.{IfSome, is_none}
 use Rattle.snd_container.proofs.EveryKind.{free, new, reaches}
 use Rattle.snd_container.specs.Laws.{FileSays}

@@ -3,12 +3,16 @@ pub mod Closing
 pub mod Editing
 pub mod Edits
 pub mod Handle
+pub mod Heads
 pub mod Laws
 pub mod Loans
 pub mod Making
 pub mod Outcomes
+pub mod PieceCalls
+pub mod Pieces
 pub mod Putting
 pub mod Reading
+pub mod Relaid
 pub mod Rest
 pub mod Safe
 pub mod SafeLaws

@@ -1,6 +1,6 @@
 -- What a crash leaves of a file in the midst of a call that is safe. file is the one that was opened or made, e the state before
 -- the call, x what the crash leaves.
-use Rattle.std.specs.Prelude.{◌≡◌, ◌⊎◌, ℕ, ℤ, ◌/◌, ◌<◌, Bool, true, false, All, List, Ok, length}
+use Rattle.std.specs.Prelude.{◌≡◌, ◌⊎◌, ℕ, ℤ, ◌/◌, ◌<◌, Bool, true, false, All, List, length}
 use Rattle.snd_container.specs.Laws.{FileSays}
 use Rattle.snd_fields.specs.Laws.{IsByte}
 use Rattle.snd_layout.specs.declared.kind.Kind.TheVariants.{Voc}

@@ -1,16 +1,17 @@
 -- Bytes that are put on a disk by several calls, one of which may fail, and what is put when frames are written.
-use Rattle.std.specs.Prelude.{◌≡◌, ◌≢◌, ℕ, ◌*◌, ◌≤◌, Bool, List, ℤ, Some, get_or, length, max, nat_lt, take, if◌then◌else◌}
+use Rattle.std.specs.Prelude.{◌≡◌, ◌≢◌, ℕ, ◌+◌, ◌*◌, ◌≤◌, Bool, List, ℤ, Some, get_or, length, max, nat_lt, take, if◌then◌else◌}
 use Rattle.snd_disk.specs.Device.{GoesOnFrom, Tells, WritesAtMost}
 use Rattle.snd_disk.specs.Runs.{IsBeside}
 use Rattle.snd_disk.specs.State.{IsWritten, State}
 use Rattle.snd_fields.specs.declared.field.Order.TheVariants.{Little}
 use Rattle.snd_layout.specs.Params.{data_bytes}
-use Rattle.snd_layout.specs.Shape.{Shape}
+use Rattle.snd_layout.specs.Shape.{Shape, end}
 use Rattle.snd_layout.specs.declared.codec.Codec.{Codec}
 use Rattle.snd_layout.specs.declared.kind.Kind.TheVariants.{Voc}
 use Rattle.snd_container.specs.Sound.{fixed_of}
 use Rattle.snd_container.specs.Values.{closed_end}
 use Rattle.snd_patch.specs.Steps.{StillTells}
+use Rattle.snd_modes.specs.Edits.{coded}
 use Rattle.snd_container.specs.Fixed.{byte_count, samples_bytes}
 use Rattle.snd_container.specs.declared.fixed.Fixed.{Fixed}
 use Rattle.snd_container.specs.declared.fixed.Fixed.TheVariants.{Linear}
@@ -43,6 +44,10 @@ HoldsCoded codec xs block = (form : Fixed) → fixed_of codec ≡ Some form → 
 -- the length, once what closes the data of n frames stands behind them, where these are more than there were
 abbrev pub closed_size : ℕ → Shape → ℕ → ℕ
 closed_size size h n = if nat_lt h.frames n then max size (closed_end h n) else size
+
+-- .. and the bytes of numbers over the data from a frame on
+abbrev pub put_size : ℕ → Shape → ℕ → List ℤ → ℕ → ℕ
+put_size size h place xs n = closed_size (max size (end h place + length (coded h.params xs))) h n
 
 -- what closes the data of n frames is there, and the head declares no more than these; a Creative Voice file, which has a
 -- single field, may declare more

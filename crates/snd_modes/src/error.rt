@@ -2,16 +2,57 @@
 
 ghost use Rattle.std.specs.Prelude.{◌≡◌};
 ghost use Rattle.snd_modes.specs.declared.error.AutoError.TheVariants as auto_error;
+ghost use Rattle.snd_modes.specs.declared.error.GetError.TheVariants as get;
 ghost use Rattle.snd_modes.specs.declared.error.ShrinkError.TheVariants as shrink;
 ghost use Rattle.snd_modes.specs.declared.error.UpdateError.TheVariants as update;
 
 use snd_disk::Step;
+use std::alloc::AllocError;
 use thiserror::Error;
 
 /// Why a file was not closed as it should: a call of the disk had failed at this step.
 #[derive(Clone, Copy, Debug, PartialEq, Eq, Error)]
 #[error("the disk failed")]
 pub struct DiskFault(pub Step);
+
+/// Why the body of a chunk is not given.
+#[derive(Clone, Copy, Debug, PartialEq, Eq, Error)]
+pub enum GetError {
+    /// The file is broken since a fault at this step.
+    #[error("the file is broken")]
+    Broken(Step),
+    /// There is no such chunk.
+    #[error("there is no such chunk")]
+    NoSuchChunk,
+    /// The body has more than 65536 bytes.
+    #[error("the chunk has more than 65536 bytes")]
+    ChunkTooLarge,
+    /// A call of the disk failed at this step.
+    #[error("the disk failed")]
+    DiskFault(Step),
+    /// There is no memory.
+    #[error("out of memory")]
+    Memory,
+}
+
+impl From<AllocError> for GetError {
+    ghost from_gives = { λ _ e. e ≡ get.Memory };
+
+    fn from(_e: AllocError) -> GetError {
+        GetError::Memory
+    }
+}
+
+/// Why the front of a chunk's body is not read.
+#[derive(Clone, Copy, Debug, PartialEq, Eq, Error)]
+pub enum PieceReadError {
+    /// The file is broken since a fault at this step.
+    #[error("the file is broken")]
+    Broken(Step),
+    /// A call of the disk failed at this step.
+    #[error("the disk failed")]
+    DiskFault(Step),
+}
 
 /// Why no frames are read.
 #[derive(Clone, Copy, Debug, PartialEq, Eq, Error)]

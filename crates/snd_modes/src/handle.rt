@@ -1,11 +1,13 @@
 //! The handle of one open file.
 
-ghost use Rattle.std.specs.Prelude.{◌≡◌, ◌≢◌, ◌+◌, ◌≤◌, ◌^◌, None, false, true, is_none};
+ghost use Rattle.std.specs.Prelude.{◌≡◌, ◌≢◌, ◌+◌, ◌≤◌, ◌^◌, None, All, false, true, is_none};
 ghost use Rattle.snd_container.specs.Sound.{fixed_of};
+ghost use Rattle.snd_layout.specs.Opened.{EndsIn};
 ghost use Rattle.snd_layout.specs.Params.{data_bytes};
 ghost use Rattle.snd_layout.specs.Shape.{end, room};
 ghost use Rattle.snd_layout.specs.declared.kind.Kind.TheVariants.{Voc};
 ghost use Rattle.snd_container.specs.Values.{closed_end};
+ghost use Rattle.snd_modes.specs.Heads.{HasHead};
 
 use crate::mode::Mode;
 use crate::writes::BLOCK_BYTES;
@@ -15,8 +17,9 @@ use std::marker::PhantomData;
 
 /// An open file, in the mode `M`. It holds its disk, and is closed to give it back. The frames to read
 /// and to write next are at most the number of frames. Until a call of the disk fails, the data of the
-/// frames lie within the disk; and while the file is updated automatically, its head says how many bytes
-/// they have, and what closes them is there.
+/// frames lie within the disk, and so do the further chunks of a file that is only read; and while the file
+/// is updated automatically, its head says how many bytes they have, and what closes them is there. Until
+/// a frame is written, the disk of a file that is made holds nothing but its head.
 pub struct File<'d, D: Disk, M: Mode> {
     pub(crate) disk: &'d mut D,
     pub(crate) layout: Layout,
@@ -34,6 +37,8 @@ pub struct File<'d, D: Disk, M: Mode> {
     ghost linear: { is_none (fixed_of layout.params.codec) ≡ false },
     ghost room_ends: { layout.start + room layout + 8 ≤ 2 ^ 63 },
     ghost sized: { M.WRITES ≡ true → layout.unknown_length ≡ false },
+    ghost pieces_held: { M.WRITES ≡ false → broken ≡ None → All (EndsIn (D.state disk.now).size) layout.pieces },
+    ghost headed: { M.MAKES ≡ true → written ≡ false → broken ≡ None → HasHead (D.state disk.now) layout },
     ghost counted: { automatic ≡ true → broken ≡ None → layout.trailing ≡ false → layout.kind ≢ Voc → layout.declared ≡ data_bytes layout.params layout.frames },
     ghost closed: { automatic ≡ true → broken ≡ None → layout.trailing ≡ false → closed_end layout layout.frames ≤ (D.state disk.now).size },
 }

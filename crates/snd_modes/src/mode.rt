@@ -7,9 +7,12 @@ mod sealed {
 }
 
 /// A mode of an open file. Its meaning is whether the file may be written, and so is sealed as it is
-/// closed.
+/// closed; and whether it is made.
 pub trait Mode: sealed::Sealed {
     ghost WRITES: { Bool };
+
+    /// Whether the file is made, so that its disk holds nothing else.
+    ghost MAKES: { Bool };
 
     const WRITES: bool;
 }
@@ -32,17 +35,23 @@ impl sealed::Sealed for Update {}
 impl Mode for Read {
     ghost WRITES = { false };
 
+    ghost MAKES = { false };
+
     const WRITES: bool = false;
 }
 
 impl Mode for Write {
     ghost WRITES = { true };
 
+    ghost MAKES = { true };
+
     const WRITES: bool = true;
 }
 
 impl Mode for Update {
     ghost WRITES = { true };
+
+    ghost MAKES = { false };
 
     const WRITES: bool = true;
 }

@@ -1,12 +1,13 @@
 //! Files that are opened.
 
-ghost use Rattle.std.specs.Prelude.{◌≡◌, ◌+◌, ◌≤◌, ◌^◌, List, ℕ, None, IfOk, false, is_none, true};
+ghost use Rattle.std.specs.Prelude.{◌≡◌, ◌+◌, ◌≤◌, ◌^◌, List, ℕ, None, All, IfOk, false, is_none, true};
 ghost use Rattle.snd_disk.specs.Device.{AsksAtMost, OnlyReadsOn, Tells};
-ghost use Rattle.snd_layout.specs.Opened.{CountsOpening};
+ghost use Rattle.snd_layout.specs.Opened.{CountsOpening, EndsIn};
 ghost use Rattle.snd_layout.specs.Shape.{end, room};
 ghost use Rattle.snd_container.specs.Sound.{fixed_of};
 ghost use Rattle.snd_modes.specs.Editing.{first_editing};
 ghost use Rattle.snd_modes.specs.Handle.{IsFresh, Stands, disk_of, known_of, loan_of};
+ghost use Rattle.snd_modes.specs.Heads.{HasHead};
 ghost use Rattle.snd_modes.specs.Loans.{OpensFile, answer_of, disk_after, loan_after};
 
 use crate::codec::form_of;
@@ -29,6 +30,8 @@ pub(crate) fn at_first_frame<'d, D: Disk, M: Mode>(
     requires linear { is_none (fixed_of layout.params.codec) ≡ false }
     requires room_ends { layout.start + room layout + 8 ≤ 2 ^ 63 }
     requires sized { M.WRITES ≡ true → layout.unknown_length ≡ false }
+    requires headed { M.MAKES ≡ true → HasHead (D.state disk.old) layout }
+    requires pieces_held { M.WRITES ≡ false → All (EndsIn (D.state disk.old).size) layout.pieces }
     ensures lends { loan_of result ≡ disk.entry.ghost_name }
     ensures same_disk { disk_of result ≡ disk.old }
     ensures fresh { IsFresh (known_of result) }

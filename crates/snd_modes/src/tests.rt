@@ -1,8 +1,8 @@
 //! Calls of open files, against whole files written out by hand.
 use super::*;
 use snd_disk::{Call, Made, SteadyDisk};
-use snd_fields::Order;
-use snd_layout::{Codec, Kind, Params};
+use snd_fields::{Id4, Order};
+use snd_layout::{Codec, Kind, Params, PieceError};
 use std::alloc::Global;
 use std::test::Fail;
 
@@ -178,5 +178,128 @@ fn automatic_write_makes_six_calls(rt: HostRuntime) -> Result<(), Fail> {
             .zip(&wanted)
             .all(|(made, call)| is_call(made, *call))
     );
+    Ok(())
+}
+
+/// A chunk stands behind the data of the second file that is updated.
+#[test]
+fn pieces_are_read(rt: HostRuntime) -> Result<(), Fail> {
+    let alloc = rt.alloc();
+    let mut disk = SteadyDisk::new(alloc, UPDATES[1].0.to_vec(alloc)?)?;
+    let Ok(mut file) = open_read(alloc, &mut disk) else {
+        assert!(rt; false);
+        return Ok(());
+    };
+    let count = file.pieces().len();
+    assert_eq!(rt; count, 1);
+    let mut front = [9u8; 4];
+    assert!(rt; matches!(file.piece_read(0, &mut front), Ok(4)));
+    assert!(rt; front == *b"INFO");
+    let body = file.piece_bytes(alloc, Id4(*b"LIST"));
+    assert!(rt;
+        matches!(&body, Ok(bytes) if bytes.as_slice() == b"INFOINAM\x02\0\0\0A\0".as_slice())
+    );
+    let none = file.piece_bytes(alloc, Id4(*b"abcd"));
+    assert!(rt; matches!(none, Err(GetError::NoSuchChunk)));
+    assert!(rt; file.close().is_ok());
+    Ok(())
+}
+
+/// Makes a file of 16 bits in one channel, with one chunk of zeros. The answer is how many frames its head
+/// says once updates are automatic.
+fn make_with_zeros(alloc: Global, disk: &mut SteadyDisk, zeros: &[u8]) -> Option<u64> {
+    let Ok(params) = Params::new(1, 8000, Codec::S16(Order::Little)) else {
+        return None;
+    };
+    let Ok(mut file) = create(alloc, disk, Kind::Wave, params) else {
+        return None;
+    };
+    let refused = file.add_piece(Id4(*b"data"), zeros) == Err(PieceError::ReservedChunk);
+    let added = file.add_piece(Id4(*b"abcd"), zeros).is_ok();
+    let counted = file.set_auto(true).ok();
+    let closed = file.close().is_ok();
+    if refused && added && closed {
+        return counted;
+    }
+    None
+}
+
+/// A filler moves the field that decides the count into one sector.
+#[test]
+fn pieces_are_added(rt: HostRuntime) -> Result<(), Fail> {
+    let alloc = rt.alloc();
+    let mut disk = SteadyDisk::new(alloc, Vec::new(alloc))?;
+    assert_eq!(rt; make_with_zeros(alloc, &mut disk, &[0; 462]), Some(0));
+    let bytes = disk.bytes();
+    assert_eq!(rt; bytes.len(), 530);
+    assert!(rt; bytes.ends_with(b"JUNK\x08\0\0\0\0\0\0\0\0\0\0\0data\0\0\0\0".as_slice()));
+    Ok(())
+}
+
+/// A chunk with a call of its own takes the place of the one before it.
+fn make_with_cues(alloc: Global, disk: &mut SteadyDisk) -> bool {
+    let Ok(params) = Params::new(1, 8000, Codec::U8) else {
+        return false;
+    };
+    let Ok(mut file) = create(alloc, disk, Kind::Wave, params) else {
+        return false;
+    };
+    let put = file.put_meta(Id4(*b"cue "), b"\x01\0\0\0").is_ok();
+    let list = Id4(*b"LIST");
+    let copied = may_be_piece(file.kind(), list) && file.copy_piece(list, b"INFO").is_ok();
+    let again = file.put_meta(Id4(*b"cue "), b"").is_ok();
+    let closed = file.close().is_ok();
+    put && copied && again && closed
+}
+
+#[test]
+fn pieces_are_replaced(rt: HostRuntime) -> Result<(), Fail> {
+    let alloc = rt.alloc();
+    let mut disk = SteadyDisk::new(alloc, Vec::new(alloc))?;
+    assert!(rt; make_with_cues(alloc, &mut disk));
+    assert!(rt;
+        disk.bytes()
+            .ends_with(b"cue \0\0\0\0LIST\x04\0\0\0INFOdata\0\0\0\0".as_slice())
+    );
+    Ok(())
+}
+
+/// Makes a file of a kind with one chunk, and answers whether it was added.
+fn make_with_chunk(
+    alloc: Global,
+    disk: &mut SteadyDisk,
+    kind: Kind,
+    codec: Codec,
+) -> Option<Result<(), PieceError>> {
+    let params = Params::new(1, 8000, codec).ok()?;
+    let Ok(mut file) = create(alloc, disk, kind, params) else {
+        return None;
+    };
+    let added = file.add_piece(Id4(*b"abcd"), b"xy");
+    if file.close().is_ok() {
+        return Some(added);
+    }
+    None
+}
+
+/// What closes a head stands behind the chunk: in RF64 a size that says nothing, in 8SVX no bytes.
+#[test]
+fn pieces_are_added_by_kind(rt: HostRuntime) -> Result<(), Fail> {
+    let alloc = rt.alloc();
+    let mut disk = SteadyDisk::new(alloc, Vec::new(alloc))?;
+    let added = make_with_chunk(alloc, &mut disk, Kind::Rf64, Codec::U8);
+    assert!(rt; added == Some(Ok(())));
+    assert!(rt;
+        disk.bytes()
+            .ends_with(b"abcd\x02\0\0\0xydata\xff\xff\xff\xff".as_slice())
+    );
+    let added = make_with_chunk(alloc, &mut disk, Kind::Svx, Codec::S8);
+    assert!(rt; added == Some(Ok(())));
+    assert!(rt;
+        disk.bytes()
+            .ends_with(b"abcd\0\0\0\x02xyBODY\0\0\0\0".as_slice())
+    );
+    let refused = make_with_chunk(alloc, &mut disk, Kind::Voc, Codec::U8);
+    assert!(rt; refused == Some(Err(PieceError::NoChunks)));
     Ok(())
 }

@@ -14,7 +14,7 @@ ghost use Rattle.snd_modes.specs.Edits.{closed_behind, coded, count_written, cut
 ghost use Rattle.snd_modes.specs.Putting.{LeavesFields, LeavesWritten, PutsClosing, PutsData};
 ghost use Rattle.snd_modes.specs.Reading.{FitCodec, bytes_of_frames};
 ghost use Rattle.snd_modes.specs.WriteCalls.{MayWrite};
-ghost use Rattle.snd_modes.specs.Writing.{HoldsCoded, IsKeptUp, PutsAt, closed_size, most_fields};
+ghost use Rattle.snd_modes.specs.Writing.{HoldsCoded, IsKeptUp, PutsAt, closed_size, most_fields, put_size};
 
 use crate::codec::form_of;
 use crate::frames::place_of;
@@ -133,6 +133,7 @@ fn put_frames<D: Disk>(
     requires kept_up { automatic ≡ true → layout.old.trailing ≡ false → IsKeptUp layout.old layout.old.frames (D.state disk.old).size }
     ensures contents { OnOk result (Becomes D.state (λ b. written_bytes automatic b layout.old place to from.now) disk.old disk.new) }
     ensures size { OnOk result (end layout.old to ≤ (D.state disk.new).size) }
+    ensures grows { OnOk result ((D.state disk.new).size ≡ put_size (D.state disk.old).size layout.old place from.now to) }
     ensures closed { OnOk result (automatic ≡ true → layout.old.trailing ≡ false → closed_end layout.old to ≤ (D.state disk.new).size) }
     ensures stable { OnOk result (automatic ≡ true → IsStable D.state D.may_leave disk.new) }
     ensures layout { OnOk result (layout.new ≡ written_shape automatic layout.old to) }
@@ -169,6 +170,7 @@ pub(crate) fn write_over<D: Disk>(
     requires kept_up { automatic ≡ true → layout.old.trailing ≡ false → IsKeptUp layout.old layout.old.frames (D.state disk.old).size }
     ensures contents { OnOk result (Becomes D.state (λ b. written_bytes automatic b layout.old place (count_written layout.old place count) from.now) disk.old disk.new) }
     ensures size { OnOk result (end layout.old (count_written layout.old place count) ≤ (D.state disk.new).size) }
+    ensures grows { OnOk result ((D.state disk.new).size ≡ put_size (D.state disk.old).size layout.old place from.now (count_written layout.old place count)) }
     ensures closed { OnOk result (automatic ≡ true → layout.old.trailing ≡ false → closed_end layout.old (count_written layout.old place count) ≤ (D.state disk.new).size) }
     ensures stable { OnOk result (automatic ≡ true → IsStable D.state D.may_leave disk.new) }
     ensures layout { OnOk result (layout.new ≡ written_shape automatic layout.old (count_written layout.old place count)) }

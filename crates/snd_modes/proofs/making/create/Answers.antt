@@ -1,4 +1,4 @@
-use Rattle.std.proofs.Common.{rules, ◌≡◌, ◌∙◌, ap, sym, Err, Ok, Some, None, ℕ, true, false, List, option_map, arith}
+use Rattle.std.proofs.Common.{rules, ◌≡◌, ◌∙◌, ap, sym, Err, Ok, Some, None, ℕ, true, false, List, [], option_map, arith}
 use Rattle.std.specs.Prelude.{is_none}
 use Rattle.snd_container.specs.Made.{new_file, new_shape}
 use Rattle.snd_container.specs.Sound.{fixed_of}
@@ -80,3 +80,6 @@ at_first_frame-requires-clause-sized g c = λ writes.
     let fits : fit_refusal c.args.kind c.args.params ≡ None = search rules in
     let linear : is_none (fixed_of c.args.params.codec) ≡ false = search rules in
     (is_new c.args.kind c.args.params c.are_good.ensures fits linear c.in-Ok.layout made).known
+
+pub at_first_frame-requires-clause-headed : goal.at_first_frame-requires-clause-headed
+at_first_frame-requires-clause-headed g c = λ makes holds. ∣ (c.args.params, [], c.in-Ok.ensures.head) ∣₁

@@ -1,12 +1,15 @@
-use Rattle.std.proofs.Common.{◌≡◌, ◌∙◌, ap, sym, subst, ℕ, ◌≤◌, false, List, Some, option_map, length, take, arith}
+use Rattle.std.proofs.Common.{◌≡◌, ◌∙◌, ap, sym, subst, ℕ, ◌≤◌, true, false, List, Some, option_map, length, take, arith}
 use Rattle.std.specs.Prelude.{is_none}
 use Rattle.std.proofs.lemmas.List.{length-take}
 use Rattle.snd_container.specs.Sound.{fixed_of}
 use Rattle.snd_layout.specs.Shape.{KeepsRule, Shape, end}
 use Rattle.snd_patch.specs.Sealed.{counted, shrunk}
 use Rattle.snd_container.specs.Values.{closed_end}
+use Rattle.snd_modes.specs.Heads.{holds_pieces}
+use Rattle.snd_modes.proofs.BareHeads.{no_fewer}
 use Rattle.snd_modes.proofs.CutFrames.{cut_decoded, may_count_fewer}
 use Rattle.snd_modes.proofs.EditedFrames.{closed_counted}
+use Rattle.snd_modes.proofs.KindHeads.{bare_head}
 use Rattle.snd_modes.proofs.LeftSafe.{cutting_is_safe}
 use Rattle.snd_modes.proofs.Sealing.{ends_before}
 use Rattle.snd_modes.proofs.handle.File.cut_file.Goals as goal
@@ -57,3 +60,10 @@ returns-in-Ok-clause-leaves g c = λ opened e rest. cutting_is_safe g.D.Disk ope
 
 pub returns-in-Err-clause-leaves : goal.returns-in-Err-clause-leaves
 returns-in-Err-clause-leaves g c = λ opened e rest. cutting_is_safe g.D.Disk opened c.args.self.now e rest c.shrink.new.disk c.args.to c.requires.fewer c.requires.free c.shrink.ensures.leaves
+
+pub invariant_of-self-clause-headed : goal.invariant_of-self-clause-headed
+invariant_of-self-clause-headed g c = λ makes empty working holds.
+    let state = g.D.Disk.state in
+    let file = c.args.self.now in
+    let same : holds_pieces file.layout.kind ≡ true = sym (ap (λ (s : Shape). holds_pieces s.kind) c.in-Ok.ensures.layout) ∙ holds in
+    absurd (no_fewer (state file.disk.now) file.layout c.args.to (bare_head (state file.disk.now) file.layout same c.keeps_rules.ensures.rule (file.headed makes empty c.requires.working same)) c.requires.fewer)

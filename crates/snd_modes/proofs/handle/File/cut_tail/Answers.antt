@@ -2,6 +2,7 @@ use Rattle.std.proofs.Common.{◌≡◌, ◌∙◌, ap, sym, subst, ℕ, ◌+◌
 use Rattle.snd_layout.specs.Shape.{KeepsRule, Shape, end, room}
 use Rattle.snd_container.specs.Values.{closed_end}
 use Rattle.snd_modes.specs.Edits.{cut_off}
+use Rattle.snd_modes.proofs.BareHeads.{cut_head}
 use Rattle.snd_modes.proofs.CutFrames.{closed_free, off_decoded}
 use Rattle.snd_modes.proofs.handle.File.cut_tail.Goals as goal
 
@@ -35,3 +36,10 @@ pub invariant_of-self-clause-closed : goal.invariant_of-self-clause-closed
 invariant_of-self-clause-closed g c = λ automatic working free.
     let h = c.args.self.now.layout in
     subst (λ (s : Shape). closed_end s s.frames ≤ (g.D.Disk.state c.cut_off.new.disk).size) (sym c.in-Ok.ensures.layout) (omega (arith, c.in-Ok.ensures.size, closed_free h h.frames))
+
+pub invariant_of-self-clause-headed : goal.invariant_of-self-clause-headed
+invariant_of-self-clause-headed g c = λ makes empty working.
+    let state = g.D.Disk.state in
+    let file = c.args.self.now in
+    cut_head (state file.disk.now) (state c.cut_off.new.disk) file.layout c.cut_off.new.layout c.keeps_rules.ensures.rule (file.headed makes empty c.requires.working) (g.met.D.Disk.size_told file.disk.now)
+    c.in-Ok.ensures.layout c.in-Ok.ensures.size c.in-Ok.ensures.contents

@@ -2,6 +2,7 @@ use Rattle.std.proofs.Common.{◌≡◌, ◌∙◌, ap, sym, subst, ℕ, ◌+◌
 use Rattle.snd_layout.specs.Shape.{KeepsRule, Shape, end, room}
 use Rattle.snd_patch.specs.Sealed.{counted, sealed}
 use Rattle.snd_container.specs.Values.{closed_end}
+use Rattle.snd_modes.proofs.BareHeads.{sealed_head}
 use Rattle.snd_modes.proofs.LeftSafe.{sealing_is_safe}
 use Rattle.snd_modes.proofs.SealedFrames.{sealed_closed, sealed_decoded, sealed_no_less}
 use Rattle.snd_modes.proofs.handle.File.seal_file.Goals as goal
@@ -48,3 +49,10 @@ invariant_of-self-clause-closed g c = λ automatic working free.
     let h = c.args.self.now.layout in
     subst (λ (s : Shape). closed_end s s.frames ≤ (g.D.Disk.state c.seal.new.disk).size) (sym c.in-Ok.ensures.layout)
     (sealed_closed _ h h.frames _ c.in-Ok.ensures.size (sym (ap (λ (s : Shape). s.trailing) c.in-Ok.ensures.layout) ∙ free))
+
+pub invariant_of-self-clause-headed : goal.invariant_of-self-clause-headed
+invariant_of-self-clause-headed g c = λ makes empty working.
+    let state = g.D.Disk.state in
+    let file = c.args.self.now in
+    sealed_head (state file.disk.now) (state c.seal.new.disk) file.layout c.seal.new.layout c.keeps_rule.ensures (file.headed makes empty c.requires) (g.met.D.Disk.size_told file.disk.now)
+    c.in-Ok.ensures.layout c.in-Ok.ensures.size c.in-Ok.ensures.contents

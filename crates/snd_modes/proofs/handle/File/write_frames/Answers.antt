@@ -1,10 +1,14 @@
 use Rattle.std.proofs.Common.{rules, ◌≡◌, ◌∙◌, ap, subst, refl, ℕ, ◌-◌, ◌/◌, ◌≤◌, Bool, ◌||◌, Some, None, option_map, length, arith}
 use Rattle.std.specs.Prelude.{nat_lt}
+use Rattle.std.proofs.lemmas.Bool.{ltb-false, or_parts}
+use Rattle.std.proofs.lemmas.List.{nil_from_length}
 use Rattle.snd_layout.specs.Shape.{Shape, end}
-use Rattle.snd_modes.specs.Edits.{count_written, written_bytes, written_shape}
+use Rattle.snd_modes.specs.Edits.{coded, count_written, written_bytes, written_shape}
 use Rattle.snd_modes.specs.Handle.{known_of}
+use Rattle.snd_modes.specs.Reading.{bytes_of_frames}
 use Rattle.snd_modes.proofs.AtRest.{still_safe, written_at_rest, written_leaves}
-use Rattle.snd_modes.proofs.EditedFrames.{CanPut, known_is, still_closed, whole_frames, written_count, written_sound}
+use Rattle.snd_modes.proofs.BareHeads.{written_head}
+use Rattle.snd_modes.proofs.EditedFrames.{CanPut, coded_size, known_is, still_closed, whole_frames, written_count, written_sound}
 use Rattle.snd_modes.proofs.handle.File.write_frames.Goals as goal
 
 pub invariant_of-self-in-Ok-clause-closed : goal.invariant_of-self-in-Ok-clause-closed
@@ -86,3 +90,20 @@ returns-in_err-next-clause-leaves g c = λ auto opened e rest. still_safe g.D.Di
 pub returns-in-Ok-clause-rests : goal.returns-in-Ok-clause-rests
 returns-in-Ok-clause-rests g c = λ auto opened e rest.
     written_at_rest g.D.Disk c.args.self.now opened e c.args.from.now rest auto c.in_ok-next.ensures.ready _ (returns-in-Ok-clause-stands g c e rest.stands) (c.in-Ok.ensures.stable auto)
+
+pub invariant_of-self-in-Ok-clause-headed : goal.invariant_of-self-in-Ok-clause-headed
+invariant_of-self-in-Ok-clause-headed g c = λ makes empty working.
+    let state = g.D.Disk.state in
+    let file = c.args.self.now in
+    let h = file.layout in
+    let xs = c.args.from.now in
+    let before : file.broken ≡ None = search rules in
+    let count = c.in_ok-next.next - file.write_place in
+    let unwritten = or_parts file.written (nat_lt 0 count) empty in
+    let none : count ≡ 0 = omega (arith, ltb-false 0 count unwritten.1) in
+    let whole = whole_frames (length xs) h.params.channels count c.end_of_write.ensures.some c.in_ok-next.ensures.ready.frames.whole (omega (arith, c.in_ok-next.ensures.value)) in
+    let bytes : bytes_of_frames h.params 0 ≡ 0 = omega arith in
+    let size : length (coded h.params xs) ≡ 0 = coded_size h.params xs count file.linear whole ∙ ap (bytes_of_frames h.params) none ∙ bytes in
+    written_head (state file.disk.now) (state c.write_over.new.disk) h c.write_over.new.layout c.end_of_write.ensures.rule (file.headed makes unwritten.0 before) (g.met.D.Disk.size_told file.disk.now)
+    file.automatic file.write_place (count_written h file.write_place count) xs file.write_placed (ap (count_written h file.write_place) none) (nil_from_length (coded h.params xs) size)
+    c.in-Ok.ensures.layout c.in-Ok.ensures.grows c.in-Ok.ensures.contents

@@ -1,0 +1,172 @@
+use Rattle.std.proofs.Common.{rules, ◌≡◌, ◌∙◌, ap, sym, subst, refl, inl, inr, ℕ, ◌≤◌, true, false, List, Some, length, arith}
+use Rattle.std.specs.Prelude.{is_none, is_some}
+use Rattle.std.proofs.lemmas.Bool.{cases_lt}
+use Rattle.snd_container.specs.Put.{HoldsHead}
+use Rattle.snd_container.specs.Sound.{fixed_of}
+use Rattle.snd_layout.specs.Params.{Parameters}
+use Rattle.snd_layout.specs.Shape.{Shape, end}
+use Rattle.snd_wave.specs.Heads.{new_piece}
+use Rattle.snd_modes.specs.Handle.{known_of}
+use Rattle.snd_modes.specs.Heads.{holds_pieces}
+use Rattle.snd_modes.specs.Relaid.{put_to, shape_put}
+use Rattle.snd_modes.proofs.KindHeads.{bare_head, head_same, may_be_put, put_head, told_head}
+use Rattle.snd_modes.proofs.PutHeads.{no_sound, some_told}
+use Rattle.snd_modes.proofs.meta.«File+D+Write».put_wanted.Goals as goal
+
+pub put_ruled-requires-clause-head : goal.put_ruled-requires-clause-head
+put_ruled-requires-clause-head g c =
+    let state = g.D.Disk.state in
+    let file = c.args.self.now in
+    let may = c.in_ok-may_put.ensures.may in
+    let holds = c.requires.held may.held in
+    let head = file.headed refl may.untouched.empty may.untouched.working holds in
+    told_head (state file.disk.now) file.layout holds head
+
+pub put_ruled-requires-clause-few : goal.put_ruled-requires-clause-few
+put_ruled-requires-clause-few g c =
+    let state = g.D.Disk.state in
+    let file = c.args.self.now in
+    let may = c.in_ok-may_put.ensures.may in
+    let holds = c.requires.held may.held in
+    let head = file.headed refl may.untouched.empty may.untouched.working holds in
+    let was = bare_head (state file.disk.now) file.layout holds c.keeps_rule.ensures head in
+    elim (cases_lt c.args.wanted.place (length file.layout.pieces)) [
+      | inl less ↦ omega (arith, less, was.few)
+      | inr more ↦ may.few (omega (arith, more, c.requires.place))
+    ]
+
+pub put_ruled-requires-clause-may : goal.put_ruled-requires-clause-may
+put_ruled-requires-clause-may g c =
+    let state = g.D.Disk.state in
+    let file = c.args.self.now in
+    let may = c.in_ok-may_put.ensures.may in
+    let holds = c.requires.held may.held in
+    let four : length c.args.id.0 ≡ 4 = search rules in
+    may_be_put file.layout.kind c.args.id.0 c.args.body.now holds (c.requires.other may.free) four (omega (arith, c.requires.len, may.small))
+
+pub invariant_of-self-clause-stands : goal.invariant_of-self-clause-stands
+invariant_of-self-clause-stands g c = λ working.
+    let state = g.D.Disk.state in
+    let file = c.args.self.now in
+    let may = c.in_ok-may_put.ensures.may in
+    let holds = c.requires.held may.held in
+    let head = file.headed refl may.untouched.empty may.untouched.working holds in
+    let put = put_head (state file.disk.now) (state c.put_ruled.new.disk) file.layout c.put_ruled.new.layout c.args.wanted.place (new_piece c.args.id.0 c.args.body.now) holds (told_head (state file.disk.now) file.layout holds head) c.in-Ok.ensures.put in
+    let bare = bare_head (state c.put_ruled.new.disk) c.put_ruled.new.layout (ap holds_pieces put.kind ∙ holds) c.in-Ok.ensures.rule ∣ c.in-Ok.ensures.head ∣₁ in
+    let ends : end c.put_ruled.new.layout c.put_ruled.new.layout.frames ≡ (state c.put_ruled.new.disk).size = ap (end c.put_ruled.new.layout) bare.frames ∙ bare.ends in
+    omega (arith, ends)
+
+pub invariant_of-self-clause-placed : goal.invariant_of-self-clause-placed
+invariant_of-self-clause-placed g c =
+    let state = g.D.Disk.state in
+    let file = c.args.self.now in
+    let may = c.in_ok-may_put.ensures.may in
+    let holds = c.requires.held may.held in
+    let head = file.headed refl may.untouched.empty may.untouched.working holds in
+    let was = bare_head (state file.disk.now) file.layout holds c.keeps_rule.ensures head in
+    omega (arith, file.placed, was.frames)
+
+pub invariant_of-self-clause-write_placed : goal.invariant_of-self-clause-write_placed
+invariant_of-self-clause-write_placed g c =
+    let state = g.D.Disk.state in
+    let file = c.args.self.now in
+    let may = c.in_ok-may_put.ensures.may in
+    let holds = c.requires.held may.held in
+    let head = file.headed refl may.untouched.empty may.untouched.working holds in
+    let was = bare_head (state file.disk.now) file.layout holds c.keeps_rule.ensures head in
+    omega (arith, file.write_placed, was.frames)
+
+pub invariant_of-self-clause-linear : goal.invariant_of-self-clause-linear
+invariant_of-self-clause-linear g c =
+    let state = g.D.Disk.state in
+    let file = c.args.self.now in
+    let may = c.in_ok-may_put.ensures.may in
+    let holds = c.requires.held may.held in
+    let head = file.headed refl may.untouched.empty may.untouched.working holds in
+    let put = put_head (state file.disk.now) (state c.put_ruled.new.disk) file.layout c.put_ruled.new.layout c.args.wanted.place (new_piece c.args.id.0 c.args.body.now) holds (told_head (state file.disk.now) file.layout holds head) c.in-Ok.ensures.put in
+    ap (λ (p : Parameters). is_none (fixed_of p.codec)) put.params ∙ file.linear
+
+pub invariant_of-self-clause-room_ends : goal.invariant_of-self-clause-room_ends
+invariant_of-self-clause-room_ends g c =
+    let state = g.D.Disk.state in
+    let file = c.args.self.now in
+    let may = c.in_ok-may_put.ensures.may in
+    let holds = c.requires.held may.held in
+    let head = file.headed refl may.untouched.empty may.untouched.working holds in
+    let put = put_head (state file.disk.now) (state c.put_ruled.new.disk) file.layout c.put_ruled.new.layout c.args.wanted.place (new_piece c.args.id.0 c.args.body.now) holds (told_head (state file.disk.now) file.layout holds head) c.in-Ok.ensures.put in
+    let bare = bare_head (state c.put_ruled.new.disk) c.put_ruled.new.layout (ap holds_pieces put.kind ∙ holds) c.in-Ok.ensures.rule ∣ c.in-Ok.ensures.head ∣₁ in
+    bare.room_ends
+
+pub invariant_of-self-clause-sized : goal.invariant_of-self-clause-sized
+invariant_of-self-clause-sized g c = λ writes.
+    let state = g.D.Disk.state in
+    let file = c.args.self.now in
+    let may = c.in_ok-may_put.ensures.may in
+    let holds = c.requires.held may.held in
+    let head = file.headed refl may.untouched.empty may.untouched.working holds in
+    let put = put_head (state file.disk.now) (state c.put_ruled.new.disk) file.layout c.put_ruled.new.layout c.args.wanted.place (new_piece c.args.id.0 c.args.body.now) holds (told_head (state file.disk.now) file.layout holds head) c.in-Ok.ensures.put in
+    let bare = bare_head (state c.put_ruled.new.disk) c.put_ruled.new.layout (ap holds_pieces put.kind ∙ holds) c.in-Ok.ensures.rule ∣ c.in-Ok.ensures.head ∣₁ in
+    bare.known
+
+pub invariant_of-self-clause-counted : goal.invariant_of-self-clause-counted
+invariant_of-self-clause-counted g c = λ automatic. let by_hand = c.in_ok-may_put.ensures.may.untouched.by_hand in absurd (cc)
+
+pub invariant_of-self-clause-closed : goal.invariant_of-self-clause-closed
+invariant_of-self-clause-closed g c = λ automatic. let by_hand = c.in_ok-may_put.ensures.may.untouched.by_hand in absurd (cc)
+
+pub invariant_of-self-clause-headed : goal.invariant_of-self-clause-headed
+invariant_of-self-clause-headed g c = λ makes empty working holds. ∣ c.in-Ok.ensures.head ∣₁
+
+pub invariant_of-self-in-Err-Memory-clause-headed : goal.invariant_of-self-in-Err-Memory-clause-headed
+invariant_of-self-in-Err-Memory-clause-headed g c = λ makes empty working holds.
+    let state = g.D.Disk.state in
+    let file = c.args.self.now in
+    let keeps = (c.in-Err-Memory.ensures.unchanged c.in-Err-Memory.field-0-is).keeps in
+    let same : c.put_ruled.new.layout ≡ file.layout = c.in-Err-Memory.ensures.kept in
+    let held : holds_pieces file.layout.kind ≡ true = sym (ap (λ (s : Shape). holds_pieces s.kind) same) ∙ holds in
+    subst (λ (s : Shape). ∥ HoldsHead (state c.put_ruled.new.disk) s ∥₁) (sym same)
+    (head_same (state file.disk.now) (state c.put_ruled.new.disk) file.layout held keeps.size keeps.contents (file.headed makes empty working held))
+
+pub returns-in-Ok-clause-left : goal.returns-in-Ok-clause-left
+returns-in-Ok-clause-left g c =
+    let state = g.D.Disk.state in
+    let file = c.args.self.now in
+    let may = c.in_ok-may_put.ensures.may in
+    let holds = c.requires.held may.held in
+    let head = file.headed refl may.untouched.empty may.untouched.working holds in
+    let put = put_head (state file.disk.now) (state c.put_ruled.new.disk) file.layout c.put_ruled.new.layout c.args.wanted.place (new_piece c.args.id.0 c.args.body.now) holds (told_head (state file.disk.now) file.layout holds head) c.in-Ok.ensures.put in
+    (may, ap (λ (s : Shape). record (known_of file) { shape = s }) put.shape)
+
+pub returns-in-Ok-clause-stands : goal.returns-in-Ok-clause-stands
+returns-in-Ok-clause-stands g c = λ e stands.
+    let state = g.D.Disk.state in
+    let file = c.args.self.now in
+    let may = c.in_ok-may_put.ensures.may in
+    let holds = c.requires.held may.held in
+    let head = file.headed refl may.untouched.empty may.untouched.working holds in
+    let was = bare_head (state file.disk.now) file.layout holds c.keeps_rule.ensures head in
+    let put = put_head (state file.disk.now) (state c.put_ruled.new.disk) file.layout c.put_ruled.new.layout c.args.wanted.place (new_piece c.args.id.0 c.args.body.now) holds (told_head (state file.disk.now) file.layout holds head) c.in-Ok.ensures.put in
+    let bare = bare_head (state c.put_ruled.new.disk) c.put_ruled.new.layout (ap holds_pieces put.kind ∙ holds) c.in-Ok.ensures.rule ∣ c.in-Ok.ensures.head ∣₁ in
+    let h = c.put_ruled.new.layout in
+    let place = c.args.wanted.place in
+    let piece = new_piece c.args.id.0 c.args.body.now in
+    let after = put_to place piece e in
+    let some = some_told (state c.put_ruled.new.disk).contents (c.in-Ok.ensures.tells.told ∙ ap is_some stands.bytes) in
+    let laid : (put_to place piece (record e { shape = file.layout })).bytes ≡ after.bytes = ap (λ (s : Shape). (put_to place piece (record e { shape = s })).bytes) stands.shape in
+    let bytes : (state c.put_ruled.new.disk).contents ≡ Some after.bytes = some.1 ∙ ap (λ (l : List ℕ). Some l) (put.bytes e.bytes some.0 stands.bytes some.1 ∙ laid) in
+    let shape : h ≡ after.shape = put.shape ∙ ap (shape_put place piece) stands.shape in
+    let size = g.met.D.Disk.size_told c.put_ruled.new.disk after.bytes bytes in
+    let ends : end h h.frames ≡ (state c.put_ruled.new.disk).size = ap (end h) bare.frames ∙ bare.ends in
+    let none : length e.frames ≡ 0 = omega (arith, stands.count, was.frames, ap (λ (s : Shape). s.frames) stands.shape) in
+    let linear : is_none (fixed_of h.params.codec) ≡ false = ap (λ (p : Parameters). is_none (fixed_of p.codec)) put.params ∙ file.linear in
+    record {
+      bytes = bytes;
+      shape = shape;
+      place = stands.place;
+      write_place = stands.write_place;
+      automatic = stands.automatic;
+      written = stands.written;
+      sound = no_sound after.bytes after.shape e.frames (subst (λ (s : Shape). is_none (fixed_of s.params.codec) ≡ false) shape linear) (subst (λ (s : Shape). 1 ≤ s.params.channels) shape c.in-Ok.ensures.params.some_channel)
+          (subst (λ (s : Shape). s.frames ≡ 0) shape bare.frames) (subst (λ (s : Shape). end s s.frames ≤ length after.bytes) shape (omega (arith, ends, size))) none;
+      count = omega (arith, none, subst (λ (s : Shape). s.frames ≡ 0) shape bare.frames);
+    }

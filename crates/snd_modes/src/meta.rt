@@ -1,0 +1,208 @@
+//! The calls of a file that is made that put further chunks into its head, before the first frame.
+
+ghost use Rattle.std.specs.Prelude.{◌≡◌, ◌≤◌, ◌==◌, ◌<◌, false, true, IfErr, OnErr, OnOk, if◌then◌else◌, length};
+ghost use Rattle.snd_disk.specs.Device.{AsksAtMost, GoesOnFrom, OnlyReadsOn, WritesAtMost};
+ghost use Rattle.snd_layout.specs.declared.error.PieceError.TheVariants.{Memory};
+ghost use Rattle.snd_layout.specs.Params.{AreParams};
+ghost use Rattle.snd_layout.specs.Shape.{KeepsRule};
+ghost use Rattle.snd_container.specs.Put.{HoldsHead, MayBePieceOf, PutsPiece};
+ghost use Rattle.snd_patch.specs.Steps.{StillTells};
+ghost use Rattle.snd_wave.specs.Heads.{CountsPutting, new_piece};
+ghost use Rattle.snd_modes.specs.Handle.{disk_of, known_of, loan_of};
+ghost use Rattle.snd_modes.specs.Heads.{holds_pieces, is_meta_id, is_own_id};
+ghost use Rattle.snd_modes.specs.Outcomes.{AsksNothing, TellsOn};
+ghost use Rattle.snd_modes.specs.PieceCalls.{AddLeaves, CopyLeaves, CountsPut, IsPutRefusal, MayPut, PutLeaves, ReplaceLeaves, StandsPut};
+ghost use Rattle.snd_modes.specs.Relaid.{added_to, put_to, replaced_to};
+
+use crate::frames::keeps_rules;
+use crate::handle::File;
+use crate::mode::Write;
+use crate::wanted::{Wanted, holds_meta, holds_pieces, is_reserved, place_named};
+use snd_container::put_piece;
+use snd_disk::Disk;
+use snd_fields::Id4;
+use snd_layout::{Layout, PieceError};
+
+/// The most bytes of a body.
+const MOST_BYTES: usize = 65536;
+
+/// The most chunks of a file that is made.
+const MOST_PIECES: usize = 240;
+
+// Puts a chunk into the head of a layout, and tells what holds of the layout then.
+fn put_ruled<D: Disk>(
+    disk: &mut D,
+    layout: &mut Layout,
+    place: usize,
+    id: Id4,
+    body: &[u8],
+) -> Result<(), PieceError>
+    requires head { HoldsHead (D.state disk.old) layout.old }
+    requires place { place ≤ length layout.old.pieces }
+    requires few { place < 240 }
+    requires may { MayBePieceOf layout.old.kind (new_piece id.0 body.now) }
+    ensures rule { OnOk result (KeepsRule layout.new) }
+    ensures params { OnOk result (AreParams layout.new.params) }
+    ensures put { OnOk result (PutsPiece D.state disk.old disk.new layout.old layout.new place (new_piece id.0 body.now)) }
+    ensures head { OnOk result (HoldsHead (D.state disk.new) layout.new) }
+    ensures kept { OnErr result (layout.new ≡ layout.old) }
+    ensures unchanged { IfErr result (λ e. e ≡ Memory → OnlyReadsOn D.state D.may_leave D.left_between disk.old disk.new) }
+    ensures faults { CountsPutting D.state disk.old disk.new result }
+    ensures tells { StillTells (D.state disk.old) (D.state disk.new) }
+    ensures time { GoesOnFrom D.state D.left_between disk.old disk.new }
+    ensures written { WritesAtMost D.state 16777216 disk.old disk.new }
+    ensures asked { AsksAtMost D.state (if place == length layout.old.pieces then 0 else 16777216) disk.old disk.new }
+{
+    put_piece(disk, layout, place, id, body)?;
+    keeps_rules(layout);
+    Ok(())
+}
+
+impl<'d, D: Disk> File<'d, D, Write> {
+    /// Puts a further chunk behind the others. It writes at most 16777216 bytes and reads none.
+    ///
+    /// `Broken` where a call of the disk failed before; then `FramesWritten` exactly where a frame was
+    /// written through this handle; `AutoOn` exactly where updates are automatic; `ReservedChunk` exactly
+    /// where the container uses the identifier itself, or has a call of its own for it; `NoChunks` exactly
+    /// where files of the kind are given no chunks; `ChunkTooLarge` exactly where the body has more than
+    /// 65536 bytes; `TooManyChunks` exactly where 240 chunks stand; `Memory` where there is none: these
+    /// leave all as it was. `DiskFault` where a call of the disk failed now: from then on the file is
+    /// broken, and what its disk holds is not said.
+    pub fn add_piece(&mut self, id: Id4, body: &[u8]) -> Result<(), PieceError>
+        ensures loan { loan_of self.new ≡ loan_of self.old }
+        ensures left { AddLeaves id.0 body.now (known_of self.old) (known_of self.new) result }
+        ensures stands { StandsPut D.state self.old self.new (added_to id.0 body.now) result }
+        ensures unchanged { IfErr result (λ e. e ≡ Memory → OnlyReadsOn D.state D.may_leave D.left_between (disk_of self.old) (disk_of self.new)) }
+        ensures tells { TellsOn D.state self.old self.new }
+        ensures time { GoesOnFrom D.state D.left_between (disk_of self.old) (disk_of self.new) }
+        ensures faults { CountsPut D.state (disk_of self.old) (disk_of self.new) result }
+        ensures written { WritesAtMost D.state 16777216 (disk_of self.old) (disk_of self.new) }
+        ensures asked { AsksNothing D.state self.old self.new }
+    {
+        let kind = self.layout.kind;
+        let wanted = Wanted {
+            reserved: is_reserved(kind, id),
+            held: holds_pieces(kind),
+            len: body.len(),
+            place: self.layout.pieces.len(),
+        };
+        self.put_wanted(wanted, id, body)
+    }
+
+    /// Puts a further chunk of another file behind the others, under the conditions and with the answers of
+    /// `add_piece`, but for `ReservedChunk`: its identifier is one that `may_be_piece` accepts.
+    pub fn copy_piece(&mut self, id: Id4, body: &[u8]) -> Result<(), PieceError>
+        requires { is_own_id (known_of self.old).shape.kind id.0 ≡ false }
+        ensures loan { loan_of self.new ≡ loan_of self.old }
+        ensures left { CopyLeaves id.0 body.now (known_of self.old) (known_of self.new) result }
+        ensures stands { StandsPut D.state self.old self.new (added_to id.0 body.now) result }
+        ensures unchanged { IfErr result (λ e. e ≡ Memory → OnlyReadsOn D.state D.may_leave D.left_between (disk_of self.old) (disk_of self.new)) }
+        ensures tells { TellsOn D.state self.old self.new }
+        ensures time { GoesOnFrom D.state D.left_between (disk_of self.old) (disk_of self.new) }
+        ensures faults { CountsPut D.state (disk_of self.old) (disk_of self.new) result }
+        ensures written { WritesAtMost D.state 16777216 (disk_of self.old) (disk_of self.new) }
+        ensures asked { AsksNothing D.state self.old self.new }
+    {
+        let wanted = Wanted {
+            reserved: false,
+            held: holds_pieces(self.layout.kind),
+            len: body.len(),
+            place: self.layout.pieces.len(),
+        };
+        self.put_wanted(wanted, id, body)
+    }
+
+    /// Puts an INFO list, cue points or a broadcast extension: the chunk `LIST`, `cue ` or `bext`. It takes
+    /// the place of the first chunk with that identifier, or stands behind the others where there is none.
+    /// It writes at most 16777216 bytes, and reads at most so many.
+    ///
+    /// The answers are those of `add_piece`, but `ReservedChunk` never comes; `NoChunks` comes exactly where
+    /// files of the kind are not given such chunks, and `TooManyChunks` exactly where 240 chunks stand and
+    /// none of them has that identifier.
+    pub fn put_meta(&mut self, id: Id4, body: &[u8]) -> Result<(), PieceError>
+        requires { is_meta_id id.0 ≡ true }
+        ensures loan { loan_of self.new ≡ loan_of self.old }
+        ensures left { ReplaceLeaves id.0 body.now (known_of self.old) (known_of self.new) result }
+        ensures stands { StandsPut D.state self.old self.new (replaced_to id.0 body.now) result }
+        ensures unchanged { IfErr result (λ e. e ≡ Memory → OnlyReadsOn D.state D.may_leave D.left_between (disk_of self.old) (disk_of self.new)) }
+        ensures tells { TellsOn D.state self.old self.new }
+        ensures time { GoesOnFrom D.state D.left_between (disk_of self.old) (disk_of self.new) }
+        ensures faults { CountsPut D.state (disk_of self.old) (disk_of self.new) result }
+        ensures written { WritesAtMost D.state 16777216 (disk_of self.old) (disk_of self.new) }
+        ensures asked { AsksAtMost D.state 16777216 (disk_of self.old) (disk_of self.new) }
+    {
+        let wanted = Wanted {
+            reserved: false,
+            held: holds_meta(self.layout.kind),
+            len: body.len(),
+            place: place_named(&self.layout, id),
+        };
+        self.put_wanted(wanted, id, body)
+    }
+
+    // Puts a chunk at a place of the list, where nothing speaks against it.
+    fn put_wanted(&mut self, wanted: Wanted, id: Id4, body: &[u8]) -> Result<(), PieceError>
+        requires len { wanted.len ≡ length body.now }
+        requires place { wanted.place ≤ length (known_of self.old).shape.pieces }
+        requires held { wanted.held ≡ true → holds_pieces (known_of self.old).shape.kind ≡ true }
+        requires other { wanted.reserved ≡ false → is_own_id (known_of self.old).shape.kind id.0 ≡ false }
+        ensures loan { loan_of self.new ≡ loan_of self.old }
+        ensures left { PutLeaves wanted (new_piece id.0 body.now) (known_of self.old) (known_of self.new) result }
+        ensures stands { StandsPut D.state self.old self.new (put_to wanted.place (new_piece id.0 body.now)) result }
+        ensures unchanged { IfErr result (λ e. e ≡ Memory → OnlyReadsOn D.state D.may_leave D.left_between (disk_of self.old) (disk_of self.new)) }
+        ensures tells { TellsOn D.state self.old self.new }
+        ensures time { GoesOnFrom D.state D.left_between (disk_of self.old) (disk_of self.new) }
+        ensures faults { CountsPut D.state (disk_of self.old) (disk_of self.new) result }
+        ensures written { WritesAtMost D.state 16777216 (disk_of self.old) (disk_of self.new) }
+        ensures asked { AsksAtMost D.state (if wanted.place == length (known_of self.old).shape.pieces then 0 else 16777216) (disk_of self.old) (disk_of self.new) }
+    {
+        self.may_put(&wanted)?;
+        self.layout.keeps_rule();
+        match put_ruled(self.disk, &mut self.layout, wanted.place, id, body) {
+            Ok(()) => Ok(()),
+            Err(PieceError::DiskFault(step)) => {
+                self.broken = Some(step);
+                Err(PieceError::DiskFault(step))
+            }
+            Err(PieceError::Memory) => Err(PieceError::Memory),
+            Err(
+                PieceError::Broken(_)
+                | PieceError::FramesWritten
+                | PieceError::AutoOn
+                | PieceError::ReservedChunk
+                | PieceError::NoChunks
+                | PieceError::ChunkTooLarge
+                | PieceError::TooManyChunks,
+            ) => unreachable!(),
+        }
+    }
+
+    // Whether a chunk may be put, or why not.
+    fn may_put(&self, wanted: &Wanted) -> Result<(), PieceError>
+        ensures may { OnOk result (MayPut wanted.now (known_of self.now)) }
+        ensures refused { IfErr result (IsPutRefusal wanted.now (known_of self.now)) }
+    {
+        if let Some(step) = self.broken {
+            return Err(PieceError::Broken(step));
+        }
+        if self.written {
+            return Err(PieceError::FramesWritten);
+        }
+        if self.automatic {
+            return Err(PieceError::AutoOn);
+        }
+        if wanted.reserved {
+            return Err(PieceError::ReservedChunk);
+        }
+        if !wanted.held {
+            return Err(PieceError::NoChunks);
+        }
+        if wanted.len > MOST_BYTES {
+            return Err(PieceError::ChunkTooLarge);
+        }
+        if wanted.place == self.layout.pieces.len() && wanted.place >= MOST_PIECES {
+            return Err(PieceError::TooManyChunks);
+        }
+        Ok(())
+    }
+}
