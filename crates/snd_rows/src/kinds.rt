@@ -1,4 +1,4 @@
-//! A file of each kind, codec and count of channels: what is said of it, and what a script reads. The
+//! WAVE files of each codec and count of channels: what is said of them, and what a script reads. The
 //! frames and the samples are those that SoX finds in these files.
 use crate::tests::printed;
 use std::alloc::{AllocError, Global};

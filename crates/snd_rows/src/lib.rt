@@ -5,6 +5,8 @@
 #[cfg(test)]
 mod conditions;
 #[cfg(test)]
+mod containers;
+#[cfg(test)]
 mod crash;
 #[cfg(test)]
 mod kinds;
