@@ -21,13 +21,17 @@ struct Folded {
     sum: i64,
 }
 
-/// The sum of samples.
+/// The sum of at most 65536 samples, in lanes of 32 bits: that of what stands above the lowest 16 bits, and
+/// the sum's own lowest 32 bits, which together tell it.
 fn sum_of(samples: &[i32]) -> i64 {
-    let mut sum = 0i64;
+    let mut low = 0i32;
+    let mut high = 0i32;
     for x in samples {
-        sum = sum.wrapping_add(i64::from(*x));
+        low = low.wrapping_add(*x);
+        high = high.wrapping_add(*x >> 16);
     }
-    sum
+    let rest = low.wrapping_sub(high << 16).cast_unsigned();
+    i64::from(high) * 65536 + i64::from(rest)
 }
 
 /// Folds the frames of the file that a disk holds.

@@ -1,37 +1,31 @@
 //! The mu-law.
-ghost use Rattle.std.specs.Prelude.{◌≡◌, length, map, All, FitsSigned};
+ghost use Rattle.std.specs.Prelude.{◌≡◌, ◌<◌, pos, length, map, All, FitsSigned};
 ghost use Rattle.std.specs.Int.{w16};
-ghost use Rattle.snd_g711.specs.Mulaw.{mulaw_value, mulaw_byte, MulawRoundTrip, MulawKeepsDecoded};
+ghost use Rattle.snd_g711.specs.Mulaw.{mulaw_magnitude, mulaw_value, mulaw_byte, MulawRoundTrip, MulawKeepsDecoded};
 
 use crate::segment::steps_below;
 
-/// The value of each byte.
-static VALUES: [i32; 256] = [
-    -32124, -31100, -30076, -29052, -28028, -27004, -25980, -24956, -23932, -22908, -21884, -20860,
-    -19836, -18812, -17788, -16764, -15996, -15484, -14972, -14460, -13948, -13436, -12924, -12412,
-    -11900, -11388, -10876, -10364, -9852, -9340, -8828, -8316, -7932, -7676, -7420, -7164, -6908,
-    -6652, -6396, -6140, -5884, -5628, -5372, -5116, -4860, -4604, -4348, -4092, -3900, -3772,
-    -3644, -3516, -3388, -3260, -3132, -3004, -2876, -2748, -2620, -2492, -2364, -2236, -2108,
-    -1980, -1884, -1820, -1756, -1692, -1628, -1564, -1500, -1436, -1372, -1308, -1244, -1180,
-    -1116, -1052, -988, -924, -876, -844, -812, -780, -748, -716, -684, -652, -620, -588, -556,
-    -524, -492, -460, -428, -396, -372, -356, -340, -324, -308, -292, -276, -260, -244, -228, -212,
-    -196, -180, -164, -148, -132, -120, -112, -104, -96, -88, -80, -72, -64, -56, -48, -40, -32,
-    -24, -16, -8, 0, 32124, 31100, 30076, 29052, 28028, 27004, 25980, 24956, 23932, 22908, 21884,
-    20860, 19836, 18812, 17788, 16764, 15996, 15484, 14972, 14460, 13948, 13436, 12924, 12412,
-    11900, 11388, 10876, 10364, 9852, 9340, 8828, 8316, 7932, 7676, 7420, 7164, 6908, 6652, 6396,
-    6140, 5884, 5628, 5372, 5116, 4860, 4604, 4348, 4092, 3900, 3772, 3644, 3516, 3388, 3260, 3132,
-    3004, 2876, 2748, 2620, 2492, 2364, 2236, 2108, 1980, 1884, 1820, 1756, 1692, 1628, 1564, 1500,
-    1436, 1372, 1308, 1244, 1180, 1116, 1052, 988, 924, 876, 844, 812, 780, 748, 716, 684, 652,
-    620, 588, 556, 524, 492, 460, 428, 396, 372, 356, 340, 324, 308, 292, 276, 260, 244, 228, 212,
-    196, 180, 164, 148, 132, 120, 112, 104, 96, 88, 80, 72, 64, 56, 48, 40, 32, 24, 16, 8, 0,
-];
+/// What brings a magnitude with the bias of 132 from 2 ^ 23 on, where floats stand one apart.
+const TO_ONES: f32 = 8_388_476.0;
+
+/// The magnitude of a code. A code's segment and step are a float's exponent and the first digits of its
+/// fraction, and of that the compiler makes vector code, which it does not of a table.
+#[inline]
+fn magnitude_of(code: u8) -> i32
+    requires { code < 128 }
+    ensures { result ≡ pos (mulaw_magnitude code) }
+{
+    let biased = f32::from_bits(u32::from(code) * 0x8_0000 + 0x4304_0000);
+    ((biased + TO_ONES).to_bits() - 0x4b00_0000) as i32
+}
 
 /// The value of a mu-law byte.
 #[inline]
 fn value_of(byte: u8) -> i32
     ensures { result ≡ mulaw_value byte }
 {
-    VALUES[usize::from(byte)]
+    let magnitude = magnitude_of((255 - byte) % 128);
+    if byte < 128 { -magnitude } else { magnitude }
 }
 
 /// The 16-bit value of a mu-law byte, -32124 to 32124.
