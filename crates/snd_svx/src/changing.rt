@@ -112,7 +112,7 @@ fn closing_of(end: u64) -> Closing
 /// holds the head with that piece, and the layout is that of this head. The identifier may be a piece's,
 /// the body has at most 65536 bytes, and at most 240 pieces stand afterwards.
 ///
-/// It writes at most 16777216 bytes. It reads none where it adds a piece, and at most 16777216 where it
+/// It writes at most 16777216 bytes. It reads none where it adds a piece, and at most 16711680 where it
 /// replaces one. The answer is `DiskFault` where a call of the disk failed: what the disk holds then is
 /// not said. It is `Memory` where there is none: then nothing was changed.
 pub fn put_piece<D: Disk>(
@@ -135,7 +135,7 @@ pub fn put_piece<D: Disk>(
     ensures told { is_some (D.state disk.new).contents ≡ is_some (D.state disk.old).contents }
     ensures time { GoesOnFrom D.state D.left_between disk.old disk.new }
     ensures written { WritesAtMost D.state 16777216 disk.old disk.new }
-    ensures asked { AsksAtMost D.state (if place == length layout.old.pieces then 0 else 16777216) disk.old disk.new }
+    ensures asked { AsksAtMost D.state (if place == length layout.old.pieces then 0 else 16711680) disk.old disk.new }
 {
     let alloc = layout.pieces.allocator();
     let plan = plan_piece(&layout.pieces, FIRST_PLACE, place, id, body)?;

@@ -80,7 +80,7 @@ module _ (order : Order) (first : ℕ) (pieces : List NewChunk) (place : ℕ) (p
   ends_are at next end at_is next_is end_is = omega (arith, at_is, front_end first, next_is, piece_end at, end_is, back_end next, all_bytes)
 
   pub fit : (at next end : ℕ) → at ≡ relaid_end first (take place old) → next ≡ relaid_end at (laid_as piece ∷ []) → end ≡ relaid_end next (drop (place + 1) old) → place ≤ length old → place < 240 → first ≤ 128
-      → (first ≤ at) × (at ≤ next) × (next ≤ end) × (end + 4096 ≤ 16777216)
+      → (first ≤ at) × (at ≤ next) × (next ≤ end) × (end + 65536 ≤ 16777216)
   fit at next end at_is next_is end_is there few low =
       let ends = ends_are at next end at_is next_is end_is in
       (omega (arith, at_is, front_end first), omega (arith, next_is, piece_end at), omega (arith, end_is, back_end next), omega (arith, ends, all_few there few, low))
@@ -134,7 +134,7 @@ module _ (order : Order) (first : ℕ) (pieces : List NewChunk) (place : ℕ) (p
       }
 
 -- what is asked for, by whether there is something behind
-pub asked_for : (count place len : ℕ) → (place ≡ len → count ≡ 0) → count ≤ 16777216 → count ≤ (if place == len then 0 else 16777216)
+pub asked_for : (count place len : ℕ) → (place ≡ len → count ≡ 0) → count ≤ 16711680 → count ≤ (if place == len then 0 else 16711680)
 asked_for count place len none few = elim (cases_Bool (place == len)) [
   | inl last ↦
       let zero : count ≡ 0 = none (eqb-true place len last) in

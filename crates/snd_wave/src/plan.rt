@@ -65,7 +65,7 @@ pub fn plan_piece(
     ensures least { IfOk result (λ plan. first ≤ plan.end) }
     ensures most { IfOk result (λ plan. plan.end + 4096 ≤ 2 ^ 24) }
     ensures placed { IfOk result (λ plan. All IsPlaced plan.pieces) }
-    ensures asked { IfOk result (λ plan. plan.count ≤ (if place == length pieces.now then 0 else 16777216)) }
+    ensures asked { IfOk result (λ plan. plan.count ≤ (if place == length pieces.now then 0 else 16711680)) }
 {
     let old = pieces.as_slice();
     let piece = Piece {
