@@ -1,8 +1,9 @@
 -- What the heads of a kind keep, with any pieces and without frames, and what follows of a disk that holds nothing but one.
-use Rattle.std.proofs.Common.{◌≡◌, ◌∙◌, ap, sym, subst, refl, ℕ, ◌+◌, ◌≤◌, ◌^◌, false, List, [], Option, None, Some, length, arith}
+use Rattle.std.proofs.Common.{◌≡◌, ◌∙◌, ap, sym, subst, refl, ℕ, ◌+◌, ◌≤◌, ◌^◌, false, List, [], Option, None, Some, Ok, length, arith}
 use Rattle.std.specs.Prelude.{map}
 use Rattle.snd_chunks.specs.Written.{NewChunk}
 use Rattle.snd_container.specs.Put.{heads_of}
+use Rattle.snd_container.specs.Sound.{layout_of}
 use Rattle.snd_container.specs.Values.{closing}
 use Rattle.snd_disk.specs.State.{State}
 use Rattle.snd_layout.specs.Params.{Parameters, data_bytes}
@@ -32,6 +33,7 @@ pub record IsPut (old new : State) (h h' : Shape) (place : ℕ) (piece : NewChun
   pub params : h'.params ≡ h.params
   pub shape : h' ≡ shape_put place piece h
   pub bytes : (b x : List ℕ) → old.contents ≡ Some b → new.contents ≡ Some x → x ≡ head_with h.kind h.params (with_piece (map (chunk_read b) h.pieces) place piece)
+  pub held : (b x : List ℕ) → old.contents ≡ Some b → new.contents ≡ Some x → map (chunk_read x) h'.pieces ≡ with_piece (map (chunk_read b) h.pieces) place piece
 
 -- what a head says
 pub record SaysNone (kind : Kind) (p : Parameters) (h : Shape) (head : List ℕ) : Type 0 where
@@ -48,10 +50,11 @@ pub record SaysNone (kind : Kind) (p : Parameters) (h : Shape) (head : List ℕ)
   pub few : length h.pieces ≤ 240
   pub fields : KeepsRule h → with_fields head h 0 ≡ head
 
--- what all of them keep: what they say, that their pieces are read back, and that a layout hangs on the outlines of the pieces alone
+-- what all of them keep: what they say, that they are read back with their pieces, and that a layout hangs on the outlines of the pieces alone
 pub record HeadLaws (kind : Kind) (heads : Heads) : Type 0 where
   pub says : (p : Parameters) (pieces : List NewChunk) → heads.may p pieces → SaysNone kind p (heads.shape p pieces) (heads.head p pieces)
   pub read : (p : Parameters) (pieces : List NewChunk) → heads.may p pieces → map (chunk_read (heads.head p pieces)) (heads.shape p pieces).pieces ≡ pieces
+  pub opens : (p : Parameters) (pieces : List NewChunk) → heads.may p pieces → layout_of (heads.head p pieces) ≡ Ok (heads.shape p pieces)
   pub outlined : (p : Parameters) (pieces : List NewChunk) → map outline (heads.shape p pieces).pieces ≡ blanks pieces
   pub blank_may : (p : Parameters) (pieces : List NewChunk) → heads.may p pieces → heads.may p (blanks pieces)
   pub blank_shape : (p : Parameters) (pieces : List NewChunk) → heads.shape p (blanks pieces) ≡ heads.shape p pieces
@@ -93,6 +96,10 @@ module _ (kind : Kind) (laws : HeadLaws kind (heads_of kind)) where
       subst (IsBareHead disk) (sym is.laid.shape)
       (bare disk p (shape p pieces) (head p pieces) (laws.says p pieces is.laid.may) (subst KeepsRule is.laid.shape rule) is.size is.contents)
 
+  -- what they say of themselves
+  pub opens_in : (disk : State) (h : Shape) (p : Parameters) (pieces : List NewChunk) (b : List ℕ) → IsHeadIn (heads_of kind) disk h p pieces → disk.contents ≡ Some b → layout_of b ≡ Ok h
+  opens_in disk h p pieces b is told = ap layout_of (is.contents b told) ∙ laws.opens p pieces is.laid.may ∙ ap (λ (s : Shape). Ok s) (sym is.laid.shape)
+
   -- its pieces, as the disk tells them
   told_of : (disk : State) (p : Parameters) (pieces : List NewChunk) (o : Option (List ℕ)) → disk.contents ≡ o → IsHeadIn (heads_of kind) disk (shape p pieces) p pieces → IsHeadIn (heads_of kind) disk (shape p pieces) p (told_pieces o (shape p pieces))
   told_of disk p pieces None none is =
@@ -121,6 +128,11 @@ module _ (kind : Kind) (laws : HeadLaws kind (heads_of kind)) where
       (blanks_with pieces place piece ∙ ap (λ (l : List NewChunk). with_piece l place (blank piece)) (sym (blanks_blanks pieces)) ∙ sym (blanks_with (blanks pieces) place piece))
       ∙ laws.blank_shape p (with_piece (blanks pieces) place piece)
 
+  -- the pieces that a disk with such a head tells
+  read_in : (disk : State) (h : Shape) (p : Parameters) (pieces : List NewChunk) (b : List ℕ) → IsHeadIn (heads_of kind) disk h p pieces → disk.contents ≡ Some b → map (chunk_read b) h.pieces ≡ pieces
+  read_in disk h p pieces b is told =
+      ap (λ (l : List ℕ). map (chunk_read l) h.pieces) (is.contents b told) ∙ ap (λ (s : Shape). map (chunk_read (head p pieces)) s.pieces) is.laid.shape ∙ laws.read p pieces is.laid.may
+
   pub put_in : (old new : State) (h h' : Shape) (p : Parameters) (pieces : List NewChunk) (place : ℕ) (piece : NewChunk) → IsHeadIn (heads_of kind) old h p pieces → IsHeadIn (heads_of kind) new h' p (with_piece pieces place piece) → IsPut old new h h' place piece
   put_in old new h h' p pieces place piece was is =
       let said = laws.says p pieces was.laid.may in
@@ -135,9 +147,9 @@ module _ (kind : Kind) (laws : HeadLaws kind (heads_of kind)) where
             ∙ ap (λ (q : Parameters). shape q (with_piece (map outline h.pieces) place piece)) (sym params_are)
             ∙ ap (λ (k : Kind). (heads_of k).shape h.params (with_piece (map outline h.pieces) place piece)) (sym kind_is);
         bytes = λ b x told after.
-            let same : map (chunk_read b) h.pieces ≡ pieces =
-            ap (λ (l : List ℕ). map (chunk_read l) h.pieces) (was.contents b told) ∙ ap (λ (s : Shape). map (chunk_read (head p pieces)) s.pieces) was.laid.shape ∙ laws.read p pieces was.laid.may in
+            let same = read_in old h p pieces b was told in
             is.contents x after ∙ ap (λ (l : List NewChunk). head p (with_piece l place piece)) (sym same)
             ∙ ap (λ (q : Parameters). head q (with_piece (map (chunk_read b) h.pieces) place piece)) (sym params_are)
             ∙ ap (λ (k : Kind). (heads_of k).head h.params (with_piece (map (chunk_read b) h.pieces) place piece)) (sym kind_is);
+        held = λ b x told after. read_in new h' p (with_piece pieces place piece) x is after ∙ ap (λ (l : List NewChunk). with_piece l place piece) (sym (read_in old h p pieces b was told));
       }

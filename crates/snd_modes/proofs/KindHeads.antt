@@ -1,5 +1,5 @@
 -- The heads of files of each kind that is given chunks. Here alone these kinds are told apart.
-use Rattle.std.proofs.Common.{◌≡◌, ◌∙◌, ap, refl, inl, inr, ℕ, ◌≤◌, true, false, List, length}
+use Rattle.std.proofs.Common.{◌≡◌, ◌∙◌, ap, refl, inl, inr, ℕ, ◌≤◌, true, false, List, Ok, Some, length}
 use Rattle.std.proofs.lemmas.Bool.{or_cases, or_parts}
 use Rattle.std.proofs.lemmas.Slice.Eq.{bytes_eq-Decides}
 use Rattle.std.specs.Str.{bytes_eq}
@@ -7,6 +7,7 @@ use Rattle.std.proofs.Math.Logic.{∥∥₁_elim, ∥∥₁_map}
 use Rattle.std.specs.Prelude.{codes}
 use Rattle.snd_chunks.specs.Written.{NewChunk}
 use Rattle.snd_container.specs.Put.{HoldsHead, IsHeadOf, MayBePieceOf, heads_of}
+use Rattle.snd_container.specs.Sound.{layout_of}
 use Rattle.snd_disk.specs.State.{State}
 use Rattle.snd_layout.specs.Params.{Parameters}
 use Rattle.snd_layout.specs.Shape.{KeepsRule, Shape}
@@ -14,7 +15,7 @@ use Rattle.snd_layout.specs.declared.kind.Kind.{Kind}
 use Rattle.snd_layout.specs.declared.kind.Kind.TheVariants.{Wave, Rf64, W64, Au, Dns, Voc, Svx, Sphere}
 use Rattle.snd_wave.specs.Heads.{IsHeadIn, new_piece, with_piece}
 use Rattle.snd_modes.specs.Heads.{holds_meta, holds_pieces, is_meta_id, is_own_id, is_reserved}
-use Rattle.snd_modes.proofs.HeadLaws.{HeadLaws, IsBareHead, IsPut, bare_in, put_in, same_in, told_in, told_pieces}
+use Rattle.snd_modes.proofs.HeadLaws.{HeadLaws, IsBareHead, IsPut, bare_in, opens_in, put_in, same_in, told_in, told_pieces}
 use Rattle.snd_modes.proofs.HeadProps.{bare_prop, rf64_prop, svx_prop, wave_prop}
 use Rattle.snd_modes.proofs.Rf64Heads.{rf64_laws}
 use Rattle.snd_modes.proofs.SvxHeads.{svx_laws}
@@ -105,6 +106,10 @@ head_same old new h holds size contents is = ∥∥₁_map is (λ x. (x.0, x.1, 
 -- what such a head says
 pub bare_head : (disk : State) (h : Shape) → holds_pieces h.kind ≡ true → KeepsRule h → ∥ HoldsHead disk h ∥₁ → IsBareHead disk h
 bare_head disk h holds rule is = ∥∥₁_elim is (bare_prop disk h) (λ x. bare_in h.kind (laws_of h.kind holds) disk h x.0 x.1 rule x.2)
+
+-- a file that holds it has its layout
+pub head_opens : (disk : State) (h : Shape) (b : List ℕ) → holds_pieces h.kind ≡ true → HoldsHead disk h → disk.contents ≡ Some b → layout_of b ≡ Ok h
+head_opens disk h b holds is told = opens_in h.kind (laws_of h.kind holds) disk h is.0 is.1 b is.2 told
 
 -- which pieces it has
 pub told_head : (disk : State) (h : Shape) → holds_pieces h.kind ≡ true → ∥ HoldsHead disk h ∥₁ → HoldsHead disk h

@@ -16,6 +16,7 @@ pub mod HeadProps
 pub mod ImageFields
 pub mod ImageFrames
 pub mod ImageLayouts
+pub mod KeptChunks
 pub mod KeptPieces
 pub mod KindHeads
 pub mod LeftSafe

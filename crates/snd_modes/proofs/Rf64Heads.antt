@@ -1,11 +1,15 @@
 -- The heads of RF64 files keep the laws of heads.
-use Rattle.std.proofs.Common.{◌≡◌, ◌∙◌, ap, sym, subst, refl, ℕ, ◌+◌, ◌-◌, ◌≤◌, ◌^◌, false, List, [], ◌++◌, length, get_or, arith, length-append}
+use Rattle.std.proofs.Common.{◌≡◌, ◌∙◌, ap, sym, subst, refl, ℕ, ◌+◌, ◌-◌, ◌≤◌, ◌^◌, false, List, [], ◌++◌, Ok, length, take, get_or, arith, length-append}
 use Rattle.std.specs.Prelude.{map}
 use Rattle.std.proofs.lemmas.List.{length-map}
 use Rattle.std.proofs.lemmas.List.Elements.{All-weaker}
 use Rattle.snd_chunks.proofs.WrittenChunks.{has_left, has_right, length-all_placed, length-chunks_bytes}
 use Rattle.snd_chunks.specs.Chunks.{padded_end}
 use Rattle.snd_chunks.specs.Written.{NewChunk, chunks_bytes, pad}
+use Rattle.snd_container.proofs.EveryKind.{of_kind}
+use Rattle.snd_container.proofs.Marks.{kind_of_marks}
+use Rattle.snd_container.specs.Recognised.{recognised}
+use Rattle.snd_container.specs.Sound.{layout_of}
 use Rattle.snd_container.specs.Values.{closing}
 use Rattle.snd_disk.specs.Runs.{HasAt}
 use Rattle.snd_fields.specs.Field.{bytes_of}
@@ -21,10 +25,10 @@ use Rattle.snd_wave.proofs.Made.{no_bytes_yet}
 use Rattle.snd_rf64.specs.Layout.{shape_at}
 use Rattle.snd_rf64.specs.Put.{data_head, first_place, rf64_heads}
 use Rattle.snd_rf64.specs.Values as rf64
-use Rattle.snd_rf64.specs.Written.{MayBeMade, head_size, made_pieces, made_shape, rf64_head}
+use Rattle.snd_rf64.specs.Written.{MayBeMade, head_size, made_pieces, made_shape, rf64_head, top}
 use Rattle.snd_rf64.proofs.Counted.{fits_wave}
 use Rattle.snd_rf64.proofs.Made.{length-head, size_is}
-use Rattle.snd_rf64.proofs.Putting.{rf64_form, rf64_mark, rf64_size, rf64_split}
+use Rattle.snd_rf64.proofs.Putting.{heads_read_back, rf64_form, rf64_mark, rf64_size, rf64_split}
 use Rattle.snd_modes.specs.Relaid.{outline}
 use Rattle.snd_modes.proofs.Blanks.{all_length, all_stand, blank, blanks, blanks_keep, outlines_standing, pieces_read, same_length}
 use Rattle.snd_modes.proofs.HeadBytes.{three_stay}
@@ -161,10 +165,19 @@ module _ (p : Parameters) (pieces : List NewChunk) (may : MayBeMade p pieces) wh
       pieces_read Little head (first_place p) pieces (All-weaker MayBePiece (λ (c : NewChunk). length c.id ≡ 4) four pieces may.pieces_are) chunks_there
       (omega (arith, ap length ((rf64_split p).split pieces), length-append front behind, length-append (chunks_bytes Little pieces) data_head, (rf64_split p).first_is (length head)))
 
+  is_known : recognised (take 40 head) ≡ Ok Rf64
+  unfolding rf64_head top
+  is_known = kind_of_marks Rf64 (take 40 head) refl
+
+  opens : layout_of head ≡ Ok laid
+  unfolding made_shape
+  opens = of_kind head laid is_known (heads_read_back p pieces may)
+
 pub rf64_laws : HeadLaws Rf64 rf64_heads
 rf64_laws = record {
   says = says;
   read = reads_pieces;
+  opens = opens;
   outlined = outlines_made;
   blank_may = blanks_made;
   blank_shape = shape_same;

@@ -1,11 +1,15 @@
 -- The heads of 8SVX files keep the laws of heads.
-use Rattle.std.proofs.Common.{◌≡◌, ◌∙◌, ap, sym, subst, refl, ℕ, ◌+◌, ◌-◌, ◌≤◌, ◌^◌, false, List, [], ◌∷◌, ◌++◌, length, get_or, arith, length-append}
+use Rattle.std.proofs.Common.{◌≡◌, ◌∙◌, ap, sym, subst, refl, ℕ, ◌+◌, ◌-◌, ◌≤◌, ◌^◌, false, List, [], ◌∷◌, ◌++◌, Ok, length, take, get_or, arith, length-append}
 use Rattle.std.specs.Prelude.{codes, if◌then◌else◌, map, replicate}
 use Rattle.std.proofs.lemmas.List.{length-map}
 use Rattle.std.proofs.lemmas.List.Elements.{All-weaker}
 use Rattle.snd_chunks.proofs.WrittenChunks.{has_body, has_first, has_left, has_right, length-all_placed, length-chunks_bytes}
 use Rattle.snd_chunks.specs.Chunks.{padded_end}
 use Rattle.snd_chunks.specs.Written.{NewChunk, chunks_bytes, head_bytes, pad}
+use Rattle.snd_container.proofs.EveryKind.{of_kind}
+use Rattle.snd_container.proofs.Marks.{kind_of_marks}
+use Rattle.snd_container.specs.Recognised.{recognised}
+use Rattle.snd_container.specs.Sound.{layout_of}
 use Rattle.snd_container.specs.Values.{closing}
 use Rattle.snd_disk.specs.Runs.{HasAt}
 use Rattle.snd_fields.specs.Field.{bytes_of}
@@ -22,6 +26,7 @@ use Rattle.snd_svx.specs.Layout.{shape_of}
 use Rattle.snd_svx.specs.Put.{closing_behind, svx_heads}
 use Rattle.snd_svx.specs.Values as svx
 use Rattle.snd_svx.specs.Written.{MayBeMade, MayBePiece, chunks_before, filler, form_head, head_for, head_size, junk, made_pieces, made_shape, new_header, start_without_filler, svx_head}
+use Rattle.snd_svx.proofs.Made.{heads_read_back}
 use Rattle.snd_svx.proofs.Putting.{length-head, no_bytes_yet, svx_form, svx_mark, svx_size, svx_split}
 use Rattle.snd_modes.specs.Relaid.{outline}
 use Rattle.snd_modes.proofs.Blanks.{all_length, all_stand, blank, blanks, blanks_keep, outlines_standing, pieces_read, same_length}
@@ -198,10 +203,19 @@ module _ (p : Parameters) (pieces : List NewChunk) (may : MayBeMade p pieces) wh
         (svx_split p may.params may.fits).first_is (length head),
       ))
 
+  is_known : recognised (take 40 head) ≡ Ok Svx
+  unfolding head_for
+  is_known = kind_of_marks Svx (take 40 head) refl
+
+  opens : layout_of head ≡ Ok laid
+  unfolding made_shape
+  opens = of_kind head laid is_known (heads_read_back p pieces may)
+
 pub svx_laws : HeadLaws Svx svx_heads
 svx_laws = record {
   says = says;
   read = reads_pieces;
+  opens = opens;
   outlined = outlines_made;
   blank_may = blanks_made;
   blank_shape = shape_same;

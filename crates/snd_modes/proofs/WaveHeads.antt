@@ -1,10 +1,14 @@
 -- The heads of WAVE files keep the laws of heads.
-use Rattle.std.proofs.Common.{◌≡◌, ◌∙◌, ap, sym, subst, refl, ℕ, ◌+◌, ◌≤◌, ◌^◌, false, List, [], ◌++◌, ◌∷◌, Some, None, ◌-◌, length, arith}
+use Rattle.std.proofs.Common.{◌≡◌, ◌∙◌, ap, sym, subst, refl, ℕ, ◌+◌, ◌≤◌, ◌^◌, false, List, [], ◌++◌, ◌∷◌, Some, None, Ok, ◌-◌, length, take, arith}
 use Rattle.std.specs.Prelude.{if◌then◌else◌, map}
 use Rattle.std.proofs.lemmas.List.{append-nil, length-map}
 use Rattle.snd_chunks.specs.Chunks.{padded_end}
 use Rattle.snd_chunks.specs.Written.{NewChunk, chunks_bytes, pad}
 use Rattle.snd_chunks.proofs.WrittenChunks.{length-all_placed, length-chunks_bytes}
+use Rattle.snd_container.proofs.EveryKind.{of_kind}
+use Rattle.snd_container.proofs.Marks.{kind_of_marks}
+use Rattle.snd_container.specs.Recognised.{recognised}
+use Rattle.snd_container.specs.Sound.{layout_of}
 use Rattle.snd_container.specs.Values.{closing}
 use Rattle.snd_disk.specs.Bytes.{over}
 use Rattle.snd_disk.proofs.Lists.{length-over}
@@ -20,9 +24,9 @@ use Rattle.snd_wave.specs.Layout.{piece_of}
 use Rattle.snd_wave.specs.Put.{wave_heads}
 use Rattle.snd_wave.specs.Sealed.{put_in, with_values}
 use Rattle.snd_wave.specs.Values as wave
-use Rattle.snd_wave.specs.Written.{MayBeMade, MayBePiece, chunk_read, head_for, head_size, inner_at, inner_size, junk, made_pieces, made_shape, new_format, side_at, start_without_filler, wave_head, wave_made}
+use Rattle.snd_wave.specs.Written.{MayBeMade, MayBePiece, chunk_read, head_for, head_size, inner_at, inner_size, junk, made_pieces, made_shape, new_format, riff_head, side_at, start_without_filler, wave_head, wave_made}
 use Rattle.snd_wave.proofs.HeadValues.{head_is_counted}
-use Rattle.snd_wave.proofs.Made.{length-head_for, no_bytes_yet}
+use Rattle.snd_wave.proofs.Made.{head_reads_back, length-head_for, no_bytes_yet}
 use Rattle.snd_wave.proofs.MadeParts.{made_holds_all}
 use Rattle.snd_wave.proofs.NewHeads.{size_with}
 use Rattle.snd_modes.specs.Relaid.{outline}
@@ -164,10 +168,19 @@ module _ (p : Parameters) (pieces : List NewChunk) where
       ap (map (chunk_read head)) pieces_are
       ∙ subst (λ (l : List ℕ). map (chunk_read l) (made_pieces p pieces) ≡ pieces) whole (made_holds_all p pieces 0 [] may (sym none)).0
 
+  is_known : recognised (take 40 head) ≡ Ok Wave
+  unfolding head_for riff_head
+  is_known = kind_of_marks Wave (take 40 head) refl
+
+  opens : MayBeMade p pieces 0 → layout_of head ≡ Ok laid
+  unfolding made_shape
+  opens may = of_kind head laid is_known (head_reads_back p pieces may)
+
 pub wave_laws : HeadLaws Wave wave_heads
 wave_laws = record {
   says = says;
   read = reads_pieces;
+  opens = opens;
   outlined = outlines_made;
   blank_may = blanks_made;
   blank_shape = shape_same;

@@ -1,4 +1,5 @@
 pub mod Calls
+pub mod Chunks
 pub mod Closing
 pub mod Editing
 pub mod Edits

@@ -3,7 +3,7 @@ use Rattle.std.specs.Prelude.{◌≡◌, ◌≢◌, ℕ, ◌+◌, ◌*◌, ◌�
 use Rattle.snd_disk.specs.Device.{GoesOnFrom, Tells, WritesAtMost}
 use Rattle.snd_disk.specs.Runs.{IsBeside}
 use Rattle.snd_disk.specs.State.{IsWritten, State}
-use Rattle.snd_fields.specs.declared.field.Order.TheVariants.{Little}
+use Rattle.snd_fields.specs.declared.field.Order.{Order}
 use Rattle.snd_layout.specs.Params.{data_bytes}
 use Rattle.snd_layout.specs.Shape.{Shape, end}
 use Rattle.snd_layout.specs.declared.codec.Codec.{Codec}
@@ -33,10 +33,9 @@ PutsSamples state left_between form at count old new = PutsAt state left_between
 abbrev pub HasWritten : {D : Type 0} → (D → State) → Fixed → ℕ → List ℤ → D → D → Type 0
 HasWritten state form at xs old new = IsWritten at (samples_bytes form xs) (state old) (state new)
 
--- where samples have 16 bits, the lowest byte first, and a block has room for them, they stand at its front; also where the
--- codec gives their form
+-- where samples have 16 bits and a block has room for them, they stand at its front; also where the codec gives their form
 abbrev pub HoldsEarly : Fixed → List ℤ → List ℕ → Type 0
-HoldsEarly form xs block = form ≡ Linear (S16 Little) → 2 * length xs ≤ length block → take (2 * length xs) block ≡ samples_bytes (Linear (S16 Little)) xs
+HoldsEarly form xs block = (order : Order) → form ≡ Linear (S16 order) → 2 * length xs ≤ length block → take (2 * length xs) block ≡ samples_bytes (Linear (S16 order)) xs
 
 abbrev pub HoldsCoded : Codec → List ℤ → List ℕ → Type 0
 HoldsCoded codec xs block = (form : Fixed) → fixed_of codec ≡ Some form → HoldsEarly form xs block

@@ -4,6 +4,7 @@ ghost use Rattle.std.specs.Prelude.{◌≡◌, ◌↔◌, ◌<◌, None, Some, f
 ghost use Rattle.snd_disk.specs.Device.{CountsOn, GoesOnFrom, IsStable, WritesAtMost};
 ghost use Rattle.snd_layout.specs.declared.kind.Kind.TheVariants.{Voc};
 ghost use Rattle.snd_patch.specs.Steps.{Updates};
+ghost use Rattle.snd_modes.specs.Chunks.{KeepsChunksOn};
 ghost use Rattle.snd_modes.specs.Edits.{cut_to, trimmed_to, truncated_to, without_tail};
 ghost use Rattle.snd_modes.specs.Handle.{StandsAfter, disk_of, known_of, loan_of};
 ghost use Rattle.snd_modes.specs.Outcomes.{AsksNothing, CountsCall, Done, KeepsFrames, KeepsFront, StandsOn, TellsOn, shrink_outcome};
@@ -21,8 +22,8 @@ use snd_patch::shrink;
 
 impl<'d, D: Disk, M: CanShrink> File<'d, D, M> {
     /// Cuts the file to a number of frames, and makes that stable; where there are just so many, seals it
-    /// as `update_now` does. A place past the new end moves to the new end. It writes at most 72 bytes and
-    /// takes no memory.
+    /// as `update_now` does. A place past the new end moves to the new end. Each further chunk stays. It
+    /// writes at most 72 bytes and takes no memory.
     ///
     /// `Broken` where a call of the disk failed before; then `SeekRange` exactly where there are fewer
     /// frames, and `TrailingData` exactly where there are more and the file goes on behind its data: these
@@ -35,6 +36,7 @@ impl<'d, D: Disk, M: CanShrink> File<'d, D, M> {
         ensures loan { loan_of self.new ≡ loan_of self.old }
         ensures left { TruncateLeaves to (known_of self.old) (known_of self.new) result }
         ensures stands { StandsOn (shrink_outcome result) D.state self.old self.new (truncated_to to) }
+        ensures chunks { OnOk result (KeepsChunksOn D.state self.old self.new) }
         ensures stable { OnOk result (IsStable D.state D.may_leave (disk_of self.new)) }
 
         ensures leaves { LeavesSafe D.Disk (shrink_outcome result) (truncated_to to) self.old self.new }
@@ -99,8 +101,8 @@ impl<'d, D: Disk, M: CanShrink> File<'d, D, M> {
     }
 
     /// Seals the file as `update_now` does, cuts off all that stands behind what closes the data, and makes
-    /// that stable. The file then does not go on behind its data. It writes at most 80 bytes and takes no
-    /// memory.
+    /// that stable. The file then does not go on behind its data. Each further chunk stays. It writes at
+    /// most 80 bytes and takes no memory.
     ///
     /// `Broken` where a call of the disk failed before; then `TrailingData` exactly where the file goes on
     /// behind its data and is not a Creative Voice file: these leave all as it was. `DiskFault` where a
@@ -113,6 +115,7 @@ impl<'d, D: Disk, M: CanShrink> File<'d, D, M> {
         ensures loan { loan_of self.new ≡ loan_of self.old }
         ensures left { TrimLeaves (known_of self.old) (known_of self.new) result }
         ensures stands { StandsOn (shrink_outcome result) D.state self.old self.new trimmed_to }
+        ensures chunks { OnOk result (KeepsChunksOn D.state self.old self.new) }
         ensures stable { OnOk result (IsStable D.state D.may_leave (disk_of self.new)) }
 
         ensures leaves { LeavesSafe D.Disk (shrink_outcome result) trimmed_to self.old self.new }

@@ -4,6 +4,7 @@ ghost use Rattle.std.specs.Prelude.{◌≡◌, true, IfOk, OnOk, length};
 ghost use Rattle.snd_disk.specs.Device.{GoesOnFrom, IsStable, OnlyReadsOn, WritesAtMost};
 ghost use Rattle.snd_patch.specs.Steps.{KeepsBeside, StillTells};
 ghost use Rattle.snd_modes.specs.Calls.{AsksForFrames, CountsReading, ReadLeaves, SeekLeaves};
+ghost use Rattle.snd_modes.specs.Chunks.{GivesChunksBack};
 ghost use Rattle.snd_modes.specs.Closing.{ClosesFile, IsCloseCause};
 ghost use Rattle.snd_modes.specs.Editing.{state_read, state_sought};
 ghost use Rattle.snd_modes.specs.Handle.{IfOkStanding, StandsAfter, channels_of, codec_of, disk_of, known_of, loan_of};
@@ -52,6 +53,7 @@ impl<'d, D: Disk, M: Mode> File<'d, D, M> {
     pub fn close(self) -> Result<&'d mut D, (DiskFault, &'d mut D)>
         ensures lends { loan_back result ≡ loan_of self.entry }
         ensures back { ClosesFile M.WRITES D.state self.entry result }
+        ensures chunks { M.WRITES ≡ true → OnOk result (GivesChunksBack D.state self.entry (disk_back result)) }
         ensures cause { IsCloseCause M.WRITES D.state self.entry result }
         ensures stable { M.WRITES ≡ true → OnOk result (IsStable D.state D.may_leave (disk_back result)) }
 
@@ -116,7 +118,14 @@ impl<'d, D: Disk, M: CanRead> File<'d, D, M> {
         }
         let count = frames_ahead(&self.layout, self.read_place, into.len() / channels);
         let wanted = &mut into[..count * channels];
-        match read_from(self.disk, &self.layout, self.read_place, count, wanted) {
+        match read_from(
+            self.disk,
+            &self.layout,
+            self.read_place,
+            count,
+            wanted,
+            &mut self.block,
+        ) {
             Ok(()) => {
                 self.read_place += count as u64;
                 Ok(count)

@@ -10,6 +10,7 @@ ghost use Rattle.snd_modes.specs.Reading.{FitCodec, HasFrames, bytes_of_frames};
 
 use crate::codec::form_of;
 use crate::reads::read_run;
+use crate::writes::BLOCK_BYTES;
 use snd_container::Fixed;
 use snd_disk::{Disk, Step};
 use snd_layout::Layout;
@@ -50,13 +51,14 @@ pub(crate) fn place_of(layout: &Layout, form: Fixed, frame: u64) -> u64
     layout.start + frame * u64::from(layout.params.block_align())
 }
 
-// Reads frames that the layout counts, from a place on.
+// Reads frames that the layout counts, from a place on. Their bytes are read into a block.
 pub(crate) fn read_from<D: Disk>(
     disk: &mut D,
     layout: &Layout,
     place: u64,
     count: usize,
     into: &mut [i32],
+    block: &mut [u8; BLOCK_BYTES],
 ) -> Result<(), Step>
     requires linear { is_none (fixed_of layout.now.params.codec) ≡ false }
     requires held { end layout.now layout.now.frames ≤ (D.state disk.old).size }
@@ -71,6 +73,6 @@ pub(crate) fn read_from<D: Disk>(
     let Some(form) = form_of(layout) else {
         unreachable!()
     };
-    read_run(disk, form, place_of(layout, form, place), into)?;
+    read_run(disk, form, place_of(layout, form, place), into, block)?;
     Ok(())
 }

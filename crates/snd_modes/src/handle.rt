@@ -28,7 +28,7 @@ pub struct File<'d, D: Disk, M: Mode> {
     pub(crate) automatic: bool,
     pub(crate) written: bool,
     pub(crate) broken: Option<Step>,
-    // where samples are made as they are tested: here, since it is cleared where it is made
+    // where samples are made as they are tested, and read: here, since it is cleared where it is made
     pub(crate) block: [u8; BLOCK_BYTES],
     pub(crate) mode: PhantomData<M>,
     ghost stands: { broken ≡ None → end layout layout.frames ≤ (D.state disk.now).size },

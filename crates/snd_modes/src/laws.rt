@@ -1,6 +1,7 @@
 //! The laws of the editing state of an open file, proved of every file. The functions do nothing: their
 //! contracts are the laws.
 
+ghost use Rattle.snd_modes.specs.Chunks.{EditedHasChunks, LeadsKeepChunks};
 ghost use Rattle.snd_modes.specs.Laws.{AutomaticReadsBack, CutLeads, LeadsToEdited, MadeIsEdited, MadeIsUpdated, OpenedHoldsFrames, ReachedIsEdited, ReachedSound, ReadLeads, SealedReadsBack, SealedSound, SeekLeads, SeekWriteLeads, TrimLeads, UpdatedIsEdited, WriteLeads};
 ghost use Rattle.snd_modes.specs.SafeLaws.{AutomaticRests, CutIsSafe, CutRests, GrownIsSafe, LeadsToBytes, LeadsToRest, ReachedIsBytes, RestIsSafe, SafeAcross, SafeFromAfter, SealedIsSafe, SealedRests, StaysSafe, TailCutIsSafe, TrimmedIsSafe, TrimmedRests, WrittenIsSafe, WrittenRests};
 
@@ -40,6 +41,13 @@ pub fn sealed_files_read_back()
     ensures automatic { AutomaticReadsBack }
     ensures sound { SealedSound }
     ensures reached { ReachedSound }
+{}
+
+/// An edited file has the further chunks of the file that was opened or made, at their places and with their
+/// bodies. Each call that is carried out keeps them.
+pub fn chunks_stay()
+    ensures file { EditedHasChunks }
+    ensures step { LeadsKeepChunks }
 {}
 
 /// What a crash leaves of a file at rest is safe, and stays so during each call from there, and during each

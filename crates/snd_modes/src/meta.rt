@@ -8,11 +8,12 @@ ghost use Rattle.snd_layout.specs.Shape.{KeepsRule};
 ghost use Rattle.snd_container.specs.Put.{HoldsHead, MayBePieceOf, PutsPiece};
 ghost use Rattle.snd_patch.specs.Steps.{StillTells};
 ghost use Rattle.snd_wave.specs.Heads.{CountsPutting, new_piece};
+ghost use Rattle.snd_modes.specs.Chunks.{HoldsPut, StandsAsOpened};
 ghost use Rattle.snd_modes.specs.Handle.{disk_of, known_of, loan_of};
 ghost use Rattle.snd_modes.specs.Heads.{holds_pieces, is_meta_id, is_own_id};
 ghost use Rattle.snd_modes.specs.Outcomes.{AsksNothing, TellsOn};
 ghost use Rattle.snd_modes.specs.PieceCalls.{AddLeaves, CopyLeaves, CountsPut, IsPutRefusal, MayPut, PutLeaves, ReplaceLeaves, StandsPut};
-ghost use Rattle.snd_modes.specs.Relaid.{added_to, put_to, replaced_to};
+ghost use Rattle.snd_modes.specs.Relaid.{added_to, place_named, put_to, replaced_to};
 
 use crate::frames::keeps_rules;
 use crate::handle::File;
@@ -51,7 +52,7 @@ fn put_ruled<D: Disk>(
     ensures tells { StillTells (D.state disk.old) (D.state disk.new) }
     ensures time { GoesOnFrom D.state D.left_between disk.old disk.new }
     ensures written { WritesAtMost D.state 16777216 disk.old disk.new }
-    ensures asked { AsksAtMost D.state (if place == length layout.old.pieces then 0 else 16777216) disk.old disk.new }
+    ensures asked { AsksAtMost D.state (if place == length layout.old.pieces then 0 else 16711680) disk.old disk.new }
 {
     put_piece(disk, layout, place, id, body)?;
     keeps_rules(layout);
@@ -59,7 +60,8 @@ fn put_ruled<D: Disk>(
 }
 
 impl<'d, D: Disk> File<'d, D, Write> {
-    /// Puts a further chunk behind the others. It writes at most 16777216 bytes and reads none.
+    /// Puts a further chunk behind the others: the file holds those that it held, with this one. It writes at
+    /// most 16777216 bytes and reads none.
     ///
     /// `Broken` where a call of the disk failed before; then `FramesWritten` exactly where a frame was
     /// written through this handle; `AutoOn` exactly where updates are automatic; `ReservedChunk` exactly
@@ -72,6 +74,8 @@ impl<'d, D: Disk> File<'d, D, Write> {
         ensures loan { loan_of self.new ≡ loan_of self.old }
         ensures left { AddLeaves id.0 body.now (known_of self.old) (known_of self.new) result }
         ensures stands { StandsPut D.state self.old self.new (added_to id.0 body.now) result }
+        ensures holds { OnOk result (HoldsPut D.state (length (known_of self.old).shape.pieces) (new_piece id.0 body.now) self.old self.new) }
+        ensures begins { OnOk result (StandsAsOpened D.state self.new) }
         ensures unchanged { IfErr result (λ e. e ≡ Memory → OnlyReadsOn D.state D.may_leave D.left_between (disk_of self.old) (disk_of self.new)) }
         ensures tells { TellsOn D.state self.old self.new }
         ensures time { GoesOnFrom D.state D.left_between (disk_of self.old) (disk_of self.new) }
@@ -96,6 +100,8 @@ impl<'d, D: Disk> File<'d, D, Write> {
         ensures loan { loan_of self.new ≡ loan_of self.old }
         ensures left { CopyLeaves id.0 body.now (known_of self.old) (known_of self.new) result }
         ensures stands { StandsPut D.state self.old self.new (added_to id.0 body.now) result }
+        ensures holds { OnOk result (HoldsPut D.state (length (known_of self.old).shape.pieces) (new_piece id.0 body.now) self.old self.new) }
+        ensures begins { OnOk result (StandsAsOpened D.state self.new) }
         ensures unchanged { IfErr result (λ e. e ≡ Memory → OnlyReadsOn D.state D.may_leave D.left_between (disk_of self.old) (disk_of self.new)) }
         ensures tells { TellsOn D.state self.old self.new }
         ensures time { GoesOnFrom D.state D.left_between (disk_of self.old) (disk_of self.new) }
@@ -114,7 +120,7 @@ impl<'d, D: Disk> File<'d, D, Write> {
 
     /// Puts an INFO list, cue points or a broadcast extension: the chunk `LIST`, `cue ` or `bext`. It takes
     /// the place of the first chunk with that identifier, or stands behind the others where there is none.
-    /// It writes at most 16777216 bytes, and reads at most so many.
+    /// It writes at most 16777216 bytes, and reads at most 16711680.
     ///
     /// The answers are those of `add_piece`, but `ReservedChunk` never comes; `NoChunks` comes exactly where
     /// files of the kind are not given such chunks, and `TooManyChunks` exactly where 240 chunks stand and
@@ -124,12 +130,14 @@ impl<'d, D: Disk> File<'d, D, Write> {
         ensures loan { loan_of self.new ≡ loan_of self.old }
         ensures left { ReplaceLeaves id.0 body.now (known_of self.old) (known_of self.new) result }
         ensures stands { StandsPut D.state self.old self.new (replaced_to id.0 body.now) result }
+        ensures holds { OnOk result (HoldsPut D.state (place_named id.0 (known_of self.old).shape) (new_piece id.0 body.now) self.old self.new) }
+        ensures begins { OnOk result (StandsAsOpened D.state self.new) }
         ensures unchanged { IfErr result (λ e. e ≡ Memory → OnlyReadsOn D.state D.may_leave D.left_between (disk_of self.old) (disk_of self.new)) }
         ensures tells { TellsOn D.state self.old self.new }
         ensures time { GoesOnFrom D.state D.left_between (disk_of self.old) (disk_of self.new) }
         ensures faults { CountsPut D.state (disk_of self.old) (disk_of self.new) result }
         ensures written { WritesAtMost D.state 16777216 (disk_of self.old) (disk_of self.new) }
-        ensures asked { AsksAtMost D.state 16777216 (disk_of self.old) (disk_of self.new) }
+        ensures asked { AsksAtMost D.state 16711680 (disk_of self.old) (disk_of self.new) }
     {
         let wanted = Wanted {
             reserved: false,
@@ -149,12 +157,14 @@ impl<'d, D: Disk> File<'d, D, Write> {
         ensures loan { loan_of self.new ≡ loan_of self.old }
         ensures left { PutLeaves wanted (new_piece id.0 body.now) (known_of self.old) (known_of self.new) result }
         ensures stands { StandsPut D.state self.old self.new (put_to wanted.place (new_piece id.0 body.now)) result }
+        ensures holds { OnOk result (HoldsPut D.state wanted.place (new_piece id.0 body.now) self.old self.new) }
+        ensures begins { OnOk result (StandsAsOpened D.state self.new) }
         ensures unchanged { IfErr result (λ e. e ≡ Memory → OnlyReadsOn D.state D.may_leave D.left_between (disk_of self.old) (disk_of self.new)) }
         ensures tells { TellsOn D.state self.old self.new }
         ensures time { GoesOnFrom D.state D.left_between (disk_of self.old) (disk_of self.new) }
         ensures faults { CountsPut D.state (disk_of self.old) (disk_of self.new) result }
         ensures written { WritesAtMost D.state 16777216 (disk_of self.old) (disk_of self.new) }
-        ensures asked { AsksAtMost D.state (if wanted.place == length (known_of self.old).shape.pieces then 0 else 16777216) (disk_of self.old) (disk_of self.new) }
+        ensures asked { AsksAtMost D.state (if wanted.place == length (known_of self.old).shape.pieces then 0 else 16711680) (disk_of self.old) (disk_of self.new) }
     {
         self.may_put(&wanted)?;
         self.layout.keeps_rule();

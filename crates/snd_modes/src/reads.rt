@@ -5,13 +5,18 @@ ghost use Rattle.snd_disk.specs.Device.{CountsOn, IfOkTold, OnlyReadsOn};
 ghost use Rattle.snd_container.specs.Fixed.{InRange, byte_count};
 ghost use Rattle.snd_modes.specs.Reading.{AreInRange, AreSamples, AsksFor, ReadsOn};
 
+use crate::writes::BLOCK_BYTES;
 use snd_container::{Fixed, read_samples};
 use snd_disk::{Disk, Step, fill};
 
-const BLOCK_BYTES: usize = 16384;
-
-// Reads samples that the disk has from a place on, at most one block.
-fn read_block<D: Disk>(disk: &mut D, form: Fixed, at: u64, into: &mut [i32]) -> Result<(), Step>
+// Reads samples that the disk has from a place on, at most one block, into which their bytes are read.
+fn read_block<D: Disk>(
+    disk: &mut D,
+    form: Fixed,
+    at: u64,
+    into: &mut [i32],
+    block: &mut [u8; BLOCK_BYTES],
+) -> Result<(), Step>
     requires held { at + byte_count form * length into.old ≤ (D.state disk.old).size }
     requires small { byte_count form * length into.old ≤ 16384 }
     ensures told { IfOkTold D.state disk.old result (λ b _. AreSamples form b at into.new) }
@@ -20,7 +25,6 @@ fn read_block<D: Disk>(disk: &mut D, form: Fixed, at: u64, into: &mut [i32]) -> 
     ensures reads { OnlyReadsOn D.state D.may_leave D.left_between disk.old disk.new }
     ensures asked { AsksFor D.state form (length into.old) disk.old disk.new }
 {
-    let mut block = [0u8; BLOCK_BYTES];
     let bytes = &mut block[..form.bytes() * into.len()];
     fill(disk, at, bytes)?;
     read_samples(form, bytes, into);
@@ -34,6 +38,7 @@ fn read_next<D: Disk>(
     at: u64,
     into: &mut [i32],
     done: usize,
+    block: &mut [u8; BLOCK_BYTES],
 ) -> Result<usize, Step>
     requires some { done < length into.old }
     requires held { at + byte_count form * length into.old ≤ (D.state disk.old).size }
@@ -53,6 +58,7 @@ fn read_next<D: Disk>(
         form,
         at + (width * done) as u64,
         &mut into[done..next],
+        block,
     )?;
     Ok(next)
 }
@@ -63,6 +69,7 @@ pub(crate) fn read_run<D: Disk>(
     form: Fixed,
     at: u64,
     into: &mut [i32],
+    block: &mut [u8; BLOCK_BYTES],
 ) -> Result<(), Step>
     requires { at + byte_count form * length into.old ≤ (D.state disk.old).size }
     ensures told { IfOkTold D.state disk.old result (λ b _. AreSamples form b at into.new) }
@@ -73,7 +80,7 @@ pub(crate) fn read_run<D: Disk>(
 {
     let mut done = 0;
     while done < into.len() {
-        done = read_next(disk, form, at, into, done)?;
+        done = read_next(disk, form, at, into, done, block)?;
     }
     Ok(())
 }

@@ -9,7 +9,6 @@ ghost use Rattle.snd_modes.specs.Writing.{HasWritten, HoldsEarly, PutsAt, PutsSa
 
 use snd_container::{Fixed, put_samples};
 use snd_disk::{Disk, Failed, Step};
-use snd_fields::Order;
 use snd_pcm::Linear;
 
 pub(crate) const BLOCK_BYTES: usize = 16384;
@@ -120,12 +119,12 @@ pub(crate) fn write_run<D: Disk>(
     ensures partly { PutsPartly D.Disk at (samples_bytes form from.now) disk.old disk.new }
     ensures faults { CountsOn D.state disk.old disk.new result }
 {
+    let Fixed::Linear(Linear::S16(_)) = form else {
+        return write_blocks(disk, form, at, from);
+    };
     // for no samples the disk is not called
-    if form == Fixed::Linear(Linear::S16(Order::Little))
-        && !from.is_empty()
-        && from.len() <= block.len() / 2
-    {
-        return write_bytes(disk, at, &block[..2 * from.len()]);
+    if from.is_empty() || block.len() / 2 < from.len() {
+        return write_blocks(disk, form, at, from);
     }
-    write_blocks(disk, form, at, from)
+    write_bytes(disk, at, &block[..2 * from.len()])
 }

@@ -3,6 +3,7 @@
 ghost use Rattle.std.specs.Prelude.{◌≡◌, ◌≤◌, None, Some, false, true, MatchResult, OnOk, length};
 ghost use Rattle.snd_disk.specs.Device.{CountsOn, GoesOnFrom, IsStable, WritesAtMost};
 ghost use Rattle.snd_container.specs.Values.{closed_end};
+ghost use Rattle.snd_modes.specs.Chunks.{KeepsChunksOn};
 ghost use Rattle.snd_modes.specs.Edits.{automatic_to, moved_write_to, sealed_to, state_after, written_to};
 ghost use Rattle.snd_modes.specs.Handle.{StandsAfter, disk_of, known_of, loan_of};
 ghost use Rattle.snd_modes.specs.Outcomes.{AsksNothing, CountsCall, KeepsBefore, KeepsFrames, StandsOn, TellsOn, WritesFrames, auto_outcome, update_outcome, write_outcome};
@@ -40,8 +41,8 @@ impl<'d, D: Disk, M: CanWrite> File<'d, D, M> {
     /// Writes frames from the one to write next on, over old frames and past the end, and moves the place
     /// behind them. A frame has one number for each channel, in turn. Where the end moves, what closes the
     /// data is put behind it; where updates are automatic, the head is brought up to the frames and all is
-    /// made stable. It writes the bytes of the frames and at most 8 more, and 64 more where updates are
-    /// automatic; it takes no memory.
+    /// made stable. Each further chunk stays. It writes the bytes of the frames and at most 8 more, and 64
+    /// more where updates are automatic; it takes no memory.
     ///
     /// `Broken` where a call of the disk failed before; then `PartFrame` exactly where the slice does not
     /// hold whole frames; `SampleRange` exactly where a number is outside the codec's range;
@@ -57,6 +58,7 @@ impl<'d, D: Disk, M: CanWrite> File<'d, D, M> {
         ensures loan { loan_of self.new ≡ loan_of self.old }
         ensures left { WriteLeaves from.now (known_of self.old) (known_of self.new) result }
         ensures stands { StandsOn (write_outcome result) D.state self.old self.new (written_to from.now) }
+        ensures chunks { OnOk result (KeepsChunksOn D.state self.old self.new) }
         ensures stable { OnOk result ((known_of self.old).automatic ≡ true → IsStable D.state D.may_leave (disk_of self.new)) }
         ensures leaves { (known_of self.old).automatic ≡ true → LeavesSafe D.Disk (write_outcome result) (written_to from.now) self.old self.new }
         ensures rests { (known_of self.old).automatic ≡ true → StaysAtRest D.Disk (write_outcome result) (written_to from.now) self.old self.new }
@@ -96,8 +98,9 @@ impl<'d, D: Disk, M: CanWrite> File<'d, D, M> {
     }
 
     /// Brings the head up to the frames, and makes the file stable: what closes the data is put behind it
-    /// where it is missing. A file that goes on behind its data is made stable as it is. The answer is how
-    /// many frames the head then says. It writes at most 72 bytes and takes no memory.
+    /// where it is missing. A file that goes on behind its data is made stable as it is. Each further chunk
+    /// stays. The answer is how many frames the head then says. It writes at most 72 bytes and takes no
+    /// memory.
     ///
     /// `Broken` where a call of the disk failed before, which leaves all as it was. `DiskFault` where a
     /// call of the disk failed now: from then on the file is broken; what stands before the end of the
@@ -109,6 +112,7 @@ impl<'d, D: Disk, M: CanWrite> File<'d, D, M> {
         ensures loan { loan_of self.new ≡ loan_of self.old }
         ensures left { UpdateLeaves (known_of self.old) (known_of self.new) result }
         ensures stands { StandsOn (update_outcome result) D.state self.old self.new sealed_to }
+        ensures chunks { OnOk result (KeepsChunksOn D.state self.old self.new) }
         ensures stable { OnOk result (IsStable D.state D.may_leave (disk_of self.new)) }
 
         ensures leaves { LeavesSafe D.Disk (update_outcome result) sealed_to self.old self.new }
@@ -143,6 +147,7 @@ impl<'d, D: Disk, M: CanWrite> File<'d, D, M> {
         ensures loan { loan_of self.new ≡ loan_of self.old }
         ensures left { AutoLeaves on (known_of self.old) (known_of self.new) result }
         ensures stands { StandsOn (auto_outcome result) D.state self.old self.new (automatic_to on) }
+        ensures chunks { OnOk result (KeepsChunksOn D.state self.old self.new) }
         ensures stable { OnOk result (IsStable D.state D.may_leave (disk_of self.new)) }
 
         ensures leaves { LeavesSafe D.Disk (auto_outcome result) (automatic_to on) self.old self.new }

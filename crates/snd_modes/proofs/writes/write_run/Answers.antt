@@ -3,7 +3,7 @@ use Rattle.snd_container.specs.Fixed.{samples_bytes}
 use Rattle.snd_modes.specs.Putting.{PutsPartly}
 use Rattle.snd_modes.proofs.writes.write_run.Goals as goal
 
-pub returns-then-from-block-clause-partly : goal.returns-then-from-block-clause-partly
-returns-then-from-block-clause-partly g c =
+pub returns-clause-partly : goal.returns-clause-partly
+returns-clause-partly g c =
     let held : take (2 * length c.args.from.now) c.args.block.now ≡ samples_bytes c.args.form c.args.from.now = search rules in
     subst (λ (s : List ℕ). PutsPartly g.D.Disk c.args.at s c.args.disk.now c.write_bytes.new.disk) held c.write_bytes.ensures.partly

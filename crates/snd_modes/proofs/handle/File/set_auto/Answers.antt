@@ -4,6 +4,7 @@ use Rattle.snd_modes.specs.Edits.{automatic_to}
 use Rattle.snd_modes.specs.Laws.{sets_automatic}
 use Rattle.snd_modes.specs.Safe.{IsSafe}
 use Rattle.snd_modes.specs.WriteCalls.{is_whole_field}
+use Rattle.snd_modes.proofs.KeptChunks.{stay_set}
 use Rattle.snd_modes.proofs.LeftSafe.{leaves_same, rests_after, unchanged}
 use Rattle.snd_modes.proofs.SafeRests.{automatic_rest}
 use Rattle.snd_modes.proofs.handle.File.set_auto.Goals as goal
@@ -35,3 +36,6 @@ returns-clause-begins g c = λ is opened e edited bytes stands.
     let on = c.args.on in
     let whole : is_whole_field c.args.self.now.layout ≡ true = search rules in
     rests_after g.D.Disk opened _ e (automatic_to on e) edited (sets_automatic on) (automatic_rest opened e on edited bytes (subst (λ (s : Shape). is_whole_field s ≡ true) stands.shape whole)) (returns-clause-stands g c e stands) (returns-clause-stable g c)
+
+pub returns-clause-chunks : goal.returns-clause-chunks
+returns-clause-chunks g c = stay_set g.D.Disk c.args.self.now _ c.args.on (returns-clause-stands g c)

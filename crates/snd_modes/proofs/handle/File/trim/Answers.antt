@@ -6,6 +6,7 @@ use Rattle.snd_modes.specs.Edits.{sealed_to, trimmed_to, without_tail}
 use Rattle.snd_modes.specs.Handle.{Stands, disk_of}
 use Rattle.snd_modes.specs.Laws.{trims}
 use Rattle.snd_modes.proofs.CutFrames.{off_counted}
+use Rattle.snd_modes.proofs.KeptChunks.{stay_trimmed}
 use Rattle.snd_modes.proofs.LeftSafe.{rests_after, trimming_is_safe, unchanged}
 use Rattle.snd_modes.proofs.SafeRests.{trimmed_rest}
 use Rattle.snd_modes.proofs.handle.File.trim.Goals as goal
@@ -43,3 +44,8 @@ returns-clause-rests g c = λ opened e rest.
     let may' : e.shape.trailing ≡ true → e.shape.kind ≡ Voc = subst (λ (s : Shape). s.trailing ≡ true → s.kind ≡ Voc) rest.stands.shape may in
     rests_after g.D.Disk opened c.cut_tail.new.self e (trimmed_to e) rest.edited (trims may') (trimmed_rest opened e rest.edited rest.fit.bytes rest.fit.whole may')
     (returns-clause-stands g c e rest.stands) c.in_ok-cut_tail.ensures.stable
+
+pub returns-clause-chunks : goal.returns-clause-chunks
+returns-clause-chunks g c =
+    let may : c.args.self.now.layout.trailing ≡ true → c.args.self.now.layout.kind ≡ Voc = search rules in
+    stay_trimmed g.D.Disk c.args.self.now c.cut_tail.new.self may (returns-clause-stands g c)

@@ -4,6 +4,7 @@ use Rattle.snd_layout.specs.Shape.{Shape}
 use Rattle.snd_modes.specs.Edits.{cut_to, sealed_to, truncated_to}
 use Rattle.snd_modes.specs.Handle.{Stands}
 use Rattle.snd_modes.specs.Laws.{MayTruncate, truncates}
+use Rattle.snd_modes.proofs.KeptChunks.{stay_cut}
 use Rattle.snd_modes.proofs.LeftSafe.{rests_after, truncating_is_safe, unchanged, where_failed}
 use Rattle.snd_modes.proofs.SafeRests.{cut_rest}
 use Rattle.snd_modes.proofs.handle.File.truncate.Goals as goal
@@ -61,3 +62,14 @@ returns-clause-rests g c = λ opened e rest.
     let may : MayTruncate to e.shape = subst (MayTruncate to) rest.stands.shape (record { within = omega (arith, fewer); free = λ less. free }) in
     rests_after g.D.Disk opened c.cut_file.new.self e (truncated_to to e) rest.edited (truncates to may) (cut_rest opened e to rest.edited rest.fit.bytes rest.fit.whole may)
     (returns-clause-stands g c e rest.stands) c.in_ok-cut_file.ensures.stable
+
+pub returns-then-to-frames-2-clause-chunks : goal.returns-then-to-frames-2-clause-chunks
+returns-then-to-frames-2-clause-chunks g c =
+    let same : c.args.to ≡ c.args.self.now.layout.frames = search rules in
+    stay_cut g.D.Disk c.args.self.now c.seal_file.new.self c.args.to (record { within = omega (arith, same); free = λ fewer. absurd (omega (arith, same, fewer)) }) (returns-then-to-frames-2-clause-stands g c)
+
+pub returns-clause-chunks : goal.returns-clause-chunks
+returns-clause-chunks g c =
+    let fewer : c.args.to < c.args.self.now.layout.frames = search rules in
+    let free : c.args.self.now.layout.trailing ≡ false = search rules in
+    stay_cut g.D.Disk c.args.self.now c.cut_file.new.self c.args.to (record { within = omega (arith, fewer); free = λ less. free }) (returns-clause-stands g c)

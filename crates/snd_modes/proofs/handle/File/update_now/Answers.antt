@@ -1,5 +1,6 @@
 use Rattle.snd_modes.specs.Edits.{sealed_to}
 use Rattle.snd_modes.specs.Laws.{seals}
+use Rattle.snd_modes.proofs.KeptChunks.{stay_sealed}
 use Rattle.snd_modes.proofs.LeftSafe.{rests_after, unchanged}
 use Rattle.snd_modes.proofs.SafeRests.{sealed_rest}
 use Rattle.snd_modes.proofs.handle.File.update_now.Goals as goal
@@ -16,3 +17,6 @@ returns-clause-leaves g c = λ opened e rest. c.seal_file.ensures.leaves opened 
 pub returns-clause-rests : goal.returns-clause-rests
 returns-clause-rests g c = λ opened e rest.
     rests_after g.D.Disk opened c.seal_file.new.self e (sealed_to e) rest.edited seals (sealed_rest opened e rest.edited rest.fit.bytes rest.fit.whole) (c.in_ok-seal_file.ensures.stands e rest.stands) c.in_ok-seal_file.ensures.stable
+
+pub returns-clause-chunks : goal.returns-clause-chunks
+returns-clause-chunks g c = stay_sealed g.D.Disk c.args.self.now c.seal_file.new.self c.in_ok-seal_file.ensures.stands

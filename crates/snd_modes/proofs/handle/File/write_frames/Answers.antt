@@ -9,6 +9,7 @@ use Rattle.snd_modes.specs.Reading.{bytes_of_frames}
 use Rattle.snd_modes.proofs.AtRest.{still_safe, written_at_rest, written_leaves}
 use Rattle.snd_modes.proofs.BareHeads.{written_head}
 use Rattle.snd_modes.proofs.EditedFrames.{CanPut, coded_size, known_is, still_closed, whole_frames, written_count, written_sound}
+use Rattle.snd_modes.proofs.KeptChunks.{stay_written}
 use Rattle.snd_modes.proofs.handle.File.write_frames.Goals as goal
 
 pub invariant_of-self-in-Ok-clause-closed : goal.invariant_of-self-in-Ok-clause-closed
@@ -107,3 +108,6 @@ invariant_of-self-in-Ok-clause-headed g c = λ makes empty working.
     written_head (state file.disk.now) (state c.write_over.new.disk) h c.write_over.new.layout c.end_of_write.ensures.rule (file.headed makes unwritten.0 before) (g.met.D.Disk.size_told file.disk.now)
     file.automatic file.write_place (count_written h file.write_place count) xs file.write_placed (ap (count_written h file.write_place) none) (nil_from_length (coded h.params xs) size)
     c.in-Ok.ensures.layout c.in-Ok.ensures.grows c.in-Ok.ensures.contents
+
+pub returns-in-Ok-clause-chunks : goal.returns-in-Ok-clause-chunks
+returns-in-Ok-clause-chunks g c = stay_written g.D.Disk c.args.self.now _ c.args.from.now c.in_ok-next.ensures.ready (returns-in-Ok-clause-stands g c)

@@ -1,16 +1,16 @@
-use Rattle.std.proofs.Common.{rules, ◌≡◌, ◌∙◌, ap, sym, subst, refl, inl, inr, ℕ, ◌≤◌, true, false, List, Some, length, arith}
+use Rattle.std.proofs.Common.{rules, ◌≡◌, ◌∙◌, ap, sym, subst, refl, inl, inr, ℕ, ◌≤◌, true, false, List, Ok, Some, length, arith}
 use Rattle.std.specs.Prelude.{is_none, is_some}
 use Rattle.std.proofs.lemmas.Bool.{cases_lt}
 use Rattle.snd_container.specs.Put.{HoldsHead}
-use Rattle.snd_container.specs.Sound.{fixed_of}
+use Rattle.snd_container.specs.Sound.{fixed_of, layout_of}
 use Rattle.snd_layout.specs.Params.{Parameters}
 use Rattle.snd_layout.specs.Shape.{Shape, end}
-use Rattle.snd_wave.specs.Heads.{new_piece}
+use Rattle.snd_wave.specs.Heads.{new_piece, with_piece}
 use Rattle.snd_modes.specs.Handle.{known_of}
 use Rattle.snd_modes.specs.Heads.{holds_pieces}
-use Rattle.snd_modes.specs.Relaid.{put_to, shape_put}
-use Rattle.snd_modes.proofs.KindHeads.{bare_head, head_same, may_be_put, put_head, told_head}
-use Rattle.snd_modes.proofs.PutHeads.{no_sound, some_told}
+use Rattle.snd_modes.specs.Relaid.{pieces_held, put_to, shape_put}
+use Rattle.snd_modes.proofs.KindHeads.{bare_head, head_opens, head_same, may_be_put, put_head, told_head}
+use Rattle.snd_modes.proofs.PutHeads.{begins_again, no_sound, some_told}
 use Rattle.snd_modes.proofs.meta.«File+D+Write».put_wanted.Goals as goal
 
 pub put_ruled-requires-clause-head : goal.put_ruled-requires-clause-head
@@ -170,3 +170,33 @@ returns-in-Ok-clause-stands g c = λ e stands.
           (subst (λ (s : Shape). s.frames ≡ 0) shape bare.frames) (subst (λ (s : Shape). end s s.frames ≤ length after.bytes) shape (omega (arith, ends, size))) none;
       count = omega (arith, none, subst (λ (s : Shape). s.frames ≡ 0) shape bare.frames);
     }
+
+pub returns-in-Ok-clause-holds : goal.returns-in-Ok-clause-holds
+returns-in-Ok-clause-holds g c = λ e e' was is.
+    let state = g.D.Disk.state in
+    let file = c.args.self.now in
+    let may = c.in_ok-may_put.ensures.may in
+    let holds = c.requires.held may.held in
+    let head = file.headed refl may.untouched.empty may.untouched.working holds in
+    let place = c.args.wanted.place in
+    let piece = new_piece c.args.id.0 c.args.body.now in
+    let put = put_head (state file.disk.now) (state c.put_ruled.new.disk) file.layout c.put_ruled.new.layout place piece holds (told_head (state file.disk.now) file.layout holds head) c.in-Ok.ensures.put in
+    subst (λ (s : Shape). pieces_held (record e' { shape = s }) ≡ with_piece (pieces_held e) place piece) is.shape
+    (put.held e.bytes e'.bytes was.bytes is.bytes ∙ ap (λ (s : Shape). with_piece (pieces_held (record e { shape = s })) place piece) was.shape)
+
+pub returns-in-Ok-clause-begins : goal.returns-in-Ok-clause-begins
+returns-in-Ok-clause-begins g c = λ e is.
+    let state = g.D.Disk.state in
+    let file = c.args.self.now in
+    let may = c.in_ok-may_put.ensures.may in
+    let holds = c.requires.held may.held in
+    let head = file.headed refl may.untouched.empty may.untouched.working holds in
+    let was = bare_head (state file.disk.now) file.layout holds c.keeps_rule.ensures head in
+    let h = c.put_ruled.new.layout in
+    let put = put_head (state file.disk.now) (state c.put_ruled.new.disk) file.layout h c.args.wanted.place (new_piece c.args.id.0 c.args.body.now) holds (told_head (state file.disk.now) file.layout holds head) c.in-Ok.ensures.put in
+    let held = ap holds_pieces put.kind ∙ holds in
+    let bare = bare_head (state c.put_ruled.new.disk) h held c.in-Ok.ensures.rule ∣ c.in-Ok.ensures.head ∣₁ in
+    let opened : layout_of e.bytes ≡ Ok h = head_opens (state c.put_ruled.new.disk) h e.bytes held c.in-Ok.ensures.head is.bytes in
+    let linear : is_none (fixed_of h.params.codec) ≡ false = ap (λ (p : Parameters). is_none (fixed_of p.codec)) put.params ∙ file.linear in
+    begins_again e (subst (λ (s : Shape). layout_of e.bytes ≡ Ok s) is.shape opened) (subst (λ (s : Shape). is_none (fixed_of s.params.codec) ≡ false) is.shape linear) (subst (λ (s : Shape). s.unknown_length ≡ false) is.shape bare.known) is.sound
+    (omega (arith, file.placed, was.frames, is.place)) (omega (arith, file.write_placed, was.frames, is.write_place)) (sym is.automatic ∙ may.untouched.by_hand) (sym is.written ∙ may.untouched.empty)

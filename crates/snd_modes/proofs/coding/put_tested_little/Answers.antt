@@ -6,7 +6,7 @@ use Rattle.snd_container.specs.declared.fixed.Fixed.TheVariants.{Linear}
 use Rattle.snd_pcm.proofs.Ranges.{one_more}
 use Rattle.snd_modes.proofs.PutBlocks.{bytes_of_none}
 use Rattle.snd_modes.proofs.TestedSamples.{clamped, coded_more, length_kept}
-use Rattle.snd_modes.proofs.coding.put_tested.Goals as goal
+use Rattle.snd_modes.proofs.coding.put_tested_little.Goals as goal
 
 pub loop-i-init : goal.loop-i-init
 loop-i-init c = record {

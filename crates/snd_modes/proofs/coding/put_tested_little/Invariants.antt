@@ -2,7 +2,7 @@ use Rattle.std.proofs.Common.{◌≡◌, ◌*◌, ◌≤ℤ◌, ◌↔◌, All, 
 use Rattle.snd_fields.specs.declared.field.Order.TheVariants.{Little}
 use Rattle.snd_pcm.specs.Pcm.{InRange, high, low, samples_bytes}
 use Rattle.snd_pcm.specs.declared.linear.Linear.TheVariants.{S16}
-use Rattle.snd_modes.proofs.coding.put_tested.Given as goal
+use Rattle.snd_modes.proofs.coding.put_tested_little.Given as goal
 
 abbrev pub invariant-loop-i : goal.invariant-loop-i
 invariant-loop-i l =
