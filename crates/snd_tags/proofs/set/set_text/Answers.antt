@@ -1,0 +1,59 @@
+use Rattle.std.proofs.Common.{rules, ◌≡◌, ◌≤◌, ◌∙◌, ap, codes, length, arith}
+use Rattle.snd_tags.specs.Drafts.{info_anew, info_with}
+use Rattle.snd_tags.specs.Steps.{bytes_in, no_memory}
+use Rattle.snd_tags.proofs.Composed.{fails_after, put_after, sets_failed, sets_put}
+use Rattle.snd_tags.proofs.set.set_text.Goals as goal
+
+pub returns-in_err-held : goal.returns-in_err-held
+returns-in_err-held g c =
+    let few : length c.args.text.now ≤ 1024 = search rules in
+    let s = sets_failed g.D.Disk c.args.file.now c.body_held.new.file (codes "LIST") (info_with c.args.key c.args.text.now) c.in_err-held.field-0.0 c.from_residual.result (search rules) c.in_err-held.ensures.failed in
+    record {
+      loan = s.loan;
+      too_long = (λ is. absurd (s.fits is), λ long. absurd (omega (arith, long, few)));
+      left = s.left;
+      sets = s.sets;
+      puts = s.puts;
+      tells = s.tells;
+      time = s.time;
+      faults = s.faults;
+      written = s.written;
+      asked = record { later = s.asked.later; most = omega (arith, s.asked.most) };
+    }
+
+pub returns-in_err-body : goal.returns-in_err-body
+returns-in_err-body g c =
+    let few : length c.args.text.now ≤ 1024 = search rules in
+    let fails = fails_after g.D.Disk c.args.file.now c.body_held.new.file c.in_ok-held.ensures.read in
+    let s = sets_failed g.D.Disk c.args.file.now c.body_held.new.file (codes "LIST") (info_with c.args.key c.args.text.now) no_memory c.from_residual-in_err-body.result (search rules) fails in
+    record {
+      loan = s.loan;
+      too_long = (λ is. absurd (s.fits is), λ long. absurd (omega (arith, long, few)));
+      left = s.left;
+      sets = s.sets;
+      puts = s.puts;
+      tells = s.tells;
+      time = s.time;
+      faults = s.faults;
+      written = s.written;
+      asked = record { later = s.asked.later; most = omega (arith, s.asked.most) };
+    }
+
+pub returns : goal.returns
+returns g c =
+    let few : length c.args.text.now ≤ 1024 = search rules in
+    let made : c.deref.result.now ≡ info_anew c.args.key c.args.text.now (bytes_in c.in_ok-held.held) = search rules in
+    let puts = put_after g.D.Disk c.args.file.now c.body_held.new.file c.put_body.new.file _ (codes "LIST") c.deref.result.now c.put_body.result c.in_ok-held.ensures.read c.put_body.ensures in
+    let s = sets_put g.D.Disk c.args.file.now c.put_body.new.file (codes "LIST") (info_with c.args.key c.args.text.now) _ c.deref.result.now c.put_body.result puts (λ e here. made ∙ ap (info_anew c.args.key c.args.text.now) (c.in_ok-held.ensures.body e here)) in
+    record {
+      loan = s.loan;
+      too_long = (λ is. absurd (s.fits is), λ long. absurd (omega (arith, long, few)));
+      left = s.left;
+      sets = s.sets;
+      puts = s.puts;
+      tells = s.tells;
+      time = s.time;
+      faults = s.faults;
+      written = s.written;
+      asked = record { later = s.asked.later; most = omega (arith, s.asked.most) };
+    }
