@@ -16,6 +16,7 @@ mod tests;
 mod words;
 
 pub use command::{Command, MOST_CUES, MOST_SAMPLES};
+pub use forms::is_text;
 pub use line::{parse_line, read_line};
 pub use line_command::LineCommand;
 pub use numbers::NumberRoom;

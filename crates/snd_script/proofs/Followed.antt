@@ -1,9 +1,11 @@
 -- A rule is followed on an open file, by what became of the call and of its reply.
-use Rattle.std.proofs.Common.{◌≡◌, ℕ, List, Bool, true, false, ◌&&◌, Option, None, Some, Result, Ok, Err, refl, sym, ap, ◌∙◌, subst, arith, rules}
+use Rattle.std.proofs.Common.{◌≡◌, ℕ, List, Bool, true, false, ◌&&◌, Option, None, Some, Result, Ok, Err, inl, refl, sym, ap, ◌∙◌, subst, arith, rules}
 use Rattle.std.specs.Prelude.{IfErr, IsErrOf, is_none, is_some}
 use Rattle.std.proofs.lemmas.Bool.{and_parts}
 use Rattle.snd_disk.specs.Device.{AsksAtMost, GoesOnFrom, OnlyReadsOn, WritesAtMost}
+use Rattle.snd_disk.specs.State.{State}
 use Rattle.snd_disk.specs.declared.disk.Disk.{Ghosts}
+use Rattle.snd_layout.specs.Shape.{Shape}
 use Rattle.snd_disk.specs.declared.disk.Step.{Step}
 use Rattle.snd_disk.specs.declared.streams.Sink.{Ghosts as SinkMeaning}
 use Rattle.snd_modes.specs.Editing.{Editing}
@@ -15,56 +17,69 @@ use Rattle.snd_modes.specs.declared.mode.Mode.{Ghosts as ModeGhosts}
 use Rattle.snd_patch.specs.Images.{LeavesEach}
 use Rattle.snd_patch.specs.Steps.{StillTells}
 use Rattle.snd_script.specs.Edit.{edit_by, edit_unless}
-use Rattle.snd_script.specs.Rules.{FileEdited, Rule}
+use Rattle.snd_script.specs.Rules.{FileEdited, Grounds, Rule, grounds_of, known_grounds}
 use Rattle.snd_script.specs.Replies.{Answer, says, refuses}
-use Rattle.snd_script.specs.Stepped.{IsAutomatic, IsSaid, IsSilent, IsStepCause, Knows, LeavesFile, IsBrokenAt, Rose, changes_by, known_unless, refusal_by, reply_of, reply_unless}
+use Rattle.snd_script.specs.Stepped.{IsAutomatic, IsBrokenAt, IsKnown, IsSaid, IsSilent, IsStepCause, Knows, LeavesFile, RepliesBy, RepliesUnless, Rose, changes_by, refusal_by, reply_of}
 use Rattle.snd_script.specs.Work.{Follows, IsSent}
 use Rattle.snd_script.specs.declared.handle.Reply.{Reply}
+use Rattle.snd_script.specs.declared.handle.Reply.TheVariants as reply
 use Rattle.snd_script.specs.declared.handle.StepFault.{StepFault}
 use Rattle.snd_script.specs.declared.handle.StepFault.TheVariants.{Disk, Out, Memory}
 use Rattle.snd_script.specs.declared.refusal.Refusal.{Refusal}
 
 -- ---- a reply that was sent, whether or not it got out
 
-sent_stands : (r : Result Reply StepFault) (o o' : ℕ) (edited : FileEdited) (e : Editing) (stands : Editing → Type 0) → IsSent r o o' → stands edited.editing → LeavesFile r edited e stands
+pub sent_stands : (r : Result Reply StepFault) (o o' : ℕ) (edited : FileEdited) (e : Editing) (stands : Editing → Type 0) → IsSent r o o' → stands edited.editing → LeavesFile r edited e stands
 sent_stands (Ok reply) o o' edited e stands sent here = here
 sent_stands (Err Out) o o' edited e stands sent here = here
 sent_stands (Err Disk) o o' edited e stands sent here = absurd sent
 sent_stands (Err Memory) o o' edited e stands sent here = absurd sent
 
-sent_silent : (r : Result Reply StepFault) (o o' : ℕ) (t t' : Option (List ℕ)) → IsSent r o o' → IfErr r (λ fault. IsSilent fault t t')
+pub sent_silent : (r : Result Reply StepFault) (o o' : ℕ) (t t' : Option (List ℕ)) → IsSent r o o' → IfErr r (λ fault. IsSilent fault t t')
 sent_silent (Ok reply) o o' t t' sent = tt
 sent_silent (Err Out) o o' t t' sent = tt
 sent_silent (Err Disk) o o' t t' sent = absurd sent
 sent_silent (Err Memory) o o' t t' sent = absurd sent
 
-sent_cause : (r : Result Reply StepFault) (d d' o o' : ℕ) → IsSent r o o' → d' ≡ d → IsStepCause r d d' o o'
+pub sent_cause : (r : Result Reply StepFault) (d d' o o' : ℕ) → IsSent r o o' → d' ≡ d → IsStepCause r d d' o o'
 sent_cause (Ok reply) d d' o o' sent calm = (calm, sent)
 sent_cause (Err Out) d d' o o' sent calm = (calm, sent)
 sent_cause (Err Disk) d d' o o' sent calm = absurd sent
 sent_cause (Err Memory) d d' o o' sent calm = absurd sent
 
-sent_memory : (r : Result Reply StepFault) (o o' : ℕ) (takes : Bool) → IsSent r o o' → IsErrOf r Memory → takes ≡ true
+pub sent_memory : (r : Result Reply StepFault) (o o' : ℕ) (takes : Bool) → IsSent r o o' → IsErrOf r Memory → takes ≡ true
 sent_memory (Ok reply) o o' takes sent is = absurd (cc)
 sent_memory (Err Out) o o' takes sent is = absurd (cc)
 sent_memory (Err Disk) o o' takes sent is = absurd sent
 sent_memory (Err Memory) o o' takes sent is = absurd sent
 
-sent_knows : (r : Result Reply StepFault) (o o' : ℕ) (rule : Rule) (old new : Known) (answer : Answer) (t t' : Option (List ℕ)) → IsSent r o o' → IsSaid r answer t t'
-    → reply_of answer ≡ reply_unless (refusal_by rule old) → new ≡ known_unless (refusal_by rule old) (rule.known old) old → Knows r rule old new
-sent_knows (Ok reply) o o' rule old new answer t t' sent said same is = (said.0 ∙ same, is)
-sent_knows (Err Out) o o' rule old new answer t t' sent said same is = is
-sent_knows (Err Disk) o o' rule old new answer t t' sent said same is = absurd sent
-sent_knows (Err Memory) o o' rule old new answer t t' sent said same is = absurd sent
+pub sent_knows : (r : Result Reply StepFault) (o o' : ℕ) (rule : Rule) (old new : Known) (answer : Answer) (t t' : Option (List ℕ)) → IsSent r o o' → IsSaid r answer t t'
+    → RepliesBy rule old new (reply_of answer) → Knows r rule old new
+sent_knows (Ok reply) o o' rule old new answer t t' sent said replies = subst (λ (x : Reply). RepliesBy rule old new x) (sym said.0) replies
+sent_knows (Err Out) o o' rule old new answer t t' sent said replies = (reply_of answer, replies)
+sent_knows (Err Disk) o o' rule old new answer t t' sent said replies = absurd sent
+sent_knows (Err Memory) o o' rule old new answer t t' sent said replies = absurd sent
+
+-- ---- the grounds of a file are those of the state for which it stands
+
+abbrev grounds : Shape → ℕ → Bool → Bool → Grounds
+grounds shape place automatic written = record { shape = shape; write_place = place; automatic = automatic; written = written }
+
+grounds_from : (s s' : Shape) (p p' : ℕ) (a a' w w' : Bool) → s ≡ s' → p ≡ p' → a ≡ a' → w ≡ w' → grounds s p a w ≡ grounds s' p' a' w'
+grounds_from s s' p p' a a' w w' shape place automatic written =
+    ap (λ x. grounds x p a w) shape ∙ ap (λ x. grounds s' x a w) place ∙ ap (λ x. grounds s' p' x w) automatic ∙ ap (λ x. grounds s' p' a' x) written
+
+pub same_grounds : {D M : Type 0} {ghosts : Ghosts D} {mode : ModeGhosts M} (state : D → State) (file : File D M ghosts mode) (e : Editing) → Stands state file e → known_grounds (known_of file) ≡ grounds_of e
+same_grounds state file e stands = grounds_from _ _ _ _ _ _ _ _ stands.shape stands.write_place stands.automatic stands.written
 
 -- ---- whole rules
 
 module _ {D M O : Type 0} {mode : ModeGhosts M} (d : Ghosts D) (o : SinkMeaning O) (rule : Rule) (r : Result Reply StepFault) (old : File D M d mode) (out : O) (new : File D M d mode) (out' : O) where
   -- why it is refused, by what the file stands for
-  refusal_on : (e : Editing) → Stands d.state old e → rule.refusal e.write_place e.shape ≡ refusal_by rule (known_of old)
-  refusal_on e stands = ap (λ n. rule.refusal n e.shape) (sym stands.write_place) ∙ ap (rule.refusal (known_of old).write_place) (sym stands.shape)
+  refusal_on : (e : Editing) → Stands d.state old e → rule.refusal (grounds_of e) ≡ refusal_by rule (known_of old)
+  refusal_on e stands = ap rule.refusal (sym (same_grounds d.state old e stands))
 
-  edited_on : (refusal : Option Refusal) → refusal_by rule (known_of old) ≡ refusal → (e : Editing) → Stands d.state old e → edit_unless refusal (rule.done e) e ≡ edit_by rule e
+  pub edited_on : (refusal : Option Refusal) → refusal_by rule (known_of old) ≡ refusal → (e : Editing) → Stands d.state old e → edit_unless refusal (rule.done e) e ≡ edit_by rule e
   edited_on refusal why e stands = ap (λ x. edit_unless x (rule.done e) e) (sym (refusal_on e stands ∙ why))
 
   -- from rest, what it leaves at any moment is safe where it is carried out, and the file is at rest then
@@ -77,7 +92,7 @@ module _ {D M O : Type 0} {mode : ModeGhosts M} (d : Ghosts D) (o : SinkMeaning 
   -- a command that was carried out, and that says a text
   pub carried_out : (text : List ℕ) → loan_of new ≡ loan_of old → refusal_by rule (known_of old) ≡ None → IsSent r (o.faults out) (o.faults out') → IsSaid r (says text) (o.told out) (o.told out')
       → ((e : Editing) → Stands d.state old e → (rule.done e).answer ≡ says text) → ((e : Editing) → Stands d.state old e → Stands d.state new (rule.done e).editing)
-      → known_of new ≡ rule.known (known_of old) → (d.state (disk_of new)).faults ≡ (d.state (disk_of old)).faults
+      → IsKnown rule.puts (rule.known (known_of old)) (known_of old) (known_of new) → (d.state (disk_of new)).faults ≡ (d.state (disk_of old)).faults
       → StillTells (d.state (disk_of old)) (d.state (disk_of new)) → GoesOnFrom d.state d.left_between (disk_of old) (disk_of new)
       → (rule.changes ≡ false → OnlyReadsOn d.state d.may_leave d.left_between (disk_of old) (disk_of new))
       → (rule.changes ≡ true → LeavesDone) → (rule.changes ≡ true → RestsDone)
@@ -89,7 +104,8 @@ module _ {D M O : Type 0} {mode : ModeGhosts M} (d : Ghosts D) (o : SinkMeaning 
     silent = sent_silent r _ _ _ _ sent;
     cause = sent_cause r _ _ _ _ sent calm;
     memory = sent_memory r _ _ _ sent;
-    knows = sent_knows r _ _ rule (known_of old) (known_of new) (says text) _ _ sent said (ap reply_unless (sym free)) (known ∙ ap (λ x. known_unless x (rule.known (known_of old)) (known_of old)) (sym free));
+    knows = sent_knows r _ _ rule (known_of old) (known_of new) (says text) _ _ sent said
+        (subst (λ (x : Option Refusal). RepliesUnless x rule (known_of old) (known_of new) reply.Ok) (sym free) (inl (refl, known)));
     tells = tells;
     time = time;
     reads = λ same. reads (unchanging rule.changes (sym (ap (λ x. rule.changes && is_none x) free) ∙ same));
@@ -115,7 +131,8 @@ module _ {D M O : Type 0} {mode : ModeGhosts M} (d : Ghosts D) (o : SinkMeaning 
     silent = sent_silent r _ _ _ _ sent;
     cause = sent_cause r _ _ _ _ sent (ap (λ x. (d.state x).faults) disk);
     memory = sent_memory r _ _ _ sent;
-    knows = sent_knows r _ _ rule (known_of old) (known_of new) (refuses refusal) _ _ sent said (ap reply_unless (sym why)) (known ∙ ap (λ x. known_unless x (rule.known (known_of old)) (known_of old)) (sym why));
+    knows = sent_knows r _ _ rule (known_of old) (known_of new) (refuses refusal) _ _ sent said
+        (subst (λ (x : Option Refusal). RepliesUnless x rule (known_of old) (known_of new) (reply_of (refuses refusal))) (sym why) (refl, known));
     tells = record { told = ap (λ x. is_some (d.state x).contents) disk; name = ap (λ x. (d.state x).name) disk };
     time = subst (λ (x : D). GoesOnFrom d.state d.left_between (disk_of old) x) (sym disk) (record { later = omega arith; same = λ s t x le left. left; kept = λ s t x left. left });
     reads = λ same. subst (λ (x : D). OnlyReadsOn d.state d.may_leave d.left_between (disk_of old) x) (sym disk) (search rules);

@@ -33,3 +33,8 @@ pub mod Ways
 pub mod WholeScript
 pub mod Wholes
 pub mod WrittenBytes
+pub mod Sets
+pub mod Limits
+pub mod Puts
+pub mod Tells
+pub mod Decided

@@ -9,7 +9,7 @@ use Rattle.snd_layout.specs.declared.refusal.OpenRefusal.{OpenRefusal}
 use Rattle.snd_layout.specs.declared.refusal.OpenRefusal.TheVariants as chunk
 use Rattle.snd_layout.specs.Names.{codec_name, kind_name, refusal_name as open_name}
 use Rattle.snd_script.specs.declared.refusal.Refusal.{Refusal}
-use Rattle.snd_script.specs.declared.refusal.Refusal.TheVariants.{Open, AdpcmUpdate, UnknownLength, PartFrame, SampleRange, SeekRange, TrailingData, ContainerFull, Straddle, BadCommand, LineTooLong, NotOpen, AlreadyOpen, WrongMode, MissingFile, Pinned, NotBuilt}
+use Rattle.snd_script.specs.declared.refusal.Refusal.TheVariants.{Open, AdpcmUpdate, UnknownLength, PartFrame, SampleRange, SeekRange, TrailingData, ContainerFull, Straddle, FramesWritten, ReservedChunk, NoChunks, ChunkTooLarge, AutoOn, NoSuchChunk, BadCommand, LineTooLong, NotOpen, AlreadyOpen, WrongMode, MissingFile, BadInfo, BadCue, BadBext, TextTooLong, Pinned, NotBuilt}
 use Rattle.snd_script.specs.Replies.{refusal_name}
 
 pub short_kind : (kind : Kind) → length (kind_name kind) ≤ 16
@@ -73,5 +73,15 @@ short_refusal LineTooLong = lit≤ tt
 short_refusal NotOpen = lit≤ tt
 short_refusal AlreadyOpen = lit≤ tt
 short_refusal MissingFile = lit≤ tt
+short_refusal FramesWritten = lit≤ tt
+short_refusal ReservedChunk = lit≤ tt
+short_refusal NoChunks = lit≤ tt
+short_refusal ChunkTooLarge = lit≤ tt
+short_refusal AutoOn = lit≤ tt
+short_refusal NoSuchChunk = lit≤ tt
+short_refusal BadInfo = lit≤ tt
+short_refusal BadCue = lit≤ tt
+short_refusal BadBext = lit≤ tt
+short_refusal TextTooLong = lit≤ tt
 short_refusal Pinned = lit≤ tt
 short_refusal NotBuilt = lit≤ tt

@@ -13,7 +13,7 @@ use Rattle.snd_script.specs.Lines.{Reading}
 use Rattle.snd_script.specs.Pinned.{pin_edit, pinned_lines, pinned_steps}
 use Rattle.snd_script.specs.PinnedRun.{opened_pinned}
 use Rattle.snd_script.specs.Replies.{Answer, file_line, is_refusal, text_of}
-use Rattle.snd_script.specs.Rules.{auto_rule, rule_of}
+use Rattle.snd_script.specs.Rules.{auto_rule, grounds_of, rule_of}
 use Rattle.snd_script.specs.Script.{ending, lines_within, steps}
 use Rattle.snd_script.specs.Serving.{IsAnswered}
 use Rattle.snd_script.specs.Trail.{MovesSafely, StepMoves, TrailsOn, pinned_file, reached, state_behind}
@@ -49,11 +49,11 @@ module _ (files : Files) (name : List ℕ) (e : Editing) where
   opening_speaks = ok_speaks _
 
   pub pin_speaks : 0 < length (text_of pin.answer)
-  pin_speaks = unless_speaks ((auto_rule true).refusal e.write_place e.shape) ((auto_rule true).done e) e (ok_speaks _)
+  pin_speaks = unless_speaks ((auto_rule true).refusal (grounds_of e)) ((auto_rule true).done e) e (ok_speaks _)
 
   -- where it is not refused, updates are automatic
   pub pin_automatic : is_refusal pin.answer ≡ false → (state_behind e pin).automatic ≡ true
-  pin_automatic free = by ((auto_rule true).refusal e.write_place e.shape) free
+  pin_automatic free = by ((auto_rule true).refusal (grounds_of e)) free
     where
       by : (refusal : Option Refusal) → is_refusal (edit_unless refusal ((auto_rule true).done e) e).answer ≡ false → (edit_unless refusal ((auto_rule true).done e) e).editing.automatic ≡ true
       by None free = refl

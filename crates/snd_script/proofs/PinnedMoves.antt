@@ -11,19 +11,23 @@ use Rattle.snd_disk.specs.declared.disk.Disk.{Ghosts}
 use Rattle.snd_modes.specs.Editing.{Editing, frames_left, frames_read}
 use Rattle.snd_modes.specs.Edits.{cut_to, sealed_to}
 use Rattle.snd_modes.specs.Safe.{IsSafe}
+use Rattle.snd_modes.specs.declared.error.GetError.TheVariants as get
+use Rattle.snd_tags.specs.Found.{broadcast_of, points_of, texts_of}
+use Rattle.snd_tags.specs.declared.error.TagError.{TagError}
+use Rattle.snd_tags.specs.declared.error.TagError.TheVariants.{Get, BadBody}
 use Rattle.snd_modes.proofs.LeftSafe.{unchanged}
 use Rattle.snd_patch.specs.Images.{LeavesEach}
 use Rattle.snd_script.specs.Desk.{Mode, OpenFile, open_desk, pinned, updating}
 use Rattle.snd_script.specs.Edit.{Edited, close_edit, edit_by, edit_file, edit_open, edit_unless, keep_open, line_edit}
 use Rattle.snd_script.specs.Handled.{HandleAtRest, HandleStands, handle_disk, handle_known}
-use Rattle.snd_script.specs.Replies.{error_line, ok_line, frame_line, frames_text, refusal_name, refusal_number, text_of}
-use Rattle.snd_script.specs.Rules.{FileEdited, Rule, is_built, is_close, is_held, read_rule, refused_rule, rule_of, seek_both_rule, seek_read_rule, seek_write_rule, tell_rule, trim_rule, truncate_rule, update_rule, write_rule}
+use Rattle.snd_script.specs.Replies.{bext_text, body_text, error_line, ok_line, frame_line, frames_text, points_text, refusal_name, refusal_number, says, text_of, texts_text}
+use Rattle.snd_script.specs.Rules.{FileEdited, Rule, chunk_of, found_answer, get_bext_rule, get_chunk_rule, get_chunks_rule, get_cues_rule, get_strings_rule, grounds_of, is_built, is_close, is_held, read_rule, refused_rule, rule_of, seek_both_rule, seek_read_rule, seek_write_rule, tell_rule, trim_rule, truncate_rule, update_rule, write_rule}
 use Rattle.snd_script.specs.Trail.{MovesSafely, RestsAt, pinned_file, state_behind}
 use Rattle.snd_script.proofs.StaysOpen.{carried}
 use Rattle.snd_script.specs.declared.handle.Handle.{Handle}
 use Rattle.snd_script.specs.declared.handle.Handle.TheVariants.{R, W, U}
 use Rattle.snd_script.specs.declared.refusal.Refusal.{Refusal}
-use Rattle.snd_script.specs.declared.refusal.Refusal.TheVariants.{BadCommand, LineTooLong, NotBuilt, Pinned}
+use Rattle.snd_script.specs.declared.refusal.Refusal.TheVariants.{BadBext, BadCommand, BadCue, BadInfo, ChunkTooLarge, LineTooLong, NoSuchChunk, NotBuilt, Pinned, WrongMode}
 use Rattle.snd_script.specs.declared.stop.Stop.{Stop}
 use Rattle.snd_script.specs.declared.stop.Stop.TheVariants as stop
 
@@ -59,8 +63,8 @@ unless_automatic (Some refusal) done e same = refl
 
 answering : (rule : Rule) → ((e : Editing) → 0 < length (text_of (rule.done e).answer)) → ((e : Editing) → (rule.done e).editing.automatic ≡ e.automatic) → IsAnswering rule
 answering rule some same = record {
-  speaks = λ e. unless_speaks (rule.refusal e.write_place e.shape) (rule.done e) e (some e);
-  automatic = λ e. unless_automatic (rule.refusal e.write_place e.shape) (rule.done e) e (same e);
+  speaks = λ e. unless_speaks (rule.refusal (grounds_of e)) (rule.done e) e (some e);
+  automatic = λ e. unless_automatic (rule.refusal (grounds_of e)) (rule.done e) e (same e);
 }
 
 refusing : (refusal : Refusal) → IsAnswering (refused_rule refusal)
@@ -74,6 +78,20 @@ making false = refusing NotBuilt
 cutting_on : (fewer : Bool) (n : ℕ) (e : Editing) → (cond fewer (cut_to n e) (sealed_to e)).automatic ≡ e.automatic
 cutting_on true n e = refl
 cutting_on false n e = refl
+
+-- what a chunk says, or why it does not
+body_speaks : (body : List ℕ) → 0 < length (text_of (says (body_text body)))
+body_speaks [] = ok_speaks (codes "0\n")
+body_speaks (b ∷ bs) = ok_speaks _
+
+found_speaks : {T : Type 0} (bad : Refusal) (text : T → List ℕ) (held : Result T TagError) → ((x : T) → 0 < length (text_of (says (text x)))) → 0 < length (text_of (found_answer bad text held))
+found_speaks bad text (Ok x) some = some x
+found_speaks bad text (Err BadBody) some = error_speaks bad
+found_speaks bad text (Err (Get get.ChunkTooLarge)) some = error_speaks ChunkTooLarge
+found_speaks bad text (Err (Get get.NoSuchChunk)) some = error_speaks NoSuchChunk
+found_speaks bad text (Err (Get (get.Broken step))) some = error_speaks NoSuchChunk
+found_speaks bad text (Err (Get (get.DiskFault step))) some = error_speaks NoSuchChunk
+found_speaks bad text (Err (Get get.Memory)) some = error_speaks NoSuchChunk
 
 -- a pinned file's rules
 answers : (said : Said) → IsAnswering (rule_of pinned said)
@@ -91,15 +109,15 @@ answers (Said.truncate n) = answering (truncate_rule n) (λ e. ok_speaks _) (λ 
 answers Said.trim = answering trim_rule (λ e. ok_speaks _) (λ e. refl)
 answers Said.update = answering update_rule (λ e. ok_speaks _) (λ e. refl)
 answers (Said.auto on) = refusing Pinned
-answers (Said.set_chunk id hex) = refusing NotBuilt
-answers (Said.set_string key text) = refusing NotBuilt
-answers (Said.set_bext key text) = refusing NotBuilt
-answers (Said.set_cue places) = refusing NotBuilt
-answers (Said.get_chunk id) = refusing NotBuilt
-answers Said.get_chunks = refusing NotBuilt
-answers Said.get_strings = refusing NotBuilt
-answers Said.get_bext = refusing NotBuilt
-answers Said.get_cues = refusing NotBuilt
+answers (Said.set_chunk id hex) = refusing WrongMode
+answers (Said.set_string key text) = refusing WrongMode
+answers (Said.set_bext key text) = refusing WrongMode
+answers (Said.set_cue places) = refusing WrongMode
+answers (Said.get_chunk id) = answering (get_chunk_rule id) (λ e. found_speaks NoSuchChunk body_text (chunk_of id e.bytes e.shape) body_speaks) (λ e. refl)
+answers Said.get_chunks = answering get_chunks_rule (λ e. ok_speaks _) (λ e. refl)
+answers Said.get_strings = answering get_strings_rule (λ e. found_speaks BadInfo texts_text (texts_of e.bytes e.shape) (λ es. ok_speaks _)) (λ e. refl)
+answers Said.get_bext = answering get_bext_rule (λ e. found_speaks BadBext bext_text (broadcast_of e.bytes e.shape) (λ b. ok_speaks _)) (λ e. refl)
+answers Said.get_cues = answering get_cues_rule (λ e. found_speaks BadCue points_text (points_of e.bytes e.shape) (λ ps. ok_speaks _)) (λ e. refl)
 answers (Said.tap kind) = refusing NotBuilt
 answers (Said.untap kind) = refusing NotBuilt
 

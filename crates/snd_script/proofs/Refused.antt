@@ -20,10 +20,10 @@ use Rattle.snd_script.specs.declared.refusal.Refusal.TheVariants.{PartFrame, Sam
 
 -- ---- tests
 
-not_refused : (so : Bool) (refusal : Refusal) (rest : Option Refusal) → so ≡ false → refused_if so refusal rest ≡ rest
+pub not_refused : (so : Bool) (refusal : Refusal) (rest : Option Refusal) → so ≡ false → refused_if so refusal rest ≡ rest
 not_refused so refusal rest is = ap (λ b. refused_if b refusal rest) is
 
-is_refused : (so : Bool) (refusal : Refusal) (rest : Option Refusal) → so ≡ true → refused_if so refusal rest ≡ Some refusal
+pub is_refused : (so : Bool) (refusal : Refusal) (rest : Option Refusal) → so ≡ true → refused_if so refusal rest ≡ Some refusal
 is_refused so refusal rest is = ap (λ b. refused_if b refusal rest) is
 
 some_rest : (n : ℕ) → n ≢ 0 → nat_lt 0 n ≡ true

@@ -5,6 +5,8 @@ use Rattle.std.proofs.lemmas.Bool.{cases_Bool, ltb-false}
 use Rattle.snd_disk.specs.Device.{OnlyReadsOn}
 use Rattle.snd_disk.specs.declared.disk.Disk.{Ghosts}
 use Rattle.snd_disk.specs.declared.streams.Sink.{Ghosts as SinkMeaning}
+use Rattle.snd_meta.specs.declared.bext.BextKey.{BextKey}
+use Rattle.snd_meta.specs.declared.bext.BextKey.TheVariants.{Description, Originator, OrigRef, OrigDate, OrigTime, TimeRef, CodingHist}
 use Rattle.snd_modes.specs.Editing.{Editing, frames_left, moved_to}
 use Rattle.snd_modes.specs.Edits.{sealed_to}
 use Rattle.snd_modes.specs.Handle.{Stands, disk_of, known_of}
@@ -19,18 +21,24 @@ use Rattle.snd_modes.proofs.LeftSafe.{left_at_rest}
 use Rattle.snd_modes.proofs.SafeImages.{same_file}
 use Rattle.snd_patch.proofs.Moments.{leaves_weaker}
 use Rattle.snd_patch.specs.Images.{LeavesEach}
-use Rattle.snd_script.specs.Desk.{Mode, is_pinned, pinned, reading, reads, updating, writes, writing}
+use Rattle.snd_script.specs.Desk.{Mode, is_pinned, makes, pinned, reading, reads, updating, writes, writing}
 use Rattle.snd_script.specs.Edit.{edit_by, edit_unless}
-use Rattle.snd_script.specs.Rules.{FileEdited, Rule, auto_rule, in_mode, read_rule, refused_if, refused_rule, seek_both_rule, seek_read_rule, seek_rule, seek_write_rule, trim_rule, truncate_rule, unless_pinned, update_rule, write_rule}
+use Rattle.snd_script.specs.Rules.{FileEdited, Grounds, Rule, answered, auto_rule, grounds_of, in_mode, read_rule, refused_if, refused_rule, seek_both_rule, seek_read_rule, seek_rule, seek_write_rule, set_bext_rule, set_chunk_rule, set_cue_rule, set_string_rule, trim_rule, truncate_rule, unless_pinned, update_rule, write_rule}
 use Rattle.snd_script.specs.Stepped.{IsAutomatic, LeavesFile, changes_by}
-use Rattle.snd_script.specs.Work.{Follows, work_rule}
+use Rattle.snd_script.specs.Work.{Follows, asking_rule, setting_rule, work_rule}
 use Rattle.snd_script.specs.declared.handle.Reply.{Reply}
 use Rattle.snd_script.specs.declared.handle.StepFault.{StepFault}
 use Rattle.snd_script.specs.declared.handle.StepFault.TheVariants.{Disk, Out, Memory}
 use Rattle.snd_script.specs.declared.refusal.Refusal.{Refusal}
 use Rattle.snd_script.specs.declared.refusal.Refusal.TheVariants.{AlreadyOpen, Pinned, SeekRange}
+use Rattle.snd_script.specs.declared.work.Asking.{Asking}
+use Rattle.snd_script.specs.declared.work.Asking.TheVariants as asking
+use Rattle.snd_script.specs.declared.work.Setting.{Setting}
+use Rattle.snd_script.specs.declared.work.Setting.TheVariants as setting
 use Rattle.snd_script.specs.declared.work.Work.{Work}
-use Rattle.snd_script.specs.declared.work.Work.TheVariants.{Open, Update, Make, Close, Tell, SeekRead, SeekWrite, SeekBoth, Read, Write, Truncate, Trim, BringUp, Auto, NotBuilt}
+use Rattle.snd_script.specs.Replies.{Answer}
+use Rattle.snd_script.proofs.Followed.{same_grounds}
+use Rattle.snd_script.specs.declared.work.Work.TheVariants.{Open, Update, Make, Close, Tell, SeekRead, SeekWrite, SeekBoth, Read, Write, Truncate, Trim, BringUp, Auto, Set, Ask, NotBuilt}
 
 -- ---- commands that change no file move at most its places
 
@@ -40,6 +48,15 @@ pub record IsMoved (e e' : Editing) : Type 0 where
   pub is : e' ≡ record e { place = place; write_place = write_place }
   pub within : place ≤ e.shape.frames
   pub write_within : write_place ≤ e.shape.frames
+
+bext_changes : (key : BextKey) (text : List ℕ) → (set_bext_rule key text).changes ≡ true
+bext_changes Description text = refl
+bext_changes Originator text = refl
+bext_changes OrigRef text = refl
+bext_changes OrigDate text = refl
+bext_changes OrigTime text = refl
+bext_changes TimeRef text = refl
+bext_changes CodingHist text = refl
 
 module _ (e : Editing) (holds : HoldsFrames e) where
   stays : IsMoved e e
@@ -72,14 +89,14 @@ module _ (e : Editing) (holds : HoldsFrames e) where
   by_mode false rule moved = stays
 
   -- .. and that changes the file where it is not refused
-  by_refusal : (has : Bool) (rule : Rule) → rule.changes ≡ true → ((in_mode has rule).changes && is_none ((in_mode has rule).refusal e.write_place e.shape)) ≡ false → IsMoved e (edit_by (in_mode has rule) e).editing
+  by_refusal : (has : Bool) (rule : Rule) → rule.changes ≡ true → ((in_mode has rule).changes && is_none ((in_mode has rule).refusal (grounds_of e))) ≡ false → IsMoved e (edit_by (in_mode has rule) e).editing
   by_refusal true rule changes is =
-      refused_stays (rule.refusal e.write_place e.shape) (rule.done e) (ap (λ b. b && is_none (rule.refusal e.write_place e.shape)) (sym changes) ∙ is)
+      refused_stays (rule.refusal (grounds_of e)) (rule.done e) (ap (λ b. b && is_none (rule.refusal (grounds_of e))) (sym changes) ∙ is)
   by_refusal false rule changes is = stays
 
   -- .. or which a file that stays open refuses
-  by_held : (pins : Bool) (rule : Rule) → ((rule.changes && is_none (rule.refusal e.write_place e.shape)) ≡ false → IsMoved e (edit_by rule e).editing)
-      → ((if pins then refused_rule Pinned else rule).changes && is_none ((if pins then refused_rule Pinned else rule).refusal e.write_place e.shape)) ≡ false
+  by_held : (pins : Bool) (rule : Rule) → ((rule.changes && is_none (rule.refusal (grounds_of e))) ≡ false → IsMoved e (edit_by rule e).editing)
+      → ((if pins then refused_rule Pinned else rule).changes && is_none ((if pins then refused_rule Pinned else rule).refusal (grounds_of e))) ≡ false
       → IsMoved e (edit_by (if pins then refused_rule Pinned else rule) e).editing
   by_held true rule moves is = stays
   by_held false rule moves is = moves is
@@ -105,8 +122,30 @@ module _ (e : Editing) (holds : HoldsFrames e) where
   sought_by_mode updating n = sought_both n
   sought_by_mode pinned n = sought_both n
 
+  -- what chunks say is asked
+  told_stays : (refusal : Option Refusal) (answer : Answer) → IsMoved e (edit_unless refusal (answered answer e) e).editing
+  told_stays None answer = stays
+  told_stays (Some refusal) answer = stays
+
+  asked_stays : (asking : Asking) → IsMoved e (edit_by (asking_rule asking) e).editing
+  asked_stays (asking.Chunk id) = told_stays _ _
+  asked_stays asking.Chunks = stays
+  asked_stays asking.Texts = told_stays _ _
+  asked_stays asking.Broadcast = told_stays _ _
+  asked_stays asking.Points = told_stays _ _
+
+  -- something is set
+  abbrev IsKept : Mode → Setting → Type 0
+  IsKept mode setting = ((in_mode (makes mode) (setting_rule setting)).changes && is_none ((in_mode (makes mode) (setting_rule setting)).refusal (grounds_of e))) ≡ false
+
+  set_moves : (mode : Mode) (setting : Setting) → IsKept mode setting → IsMoved e (edit_by (in_mode (makes mode) (setting_rule setting)) e).editing
+  set_moves mode (setting.Chunk id hex) is = by_refusal (makes mode) (set_chunk_rule id.0 hex.now) refl is
+  set_moves mode (setting.Text key text) is = by_refusal (makes mode) (set_string_rule key text.now) refl is
+  set_moves mode (setting.Field key text) is = by_refusal (makes mode) (set_bext_rule key text.now) (bext_changes key text.now) is
+  set_moves mode (setting.Points places) is = by_refusal (makes mode) (set_cue_rule places.now.items) refl is
+
   -- whatever is done
-  moves : (mode : Mode) (work : Work) → ((work_rule mode work).changes && is_none ((work_rule mode work).refusal e.write_place e.shape)) ≡ false → IsMoved e (edit_by (work_rule mode work) e).editing
+  moves : (mode : Mode) (work : Work) → ((work_rule mode work).changes && is_none ((work_rule mode work).refusal (grounds_of e))) ≡ false → IsMoved e (edit_by (work_rule mode work) e).editing
   moves mode Tell is = stays
   moves mode (SeekRead n) is = by_mode (reads mode) (seek_read_rule n) (sought_read n)
   moves mode (SeekWrite n) is = by_mode (writes mode) (seek_write_rule n) (sought_write n)
@@ -117,6 +156,8 @@ module _ (e : Editing) (holds : HoldsFrames e) where
   moves mode Trim is = by_refusal (writes mode) trim_rule refl is
   moves mode BringUp is = by_refusal (writes mode) update_rule refl is
   moves mode (Auto on) is = by_held (is_pinned mode) (in_mode (writes mode) (auto_rule on)) (λ is. by_refusal (writes mode) (auto_rule on) refl is) is
+  moves mode (Set setting) is = set_moves mode setting is
+  moves mode (Ask asking) is = asked_stays asking
   moves mode NotBuilt is = stays
   moves mode (Open name) is = already_open mode
   moves mode (Update name) is = already_open mode
@@ -166,9 +207,8 @@ module _ {D M O : Type 0} {mode : ModeGhosts M} (d : Ghosts D) (o : SinkMeaning 
   ]
 
   module _ (opened : List ℕ) (e : Editing) (rest : IsAtRest d opened old e) (none : changes_by rule (known_of old) ≡ false) where
-    same_refusal : (rule.changes && is_none (rule.refusal e.write_place e.shape)) ≡ false
-    same_refusal = ap (λ (x : Option Refusal). rule.changes && is_none x)
-        (ap (λ n. rule.refusal n e.shape) (sym rest.stands.write_place) ∙ ap (rule.refusal (known_of old).write_place) (sym rest.stands.shape)) ∙ none
+    same_refusal : (rule.changes && is_none (rule.refusal (grounds_of e))) ≡ false
+    same_refusal = ap (λ (g : Grounds). rule.changes && is_none (rule.refusal g)) (sym (same_grounds d.state old e rest.stands)) ∙ none
 
     pub still_rests : (r : Result Reply StepFault) → LeavesFile r (edit_by rule e) e (Stands d.state new) → LeavesFile r (edit_by rule e) e (IsAtRest d opened new)
     still_rests (Ok reply) stands = reading_rests d opened old e rest new (follows.reads none) _ (moves e rest.edited.holds how work same_refusal) stands

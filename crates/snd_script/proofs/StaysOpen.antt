@@ -9,7 +9,6 @@ use Rattle.snd_script.specs.Desk.{Mode, OpenFile, is_pinned, open_desk, pinned, 
 use Rattle.snd_script.specs.Edit.{close_edit, edit_by, edit_file, edit_open, keep_open, refused}
 use Rattle.snd_script.specs.Handled.{mode_of, open_as}
 use Rattle.snd_script.specs.Rules.{Rule, is_close, is_held, refused_rule, rule_of}
-use Rattle.snd_script.specs.Script.{most_in}
 use Rattle.snd_script.specs.declared.handle.Handle.{Handle}
 use Rattle.snd_script.specs.declared.handle.Handle.TheVariants.{R, W, U}
 use Rattle.snd_script.specs.declared.refusal.Refusal.{Refusal}
@@ -85,9 +84,3 @@ module _ (files : Files) (name : List ℕ) (mode : Mode) (said : Said) (e : Edit
 pub not_held_here : (stays : Bool) (said : Said) → (stays ≡ true → is_held said ≡ false) → is_close said ≡ true → stays ≡ false
 not_held_here true said other closes = absurd (let e : true ≡ false = sym closes ∙ (carried said (other refl)).stays in cc)
 not_held_here false said other closes = refl
-
--- ---- what it uses
-
-pub most_same : (stays : Bool) (most : Said → ℕ) (said : Said) → (stays ≡ true → is_held said ≡ false) → most_in stays most said ≡ most said
-most_same true most said other = ap (λ (b : Bool). if b then 0 else most said) (other refl)
-most_same false most said other = refl

@@ -1,12 +1,15 @@
 -- A command that is not cut short leaves a handle whole.
 use Rattle.std.specs.Prelude.{if◌then◌else◌, is_none}
-use Rattle.std.proofs.Common.{◌≡◌, ℕ, Bool, true, false, Option, None, Some, ⊎_elim, refl, ◌∙◌, ap}
+use Rattle.std.proofs.Common.{◌≡◌, ℕ, List, Bool, true, false, Option, None, Some, ⊎_elim, refl, ◌∙◌, ap}
 use Rattle.snd_command.specs.Said.{Said}
 use Rattle.snd_disk.specs.declared.disk.Step.{Step}
+use Rattle.snd_meta.specs.declared.bext.BextKey.{BextKey}
+use Rattle.snd_meta.specs.declared.bext.BextKey.TheVariants.{Description, Originator, OrigRef, OrigDate, OrigTime, TimeRef, CodingHist}
 use Rattle.snd_modes.specs.Handle.{Known}
-use Rattle.snd_script.specs.Desk.{Mode, is_pinned, pinned, reading, reads, updating, writes, writing}
-use Rattle.snd_script.specs.Rules.{Rule, auto_rule, built_rule, in_mode, is_built, is_held, read_rule, refused_rule, rule_of, seek_read_rule, seek_rule, seek_write_rule, trim_rule, truncate_rule, unless_pinned, update_rule, write_rule}
-use Rattle.snd_script.specs.Stepped.{IsBrokenAt, known_by, known_unless}
+use Rattle.snd_script.specs.Desk.{Mode, is_pinned, makes, pinned, reading, reads, updating, writes, writing}
+use Rattle.snd_script.specs.Rules.{Rule, auto_rule, built_rule, in_mode, is_built, is_held, read_rule, refused_rule, rule_of, seek_read_rule, seek_rule, seek_write_rule, set_bext_rule, set_chunk_rule, set_cue_rule, set_string_rule, trim_rule, truncate_rule, unless_pinned, update_rule, write_rule}
+use Rattle.snd_script.specs.Stepped.{IsBrokenAt, IsKnown, RepliesBy, RepliesUnless}
+use Rattle.snd_script.specs.declared.handle.Reply.{Reply}
 use Rattle.snd_script.specs.declared.refusal.Refusal.{Refusal}
 use Rattle.snd_script.specs.declared.refusal.Refusal.TheVariants.{NotBuilt, Pinned}
 
@@ -23,6 +26,15 @@ keeps_seek writing n = record { same = λ k. refl }
 keeps_seek updating n = record { same = λ k. refl }
 keeps_seek pinned n = record { same = λ k. refl }
 
+keeps_bext : (key : BextKey) (text : List ℕ) → KeepsBroken (set_bext_rule key text)
+keeps_bext Description text = record { same = λ k. refl }
+keeps_bext Originator text = record { same = λ k. refl }
+keeps_bext OrigRef text = record { same = λ k. refl }
+keeps_bext OrigDate text = record { same = λ k. refl }
+keeps_bext OrigTime text = record { same = λ k. refl }
+keeps_bext TimeRef text = record { same = λ k. refl }
+keeps_bext CodingHist text = record { same = λ k. refl }
+
 keeps_built : (mode : Mode) (said : Said) → KeepsBroken (built_rule mode said)
 keeps_built mode (Said.open_read name) = record { same = λ k. refl }
 keeps_built mode (Said.open_update name) = record { same = λ k. refl }
@@ -38,10 +50,10 @@ keeps_built mode (Said.truncate n) = keeps_in (writes mode) (truncate_rule n) (r
 keeps_built mode Said.trim = keeps_in (writes mode) trim_rule (record { same = λ k. refl })
 keeps_built mode Said.update = keeps_in (writes mode) update_rule (record { same = λ k. refl })
 keeps_built mode (Said.auto on) = keeps_in (writes mode) (auto_rule on) (record { same = λ k. refl })
-keeps_built mode (Said.set_chunk id hex) = record { same = λ k. refl }
-keeps_built mode (Said.set_string key text) = record { same = λ k. refl }
-keeps_built mode (Said.set_bext key text) = record { same = λ k. refl }
-keeps_built mode (Said.set_cue places) = record { same = λ k. refl }
+keeps_built mode (Said.set_chunk id hex) = keeps_in (makes mode) (set_chunk_rule id hex) (record { same = λ k. refl })
+keeps_built mode (Said.set_string key text) = keeps_in (makes mode) (set_string_rule key text) (record { same = λ k. refl })
+keeps_built mode (Said.set_bext key text) = keeps_in (makes mode) (set_bext_rule key text) (keeps_bext key text)
+keeps_built mode (Said.set_cue places) = keeps_in (makes mode) (set_cue_rule places) (record { same = λ k. refl })
 keeps_built mode (Said.get_chunk id) = record { same = λ k. refl }
 keeps_built mode Said.get_chunks = record { same = λ k. refl }
 keeps_built mode Said.get_strings = record { same = λ k. refl }
@@ -62,13 +74,18 @@ keeps_held true mode rule keeps = keeps_pinned (is_pinned mode) rule keeps
     keeps_pinned false rule keeps = keeps
 keeps_held false mode rule keeps = keeps
 
-keeps_unless : (refusal : Option Refusal) (done k : Known) → done.broken ≡ k.broken → (known_unless refusal done k).broken ≡ k.broken
-keeps_unless (Some refusal) done k same = refl
-keeps_unless None done k same = same
+keeps_known : (puts : Option (List ℕ)) (done k k' : Known) → done.broken ≡ k.broken → IsKnown puts done k k' → k'.broken ≡ k.broken
+keeps_known None done k k' same is = ap (λ (x : Known). x.broken) is ∙ same
+keeps_known (Some id) done k k' same (body, is) = ap (λ (x : Known). x.broken) is
 
-pub whole_after : (mode : Mode) (said : Said) (k k' : Known) → k.broken ≡ None → k' ≡ known_by (rule_of mode said) k → k'.broken ≡ None
-whole_after mode said k k' whole is =
-    ap (λ (x : Known). x.broken) is ∙ keeps_unless _ ((rule_of mode said).known k) k ((keeps_if (is_built said) _ (keeps_held (is_held said) mode (built_rule mode said) (keeps_built mode said))).same k) ∙ whole
+keeps_unless : (refusal : Option Refusal) (rule : Rule) (k k' : Known) (reply : Reply) → KeepsBroken rule → RepliesUnless refusal rule k k' reply → k'.broken ≡ k.broken
+keeps_unless (Some refusal) rule k k' reply keeps replies = ap (λ (x : Known). x.broken) replies.1
+keeps_unless None rule k k' reply keeps replies =
+    ⊎_elim (λ done. keeps_known rule.puts (rule.known k) k k' (keeps.same k) done.1) (λ found. ap (λ (x : Known). x.broken) found.3) replies
+
+pub whole_after : (mode : Mode) (said : Said) (k k' : Known) (reply : Reply) → k.broken ≡ None → RepliesBy (rule_of mode said) k k' reply → k'.broken ≡ None
+whole_after mode said k k' reply whole replies =
+    keeps_unless _ (rule_of mode said) k k' reply (keeps_if (is_built said) _ (keeps_held (is_held said) mode (built_rule mode said) (keeps_built mode said))) replies ∙ whole
 
 -- .. and a fault of its disk breaks it
 pub broken_after : (first : Bool) (step : Step) (k k' : Known) → IsBrokenAt first step k k' → is_none k'.broken ≡ false

@@ -15,7 +15,7 @@ use Rattle.snd_modes.specs.Editing.{Editing, opening_of}
 use Rattle.snd_modes.specs.Making.{making_of}
 use Rattle.snd_modes.specs.Updating.{updating_of}
 use Rattle.snd_script.specs.Desk.{Desk, Mode, OpenFile, is_pinned, pinned, reading, updating, writing, closed_desk, files_closed, open_desk}
-use Rattle.snd_script.specs.Rules.{FileEdited, Rule, fixed_word, is_built, is_close, rule_of}
+use Rattle.snd_script.specs.Rules.{FileEdited, Rule, fixed_word, grounds_of, is_built, is_close, rule_of}
 use Rattle.snd_script.specs.Replies.{Answer, nothing, says, refuses, file_line, ok_line}
 use Rattle.snd_script.specs.declared.refusal.Refusal.{Refusal}
 use Rattle.snd_script.specs.declared.refusal.Refusal.TheVariants.{Open, AdpcmUpdate, UnknownLength, BadCommand, LineTooLong, NotOpen, MissingFile, NotBuilt}
@@ -103,7 +103,7 @@ edit_unless (Some refusal) done e = record { answer = refuses refusal; editing =
 edit_unless None done e = done
 
 abbrev pub edit_by : Rule → Editing → FileEdited
-edit_by rule e = edit_unless (rule.refusal e.write_place e.shape) (rule.done e) e
+edit_by rule e = edit_unless (rule.refusal (grounds_of e)) (rule.done e) e
 
 -- any command but one that closes it
 abbrev pub edit_file : Mode → Said → Editing → FileEdited

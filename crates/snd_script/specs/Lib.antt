@@ -15,3 +15,5 @@ pub mod Stepped
 pub mod Trail
 pub mod Used
 pub mod Work
+pub mod Hex
+pub mod Answered

@@ -5,11 +5,16 @@ use Rattle.std.specs.List.{flat_map}
 use Rattle.snd_disk.specs.Streams.{AppendsFront}
 use Rattle.snd_layout.specs.Names.{codec_name, kind_name, refusal_name as open_name, refusal_number as open_number}
 use Rattle.snd_layout.specs.Params.{Parameters}
+use Rattle.snd_layout.specs.declared.piece.Piece.{Piece}
+use Rattle.snd_lines.specs.Lines.{behind_each, bext_lines, chunk_line, cue_line, hex_text, text_line}
+use Rattle.snd_meta.specs.Broadcast.{Broadcast}
+use Rattle.snd_meta.specs.Info.{Entry}
+use Rattle.snd_meta.specs.declared.cue.CuePoint.{CuePoint}
 use Rattle.snd_layout.specs.Shape.{Shape}
 use Rattle.snd_pcm.specs.Groups.{first_groups}
 use Rattle.snd_layout.specs.declared.kind.Kind.{Kind}
 use Rattle.snd_script.specs.declared.refusal.Refusal.{Refusal}
-use Rattle.snd_script.specs.declared.refusal.Refusal.TheVariants.{Open, AdpcmUpdate, UnknownLength, PartFrame, SampleRange, SeekRange, TrailingData, ContainerFull, Straddle, BadCommand, LineTooLong, NotOpen, AlreadyOpen, WrongMode, MissingFile, Pinned, NotBuilt}
+use Rattle.snd_script.specs.declared.refusal.Refusal.TheVariants.{Open, AdpcmUpdate, UnknownLength, PartFrame, SampleRange, SeekRange, TrailingData, ContainerFull, Straddle, FramesWritten, ReservedChunk, NoChunks, ChunkTooLarge, AutoOn, NoSuchChunk, BadCommand, LineTooLong, NotOpen, AlreadyOpen, WrongMode, MissingFile, BadInfo, BadCue, BadBext, TextTooLong, Pinned, NotBuilt}
 
 abbrev pub refusal_number : Refusal → ℕ
 refusal_number (Open refusal) = open_number refusal
@@ -21,12 +26,22 @@ refusal_number SeekRange = 24
 refusal_number TrailingData = 25
 refusal_number ContainerFull = 26
 refusal_number Straddle = 27
+refusal_number FramesWritten = 28
+refusal_number ReservedChunk = 29
+refusal_number NoChunks = 30
+refusal_number ChunkTooLarge = 31
+refusal_number AutoOn = 32
+refusal_number NoSuchChunk = 34
 refusal_number BadCommand = 40
 refusal_number LineTooLong = 41
 refusal_number NotOpen = 42
 refusal_number AlreadyOpen = 43
 refusal_number WrongMode = 44
 refusal_number MissingFile = 56
+refusal_number BadInfo = 61
+refusal_number BadCue = 62
+refusal_number BadBext = 63
+refusal_number TextTooLong = 64
 refusal_number Pinned = 65
 refusal_number NotBuilt = 99
 
@@ -40,12 +55,22 @@ refusal_name SeekRange = codes "SeekRange"
 refusal_name TrailingData = codes "TrailingData"
 refusal_name ContainerFull = codes "ContainerFull"
 refusal_name Straddle = codes "Straddle"
+refusal_name FramesWritten = codes "FramesWritten"
+refusal_name ReservedChunk = codes "ReservedChunk"
+refusal_name NoChunks = codes "NoChunks"
+refusal_name ChunkTooLarge = codes "ChunkTooLarge"
+refusal_name AutoOn = codes "AutoOn"
+refusal_name NoSuchChunk = codes "NoSuchChunk"
 refusal_name BadCommand = codes "BadCommand"
 refusal_name LineTooLong = codes "LineTooLong"
 refusal_name NotOpen = codes "NotOpen"
 refusal_name AlreadyOpen = codes "AlreadyOpen"
 refusal_name WrongMode = codes "WrongMode"
 refusal_name MissingFile = codes "MissingFile"
+refusal_name BadInfo = codes "BadInfo"
+refusal_name BadCue = codes "BadCue"
+refusal_name BadBext = codes "BadBext"
+refusal_name TextTooLong = codes "TextTooLong"
 refusal_name Pinned = codes "Pinned"
 refusal_name NotBuilt = codes "NotBuilt"
 
@@ -62,6 +87,29 @@ error_line refusal = codes "error " ++ decimal (refusal_number refusal) ++ 32 �
 -- `ok N`
 abbrev pub ok_line : ℕ → List ℕ
 ok_line n = codes "ok " ++ decimal n ++ 10 ∷ []
+
+-- `ok`, where there is no number to say
+abbrev pub done_line : List ℕ
+done_line = codes "ok\n"
+
+-- `ok LEN HEX`, the bytes of a body, or `ok 0`
+abbrev pub body_text : List ℕ → List ℕ
+body_text [] = codes "ok 0\n"
+body_text (b ∷ bs) = codes "ok " ++ decimal (length (b ∷ bs)) ++ 32 ∷ [] ++ hex_text (b ∷ bs) ++ 10 ∷ []
+
+-- `ok K` and K lines: `ID LEN` for a chunk, `KEY TEXT` for a text, `NAME OFFSET` for a cue point; the fields of a broadcast
+-- extension are seven
+abbrev pub chunks_text : List Piece → List ℕ
+chunks_text pieces = ok_line (length pieces) ++ behind_each [] chunk_line pieces
+
+abbrev pub texts_text : List Entry → List ℕ
+texts_text entries = ok_line (length entries) ++ behind_each [] text_line entries
+
+abbrev pub points_text : List CuePoint → List ℕ
+points_text points = ok_line (length points) ++ flat_map cue_line points
+
+abbrev pub bext_text : Broadcast → List ℕ
+bext_text broadcast = ok_line 7 ++ bext_lines broadcast
 
 -- `FRAMES CHANNELS RATE `
 abbrev pub counts_text : ℕ → Parameters → List ℕ

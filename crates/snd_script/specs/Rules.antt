@@ -1,6 +1,9 @@
 -- What each command does on an open file: why it is refused, and what it does where it is not.
-use Rattle.std.specs.Prelude.{ℕ, ℤ, ◌+◌, ◌-◌, ◌*◌, ◌/◌, ◌%◌, Bool, true, false, not, ◌&&◌, List, Option, None, Some, is_some, length, min, int_le, nat_lt, if◌then◌else◌}
+use Rattle.std.specs.Prelude.{ℕ, ℤ, ◌+◌, ◌-◌, ◌*◌, ◌/◌, ◌%◌, ◌==◌, Bool, true, false, not, ◌&&◌, List, [], Option, None, Some, Result, Ok, Err, codes, is_none, is_some, length, min, int_le, nat_le, nat_lt, if◌then◌else◌}
 use Rattle.std.specs.List.{list_all}
+use Rattle.std.specs.Option.{unwrap_or}
+use Rattle.snd_command.specs.Forms.{is_text}
+use Rattle.snd_fields.specs.Decimal.{decimal}
 use Rattle.snd_command.specs.Said.{Said}
 use Rattle.snd_command.specs.declared.tables.CodecWord.{CodecWord}
 use Rattle.snd_command.specs.declared.tables.CodecWord.TheVariants as word
@@ -11,19 +14,50 @@ use Rattle.snd_layout.specs.declared.codec.Codec.{Codec}
 use Rattle.snd_layout.specs.declared.codec.Codec.TheVariants as codec
 use Rattle.snd_layout.specs.declared.kind.Kind.{Kind}
 use Rattle.snd_layout.specs.declared.kind.Kind.TheVariants.{Voc}
+use Rattle.snd_layout.specs.declared.piece.Piece.{Piece}
+use Rattle.snd_layout.specs.declared.refusal.OpenRefusal.TheVariants.{TooManyChunks}
+use Rattle.snd_meta.specs.Broadcast.{Broadcast, field_size}
+use Rattle.snd_meta.specs.Cue.{cue_body, named}
+use Rattle.snd_meta.specs.declared.bext.BextKey.{BextKey}
+use Rattle.snd_meta.specs.declared.bext.BextKey.TheVariants.{TimeRef}
+use Rattle.snd_meta.specs.declared.info.InfoKey.{InfoKey}
+use Rattle.snd_modes.specs.declared.error.GetError.TheVariants as get
 use Rattle.snd_modes.specs.Editing.{Editing, frames_left, frames_read, moved_by, moved_to}
 use Rattle.snd_modes.specs.Edits.{automatic_to, moved_write_to, sealed_to, trimmed_to, truncated_to, written_to}
 use Rattle.snd_modes.specs.Handle.{Known}
+use Rattle.snd_modes.specs.Heads.{holds_meta, holds_pieces, is_reserved}
+use Rattle.snd_modes.specs.PieceCalls.{known_put}
+use Rattle.snd_modes.specs.Pieces.{first_piece}
+use Rattle.snd_modes.specs.Relaid.{added_to, place_named, replaced_to}
 use Rattle.snd_modes.specs.WriteCalls.{end_written, is_whole_field, known_cut, known_sealed, known_trimmed, known_written}
 use Rattle.snd_pcm.specs.Pcm.{high, low}
 use Rattle.snd_container.specs.Fixed.{range_form}
 use Rattle.snd_container.specs.declared.fixed.Fixed.{Fixed}
-use Rattle.snd_script.specs.Desk.{Mode, is_pinned, pinned, reading, reads, updating, writes, writing}
-use Rattle.snd_script.specs.Replies.{Answer, nothing, says, file_line, ok_line, frames_text}
+use Rattle.snd_tags.specs.Drafts.{bext_timed, bext_with, info_with}
+use Rattle.snd_tags.specs.Found.{broadcast_of, points_of, read_as, texts_of}
+use Rattle.snd_tags.specs.declared.error.TagError.{TagError}
+use Rattle.snd_tags.specs.declared.error.TagError.TheVariants.{Get, BadBody}
+use Rattle.snd_wave.specs.Heads.{new_piece}
+use Rattle.snd_script.specs.Desk.{Mode, is_pinned, makes, pinned, reading, reads, updating, writes, writing}
+use Rattle.snd_script.specs.Hex.{bytes_of_hex}
+use Rattle.snd_script.specs.Replies.{Answer, nothing, refuses, says, bext_text, body_text, chunks_text, done_line, file_line, frames_text, ok_line, points_text, texts_text}
 use Rattle.snd_script.specs.declared.refusal.Refusal.{Refusal}
-use Rattle.snd_script.specs.declared.refusal.Refusal.TheVariants.{PartFrame, SampleRange, SeekRange, TrailingData, ContainerFull, Straddle, AlreadyOpen, WrongMode, Pinned, NotBuilt}
+use Rattle.snd_script.specs.declared.refusal.Refusal.TheVariants.{PartFrame, SampleRange, SeekRange, TrailingData, ContainerFull, Straddle, FramesWritten, ReservedChunk, NoChunks, ChunkTooLarge, AutoOn, NoSuchChunk, Open, BadCommand, AlreadyOpen, WrongMode, BadInfo, BadCue, BadBext, TextTooLong, Pinned, NotBuilt}
 
--- ---- why a command is refused, by what the file says of itself
+-- ---- why a command is refused
+
+-- what decides that over every disk: what the file says of itself, and what was done to it through this handle
+pub record Grounds : Type 0 where
+  pub shape : Shape
+  pub write_place : ℕ
+  pub automatic : Bool
+  pub written : Bool
+
+abbrev pub grounds_of : Editing → Grounds
+grounds_of e = record { shape = e.shape; write_place = e.write_place; automatic = e.automatic; written = e.written }
+
+abbrev pub known_grounds : Known → Grounds
+known_grounds k = record { shape = k.shape; write_place = k.write_place; automatic = k.automatic; written = k.written }
 
 abbrev pub refused_if : Bool → Refusal → Option Refusal → Option Refusal
 refused_if so refusal else_by = if so then Some refusal else else_by
@@ -76,12 +110,19 @@ pub record FileEdited : Type 0 where
 abbrev pub says_of : List ℕ → Editing → FileEdited
 says_of text e = record { answer = says text; editing = e }
 
+abbrev pub answered : Answer → Editing → FileEdited
+answered answer e = record { answer = answer; editing = e }
+
 pub record Rule : Type 0 where
-  -- why it is refused, by the frame to write next and by what the file says of itself
-  pub refusal : ℕ → Shape → Option Refusal
-  -- what is done where it is not, and what the handle knows then, over every disk
+  -- why it is refused, where every disk leaves no doubt
+  pub refusal : Grounds → Option Refusal
+  -- what is done where it is not so refused; and what the handle knows once it was carried out, over every disk
   pub done : Editing → FileEdited
   pub known : Known → Known
+  -- which refusals only what stands on the disk decides
+  pub finds : Refusal → Bool
+  -- the chunk that is put with a body which the disk decides, where there is one
+  pub puts : Option (List ℕ)
   -- whether it changes the file; and whether that is sealed before something else is done
   pub changes : Bool
   pub seals_first : Bool
@@ -94,9 +135,11 @@ pub record Rule : Type 0 where
 -- the rule of a command that says something and changes nothing
 abbrev pub telling : (Editing → FileEdited) → (Known → Known) → Rule
 telling done known = record {
-  refusal = λ place h. None;
+  refusal = λ g. None;
   done = done;
   known = known;
+  finds = λ refusal. false;
+  puts = None;
   changes = false;
   seals_first = false;
   asked = 0;
@@ -105,7 +148,7 @@ telling done known = record {
 }
 
 abbrev pub refused_rule : Refusal → Rule
-refused_rule refusal = record (telling (λ e. record { answer = nothing; editing = e }) (λ k. k)) { refusal = λ place h. Some refusal }
+refused_rule refusal = record (telling (answered nothing) (λ k. k)) { refusal = λ g. Some refusal }
 
 -- a command that its mode lacks is refused first
 abbrev pub in_mode : Bool → Rule → Rule
@@ -117,13 +160,13 @@ tell_rule = telling (λ e. says_of (file_line e.shape) e) (λ k. k)
 
 -- `seek r`, `seek w` and `seek rw`: the frame to read next, the one to write next, and both
 abbrev pub seek_read_rule : ℕ → Rule
-seek_read_rule n = record (telling (λ e. says_of (ok_line n) (moved_to n e)) (λ k. record k { place = n })) { refusal = λ place h. seek_refusal n h }
+seek_read_rule n = record (telling (λ e. says_of (ok_line n) (moved_to n e)) (λ k. record k { place = n })) { refusal = λ g. seek_refusal n g.shape }
 
 abbrev pub seek_write_rule : ℕ → Rule
-seek_write_rule n = record (telling (λ e. says_of (ok_line n) (moved_write_to n e)) (λ k. record k { write_place = n })) { refusal = λ place h. seek_refusal n h }
+seek_write_rule n = record (telling (λ e. says_of (ok_line n) (moved_write_to n e)) (λ k. record k { write_place = n })) { refusal = λ g. seek_refusal n g.shape }
 
 abbrev pub seek_both_rule : ℕ → Rule
-seek_both_rule n = record (telling (λ e. says_of (ok_line n) (moved_write_to n (moved_to n e))) (λ k. record k { place = n; write_place = n })) { refusal = λ place h. seek_refusal n h }
+seek_both_rule n = record (telling (λ e. says_of (ok_line n) (moved_write_to n (moved_to n e))) (λ k. record k { place = n; write_place = n })) { refusal = λ g. seek_refusal n g.shape }
 
 -- `read`: as many frames as are wanted and are left; a frame of a codec that is read has at most 1024 bytes
 abbrev pub read_known : ℕ → Known → Known
@@ -136,28 +179,149 @@ read_rule n = record (telling (λ e. says_of (frames_text (frames_read e (frames
 }
 
 -- a command that changes the file, with how many bytes it writes at most
-abbrev pub changing : ℕ → (ℕ → Shape → Option Refusal) → (Editing → FileEdited) → (Known → Known) → Rule
+abbrev pub changing : ℕ → (Grounds → Option Refusal) → (Editing → FileEdited) → (Known → Known) → Rule
 changing written refusal done known = record (telling done known) { refusal = refusal; changes = true; written = written }
 
 -- `write`: frames over others and past the end; a number has at most 4 bytes
 abbrev pub write_rule : List ℤ → Rule
-write_rule xs = changing (4 * length xs + 72) (write_refusal xs) (λ e. says_of (ok_line (length xs / e.shape.params.channels)) (written_to xs e)) (known_written xs)
+write_rule xs = changing (4 * length xs + 72) (λ g. write_refusal xs g.write_place g.shape) (λ e. says_of (ok_line (length xs / e.shape.params.channels)) (written_to xs e)) (known_written xs)
 
 -- `truncate`: to so many frames
 abbrev pub truncate_rule : ℕ → Rule
-truncate_rule n = changing 72 (λ place h. truncate_refusal n h) (λ e. says_of (ok_line n) (truncated_to n e)) (known_cut n)
+truncate_rule n = changing 72 (λ g. truncate_refusal n g.shape) (λ e. says_of (ok_line n) (truncated_to n e)) (known_cut n)
 
 -- `trim`: all behind the data is cut off
 abbrev pub trim_rule : Rule
-trim_rule = record (changing 80 (λ place h. trim_refusal h) (λ e. says_of (ok_line e.shape.frames) (trimmed_to e)) known_trimmed) { seals_first = true }
+trim_rule = record (changing 80 (λ g. trim_refusal g.shape) (λ e. says_of (ok_line e.shape.frames) (trimmed_to e)) known_trimmed) { seals_first = true }
 
 -- `update`: the head is brought up to the frames
 abbrev pub update_rule : Rule
-update_rule = changing 72 (λ place h. None) (λ e. says_of (ok_line e.shape.frames) (sealed_to e)) known_sealed
+update_rule = changing 72 (λ g. None) (λ e. says_of (ok_line e.shape.frames) (sealed_to e)) known_sealed
 
 -- `auto on` and `auto off`: so is it now, and after each write, or after none
 abbrev pub auto_rule : Bool → Rule
-auto_rule on = changing 72 (λ place h. auto_refusal on h) (λ e. says_of (ok_line e.shape.frames) (automatic_to on e)) (λ k. record (known_sealed k) { automatic = on })
+auto_rule on = changing 72 (λ g. auto_refusal on g.shape) (λ e. says_of (ok_line e.shape.frames) (automatic_to on e)) (λ k. record (known_sealed k) { automatic = on })
+
+-- ---- further chunks
+
+-- what chunks say is asked for
+abbrev pub asking : (Editing → FileEdited) → Rule
+asking done = record (telling done (λ k. k)) { asked = 81920; takes_memory = true }
+
+-- there is no such chunk, or its body is too large to be given
+abbrev pub piece_refusal : Option Piece → Option Refusal
+piece_refusal None = Some NoSuchChunk
+piece_refusal (Some piece) = refused_if (nat_lt 65536 piece.len) ChunkTooLarge None
+
+-- `get chunks`: all of them
+abbrev pub get_chunks_rule : Rule
+get_chunks_rule = asking (λ e. says_of (chunks_text e.shape.pieces) e)
+
+-- the others: what a chunk says, or why it does not
+abbrev pub found_answer : {T : Type 0} → Refusal → (T → List ℕ) → Result T TagError → Answer
+found_answer bad text (Ok found) = says (text found)
+found_answer bad text (Err BadBody) = refuses bad
+found_answer bad text (Err (Get get.ChunkTooLarge)) = refuses ChunkTooLarge
+found_answer bad text (Err error) = refuses NoSuchChunk
+
+abbrev pub telling_of : {T : Type 0} → Refusal → (T → List ℕ) → (List ℕ → Shape → Result T TagError) → (Grounds → Option Refusal) → (Refusal → Bool) → Rule
+telling_of bad text held refusal finds = record (asking (λ e. answered (found_answer bad text (held e.bytes e.shape)) e)) { refusal = refusal; finds = finds }
+
+abbrev pub finds_none : Refusal → Bool
+finds_none refusal = false
+
+-- `get chunk`: the body of the first one with the identifier, whatever it says
+abbrev pub chunk_of : List ℕ → List ℕ → Shape → Result (List ℕ) TagError
+chunk_of id b h = read_as Some b (first_piece id h)
+
+abbrev pub get_chunk_rule : List ℕ → Rule
+get_chunk_rule id = telling_of NoSuchChunk body_text (chunk_of id) (λ g. piece_refusal (first_piece id g.shape)) finds_none
+
+-- `get strings`, `get bext` and `get cues`
+
+abbrev pub finds_texts : Refusal → Bool
+finds_texts NoSuchChunk = true
+finds_texts ChunkTooLarge = true
+finds_texts BadInfo = true
+finds_texts refusal = false
+
+abbrev pub get_strings_rule : Rule
+get_strings_rule = telling_of BadInfo texts_text texts_of (λ g. refused_if (is_none (first_piece (codes "LIST") g.shape)) NoSuchChunk None) finds_texts
+
+abbrev pub finds_broadcast : Refusal → Bool
+finds_broadcast BadBext = true
+finds_broadcast refusal = false
+
+abbrev pub get_bext_rule : Rule
+get_bext_rule = telling_of BadBext bext_text broadcast_of (λ g. piece_refusal (first_piece (codes "bext") g.shape)) finds_broadcast
+
+abbrev pub finds_points : Refusal → Bool
+finds_points BadCue = true
+finds_points refusal = false
+
+abbrev pub get_cues_rule : Rule
+get_cues_rule = telling_of BadCue points_text points_of (λ g. piece_refusal (first_piece (codes "cue ") g.shape)) finds_points
+
+-- a chunk is put before the first frame, and while updates are not automatic
+abbrev pub early_refusal : Grounds → Option Refusal → Option Refusal
+early_refusal g else_by = refused_if g.written FramesWritten (refused_if g.automatic AutoOn else_by)
+
+-- `set chunk`: one more
+abbrev pub chunk_refusal : List ℕ → List ℕ → Grounds → Option Refusal
+chunk_refusal id body g = early_refusal g
+    (refused_if (is_reserved g.shape.kind id) ReservedChunk
+    (refused_if (not (holds_pieces g.shape.kind)) NoChunks
+    (refused_if (nat_lt 65536 (length body)) ChunkTooLarge
+    (refused_if (nat_le 240 (length g.shape.pieces)) (Open TooManyChunks) None))))
+
+abbrev pub add_rule : List ℕ → List ℕ → Rule
+add_rule id body = record (changing 16777216 (chunk_refusal id body) (λ e. says_of done_line (added_to id body e))
+    (λ k. known_put (length k.shape.pieces) (new_piece id body) k)) { takes_memory = true }
+
+abbrev pub set_chunk_rule : List ℕ → List ℕ → Rule
+set_chunk_rule id hex = add_rule id (bytes_of_hex hex)
+
+-- `set string`, `set bext` and `set cue`: the whole chunk with what it said and one thing more, in its place or behind the others
+abbrev pub draft_refusal : Grounds → Option Refusal
+draft_refusal g = early_refusal g (refused_if (not (holds_meta g.shape.kind)) NoChunks None)
+
+abbrev pub is_full : List ℕ → Shape → Bool
+is_full id h = (place_named id h == length h.pieces) && nat_le 240 (length h.pieces)
+
+abbrev pub put_edit : List ℕ → List ℕ → Editing → FileEdited
+put_edit id body e =
+    if nat_lt 65536 (length body) then answered (refuses ChunkTooLarge) e
+    else (if is_full id e.shape then answered (refuses (Open TooManyChunks)) e else says_of done_line (replaced_to id body e))
+
+abbrev pub finds_no_room : Refusal → Bool
+finds_no_room ChunkTooLarge = true
+finds_no_room (Open TooManyChunks) = true
+finds_no_room refusal = false
+
+abbrev pub drafting : List ℕ → (Grounds → Option Refusal) → (Editing → List ℕ) → Rule
+drafting id refusal body = record (changing 16777216 refusal (λ e. put_edit id (body e) e) (λ k. k)) {
+  finds = finds_no_room;
+  puts = Some id;
+  asked = 16777216;
+  takes_memory = true;
+}
+
+-- a text has at most so many bytes, and no 0
+abbrev pub text_refusal : ℕ → List ℕ → Grounds → Option Refusal
+text_refusal most text g = refused_if (not (is_text text)) BadCommand (refused_if (nat_lt most (length text)) TextTooLong (draft_refusal g))
+
+abbrev pub set_string_rule : InfoKey → List ℕ → Rule
+set_string_rule key text = drafting (codes "LIST") (text_refusal 1024 text) (info_with key text)
+
+abbrev pub set_time_rule : Option ℕ → Rule
+set_time_rule time = drafting (codes "bext") (λ g. refused_if (is_none time) BadCommand (draft_refusal g)) (bext_timed (unwrap_or time 0))
+
+abbrev pub set_bext_rule : BextKey → List ℕ → Rule
+set_bext_rule TimeRef text = set_time_rule (decimal text)
+set_bext_rule key text = drafting (codes "bext") (text_refusal (field_size key) text) (bext_with key text)
+
+abbrev pub set_cue_rule : List ℕ → Rule
+set_cue_rule places = drafting (codes "cue ") draft_refusal (λ e. cue_body (named 1 places))
 
 -- ---- which commands there are
 
@@ -175,15 +339,6 @@ fixed_word other = None
 -- commands and codecs that are not built yet are refused before all else
 abbrev pub is_built : Said → Bool
 is_built (Said.create kind codec channels rate name) = is_some (fixed_word codec)
-is_built (Said.set_chunk id hex) = false
-is_built (Said.set_string key text) = false
-is_built (Said.set_bext key text) = false
-is_built (Said.set_cue places) = false
-is_built (Said.get_chunk id) = false
-is_built Said.get_chunks = false
-is_built Said.get_strings = false
-is_built Said.get_bext = false
-is_built Said.get_cues = false
 is_built (Said.tap kind) = false
 is_built (Said.untap kind) = false
 is_built said = true
@@ -201,6 +356,18 @@ is_held (Said.create kind codec channels rate name) = true
 is_held Said.close = true
 is_held (Said.auto on) = true
 is_held said = false
+
+-- commands that put a chunk: only a file that is made accepts them
+abbrev pub is_set : Said → Bool
+is_set (Said.set_chunk id hex) = true
+is_set (Said.set_string key text) = true
+is_set (Said.set_bext key text) = true
+is_set (Said.set_cue places) = true
+is_set said = false
+
+-- how much a command uses at most on a file in a mode: one that puts a chunk uses nothing where it is refused
+abbrev pub most_on : Mode → (Said → ℕ) → Said → ℕ
+most_on mode most said = if is_set said && not (makes mode) then 0 else most said
 
 -- the places that the mode has
 abbrev pub seek_rule : Mode → ℕ → Rule
@@ -221,6 +388,15 @@ built_rule mode (Said.truncate n) = in_mode (writes mode) (truncate_rule n)
 built_rule mode Said.trim = in_mode (writes mode) trim_rule
 built_rule mode Said.update = in_mode (writes mode) update_rule
 built_rule mode (Said.auto on) = in_mode (writes mode) (auto_rule on)
+built_rule mode (Said.set_chunk id hex) = in_mode (makes mode) (set_chunk_rule id hex)
+built_rule mode (Said.set_string key text) = in_mode (makes mode) (set_string_rule key text)
+built_rule mode (Said.set_bext key text) = in_mode (makes mode) (set_bext_rule key text)
+built_rule mode (Said.set_cue places) = in_mode (makes mode) (set_cue_rule places)
+built_rule mode (Said.get_chunk id) = get_chunk_rule id
+built_rule mode Said.get_chunks = get_chunks_rule
+built_rule mode Said.get_strings = get_strings_rule
+built_rule mode Said.get_bext = get_bext_rule
+built_rule mode Said.get_cues = get_cues_rule
 built_rule mode said = refused_rule AlreadyOpen
 
 -- .. of which one that is pinned refuses some

@@ -9,7 +9,7 @@ use Rattle.snd_disk.specs.Shelf.{Files}
 use Rattle.snd_script.specs.Desk.{Desk, OpenFile, closed_desk, files_closed, open_desk}
 use Rattle.snd_script.specs.Edit.{Edited, edit_line}
 use Rattle.snd_script.specs.Replies.{nothing, text_of, is_refusal}
-use Rattle.snd_script.specs.Rules.{is_held}
+use Rattle.snd_script.specs.Rules.{is_held, is_set}
 
 -- a script has at most this many bytes
 abbrev pub most_bytes : ℕ
@@ -78,6 +78,15 @@ abbrev pub asked_by : Said → ℕ
 asked_by (Said.open_read name) = 16384
 asked_by (Said.open_update name) = 16384
 asked_by (Said.read n) = 1024 * n + 16384
+asked_by (Said.set_chunk id hex) = 0
+asked_by (Said.set_string key text) = 16777216
+asked_by (Said.set_bext key text) = 16777216
+asked_by (Said.set_cue places) = 16777216
+asked_by (Said.get_chunk id) = 81920
+asked_by Said.get_chunks = 81920
+asked_by Said.get_strings = 81920
+asked_by Said.get_bext = 81920
+asked_by Said.get_cues = 81920
 asked_by said = 0
 
 -- bytes written; a file that is made or open is closed with 72 more
@@ -89,11 +98,15 @@ written_by Said.trim = 80
 written_by Said.update = 72
 written_by (Said.auto on) = 72
 written_by Said.close = 72
+written_by (Said.set_chunk id hex) = 16777216
+written_by (Said.set_string key text) = 16777216
+written_by (Said.set_bext key text) = 16777216
+written_by (Said.set_cue places) = 16777216
 written_by said = 0
 
 -- in a pinned run the commands that it refuses use nothing
 abbrev pub most_in : Bool → (Said → ℕ) → Said → ℕ
-most_in true most = λ said. if is_held said then 0 else most said
+most_in true most = λ said. if is_held said || is_set said then 0 else most said
 most_in false most = most
 
 abbrev pub by_command : (Said → ℕ) → Result (Option Said) ScriptRefusal → ℕ

@@ -5,8 +5,11 @@ use Rattle.snd_disk.specs.Streams.{AppendsFront}
 use Rattle.snd_disk.specs.declared.disk.Step.{Step}
 use Rattle.snd_modes.specs.Editing.{Editing}
 use Rattle.snd_modes.specs.Handle.{Known}
+use Rattle.snd_modes.specs.PieceCalls.{known_put}
+use Rattle.snd_modes.specs.Relaid.{place_named}
 use Rattle.snd_modes.specs.WriteCalls.{known_sealed}
-use Rattle.snd_script.specs.Rules.{FileEdited, Rule}
+use Rattle.snd_wave.specs.Heads.{new_piece}
+use Rattle.snd_script.specs.Rules.{FileEdited, Rule, known_grounds}
 use Rattle.snd_script.specs.Replies.{Answer, refuses, refusal_number, text_of}
 use Rattle.snd_script.specs.declared.handle.Reply.{Reply}
 use Rattle.snd_script.specs.declared.handle.Reply.TheVariants as reply
@@ -57,24 +60,29 @@ IsStepCause (Err Memory) disk disk' out out' = (disk' ≡ disk) × (out' ≡ out
 
 -- ---- over every disk
 
--- why a command is refused, and which reply comes
+-- why a command is refused
 abbrev pub refusal_by : Rule → Known → Option Refusal
-refusal_by rule h = rule.refusal h.write_place h.shape
+refusal_by rule h = rule.refusal (known_grounds h)
 
-abbrev pub reply_unless : Option Refusal → Reply
-reply_unless (Some refusal) = reply.Refused (refusal_number refusal)
-reply_unless None = reply.Ok
+-- what the handle knows once it was carried out: with a chunk of some body, where the disk decides the body
+abbrev pub IsKnown : Option (List ℕ) → Known → Known → Known → Type 0
+IsKnown None done old new = new ≡ done
+IsKnown (Some id) done old new = (body : List ℕ) × (new ≡ known_put (place_named id old.shape) (new_piece id body) old)
 
-abbrev pub reply_by : Rule → Known → Reply
-reply_by rule h = reply_unless (refusal_by rule h)
+-- Which reply comes, and what the handle knows then: it was refused, as every disk has it; or it was carried out; or only the
+-- disk decides that it is refused.
+abbrev pub IsCarriedOut : Rule → Known → Known → Reply → Type 0
+IsCarriedOut rule old new answer = (answer ≡ reply.Ok) × IsKnown rule.puts (rule.known old) old new
 
--- what the handle knows once it was refused, or carried out
-abbrev pub known_unless : Option Refusal → Known → Known → Known
-known_unless (Some refusal) done h = h
-known_unless None done h = done
+abbrev pub IsFoundOut : Rule → Known → Known → Reply → Type 0
+IsFoundOut rule old new answer = (refusal : Refusal) × (rule.finds refusal ≡ true) × (answer ≡ reply.Refused (refusal_number refusal)) × (new ≡ old)
 
-abbrev pub known_by : Rule → Known → Known
-known_by rule h = known_unless (refusal_by rule h) (rule.known h) h
+abbrev pub RepliesUnless : Option Refusal → Rule → Known → Known → Reply → Type 0
+RepliesUnless (Some refusal) rule old new answer = (answer ≡ reply.Refused (refusal_number refusal)) × (new ≡ old)
+RepliesUnless None rule old new answer = IsCarriedOut rule old new answer ⊎ IsFoundOut rule old new answer
+
+abbrev pub RepliesBy : Rule → Known → Known → Reply → Type 0
+RepliesBy rule old new answer = RepliesUnless (refusal_by rule old) rule old new answer
 
 -- .. or its disk failed: nothing else, but that it may have been sealed before
 abbrev pub IsBrokenAt : Bool → Step → Known → Known → Type 0
@@ -83,8 +91,8 @@ IsBrokenAt false step old new = new ≡ record old { broken = Some step }
 
 -- The reply, and what the handle knows afterwards. A fault of the disk breaks it, and nothing else does.
 abbrev pub Knows : Result Reply StepFault → Rule → Known → Known → Type 0
-Knows (Ok reply) rule old new = (reply ≡ reply_by rule old) × (new ≡ known_by rule old)
-Knows (Err Out) rule old new = new ≡ known_by rule old
+Knows (Ok reply) rule old new = RepliesBy rule old new reply
+Knows (Err Out) rule old new = (reply : Reply) × RepliesBy rule old new reply
 Knows (Err Disk) rule old new = (step : Step) × IsBrokenAt rule.seals_first step old new
 Knows (Err Memory) rule old new = new ≡ old
 

@@ -20,9 +20,9 @@ use Rattle.snd_modes.specs.Safe.{IsSafe}
 use Rattle.snd_patch.specs.Images.{LeavesEach}
 use Rattle.snd_patch.specs.Steps.{StillTells}
 use Rattle.snd_pcm.specs.Groups.{first_groups}
-use Rattle.snd_script.specs.Desk.{Mode, closed_desk, reads, writes}
+use Rattle.snd_script.specs.Desk.{Mode, closed_desk, makes, reads, writes}
 use Rattle.snd_script.specs.Edit.{Edited, Opening, edit_by, edit_closed, make_edit, open_edit, refused}
-use Rattle.snd_script.specs.Rules.{Rule, auto_rule, in_mode, is_close, read_rule, refused_rule, rule_of, seek_read_rule, seek_rule, seek_write_rule, tell_rule, trim_rule, truncate_rule, unless_pinned, update_rule, write_rule}
+use Rattle.snd_script.specs.Rules.{Rule, auto_rule, get_bext_rule, get_chunk_rule, get_chunks_rule, get_cues_rule, get_strings_rule, in_mode, is_close, read_rule, refused_rule, rule_of, seek_read_rule, seek_rule, seek_write_rule, set_bext_rule, set_chunk_rule, set_cue_rule, set_string_rule, tell_rule, trim_rule, truncate_rule, unless_pinned, update_rule, write_rule}
 use Rattle.snd_script.specs.Handled.{back_of}
 use Rattle.snd_script.specs.Kept.{work_writes}
 use Rattle.snd_script.specs.Used.{work_asks, work_makes}
@@ -32,8 +32,26 @@ use Rattle.snd_script.specs.declared.handle.Reply.{Reply}
 use Rattle.snd_script.specs.declared.handle.StepFault.{StepFault}
 use Rattle.snd_script.specs.declared.handle.StepFault.TheVariants.{Disk, Out, Memory}
 use Rattle.snd_script.specs.declared.refusal.Refusal.TheVariants as refusal
+use Rattle.snd_script.specs.declared.work.Asking.{Asking}
+use Rattle.snd_script.specs.declared.work.Asking.TheVariants as asking
+use Rattle.snd_script.specs.declared.work.Setting.{Setting}
+use Rattle.snd_script.specs.declared.work.Setting.TheVariants as setting
 use Rattle.snd_script.specs.declared.work.Work.{Work}
-use Rattle.snd_script.specs.declared.work.Work.TheVariants.{Open, Update, Make, Close, Tell, SeekRead, SeekWrite, SeekBoth, Read, Write, Truncate, Trim, BringUp, Auto, NotBuilt}
+use Rattle.snd_script.specs.declared.work.Work.TheVariants.{Open, Update, Make, Close, Tell, SeekRead, SeekWrite, SeekBoth, Read, Write, Truncate, Trim, BringUp, Auto, Set, Ask, NotBuilt}
+
+-- the rule of what is set, and of what is asked
+abbrev pub setting_rule : Setting → Rule
+setting_rule (setting.Chunk id hex) = set_chunk_rule id.0 hex.now
+setting_rule (setting.Text key text) = set_string_rule key text.now
+setting_rule (setting.Field key text) = set_bext_rule key text.now
+setting_rule (setting.Points places) = set_cue_rule places.now.items
+
+abbrev pub asking_rule : Asking → Rule
+asking_rule (asking.Chunk id) = get_chunk_rule id.0
+asking_rule asking.Chunks = get_chunks_rule
+asking_rule asking.Texts = get_strings_rule
+asking_rule asking.Broadcast = get_bext_rule
+asking_rule asking.Points = get_cues_rule
 
 -- the rule of what is done on an open file, unless it is closed
 abbrev pub work_rule : Mode → Work → Rule
@@ -47,6 +65,8 @@ work_rule mode (Truncate n) = in_mode (writes mode) (truncate_rule n)
 work_rule mode Trim = in_mode (writes mode) trim_rule
 work_rule mode BringUp = in_mode (writes mode) update_rule
 work_rule mode (Auto on) = unless_pinned true mode (in_mode (writes mode) (auto_rule on))
+work_rule mode (Set setting) = in_mode (makes mode) (setting_rule setting)
+work_rule mode (Ask asking) = asking_rule asking
 work_rule mode NotBuilt = refused_rule refusal.NotBuilt
 work_rule mode work = unless_pinned true mode (refused_rule refusal.AlreadyOpen)
 
@@ -90,6 +110,16 @@ pub record WorksFor (said : Said) (work : Work) : Type 0 where
   pub asked : work_asks work ≤ asked_by said
   pub made : work_makes work ≤ written_by said
   pub writes : (n : List ℕ) → writes_name said n ≡ false → work_writes work n ≡ false
+
+-- something is set, which a file in other modes refuses
+abbrev pub work_sets : Work → Bool
+work_sets (Set setting) = true
+work_sets work = false
+
+-- these cue points are set
+abbrev pub SetsFor : Work → List ℕ → Type 0
+SetsFor (Set (setting.Points places)) ns = places.now.items ≡ ns
+SetsFor work ns = ⊥
 
 -- these numbers are written
 abbrev pub WritesFor : Work → List ℤ → Type 0

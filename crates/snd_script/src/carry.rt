@@ -8,9 +8,8 @@ ghost use Rattle.snd_script.specs.Work.{Follows};
 use crate::handle::{Reply, StepFault};
 use crate::reading::read_some;
 use crate::refusal::Refusal;
+use crate::room::Room;
 use crate::say::{refuse, say_file, say_frames, say_ok};
-use crate::text::PAGE_BYTES;
-use arrayvec::ArrayVec;
 use snd_disk::{Disk, Sink};
 use snd_modes::{CanRead, CanWrite, File, Mode, SeekError, Update};
 
@@ -97,8 +96,7 @@ pub fn seek_both<'d, D: Disk, O: Sink>(
 /// Reads frames, by way of the samples and the page.
 pub fn read<'d, D: Disk, M: CanRead, O: Sink>(
     file: &mut File<'d, D, M>,
-    samples: &mut Vec<i32>,
-    page: &mut ArrayVec<u8, PAGE_BYTES>,
+    room: &mut Room,
     wanted: u64,
     out: &mut O,
 ) -> Result<Reply, StepFault>
@@ -106,7 +104,7 @@ pub fn read<'d, D: Disk, M: CanRead, O: Sink>(
     ensures { Follows D.Disk O.Sink (read_rule wanted) result file.old out.old file.new out.new }
 {
     let channels = usize::from(file.params().channels);
-    let frames = read_some(file, samples, wanted)?;
-    let read = &samples[..frames * channels];
-    say_frames(page, out, read, channels, frames)
+    let frames = read_some(file, &mut room.samples, wanted)?;
+    let read = &room.samples[..frames * channels];
+    say_frames(&mut room.page, out, read, channels, frames)
 }

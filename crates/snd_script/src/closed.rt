@@ -136,7 +136,9 @@ fn closed_command<S: Shelf, R: Source, O: Sink>(
         | Work::Truncate(_)
         | Work::Trim
         | Work::BringUp
-        | Work::Auto(_) => run.refuse(Refusal::NotOpen, out),
+        | Work::Auto(_)
+        | Work::Set(_)
+        | Work::Ask(_) => run.refuse(Refusal::NotOpen, out),
     }
 }
 

@@ -1,11 +1,13 @@
 //! Scripts of commands on sound files: one line each, with exact replies.
 #![tactic(auto)]
 
+mod asking;
 mod carry;
 mod change;
 mod closed;
 mod handle;
 mod held;
+mod hex;
 mod open;
 mod opened;
 mod opening;
@@ -14,10 +16,13 @@ mod pinned;
 mod reader;
 mod reading;
 mod refusal;
+mod replies;
+mod room;
 mod run;
 mod say;
 mod serving;
 mod session;
+mod setting;
 mod step;
 mod stop;
 mod text;

@@ -28,6 +28,18 @@ pub enum Refusal {
     ContainerFull,
     /// The field that decides the count lies in two sectors.
     Straddle,
+    /// Frames were written already.
+    FramesWritten,
+    /// The identifier is one that the container uses itself, or that has a command of its own.
+    ReservedChunk,
+    /// Files of the kind have no further chunks, or none of these.
+    NoChunks,
+    /// The body of a chunk has more than 65536 bytes.
+    ChunkTooLarge,
+    /// Updates are automatic.
+    AutoOn,
+    /// There is no such chunk.
+    NoSuchChunk,
     /// The line has the form of no command.
     BadCommand,
     /// The line has more than 4096 bytes.
@@ -40,6 +52,14 @@ pub enum Refusal {
     WrongMode,
     /// There is no file of this name.
     MissingFile,
+    /// The INFO list does not read.
+    BadInfo,
+    /// The cue points do not read.
+    BadCue,
+    /// The broadcast extension does not read.
+    BadBext,
+    /// The text exceeds its field.
+    TextTooLong,
     /// The file stays open, and is updated automatically, to the end of the script.
     Pinned,
     /// The command is not built yet.
@@ -61,12 +81,22 @@ impl Refusal {
             Refusal::TrailingData => 25,
             Refusal::ContainerFull => 26,
             Refusal::Straddle => 27,
+            Refusal::FramesWritten => 28,
+            Refusal::ReservedChunk => 29,
+            Refusal::NoChunks => 30,
+            Refusal::ChunkTooLarge => 31,
+            Refusal::AutoOn => 32,
+            Refusal::NoSuchChunk => 34,
             Refusal::BadCommand => 40,
             Refusal::LineTooLong => 41,
             Refusal::NotOpen => 42,
             Refusal::AlreadyOpen => 43,
             Refusal::WrongMode => 44,
             Refusal::MissingFile => 56,
+            Refusal::BadInfo => 61,
+            Refusal::BadCue => 62,
+            Refusal::BadBext => 63,
+            Refusal::TextTooLong => 64,
             Refusal::Pinned => 65,
             Refusal::NotBuilt => 99,
         }
@@ -86,12 +116,22 @@ impl Refusal {
             Refusal::TrailingData => "TrailingData",
             Refusal::ContainerFull => "ContainerFull",
             Refusal::Straddle => "Straddle",
+            Refusal::FramesWritten => "FramesWritten",
+            Refusal::ReservedChunk => "ReservedChunk",
+            Refusal::NoChunks => "NoChunks",
+            Refusal::ChunkTooLarge => "ChunkTooLarge",
+            Refusal::AutoOn => "AutoOn",
+            Refusal::NoSuchChunk => "NoSuchChunk",
             Refusal::BadCommand => "BadCommand",
             Refusal::LineTooLong => "LineTooLong",
             Refusal::NotOpen => "NotOpen",
             Refusal::AlreadyOpen => "AlreadyOpen",
             Refusal::WrongMode => "WrongMode",
             Refusal::MissingFile => "MissingFile",
+            Refusal::BadInfo => "BadInfo",
+            Refusal::BadCue => "BadCue",
+            Refusal::BadBext => "BadBext",
+            Refusal::TextTooLong => "TextTooLong",
             Refusal::Pinned => "Pinned",
             Refusal::NotBuilt => "NotBuilt",
         }

@@ -1,9 +1,9 @@
 //! A run over a script, and what it does for one line.
 
 ghost use Rattle.std.specs.Prelude.{◌≡◌, ◌<◌, ◌≤◌, Bool, List, ℕ, false, None, OnOk};
-ghost use Rattle.snd_script.specs.Rules.{is_close};
+ghost use Rattle.snd_script.specs.Rules.{is_close, most_on};
 ghost use Rattle.snd_command.specs.Said.{line_said};
-ghost use Rattle.snd_script.specs.Handled.{handle_known, HandleAsks, HandleWrites, LeavesHandle};
+ghost use Rattle.snd_script.specs.Handled.{handle_known, mode_of, HandleAsks, HandleWrites, LeavesHandle};
 ghost use Rattle.snd_script.specs.Replies.{refuses};
 ghost use Rattle.snd_script.specs.Script.{asked_by, written_by};
 ghost use Rattle.snd_script.specs.Trail.{StepMoves};
@@ -72,8 +72,8 @@ impl Run {
         ensures counted { CountsLine D.state O.faults result handle.old out.old handle.new out.new }
         ensures leaves { LeavesHandle D.state D.may_leave D.left_between handle.old handle.new }
         ensures moves { StepMoves D.Disk (line_said said.entry) result handle.old handle.new }
-        ensures asked { HandleAsks D.state (asked_by (line_said said.entry)) handle.old handle.new }
-        ensures written { HandleWrites D.state (written_by (line_said said.entry)) handle.old handle.new }
+        ensures asked { HandleAsks D.state (most_on (mode_of handle.old) asked_by (line_said said.entry)) handle.old handle.new }
+        ensures written { HandleWrites D.state (most_on (mode_of handle.old) written_by (line_said said.entry)) handle.old handle.new }
     {
         match self.session.carry_out(handle, said, out) {
             Ok(Reply::Ok) => Ok(()),

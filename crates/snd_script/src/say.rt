@@ -24,6 +24,17 @@ pub fn say_ok<O: Sink>(out: &mut O, number: u64) -> Result<Reply, StepFault>
     }
 }
 
+/// Says a text.
+pub fn say_text<O: Sink>(out: &mut O, text: &[u8]) -> Result<Reply, StepFault>
+    ensures said { Says O.told (says text.now) result out.old out.new }
+    ensures sent { IsSent result (O.faults out.old) (O.faults out.new) }
+{
+    match out.put(text) {
+        Ok(()) => Ok(Reply::Ok),
+        Err(_) => Err(StepFault::Out),
+    }
+}
+
 /// Says what is known of a file.
 pub fn say_file<O: Sink>(
     out: &mut O,

@@ -11,8 +11,8 @@ ghost use Rattle.snd_script.specs.Work.{ClosesAs};
 ghost use Rattle.snd_disk.specs.Device.{WritesAtMost};
 
 use crate::handle::{Handle, Reply, StepFault};
-use crate::step::{step_read, step_update, step_write};
-use crate::text::PAGE_BYTES;
+use crate::room::Room;
+use crate::step::{step_made, step_read, step_update};
 use crate::work::work_of;
 use arrayvec::ArrayVec;
 use snd_command::{Command, LineCommand};
@@ -23,8 +23,7 @@ use std::alloc::{AllocError, Global};
 /// What is used again from command to command: room for samples, and for the text of a reply.
 #[derive(Drop)]
 pub struct Session {
-    samples: Vec<i32>,
-    page: ArrayVec<u8, PAGE_BYTES>,
+    room: Room,
 }
 
 impl Session {
@@ -33,8 +32,11 @@ impl Session {
         ensures { IsOk result }
     {
         Ok(Session {
-            samples: Vec::new(alloc),
-            page: ArrayVec::new(),
+            room: Room {
+                alloc,
+                samples: Vec::new(alloc),
+                page: ArrayVec::new(),
+            },
         })
     }
 
@@ -44,16 +46,17 @@ impl Session {
     ///
     /// `Disk` where a call of the disk failed: then nothing was appended, and the handle is broken.
     /// `Out` where the sink failed: then the command was carried out or refused, and a front of its reply
-    /// was appended. `Memory` where there was none for the samples of a read, which takes it before it
-    /// reads: then all is as before. Other commands take none.
+    /// was appended. `Memory` where there was none for the samples of a read, for the text of a `get`, or
+    /// for a chunk that is set: then nothing was appended, and all is as before. Other commands take none.
     ///
     /// Where updates are automatic and the file is at rest, a crash at any moment leaves a file that opens,
     /// with as many frames as before or as the command leads to, and with every frame that the command does
     /// not write. Unless the disk fails, the file is then at rest again.
     ///
     /// A read asks at most 1024 bytes of the disk for each frame that is wanted, and 16384 more. A write of
-    /// v numbers writes at most `4 v + 72` bytes, `trim` 80, and `truncate`, `update` and `auto` 72. Other
-    /// commands ask and write nothing.
+    /// v numbers writes at most `4 v + 72` bytes, `trim` 80, and `truncate`, `update` and `auto` 72. A `get`
+    /// asks at most 81920; a `set` writes at most 16777216 and asks at most so many. Other commands ask and
+    /// write nothing.
     pub fn step<'d, D: Disk, O: Sink>(
         &mut self,
         handle: &mut Handle<'d, D>,
@@ -91,9 +94,9 @@ impl Session {
     {
         let work = work_of(said);
         match handle {
-            Handle::R(file) => step_read(file, work, &mut self.samples, &mut self.page, out),
-            Handle::W(file) => step_write(file, work, out),
-            Handle::U(file) => step_update(file, work, &mut self.samples, &mut self.page, out),
+            Handle::R(file) => step_read(file, work, &mut self.room, out),
+            Handle::W(file) => step_made(file, work, self.room.alloc, out),
+            Handle::U(file) => step_update(file, work, &mut self.room, out),
         }
     }
 

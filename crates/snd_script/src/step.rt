@@ -3,24 +3,25 @@
 ghost use Rattle.std.specs.Prelude.{◌≡◌, None, false};
 ghost use Rattle.snd_modes.specs.Handle.{known_of};
 ghost use Rattle.snd_script.specs.Desk.{reading, updating, writing};
-ghost use Rattle.snd_script.specs.Work.{FollowsWork, work_closes};
+ghost use Rattle.snd_script.specs.Work.{FollowsWork, work_closes, work_sets};
 
+use crate::asking::ask;
 use crate::carry::{read, refuse_on, seek_both, seek_read, seek_write, tell};
 use crate::change::{bring_up, set_auto, trim, truncate, write};
 use crate::handle::{Reply, StepFault};
 use crate::refusal::Refusal;
-use crate::text::PAGE_BYTES;
+use crate::room::Room;
+use crate::setting::set;
 use crate::work::Work;
-use arrayvec::ArrayVec;
 use snd_disk::{Disk, Sink};
-use snd_modes::{CanShrink, File, Read, Update};
+use snd_modes::{CanShrink, File, Read, Update, Write};
+use std::alloc::Global;
 
 /// On a file that is read.
 pub fn step_read<'d, D: Disk, O: Sink>(
     file: &mut File<'d, D, Read>,
     work: Work<'_>,
-    samples: &mut Vec<i32>,
-    page: &mut ArrayVec<u8, PAGE_BYTES>,
+    room: &mut Room,
     out: &mut O,
 ) -> Result<Reply, StepFault>
     requires working { (known_of file.old).broken ≡ None }
@@ -30,8 +31,10 @@ pub fn step_read<'d, D: Disk, O: Sink>(
     match work {
         Work::Tell => tell(file, out),
         Work::SeekRead(to) | Work::SeekBoth(to) => seek_read(file, to, out),
-        Work::Read(count) => read(file, samples, page, count, out),
-        Work::SeekWrite(_)
+        Work::Read(count) => read(file, room, count, out),
+        Work::Ask(asking) => ask(file, room.alloc, asking, out),
+        Work::Set(_)
+        | Work::SeekWrite(_)
         | Work::Write(_)
         | Work::Truncate(_)
         | Work::Trim
@@ -45,14 +48,34 @@ pub fn step_read<'d, D: Disk, O: Sink>(
     }
 }
 
-/// On a file that was made; on one that is updated, what is done there alike.
-pub fn step_write<'d, D: Disk, M: CanShrink, O: Sink>(
-    file: &mut File<'d, D, M>,
+/// On a file that was made.
+#[tactic(auto, using(crate::proofs::Sets::sets_nothing))]
+pub fn step_made<'d, D: Disk, O: Sink>(
+    file: &mut File<'d, D, Write>,
     work: Work<'_>,
+    alloc: Global,
     out: &mut O,
 ) -> Result<Reply, StepFault>
     requires working { (known_of file.old).broken ≡ None }
     requires stays { work_closes work ≡ false }
+    ensures { FollowsWork D.Disk O.Sink writing work.entry result file.old out.old file.new out.new }
+{
+    match work {
+        Work::Set(setting) => set(file, alloc, setting, out),
+        other => step_write(file, other, alloc, out),
+    }
+}
+
+// What is done alike on a file that was made and on one that is updated.
+fn step_write<'d, D: Disk, M: CanShrink, O: Sink>(
+    file: &mut File<'d, D, M>,
+    work: Work<'_>,
+    alloc: Global,
+    out: &mut O,
+) -> Result<Reply, StepFault>
+    requires working { (known_of file.old).broken ≡ None }
+    requires stays { work_closes work ≡ false }
+    requires head { work_sets work ≡ false }
     ensures { FollowsWork D.Disk O.Sink writing work.entry result file.old out.old file.new out.new }
 {
     match work {
@@ -63,21 +86,22 @@ pub fn step_write<'d, D: Disk, M: CanShrink, O: Sink>(
         Work::Trim => trim(file, out),
         Work::BringUp => bring_up(file, out),
         Work::Auto(on) => set_auto(file, on, out),
+        Work::Ask(asking) => ask(file, alloc, asking, out),
         Work::SeekRead(_) | Work::Read(_) => refuse_on(file, Refusal::WrongMode, out),
         Work::Open(_) | Work::Update(_) | Work::Make(..) => {
             refuse_on(file, Refusal::AlreadyOpen, out)
         }
         Work::NotBuilt => refuse_on(file, Refusal::NotBuilt, out),
-        Work::Close => unreachable!(),
+        Work::Close | Work::Set(_) => unreachable!(),
     }
 }
 
 /// On a file that is read and updated.
+#[tactic(auto, using(crate::proofs::Sets::sets_nothing))]
 pub fn step_update<'d, D: Disk, O: Sink>(
     file: &mut File<'d, D, Update>,
     work: Work<'_>,
-    samples: &mut Vec<i32>,
-    page: &mut ArrayVec<u8, PAGE_BYTES>,
+    room: &mut Room,
     out: &mut O,
 ) -> Result<Reply, StepFault>
     requires working { (known_of file.old).broken ≡ None }
@@ -87,7 +111,8 @@ pub fn step_update<'d, D: Disk, O: Sink>(
     match work {
         Work::SeekRead(to) => seek_read(file, to, out),
         Work::SeekBoth(to) => seek_both(file, to, out),
-        Work::Read(count) => read(file, samples, page, count, out),
-        other => step_write(file, other, out),
+        Work::Read(count) => read(file, room, count, out),
+        Work::Set(_) => refuse_on(file, Refusal::WrongMode, out),
+        other => step_write(file, other, room.alloc, out),
     }
 }

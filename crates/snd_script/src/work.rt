@@ -3,11 +3,41 @@
 ghost use Rattle.std.specs.Prelude.{◌≡◌, ◌&&◌, is_some};
 ghost use Rattle.snd_command.specs.Said.{Said, line_said};
 ghost use Rattle.snd_script.specs.Rules.{fixed_word};
-ghost use Rattle.snd_script.specs.Work.{WorksFor, WritesFor};
+ghost use Rattle.snd_script.specs.Work.{SetsFor, WorksFor, WritesFor};
 
 use arrayvec::ArrayVec;
-use snd_command::{CodecWord, LineCommand, MOST_SAMPLES};
+use snd_command::{CodecWord, LineCommand, MOST_CUES, MOST_SAMPLES};
+use snd_fields::Id4;
 use snd_layout::{Codec, Kind};
+use snd_meta::{BextKey, InfoKey};
+
+/// What is set in a file that is made.
+#[derive(Clone, Copy, Debug, PartialEq, Eq)]
+pub enum Setting<'a> {
+    /// A further chunk, with its body in hexadecimal digits.
+    Chunk(Id4, &'a [u8]),
+    /// A text of the INFO list.
+    Text(InfoKey, &'a [u8]),
+    /// A field of the broadcast extension.
+    Field(BextKey, &'a [u8]),
+    /// The cue points, a frame each.
+    Points(&'a ArrayVec<u32, MOST_CUES>),
+}
+
+/// What is asked of the chunks of a file.
+#[derive(Clone, Copy, Debug, PartialEq, Eq)]
+pub enum Asking {
+    /// The body of the first chunk with an identifier.
+    Chunk(Id4),
+    /// Which chunks there are.
+    Chunks,
+    /// The texts of the INFO list.
+    Texts,
+    /// The broadcast extension.
+    Broadcast,
+    /// The cue points.
+    Points,
+}
 
 /// What is done for a command.
 #[derive(Clone, Copy, Debug, PartialEq, Eq)]
@@ -40,6 +70,10 @@ pub enum Work<'a> {
     BringUp,
     /// Each write does that from now on, or none.
     Auto(bool),
+    /// Something is set in the head.
+    Set(Setting<'a>),
+    /// What chunks say is put.
+    Ask(Asking),
     /// The command is not built yet.
     NotBuilt,
 }
@@ -84,12 +118,22 @@ fn write_of(samples: &ArrayVec<i32, MOST_SAMPLES>) -> Work<'_>
     Work::Write(samples)
 }
 
+// What is done to set these cue points.
+fn points_of(places: &ArrayVec<u32, MOST_CUES>) -> Work<'_>
+    ensures { SetsFor result places.now.items }
+{
+    Work::Set(Setting::Points(places))
+}
+
 /// What is done for a command, with a file open or with none.
 pub fn work_of<'a>(said: LineCommand<'a, 'a>) -> Work<'a>
     ensures { WorksFor (line_said said.entry) result }
 {
     if let LineCommand::Write(samples) = said {
         return write_of(samples);
+    }
+    if let LineCommand::SetCue(places) = said {
+        return points_of(places);
     }
     match said {
         LineCommand::OpenRead { name } => Work::Open(name),
@@ -112,16 +156,15 @@ pub fn work_of<'a>(said: LineCommand<'a, 'a>) -> Work<'a>
         LineCommand::Trim => Work::Trim,
         LineCommand::Update => Work::BringUp,
         LineCommand::Auto(on) => Work::Auto(on),
-        LineCommand::SetChunk { .. }
-        | LineCommand::SetString { .. }
-        | LineCommand::SetBext { .. }
-        | LineCommand::SetCue(_)
-        | LineCommand::GetChunk(_)
-        | LineCommand::GetChunks
-        | LineCommand::GetStrings
-        | LineCommand::GetBext
-        | LineCommand::GetCues
-        | LineCommand::Tap(_)
-        | LineCommand::Untap(_) => Work::NotBuilt,
+        LineCommand::SetChunk { id, hex } => Work::Set(Setting::Chunk(id, hex)),
+        LineCommand::SetString { key, text } => Work::Set(Setting::Text(key, text)),
+        LineCommand::SetBext { key, text } => Work::Set(Setting::Field(key, text)),
+        LineCommand::SetCue(_) => unreachable!(),
+        LineCommand::GetChunk(id) => Work::Ask(Asking::Chunk(id)),
+        LineCommand::GetChunks => Work::Ask(Asking::Chunks),
+        LineCommand::GetStrings => Work::Ask(Asking::Texts),
+        LineCommand::GetBext => Work::Ask(Asking::Broadcast),
+        LineCommand::GetCues => Work::Ask(Asking::Points),
+        LineCommand::Tap(_) | LineCommand::Untap(_) => Work::NotBuilt,
     }
 }

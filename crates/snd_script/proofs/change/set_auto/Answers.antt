@@ -3,7 +3,8 @@ use Rattle.snd_layout.specs.Shape.{Shape}
 use Rattle.snd_modes.specs.Handle.{known_of}
 use Rattle.snd_script.specs.Replies.{ok_line, says}
 use Rattle.snd_script.specs.Rules.{auto_rule}
-use Rattle.snd_script.proofs.Followed.{carried_out, failed}
+use Rattle.snd_script.specs.declared.refusal.Refusal.TheVariants.{Straddle}
+use Rattle.snd_script.proofs.Followed.{carried_out, failed, refused_on}
 use Rattle.snd_script.proofs.Refused.{auto_free}
 use Rattle.snd_script.proofs.change.set_auto.Goals as goal
 
@@ -22,3 +23,9 @@ returns-in-Err-DiskFault g c =
     let leaves = rw c.in-Err-DiskFault.field-0-is at c.in-Err-DiskFault.ensures.leaves in
     failed g.D.Disk g.O.Sink (auto_rule c.args.on) c.args.file.now c.args.out.now c.set_auto.new.self
     c.set_auto.ensures.loan (auto_free c.args.on h.shape left.1) refl (search rules) (search rules) (search rules) (search rules) (λ on. leaves) (search rules) (search rules)
+
+pub returns-in-Err-Straddle : goal.returns-in-Err-Straddle
+returns-in-Err-Straddle g c =
+    let left = rw c.in-Err-Straddle.field-0-is at c.in-Err-Straddle.ensures.left in
+    refused_on g.D.Disk g.O.Sink (auto_rule c.args.on) c.refuse.result c.args.file.now c.args.out.now c.set_auto.new.self c.refuse.new.out Straddle
+    c.set_auto.ensures.loan (search rules) c.refuse.ensures.sent c.refuse.ensures.said (search rules) (search rules)

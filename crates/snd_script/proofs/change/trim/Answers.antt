@@ -3,7 +3,8 @@ use Rattle.snd_layout.specs.Shape.{Shape}
 use Rattle.snd_modes.specs.Handle.{known_of}
 use Rattle.snd_script.specs.Replies.{ok_line, says}
 use Rattle.snd_script.specs.Rules.{trim_rule}
-use Rattle.snd_script.proofs.Followed.{carried_out, failed}
+use Rattle.snd_script.specs.declared.refusal.Refusal.TheVariants.{TrailingData}
+use Rattle.snd_script.proofs.Followed.{carried_out, failed, refused_on}
 use Rattle.snd_script.proofs.Refused.{trim_free}
 use Rattle.snd_script.proofs.change.trim.Goals as goal
 
@@ -23,3 +24,9 @@ returns-in-Err-DiskFault g c =
     let leaves = rw c.in-Err-DiskFault.field-0-is at c.in-Err-DiskFault.ensures.leaves in
     failed g.D.Disk g.O.Sink trim_rule c.args.file.now c.args.out.now c.trim.new.self
     c.trim.ensures.loan (trim_free h left.0) refl (search rules) (search rules) (search rules) (search rules) (λ on. leaves) (search rules) (search rules)
+
+pub returns-in-Err-TrailingData : goal.returns-in-Err-TrailingData
+returns-in-Err-TrailingData g c =
+    let left = rw c.in-Err-TrailingData.field-0-is at c.in-Err-TrailingData.ensures.left in
+    refused_on g.D.Disk g.O.Sink trim_rule c.refuse.result c.args.file.now c.args.out.now c.trim.new.self c.refuse.new.out TrailingData
+    c.trim.ensures.loan (search rules) c.refuse.ensures.sent c.refuse.ensures.said (search rules) (search rules)

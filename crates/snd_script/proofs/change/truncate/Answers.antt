@@ -2,8 +2,9 @@ use Rattle.std.proofs.Common.{refl, rules}
 use Rattle.snd_modes.specs.Handle.{known_of}
 use Rattle.snd_script.specs.Replies.{ok_line}
 use Rattle.snd_script.specs.Rules.{truncate_rule}
-use Rattle.snd_script.proofs.Followed.{carried_out, failed}
-use Rattle.snd_script.proofs.Refused.{truncate_free}
+use Rattle.snd_script.specs.declared.refusal.Refusal.TheVariants.{SeekRange, TrailingData}
+use Rattle.snd_script.proofs.Followed.{carried_out, failed, refused_on}
+use Rattle.snd_script.proofs.Refused.{truncate_free, truncate_past, truncate_trailing}
 use Rattle.snd_script.proofs.change.truncate.Goals as goal
 
 pub returns-in-Ok : goal.returns-in-Ok
@@ -18,3 +19,15 @@ returns-in-Err-DiskFault g c =
     let leaves = rw c.in-Err-DiskFault.field-0-is at c.in-Err-DiskFault.ensures.leaves in
     failed g.D.Disk g.O.Sink (truncate_rule c.args.to) c.args.file.now c.args.out.now c.truncate.new.self
     c.truncate.ensures.loan (truncate_free c.args.to (known_of c.args.file.now) left.0) refl (search rules) (search rules) (search rules) (search rules) (λ on. leaves) (search rules) (search rules)
+
+pub returns-in-Err-SeekRange : goal.returns-in-Err-SeekRange
+returns-in-Err-SeekRange g c =
+    let left = rw c.in-Err-SeekRange.field-0-is at c.in-Err-SeekRange.ensures.left in
+    refused_on g.D.Disk g.O.Sink (truncate_rule c.args.to) c.refuse.result c.args.file.now c.args.out.now c.truncate.new.self c.refuse.new.out SeekRange
+    c.truncate.ensures.loan (truncate_past c.args.to (known_of c.args.file.now).shape (search rules)) c.refuse.ensures.sent c.refuse.ensures.said (search rules) (search rules)
+
+pub returns-in-Err-TrailingData : goal.returns-in-Err-TrailingData
+returns-in-Err-TrailingData g c =
+    let left = rw c.in-Err-TrailingData.field-0-is at c.in-Err-TrailingData.ensures.left in
+    refused_on g.D.Disk g.O.Sink (truncate_rule c.args.to) c.refuse-in-Err-TrailingData.result c.args.file.now c.args.out.now c.truncate.new.self c.refuse-in-Err-TrailingData.new.out TrailingData
+    c.truncate.ensures.loan (truncate_trailing c.args.to (known_of c.args.file.now).shape (search rules) (search rules)) c.refuse-in-Err-TrailingData.ensures.sent c.refuse-in-Err-TrailingData.ensures.said (search rules) (search rules)

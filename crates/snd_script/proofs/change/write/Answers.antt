@@ -3,9 +3,9 @@ use Rattle.snd_layout.specs.Shape.{Shape}
 use Rattle.snd_modes.specs.Handle.{known_of}
 use Rattle.snd_script.specs.Replies.{ok_line, says}
 use Rattle.snd_script.specs.Rules.{write_rule}
-use Rattle.snd_script.specs.declared.refusal.Refusal.TheVariants.{ContainerFull, SampleRange, TrailingData}
+use Rattle.snd_script.specs.declared.refusal.Refusal.TheVariants.{ContainerFull, PartFrame, SampleRange, TrailingData}
 use Rattle.snd_script.proofs.Followed.{carried_out, failed, refused_on}
-use Rattle.snd_script.proofs.Refused.{write_free, write_full, write_range, write_trailing}
+use Rattle.snd_script.proofs.Refused.{write_free, write_full, write_part, write_range, write_trailing}
 use Rattle.snd_script.proofs.WrittenBytes.{written_for_numbers}
 use Rattle.snd_script.proofs.change.write.Goals as goal
 
@@ -52,3 +52,9 @@ returns-in-Err-ContainerFull g c =
     let left = rw c.in-Err-ContainerFull.field-0-is at c.in-Err-ContainerFull.ensures.left in
     refused_on g.D.Disk g.O.Sink (write_rule xs) c.refuse-in-Err-ContainerFull.result c.args.file.now c.args.out.now c.write_frames.new.self c.refuse-in-Err-ContainerFull.new.out ContainerFull
     c.write_frames.ensures.loan (write_full xs h.shape h.write_place left.1.0 left.1.1 left.1.2 left.1.3) c.refuse-in-Err-ContainerFull.ensures.sent c.refuse-in-Err-ContainerFull.ensures.said left.2 (search rules)
+
+pub returns-in-Err-PartFrame : goal.returns-in-Err-PartFrame
+returns-in-Err-PartFrame g c =
+    let left = rw c.in-Err-PartFrame.field-0-is at c.in-Err-PartFrame.ensures.left in
+    refused_on g.D.Disk g.O.Sink (write_rule c.args.samples.now) c.refuse.result c.args.file.now c.args.out.now c.write_frames.new.self c.refuse.new.out PartFrame
+    c.write_frames.ensures.loan (write_part c.args.samples.now (known_of c.args.file.now).shape (known_of c.args.file.now).write_place left.1) c.refuse.ensures.sent c.refuse.ensures.said (search rules) (search rules)

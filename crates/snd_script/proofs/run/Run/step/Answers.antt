@@ -2,6 +2,7 @@ use Rattle.std.proofs.Common.{[], ◌∷◌}
 use Rattle.snd_command.specs.Said.{line_said}
 use Rattle.snd_script.specs.Edit.{edit_file, keep_open}
 use Rattle.snd_script.specs.Handled.{handle_known, mode_of, open_as}
+use Rattle.snd_script.proofs.Limits.{more, uses_most}
 use Rattle.snd_script.proofs.Stepping.{or_no_refusal, or_refusal, stands_lost, stands_open}
 use Rattle.snd_script.proofs.Wholes.{broken_after, whole_after}
 use Rattle.snd_script.proofs.run.Run.step.Goals as goal
@@ -30,13 +31,15 @@ returns-in-Err-Memory-clause-answered g c = λ name stays files e stands.
     (rw c.in-Err-Memory.field-0-is at c.in-Err-Memory.ensures.silent, stands_open g.D.Disk.state files name stays c.args.handle.now c.carry_out.new.handle _ _ c.carry_out.ensures.leaves.mode (rw c.in-Err-Memory.field-0-is at c.in-Err-Memory.ensures.stands e stands))
 
 pub returns-in-Ok-Ok-clause-whole : goal.returns-in-Ok-Ok-clause-whole
-returns-in-Ok-Ok-clause-whole g c = whole_after (mode_of c.args.handle.now) (line_said c.args.said) (handle_known c.args.handle.now) _ c.requires.whole c.in-Ok-Ok.ensures.knows.1
+returns-in-Ok-Ok-clause-whole g c = whole_after (mode_of c.args.handle.now) (line_said c.args.said) (handle_known c.args.handle.now) _ _ c.requires.whole c.in-Ok-Ok.ensures.knows
 
 pub returns-in-Ok-Refused-clause-whole : goal.returns-in-Ok-Refused-clause-whole
-returns-in-Ok-Refused-clause-whole g c = whole_after (mode_of c.args.handle.now) (line_said c.args.said) (handle_known c.args.handle.now) _ c.requires.whole c.in-Ok-Refused.ensures.knows.1
+returns-in-Ok-Refused-clause-whole g c = whole_after (mode_of c.args.handle.now) (line_said c.args.said) (handle_known c.args.handle.now) _ _ c.requires.whole c.in-Ok-Refused.ensures.knows
 
 pub returns-in-Err-Out-clause-whole : goal.returns-in-Err-Out-clause-whole
-returns-in-Err-Out-clause-whole g c = whole_after (mode_of c.args.handle.now) (line_said c.args.said) (handle_known c.args.handle.now) _ c.requires.whole (rw c.in-Err-Out.field-0-is at c.in-Err-Out.ensures.knows)
+returns-in-Err-Out-clause-whole g c =
+    let knows = rw c.in-Err-Out.field-0-is at c.in-Err-Out.ensures.knows in
+    whole_after (mode_of c.args.handle.now) (line_said c.args.said) (handle_known c.args.handle.now) _ knows.0 c.requires.whole knows.1
 
 pub returns-in-Err-Disk-clause-whole : goal.returns-in-Err-Disk-clause-whole
 returns-in-Err-Disk-clause-whole g c =
@@ -61,3 +64,33 @@ pub returns-in-Err-Memory-clause-moves : goal.returns-in-Err-Memory-clause-moves
 returns-in-Err-Memory-clause-moves g c = λ on opened e rest.
     let rests = rw c.in-Err-Memory.field-0-is at c.in-Err-Memory.ensures.rests in
     record { leaves = c.carry_out.ensures.safe on opened e rest; rests = rests on opened e rest }
+
+pub returns-in-Ok-Ok-clause-asked : goal.returns-in-Ok-Ok-clause-asked
+returns-in-Ok-Ok-clause-asked g c = more _ _ _ _ (uses_most (mode_of c.args.handle.now) (line_said c.args.said)).asks c.carry_out.ensures.asked
+
+pub returns-in-Ok-Ok-clause-written : goal.returns-in-Ok-Ok-clause-written
+returns-in-Ok-Ok-clause-written g c = more _ _ _ _ (uses_most (mode_of c.args.handle.now) (line_said c.args.said)).writes c.carry_out.ensures.written
+
+pub returns-in-Ok-Refused-clause-asked : goal.returns-in-Ok-Refused-clause-asked
+returns-in-Ok-Refused-clause-asked g c = more _ _ _ _ (uses_most (mode_of c.args.handle.now) (line_said c.args.said)).asks c.carry_out.ensures.asked
+
+pub returns-in-Ok-Refused-clause-written : goal.returns-in-Ok-Refused-clause-written
+returns-in-Ok-Refused-clause-written g c = more _ _ _ _ (uses_most (mode_of c.args.handle.now) (line_said c.args.said)).writes c.carry_out.ensures.written
+
+pub returns-in-Err-Out-clause-asked : goal.returns-in-Err-Out-clause-asked
+returns-in-Err-Out-clause-asked g c = more _ _ _ _ (uses_most (mode_of c.args.handle.now) (line_said c.args.said)).asks c.carry_out.ensures.asked
+
+pub returns-in-Err-Out-clause-written : goal.returns-in-Err-Out-clause-written
+returns-in-Err-Out-clause-written g c = more _ _ _ _ (uses_most (mode_of c.args.handle.now) (line_said c.args.said)).writes c.carry_out.ensures.written
+
+pub returns-in-Err-Disk-clause-asked : goal.returns-in-Err-Disk-clause-asked
+returns-in-Err-Disk-clause-asked g c = more _ _ _ _ (uses_most (mode_of c.args.handle.now) (line_said c.args.said)).asks c.carry_out.ensures.asked
+
+pub returns-in-Err-Disk-clause-written : goal.returns-in-Err-Disk-clause-written
+returns-in-Err-Disk-clause-written g c = more _ _ _ _ (uses_most (mode_of c.args.handle.now) (line_said c.args.said)).writes c.carry_out.ensures.written
+
+pub returns-in-Err-Memory-clause-asked : goal.returns-in-Err-Memory-clause-asked
+returns-in-Err-Memory-clause-asked g c = more _ _ _ _ (uses_most (mode_of c.args.handle.now) (line_said c.args.said)).asks c.carry_out.ensures.asked
+
+pub returns-in-Err-Memory-clause-written : goal.returns-in-Err-Memory-clause-written
+returns-in-Err-Memory-clause-written g c = more _ _ _ _ (uses_most (mode_of c.args.handle.now) (line_said c.args.said)).writes c.carry_out.ensures.written

@@ -4,7 +4,8 @@ use Rattle.snd_script.specs.Desk.{reading, updating, writing}
 use Rattle.snd_script.specs.Stepped.{changes_by}
 use Rattle.snd_script.specs.Work.{work_rule}
 use Rattle.snd_script.specs.declared.work.Work.{Work}
-use Rattle.snd_script.specs.declared.work.Work.TheVariants.{Open, Update, Make, Close, Tell, SeekRead, SeekWrite, SeekBoth, Read, Write, Truncate, Trim, BringUp, Auto, NotBuilt}
+use Rattle.snd_script.specs.declared.work.Work.TheVariants.{Open, Update, Make, Close, Tell, SeekRead, SeekWrite, SeekBoth, Read, Write, Truncate, Trim, BringUp, Auto, Set, Ask, NotBuilt}
+use Rattle.snd_script.specs.declared.work.Asking.TheVariants as asking
 use Rattle.snd_script.proofs.Resting.{works_safely, works_to_rest}
 use Rattle.snd_script.proofs.session.Session.carry_out.Goals as goal
 
@@ -24,6 +25,12 @@ only_read (Truncate n) h = refl
 only_read Trim h = refl
 only_read BringUp h = refl
 only_read (Auto on) h = refl
+only_read (Set setting) h = refl
+only_read (Ask (asking.Chunk id)) h = refl
+only_read (Ask asking.Chunks) h = refl
+only_read (Ask asking.Texts) h = refl
+only_read (Ask asking.Broadcast) h = refl
+only_read (Ask asking.Points) h = refl
 only_read NotBuilt h = refl
 
 pub returns-in-R : goal.returns-in-R
@@ -54,9 +61,9 @@ returns-in-R g c =
 
 pub returns-in-W : goal.returns-in-W
 returns-in-W g c =
-    let follows = rw (← c.work_of-work.ensures.rule writing c.requires.step) at c.step_write.ensures in
-    let safe = rw (← c.work_of-work.ensures.rule writing c.requires.step) at (works_safely g.D.Disk g.O.Sink writing c.work_of-work.result c.step_write.result c.in-W.file c.args.out.now c.step_write.new.file c.step_write.new.out g.met.D.Disk.only_now c.step_write.ensures) in
-    let rests = rw (← c.work_of-work.ensures.rule writing c.requires.step) at (works_to_rest g.D.Disk g.O.Sink writing c.work_of-work.result c.step_write.result c.in-W.file c.args.out.now c.step_write.new.file c.step_write.new.out g.met.D.Disk.only_now c.step_write.ensures) in
+    let follows = rw (← c.work_of-work.ensures.rule writing c.requires.step) at c.step_made.ensures in
+    let safe = rw (← c.work_of-work.ensures.rule writing c.requires.step) at (works_safely g.D.Disk g.O.Sink writing c.work_of-work.result c.step_made.result c.in-W.file c.args.out.now c.step_made.new.file c.step_made.new.out g.met.D.Disk.only_now c.step_made.ensures) in
+    let rests = rw (← c.work_of-work.ensures.rule writing c.requires.step) at (works_to_rest g.D.Disk g.O.Sink writing c.work_of-work.result c.step_made.result c.in-W.file c.args.out.now c.step_made.new.file c.step_made.new.out g.met.D.Disk.only_now c.step_made.ensures) in
     rw c.in-W.is (record {
       stands = follows.stands;
       said = follows.said;
