@@ -11,7 +11,7 @@ use Rattle.snd_app.specs.Outcome.{found_in, found_of}
 
 -- the file's bytes are the disk's
 pub found_there : (old mid : ShelfState) (files : Files) (name : List ℕ) (disk : State) (found : Found) → Takes old mid name false disk → old.files ≡ Some files
-    → ((b : List ℕ) → disk.contents ≡ Some b → found ≡ found_of (layout_of b)) → found ≡ found_in (files name)
+    → ((b : List ℕ) → disk.contents ≡ Some b → found ≡ found_of b (layout_of b)) → found ≡ found_in (files name)
 found_there old mid files name disk found takes told is =
     let there = takes.there files told refl in
     let bytes : disk.contents ≡ Some there.0 = takes.contents files told ∙ ap (λ o. Some (unwrap_or o [])) there.1 in

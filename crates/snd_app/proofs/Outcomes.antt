@@ -36,12 +36,12 @@ put_err result status text old new out err shelf script other same (inr failed) 
 pub refused_is : (name : List ℕ) (found : Found) → is_refused found ≡ true → record { out = []; err = text_of name found; status = 1 } ≡ info name found
 refused_is name Missing is = refl
 refused_is name (Refused why) is = refl
-refused_is name (Sound layout) is = absurd (cc)
+refused_is name (Sound layout texts) is = absurd (cc)
 
 pub described_is : (name : List ℕ) (found : Found) → is_refused found ≡ false → record { out = text_of name found; err = []; status = 0 } ≡ info name found
 described_is name Missing is = absurd (cc)
 described_is name (Refused why) is = absurd (cc)
-described_is name (Sound layout) is = refl
+described_is name (Sound layout texts) is = refl
 
 module _ (result : ℕ) (old new : Faults) (out err : Told) (o : Outcome) where
   pub is_put_out : (text : List ℕ) → record { out = text; err = []; status = 0 } ≡ o → new.shelf ≡ old.shelf → new.script ≡ old.script → new.err ≡ old.err → err.after ≡ err.before → IsPut result 0 text old.out new.out out → IsOutcome result o old new out err

@@ -16,7 +16,7 @@ CountsStop old new (Err Memory) = new ≡ old
 abbrev pub IfOkFiles : {S T E : Type 0} → (S → ShelfState) → S → Result T E → (Files → T → Type 0) → Type 0
 IfOkFiles state shelf result P = IfOk result (λ value. (files : Files) → TellsFiles state shelf files → P files value)
 
--- at most 16384 bytes are asked of the disks, and none is written
+-- at most 98304 bytes are asked of the disks, and none is written
 pub record OnlyLooks (old new : ShelfState) : Type 0 where
-  pub asked : AtMost old.asked 16384 new.asked
+  pub asked : AtMost old.asked 98304 new.asked
   pub written : new.written ≡ old.written

@@ -7,6 +7,10 @@ use Rattle.snd_container.specs.Sound.{layout_of}
 use Rattle.snd_disk.specs.Shelf.{Files}
 use Rattle.snd_layout.specs.Shape.{Shape}
 use Rattle.snd_layout.specs.declared.refusal.OpenRefusal.{OpenRefusal}
+use Rattle.snd_meta.specs.Info.{Entry}
+use Rattle.snd_modes.specs.Heads.{holds_meta}
+use Rattle.snd_tags.specs.Found.{texts_of}
+use Rattle.snd_tags.specs.declared.error.TagError.{TagError}
 use Rattle.snd_script.specs.declared.refusal.Refusal.TheVariants.{MissingFile, Open}
 use Rattle.snd_script.specs.Desk.{closed_desk}
 use Rattle.snd_script.specs.Edit.{Edited}
@@ -14,7 +18,8 @@ use Rattle.snd_script.specs.Pinned.{run_steps, run_too_long}
 use Rattle.snd_script.specs.Script.{any_refused, last_desk, texts}
 use Rattle.snd_app.specs.declared.look.Found.{Found}
 use Rattle.snd_app.specs.declared.look.Found.TheVariants.{Missing, Refused, Sound}
-use Rattle.snd_app.specs.Text.{is_printed, refusal}
+use Rattle.snd_lines.specs.Lines.{is_printed}
+use Rattle.snd_app.specs.Text.{refusal}
 use Rattle.snd_app.specs.Info.{description}
 
 pub record Outcome : Type 0 where
@@ -29,23 +34,31 @@ is_name n = nat_le 1 (length n) && nat_le (length n) 255 && list_all is_printed 
 abbrev pub bad_words : Outcome
 bad_words = record { out = []; err = codes "snd: bad words\n"; status = 2 }
 
+-- the texts that are shown: those of the first INFO list of a WAVE or an RF64 file, where it reads and is not too large
+abbrev pub texts_or_none : Result (List Entry) TagError → List Entry
+texts_or_none (Ok texts) = texts
+texts_or_none (Err error) = []
+
+abbrev pub shown_texts : List ℕ → Shape → List Entry
+shown_texts b h = if holds_meta h.kind then texts_or_none (texts_of b h) else []
+
 -- what stands under a name
-abbrev pub found_of : Result Shape OpenRefusal → Found
-found_of (Err refusal) = Refused refusal
-found_of (Ok layout) = Sound layout
+abbrev pub found_of : List ℕ → Result Shape OpenRefusal → Found
+found_of b (Err refusal) = Refused refusal
+found_of b (Ok layout) = Sound layout (shown_texts b layout)
 
 abbrev pub found_in : Option (List ℕ) → Found
 found_in None = Missing
-found_in (Some bytes) = found_of (layout_of bytes)
+found_in (Some bytes) = found_of bytes (layout_of bytes)
 
 -- what is printed of it: a description on `out`, or on `err` why there is none
 abbrev pub text_of : List ℕ → Found → List ℕ
 text_of name Missing = refusal name MissingFile
 text_of name (Refused why) = refusal name (Open why)
-text_of name (Sound layout) = description name layout
+text_of name (Sound layout texts) = description name layout texts
 
 abbrev pub is_refused : Found → Bool
-is_refused (Sound layout) = false
+is_refused (Sound layout texts) = false
 is_refused found = true
 
 abbrev pub info : List ℕ → Found → Outcome

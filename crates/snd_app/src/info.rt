@@ -1,10 +1,11 @@
-ghost use Rattle.std.specs.Prelude.{◌≡◌, ◌*◌, ◌<◌, ◌≤◌, ◌^◌, ◌++◌, OnOk, IfOk, decimal};
-ghost use Rattle.std.specs.List.{flat_map};
-ghost use Rattle.snd_app.specs.Info.{chunk_line, clock, description, duration_line, shown};
-ghost use Rattle.snd_app.specs.Text.{line, refusal as message};
+ghost use Rattle.std.specs.Prelude.{◌≡◌, ◌*◌, ◌<◌, ◌≤◌, ◌^◌, ◌++◌, OnOk, IfOk};
+ghost use Rattle.snd_app.specs.Info.{clock, description, duration_line};
+ghost use Rattle.snd_app.specs.Text.{refusal as message};
 
-use crate::text::{is_printed, push_line, push_number, push_padded};
-use snd_layout::{Layout, Piece};
+use crate::text::push_padded;
+use snd_layout::Layout;
+use snd_lines::{push_chunks, push_line, push_number, push_number_line, push_texts};
+use snd_meta::InfoList;
 use snd_script::Refusal;
 use std::alloc::{AllocError, Global};
 
@@ -28,17 +29,6 @@ fn push_clock(text: &mut Vec<u8>, time: u128) -> Result<(), AllocError>
     push_padded(text, (time % SECOND) as u64, 3)
 }
 
-/// Appends a line of a key and a number.
-fn push_number_line(text: &mut Vec<u8>, key: &[u8], number: u64) -> Result<(), AllocError>
-    ensures { OnOk result (text.new.items ≡ text.old.items ++ line key.now (decimal number)) }
-{
-    text.extend_from_slice(key)?;
-    text.push(b' ')?;
-    push_number(text, number)?;
-    text.push(b'\n')?;
-    Ok(())
-}
-
 /// Appends the line on how long so many frames take.
 fn push_duration(text: &mut Vec<u8>, frames: u64, rate: u32) -> Result<(), AllocError>
     requires { 1 ≤ rate }
@@ -50,46 +40,14 @@ fn push_duration(text: &mut Vec<u8>, frames: u64, rate: u32) -> Result<(), Alloc
     Ok(())
 }
 
-/// A byte of an identifier as it is printed: `_` for a space, `?` for what is not printed.
-fn shown(c: u8) -> u8
-    ensures { result ≡ shown c }
-{
-    if c == b' ' {
-        b'_'
-    } else if is_printed(c) {
-        c
-    } else {
-        b'?'
-    }
-}
-
-/// Appends the line on a chunk.
-fn push_chunk(text: &mut Vec<u8>, piece: Piece) -> Result<(), AllocError>
-    ensures { OnOk result (text.new.items ≡ text.old.items ++ chunk_line piece) }
-{
-    let [first, second, third, fourth] = piece.id.0;
-    let id = [shown(first), shown(second), shown(third), shown(fourth)];
-    text.extend_from_slice(b"chunk ")?;
-    text.extend_from_slice(&id)?;
-    text.push(b' ')?;
-    push_number(text, piece.len)?;
-    text.push(b'\n')?;
-    Ok(())
-}
-
-/// Appends a line for each chunk, in the file's order.
-fn push_chunks(text: &mut Vec<u8>, pieces: &[Piece]) -> Result<(), AllocError>
-    ensures { OnOk result (text.new.items ≡ text.old.items ++ flat_map chunk_line pieces.now) }
-{
-    for piece in pieces {
-        push_chunk(text, *piece)?;
-    }
-    Ok(())
-}
-
-/// The lines that describe a file.
-pub fn describe(alloc: Global, name: &str, layout: &Layout) -> Result<Vec<u8>, AllocError>
-    ensures { IfOk result (λ text. text.items ≡ description name.now layout.now) }
+/// The lines that describe a file, and its texts.
+pub fn describe(
+    alloc: Global,
+    name: &str,
+    layout: &Layout,
+    texts: &InfoList,
+) -> Result<Vec<u8>, AllocError>
+    ensures { IfOk result (λ text. text.items ≡ description name.now layout.now texts.now) }
 {
     layout.params.are_good();
     let mut text = Vec::new(alloc);
@@ -100,7 +58,8 @@ pub fn describe(alloc: Global, name: &str, layout: &Layout) -> Result<Vec<u8>, A
     push_number_line(&mut text, b"rate", u64::from(layout.params.rate))?;
     push_number_line(&mut text, b"frames", layout.frames)?;
     push_duration(&mut text, layout.frames, layout.params.rate)?;
-    push_chunks(&mut text, layout.pieces.as_slice())?;
+    push_chunks(&mut text, b"chunk ", layout.pieces.as_slice())?;
+    push_texts(&mut text, b"string ", texts)?;
     Ok(text)
 }
 

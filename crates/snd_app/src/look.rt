@@ -5,12 +5,16 @@ ghost use Rattle.snd_disk.specs.Device.{AsksAtMost, IfOkTold, OnlyReadsOn};
 ghost use Rattle.snd_disk.specs.Shelf.{KeepsFiles};
 ghost use Rattle.snd_disk.specs.Shelves.{KeepsFileImages};
 ghost use Rattle.snd_container.specs.Sound.{layout_of};
+ghost use Rattle.snd_modes.specs.Heads.{holds_meta};
 ghost use Rattle.snd_app.specs.Look.{CountsStop, IfOkFiles, OnlyLooks};
-ghost use Rattle.snd_app.specs.Outcome.{found_in, found_of};
+ghost use Rattle.snd_app.specs.Outcome.{found_in, found_of, shown_texts};
 
 use snd_container::open_layout;
 use snd_disk::{Disk, Shelf, ShelfFault};
-use snd_layout::{Layout, OpenError, OpenRefusal};
+use snd_layout::{Kind, Layout, OpenError, OpenRefusal};
+use snd_meta::InfoList;
+use snd_modes::GetError;
+use snd_tags::{TagError, texts_on};
 use std::alloc::Global;
 
 /// Why a run stops before it has its answer.
@@ -28,7 +32,8 @@ pub enum Found {
     Missing,
     /// A file that has no layout, and why.
     Refused(OpenRefusal),
-    Sound(Layout),
+    /// A sound file, with the texts of its INFO list that are shown.
+    Sound(Layout, InfoList),
 }
 
 impl Found {
@@ -38,18 +43,50 @@ impl Found {
     pub fn is_refused(&self) -> bool
         ensures { result ≡ is_refused self.now }
     {
-        !matches!(self, Found::Sound(_))
+        !matches!(self, Found::Sound(..))
+    }
+}
+
+// Whether the texts of files of a kind are shown.
+fn shows_texts(kind: Kind) -> bool
+    ensures { result ≡ holds_meta kind }
+{
+    matches!(kind, Kind::Wave | Kind::Rf64)
+}
+
+// The texts of a file that are shown.
+fn shown_texts<D: Disk>(alloc: Global, disk: &mut D, layout: &Layout) -> Result<InfoList, Stop>
+    ensures shown { IfOkTold D.state disk.old result (λ b texts. texts ≡ shown_texts b layout.now) }
+    ensures faults { CountsStop (D.state disk.old).faults (D.state disk.new).faults result }
+    ensures reads { OnlyReadsOn D.state D.may_leave D.left_between disk.old disk.new }
+    ensures asked { AsksAtMost D.state 81920 disk.old disk.new }
+{
+    if !shows_texts(layout.kind) {
+        return Ok(InfoList::new(alloc));
+    }
+    match texts_on(alloc, disk, layout) {
+        Ok(texts) => Ok(texts),
+        Err(TagError::Get(GetError::Memory)) => Err(Stop::Memory),
+        Err(TagError::Get(GetError::DiskFault(_))) => Err(Stop::Fault),
+        Err(TagError::Get(GetError::Broken(_))) => unreachable!(),
+        Err(TagError::BadBody) => Ok(InfoList::new(alloc)),
+        Err(TagError::Get(GetError::NoSuchChunk | GetError::ChunkTooLarge)) => {
+            Ok(InfoList::new(alloc))
+        }
     }
 }
 
 fn found_on<D: Disk>(alloc: Global, disk: &mut D) -> Result<Found, Stop>
-    ensures found { IfOkTold D.state disk.old result (λ b found. found ≡ found_of (layout_of b)) }
+    ensures found { IfOkTold D.state disk.old result (λ b found. found ≡ found_of b (layout_of b)) }
     ensures faults { CountsStop (D.state disk.old).faults (D.state disk.new).faults result }
     ensures reads { OnlyReadsOn D.state D.may_leave D.left_between disk.old disk.new }
-    ensures asked { AsksAtMost D.state 16384 disk.old disk.new }
+    ensures asked { AsksAtMost D.state 98304 disk.old disk.new }
 {
     match open_layout(alloc, disk) {
-        Ok(layout) => Ok(Found::Sound(layout)),
+        Ok(layout) => {
+            let texts = shown_texts(alloc, disk, &layout)?;
+            Ok(Found::Sound(layout, texts))
+        }
         Err(OpenError::Refused(refusal)) => Ok(Found::Refused(refusal)),
         Err(OpenError::Memory) => Err(Stop::Memory),
         Err(_) => Err(Stop::Fault),

@@ -3,20 +3,20 @@
 ghost use Rattle.std.specs.Prelude.{◌≡◌, ◌≤◌, ◌+◌, [], ◌∷◌, IfOk, false, true};
 ghost use Rattle.std.specs.List.{list_all};
 ghost use Rattle.snd_disk.specs.Shelf.{KeepsFiles};
+ghost use Rattle.snd_lines.specs.Lines.{is_printed};
 ghost use Rattle.snd_script.specs.Served.{BoundsScript, KeepsUnnamed, LeavesScript, LeavesShelf};
 ghost use Rattle.snd_script.specs.PinnedRun.{named};
 ghost use Rattle.snd_script.specs.Trail.{TrailsScript};
 ghost use Rattle.snd_app.specs.Look.{OnlyLooks};
 ghost use Rattle.snd_app.specs.Outcome.{Asked, asked, bad_words, is_name, files_after, outcome, outcome_of_info, pinned_for, runs_script, text_of};
 ghost use Rattle.snd_app.specs.Run.{DescribesAs, DescribingFaultRises, EndsAs, FaultRises, IsAllIn, KeepsAllImages, PutsText, RunsAs, RunsScript, StopsAs};
-ghost use Rattle.snd_app.specs.Text.{is_printed};
 ghost use Rattle.snd_app.specs.Words.{asked_by};
 
 use crate::info::{describe, refuse};
 use crate::look::{Found, Stop, look};
-use crate::text::is_printed;
 use snd_disk::{Shelf, Sink, Source};
 use snd_fields::Words;
+use snd_lines::is_printed;
 use snd_script::{Refusal, ScriptEnd, serve};
 use std::alloc::{AllocError, Global};
 
@@ -104,7 +104,7 @@ fn text_for(alloc: Global, name: &str, found: &Found) -> Result<Vec<u8>, AllocEr
     match found {
         Found::Missing => refuse(alloc, name, Refusal::MissingFile),
         Found::Refused(refusal) => refuse(alloc, name, Refusal::Open(*refusal)),
-        Found::Sound(layout) => describe(alloc, name, layout),
+        Found::Sound(layout, texts) => describe(alloc, name, layout, texts),
     }
 }
 

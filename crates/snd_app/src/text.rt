@@ -1,15 +1,8 @@
-ghost use Rattle.std.specs.Prelude.{◌≡◌, ◌<◌, ◌++◌, OnOk, decimal};
-ghost use Rattle.snd_app.specs.Text.{is_printed, padded, line};
+ghost use Rattle.std.specs.Prelude.{◌≡◌, ◌<◌, ◌++◌, OnOk};
+ghost use Rattle.snd_app.specs.Text.{padded};
 
 use itoa::Buffer;
 use std::alloc::AllocError;
-
-/// Appends a number's decimal digits.
-pub fn push_number(text: &mut Vec<u8>, number: u64) -> Result<(), AllocError>
-    ensures { OnOk result (text.new.items ≡ text.old.items ++ decimal number) }
-{
-    text.extend_from_slice(Buffer::new().format(number).as_bytes())
-}
 
 /// Appends a number's decimal digits, with zeros before them up to a width.
 pub fn push_padded(text: &mut Vec<u8>, number: u64, width: usize) -> Result<(), AllocError>
@@ -21,22 +14,4 @@ pub fn push_padded(text: &mut Vec<u8>, number: u64, width: usize) -> Result<(), 
     let zeros = width.saturating_sub(digits.len());
     text.resize(text.len() + zeros, b'0')?;
     text.extend_from_slice(digits)
-}
-
-/// Appends a line of a key and its value.
-pub fn push_line(text: &mut Vec<u8>, key: &[u8], value: &[u8]) -> Result<(), AllocError>
-    ensures { OnOk result (text.new.items ≡ text.old.items ++ line key.now value.now) }
-{
-    text.extend_from_slice(key)?;
-    text.push(b' ')?;
-    text.extend_from_slice(value)?;
-    text.push(b'\n')?;
-    Ok(())
-}
-
-/// Whether a byte is printed and no space: from `!` to `~`.
-pub fn is_printed(c: u8) -> bool
-    ensures { result ≡ is_printed c }
-{
-    33 <= c && c <= 126
 }
