@@ -12,6 +12,8 @@ mod crash;
 mod kinds;
 mod memory;
 #[cfg(test)]
+mod metadata;
+#[cfg(test)]
 mod tests;
 #[cfg(test)]
 mod writing;

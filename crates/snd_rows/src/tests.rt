@@ -61,7 +61,7 @@ fn words_have_their_answers(rt: HostRuntime) -> Result<(), Fail> {
     let found = printed(rt.alloc(), &["info", "a.wav"], TITLED, b"")?;
     assert_eq!(rt;
         found.out.as_slice(),
-        b"name a.wav\nkind wave\ncodec pcm_16_le\nchannels 1\nrate 8000\nframes 2\nduration 00:00:00.000\nchunk LIST 14\n".as_slice()
+        b"name a.wav\nkind wave\ncodec pcm_16_le\nchannels 1\nrate 8000\nframes 2\nduration 00:00:00.000\nchunk LIST 14\nstring title A\n".as_slice()
     );
     assert_eq!(rt; found.status, 0);
     let found = printed(rt.alloc(), &["info", "no.wav"], PLAIN, b"")?;
@@ -194,7 +194,7 @@ static SCRIPTS: [(&str, &str, u8); 12] = [
     ),
     (
         "create au pcm_8 1 1 a\ncreate wave ima 1 8000 a\ntap peak\nget chunks\nseek w 0\n",
-        "error 40 BadCommand\nerror 99 NotBuilt\nerror 99 NotBuilt\nerror 99 NotBuilt\nerror 42 NotOpen\n",
+        "error 40 BadCommand\nerror 99 NotBuilt\nerror 99 NotBuilt\nerror 42 NotOpen\nerror 42 NotOpen\n",
         1,
     ),
     (

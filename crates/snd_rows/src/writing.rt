@@ -189,7 +189,7 @@ pub fn run_script(
     Ok(Left { status, out, disk })
 }
 
-fn has(rt: &impl Abort, left: &Left, bytes: &[u8]) {
+pub fn has(rt: &impl Abort, left: &Left, bytes: &[u8]) {
     match &left.disk {
         Some(disk) => assert_eq!(rt; disk.bytes(), bytes),
         None => assert!(rt; false),
