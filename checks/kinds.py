@@ -193,11 +193,29 @@ def whole_file(kind, codec, channels, rate, numbers):
 
 # ---- what a file says
 
-class Stated:
-    """What the head of a file says: its kind, codec, channels, rate, the bytes of its frames, and its further chunks."""
+TEXTS = {b"INAM": "title", b"ICOP": "copyright", b"ISFT": "software", b"IART": "artist", b"ICMT": "comment", b"ICRD": "date", b"IPRD": "album",
+         b"IGNR": "genre", b"ITRK": "track"}
 
-    def __init__(self, kind, codec, channels, rate, data, rest=()):
-        self.kind, self.codec, self.channels, self.rate, self.rest = kind, codec, channels, rate, list(rest)
+
+def info_texts(b, chunks):
+    """The lines of the texts of the first INFO list, in the order of the table; none where it does not read."""
+    body = next((b[at:at + many] for id, at, many in chunks if id == b"LIST" and b[at:at + min(many, 4)] == b"INFO"), b"")
+    at, found = 4, {}
+    while at + 8 <= len(body):
+        id, many = body[at:at + 4], struct.unpack_from("<I", body, at + 4)[0]
+        if at + 8 + many > len(body):
+            return []
+        found.setdefault(id, body[at + 8:at + 8 + many].split(b"\0")[0])
+        at += 8 + many + many % 2
+    shown = lambda text: "".join(chr(it) if 32 <= it <= 126 else "?" for it in text)
+    return [f"{key} {shown(found[id])}" for id, key in TEXTS.items() if id in found] if len(body) <= 65536 else []
+
+
+class Stated:
+    """What the head of a file says: its kind, codec, channels, rate, the bytes of its frames, its further chunks, and its texts."""
+
+    def __init__(self, kind, codec, channels, rate, data, rest=(), texts=()):
+        self.kind, self.codec, self.channels, self.rate, self.rest, self.texts = kind, codec, channels, rate, list(rest), list(texts)
         self.frames = len(data) // (channels * size(codec))
         self.data = data[:self.frames * channels * size(codec)]
 
@@ -206,7 +224,7 @@ class Stated:
         ms = self.frames * 1000 // self.rate
         shown = lambda id: "".join("_" if it == 32 else chr(it) if 33 <= it <= 126 else "?" for it in id)
         return [f"name {name}", f"kind {self.kind}", f"codec {self.codec}", f"channels {self.channels}", f"rate {self.rate}", f"frames {self.frames}",
-                f"duration {ms // 3600000:02}:{ms // 60000 % 60:02}:{ms // 1000 % 60:02}.{ms % 1000:03}", *(f"chunk {shown(id)} {many}" for id, many in self.rest)]
+                f"duration {ms // 3600000:02}:{ms // 60000 % 60:02}:{ms // 1000 % 60:02}.{ms % 1000:03}", *(f"chunk {shown(id)} {many}" for id, many in self.rest), *(f"string {line}" for line in self.texts)]
 
 
 def codec_of(body):
@@ -236,7 +254,7 @@ def stated_riff(b):
     chunks = riff_chunks(b, "<")
     bodies = {id: b[at:at + many] for id, at, many in reversed(chunks)}
     rest = [(id, many) for id, _, many in chunks if id not in (b"fmt ", b"data", b"fact", b"ds64", *FILLERS)]
-    return Stated("rf64" if b[:4] == b"RF64" else "wave", *codec_of(bodies[b"fmt "]), bodies[b"data"], rest)
+    return Stated("rf64" if b[:4] == b"RF64" else "wave", *codec_of(bodies[b"fmt "]), bodies[b"data"], rest, info_texts(b, chunks))
 
 
 def stated_svx(b):

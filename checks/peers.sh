@@ -65,8 +65,8 @@ def fmt_of(body):
 class Blocks(kinds.Stated):
     """What the head of a file of ADPCM blocks says."""
 
-    def __init__(self, kind, body, data, count, rest=()):
-        self.kind, self.rest, self.data = kind, list(rest), b""
+    def __init__(self, kind, body, data, count, rest=(), texts=()):
+        self.kind, self.rest, self.texts, self.data = kind, list(rest), list(texts), b""
         self.codec, self.channels, self.rate, align, each = fmt_of(body)
         self.frames = len(data) // align * each
         self.frames = self.frames if count is None else min(self.frames, count)
@@ -81,7 +81,7 @@ def stated(name):
         bodies = {id: b[at:at + many] for id, at, many in reversed(chunks)}
         if fmt_of(bodies[b"fmt "])[0] in NOT_READ:
             count = struct.unpack("<I", bodies[b"fact"])[0] if b"fact" in bodies else None
-            return Blocks("wave", bodies[b"fmt "], bodies[b"data"], count, [(id, many) for id, _, many in chunks if id not in (b"fmt ", b"data", b"fact")])
+            return Blocks("wave", bodies[b"fmt "], bodies[b"data"], count, [(id, many) for id, _, many in chunks if id not in (b"fmt ", b"data", b"fact")], kinds.info_texts(b, chunks))
     if b[:4] == b"riff":
         at, bodies = 40, {}
         while at + 24 <= len(b) and b"data" not in bodies:

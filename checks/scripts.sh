@@ -119,7 +119,7 @@ run("refusals, and nothing changes", ["write 1", "update", "close", "open u none
     "create wave pcm_16_le 1 0 n.wav", "create au pcm_u8 1 1 n.wav", "create wave ima 1 1 n.wav", "open r a.wav", "open u a.wav", "create wave pcm_u8 1 1 n.wav", "create wave ima 1 1 n.wav",
     "write 1 1", "truncate 1", "trim", "update", "auto on", "auto off", "seek w 0", "seek rw 2", "seek r 3", "set cue 1", "close"],
     ["error 42 NotOpen"] * 3 + ["error 56 MissingFile", "error 18 BadPair", "error 11 BadChannels", "error 11 BadChannels", "error 12 BadRate", "error 18 BadPair", "error 99 NotBuilt", opened]
-    + ["error 43 AlreadyOpen"] * 2 + ["error 99 NotBuilt"] + ["error 44 WrongMode"] * 7 + ["ok 2", "error 24 SeekRange", "error 99 NotBuilt", "ok 2"], 1, old, old)
+    + ["error 43 AlreadyOpen"] * 2 + ["error 99 NotBuilt"] + ["error 44 WrongMode"] * 7 + ["ok 2", "error 24 SeekRange", "error 44 WrongMode", "ok 2"], 1, old, old)
 run("a file that is made is not read", ["create wave pcm_u8 1 8000 n.wav", "write 1", "read 1", "seek r 0", "seek rw 0", "write 2", "truncate 9", "truncate 1"],
     [line_of("pcm_u8", 1, 8000, 0), "ok 1", "error 44 WrongMode", "error 44 WrongMode", "ok 0", "ok 1", "error 24 SeekRange", "ok 1"], 1, {"n.wav": made("pcm_u8", 1, 8000, [[2]])})
 run("made over a file that is there", ["create wave pcm_16_le 2 44100 a.wav"], [line_of("pcm_16_le", 2, 44100, 0)], 0, {**old, "a.wav": made("pcm_16_le", 2, 44100, [])}, old)
@@ -189,7 +189,7 @@ run("pinned: a frame is written over", ["write 5", "close"], [*begun, "ok 1", "e
 run("pinned: no line", [], begun, 0, small, small, PINNED)
 run("pinned: what is refused", ["open r b.wav", "open u a.wav", "open u none.wav", "create wave pcm_u8 1 8000 a.wav", "create wave pcm_u8 1 8000 n.wav", "close", "auto on", "auto off", "seek w 3",
     "truncate 3", "write 128", "write", "set cue 1", "# a remark", "", "info"],
-    [*begun, *["error 65 Pinned"] * 8, *["error 24 SeekRange"] * 2, "error 23 SampleRange", "error 40 BadCommand", "error 99 NotBuilt", begun[0]], 1, small, small, PINNED)
+    [*begun, *["error 65 Pinned"] * 8, *["error 24 SeekRange"] * 2, "error 23 SampleRange", "error 40 BadCommand", "error 44 WrongMode", begun[0]], 1, small, small, PINNED)
 run("pinned: every edit", ["read 9", "seek w 2", "write 3 4 5", "seek r 1", "read 9", "truncate 3", "trim", "update", "write -1", "info"],
     [*begun, "ok 2", "1", "2", "ok 2", "ok 3", "ok 1", "ok 4", "2", "3", "4", "5", "ok 3", "ok 3", "ok 3", "ok 1", line_of("pcm_u8", 1, 8000, 4)], 0,
     {**small, "a.wav": made("pcm_u8", 1, 8000, [[1], [2], [3], [-1]])}, small, PINNED)
