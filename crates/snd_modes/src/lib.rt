@@ -33,6 +33,6 @@ pub use error::{
 pub use handle::File;
 pub use making::create;
 pub use mode::{CanRead, CanShrink, CanWrite, Mode, Read, Update, Write};
-pub use open::open_read;
+pub use open::{open_laid, open_read};
 pub use updating::open_update;
 pub use wanted::may_be_piece;

@@ -2,6 +2,7 @@
 
 ghost use Rattle.std.specs.Prelude.{◌≡◌, Err, IfOk};
 ghost use Rattle.snd_disk.specs.Device.{GoesOnFrom, WritesAtMost};
+ghost use Rattle.snd_container.specs.Made.{new_shape};
 ghost use Rattle.snd_layout.specs.Opened.{CountsOpening};
 ghost use Rattle.snd_layout.specs.declared.refusal.OpenRefusal.{OpenRefusal};
 ghost use Rattle.snd_modes.specs.Handle.{IsFresh, known_of};
@@ -33,6 +34,7 @@ pub fn create<'d, D: Disk>(
     ensures made { MakesFile D.state kind params disk.old (answer_of result) }
     ensures untouched { (refusal : OpenRefusal) → making_of kind params ≡ Err refusal → disk_after result ≡ disk.old }
     ensures fresh { IfOk result (λ f. IsFresh (known_of f)) }
+    ensures shape { IfOk result (λ f. (known_of f).shape ≡ new_shape kind params) }
     ensures faults { CountsOpening D.state disk.old (disk_after result) (answer_of result) }
     ensures tells { StillTells (D.state disk.old) (D.state (disk_after result)) }
     ensures time { GoesOnFrom D.state D.left_between disk.old (disk_after result) }

@@ -35,6 +35,7 @@ pub(crate) fn at_first_frame<'d, D: Disk, M: Mode>(
     ensures lends { loan_of result ≡ disk.entry.ghost_name }
     ensures same_disk { disk_of result ≡ disk.old }
     ensures fresh { IsFresh (known_of result) }
+    ensures shape { (known_of result).shape ≡ layout }
     ensures stands { (b : List ℕ) → Tells D.state disk.old b → Stands D.state result (first_editing b layout) }
 {
     keeps_rules(&layout);
@@ -49,6 +50,22 @@ pub(crate) fn at_first_frame<'d, D: Disk, M: Mode>(
         block: [0; BLOCK_BYTES],
         mode: PhantomData,
     }
+}
+
+/// Opens a file whose layout is known already, to be read, at its first frame: one that `open_layout` gave of
+/// this disk, which has not changed since. The disk is not touched.
+pub fn open_laid<'d, D: Disk>(disk: &'d mut D, layout: Layout) -> File<'d, D, Read>
+    requires held { end layout layout.frames ≤ (D.state disk.old).size }
+    requires linear { is_none (fixed_of layout.params.codec) ≡ false }
+    requires room_ends { layout.start + room layout + 8 ≤ 2 ^ 63 }
+    requires pieces_held { All (EndsIn (D.state disk.old).size) layout.pieces }
+    ensures lends { loan_of result ≡ disk.entry.ghost_name }
+    ensures same_disk { disk_of result ≡ disk.old }
+    ensures fresh { IsFresh (known_of result) }
+    ensures shape { (known_of result).shape ≡ layout }
+    ensures stands { (b : List ℕ) → Tells D.state disk.old b → Stands D.state result (first_editing b layout) }
+{
+    at_first_frame(disk, layout)
 }
 
 /// Opens a sound file to be read, at its first frame. It asks at most 16384 bytes of the disk and never
