@@ -1,0 +1,4 @@
+pub mod Coupled
+pub mod Repeated
+pub mod Runs
+pub mod Together

@@ -1,0 +1,25 @@
+-- What the words of a command line can ask for.
+use Rattle.std.specs.Prelude.{ℕ, List, Option}
+use Rattle.snd_fields.specs.declared.field.Order.{Order}
+use Rattle.snd_words.specs.declared.convert.CodecChoice.{CodecChoice}
+use Rattle.snd_words.specs.Stated.{Stated}
+
+-- what `convert` is to do
+pub record Converting : Type 0 where
+  pub rate : Option ℕ
+  pub order : Option Order
+  pub codec : Option CodecChoice
+  pub input : List ℕ
+  pub output : List ℕ
+
+pub data Asked : Type 0 where
+  info_of : List (List ℕ) → Asked
+  script : Option (List ℕ) → Asked
+  help : Asked
+  version : Asked
+  convert : Converting → Asked
+  concat : List (List ℕ) → List ℕ → Asked
+  interleave : List (List ℕ) → List ℕ → Asked
+  gen : ℕ → ℕ → List ℕ → Asked
+  set_metadata : List Stated → List ℕ → List ℕ → Asked
+  nothing : Asked

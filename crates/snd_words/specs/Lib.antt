@@ -1,0 +1,14 @@
+pub mod Asked
+pub mod Convert
+pub mod Gather
+pub mod Generate
+pub mod Grammar
+pub mod Metadata
+pub mod Names
+pub mod Options
+pub mod Plain
+pub mod Repeats
+pub mod Request
+pub mod Setting
+pub mod Stated
+pub mod Suffix

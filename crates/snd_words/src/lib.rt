@@ -1,0 +1,30 @@
+//! What the words of a command line ask for. Nothing here allocates.
+#![tactic(auto)]
+
+mod concat;
+mod convert;
+mod generate;
+mod interleave;
+mod metadata;
+mod names;
+mod options;
+mod pairs;
+mod plain;
+mod repeats;
+mod request;
+mod settings;
+mod suffix;
+#[cfg(test)]
+mod tests;
+
+pub use concat::Concatenation;
+pub use convert::{CodecChoice, Conversion};
+pub use generate::Generation;
+pub use interleave::Interleaving;
+pub use metadata::MetadataChange;
+pub use names::Names;
+pub use pairs::MetadataSettings;
+pub use repeats::first_repeated;
+pub use request::{Request, request_of};
+pub use settings::MetadataSetting;
+pub use suffix::kind_by_suffix;

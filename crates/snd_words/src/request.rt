@@ -1,0 +1,73 @@
+//! What the words of a command line ask for.
+
+ghost use Rattle.std.specs.Prelude.{◌≡◌, ◌≤◌, drop, length};
+ghost use Rattle.snd_words.specs.Grammar.{asked, asked_with};
+ghost use Rattle.snd_words.specs.Request.{asked_by};
+
+use crate::concat::{Concatenation, concat_request};
+use crate::convert::{Conversion, convert_request};
+use crate::generate::{Generation, gen_request};
+use crate::interleave::{Interleaving, interleave_request};
+use crate::metadata::{MetadataChange, metadata_request};
+use crate::names::Names;
+use crate::plain::{help_request, info_request, script_request, version_request};
+use snd_fields::Words;
+
+/// What the words of a command line ask for.
+#[derive(Drop)]
+pub enum Request<'a> {
+    /// `info NAME..`: to describe 1 to 64 files, in the order of the words.
+    Info(Names<'a>),
+    /// `script`, `script --auto NAME`: to carry out a script, with the file of a name pinned where there is
+    /// one.
+    Script(Option<&'a str>),
+    /// `--help`
+    Help,
+    /// `--version`
+    Version,
+    /// `convert OPTION.. IN OUT`: to make a file of another one's sound.
+    Convert(Conversion<'a>),
+    /// `concat IN IN.. OUT`: to make a file of the frames of several others, one after the other.
+    Concat(Concatenation<'a>),
+    /// `interleave IN IN.. -o OUT`: to make a file of the channels of several others, side by side.
+    Interleave(Interleaving<'a>),
+    /// `gen SEED N NAME`: to make a file of N frames that a seed gives.
+    Generate(Generation<'a>),
+    /// `metadata-set OPTION TEXT .. IN OUT`: to make a file of another one's sound, with texts of its own.
+    SetMetadata(MetadataChange<'a>),
+}
+
+/// What the words ask for, of which the first one is the command.
+fn request_with<'a>(command: &str, words: &'a Words) -> Option<Request<'a>>
+    requires { 1 ≤ length words.now }
+    ensures { asked_by result ≡ asked_with command.now (drop 1 words.now) }
+{
+    if command == "info" {
+        return info_request(words);
+    } else if command == "script" {
+        return script_request(words);
+    } else if command == "--help" {
+        return help_request(words);
+    } else if command == "--version" {
+        return version_request(words);
+    } else if command == "convert" {
+        return convert_request(words);
+    } else if command == "concat" {
+        return concat_request(words);
+    } else if command == "interleave" {
+        return interleave_request(words);
+    } else if command == "gen" {
+        return gen_request(words);
+    } else if command == "metadata-set" {
+        return metadata_request(words);
+    }
+    None
+}
+
+/// What the words ask for, those behind the program's own name, or none where they are refused.
+pub fn request_of(words: &Words) -> Option<Request<'_>>
+    ensures { asked_by result ≡ asked words.now }
+{
+    let command = words.get(0)?;
+    request_with(command, words)
+}
