@@ -1,0 +1,5 @@
+pub mod Cache
+pub mod Calls
+pub mod Frames
+pub mod Sound
+pub mod Spans

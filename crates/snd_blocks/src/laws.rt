@@ -1,0 +1,12 @@
+//! The laws of the frames of blocks, proved of every file. The function does nothing: its contract is the
+//! laws.
+
+ghost use Rattle.snd_blocks.specs.Sound.{BlocksAreCounted, FixedSoundsStay};
+
+/// The sound of a file of any codec is the one that `snd_container` gives, where it gives one. An ADPCM file
+/// has as many frames, good or bad, as its layout counts.
+#[tactic(auto, using(crate::proofs::Counted::blocks_are_counted, crate::proofs::Counted::fixed_sounds_stay))]
+pub fn blocks_are_sounds()
+    ensures fixed { FixedSoundsStay }
+    ensures counted { BlocksAreCounted }
+{}

@@ -1,0 +1,17 @@
+//! The frames of ADPCM files, which are read from a disk a block at a time. No memory is taken.
+#![tactic(auto)]
+
+mod block;
+mod buffer;
+mod cache;
+mod check;
+mod error;
+pub mod laws;
+mod read;
+#[cfg(test)]
+mod tests;
+
+pub use buffer::BlockCache;
+pub use check::check_blocks;
+pub use error::BlockError;
+pub use read::{read_cached, read_frames};
