@@ -1,0 +1,11 @@
+//! How many bytes of data a file has room for, before it is made.
+#![tactic(auto)]
+
+mod room;
+mod size;
+mod start;
+#[cfg(test)]
+mod tests;
+
+pub use room::room_with;
+pub use size::chunk_size;
