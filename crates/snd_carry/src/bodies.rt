@@ -1,0 +1,117 @@
+//! One chunk that is carried: its body is read from one file and put into the other.
+
+ghost use Rattle.std.specs.Prelude.{◌≡◌, ◌<◌, ◌≤◌, IfOk, None, OnOk, Some, false, length, slice_get, true};
+ghost use Rattle.snd_disk.specs.Device.{AsksAtMost, GoesOnFrom, OnlyReadsOn, WritesAtMost};
+ghost use Rattle.snd_modes.specs.Chunks.{HoldsPut, StandsAsOpened};
+ghost use Rattle.snd_modes.specs.Handle.{IfOkStanding, StandsAfter, disk_of, known_of, loan_of};
+ghost use Rattle.snd_modes.specs.Heads.{holds_meta, is_wave_own};
+ghost use Rattle.snd_modes.specs.Outcomes.{AsksNothing, TellsOn};
+ghost use Rattle.snd_modes.specs.PieceCalls.{IsUntouched, known_put};
+ghost use Rattle.snd_modes.specs.Pieces.{body_of};
+ghost use Rattle.snd_modes.specs.Relaid.{added_to, outline};
+ghost use Rattle.snd_wave.specs.Heads.{new_piece};
+ghost use Rattle.snd_carry.specs.Carried.{is_carried};
+ghost use Rattle.snd_carry.specs.Carrying.{CarriesOne, CountsBoth, CountsStop, HoldsOne};
+
+use crate::stop::Stop;
+use snd_disk::Disk;
+use snd_fields::Id4;
+use snd_layout::{Piece, PieceError};
+use snd_modes::{File, PieceReadError, Read, Write};
+use std::alloc::Global;
+
+// The body of the piece at a place of the list, in a file that is not broken.
+fn read_body<D: Disk>(
+    alloc: Global,
+    from: &mut File<'_, D, Read>,
+    place: usize,
+    piece: Piece,
+) -> Result<Vec<u8>, Stop>
+    requires working { (known_of from.old).broken ≡ None }
+    requires there { slice_get (known_of from.old).shape.pieces place ≡ Some piece }
+    requires small { piece.len ≤ 65536 }
+    ensures loan { loan_of from.new ≡ loan_of from.old }
+    ensures known { OnOk result (known_of from.new ≡ known_of from.old) }
+    ensures body { IfOkStanding D.state from.old result (λ e body. body.items ≡ body_of e.bytes piece) }
+    ensures size { IfOk result (λ body. length body.items ≡ piece.len) }
+    ensures stands { StandsAfter D.state from.old from.new (λ e. e) }
+    ensures faults { CountsStop (D.state (disk_of from.old)) (D.state (disk_of from.new)) result }
+    ensures reads { OnlyReadsOn D.state D.may_leave D.left_between (disk_of from.old) (disk_of from.new) }
+    ensures asked { AsksAtMost D.state 65536 (disk_of from.old) (disk_of from.new) }
+{
+    let mut body = vec![in alloc; 0u8; piece.len as usize]?;
+    match from.piece_read(place, &mut body) {
+        Ok(_) => Ok(body),
+        Err(PieceReadError::DiskFault(_)) => Err(Stop::Fault),
+        Err(PieceReadError::Broken(_)) => unreachable!(),
+    }
+}
+
+// Puts a chunk behind the others of a file that was made and has room for one more.
+fn put_body<E: Disk>(to: &mut File<'_, E, Write>, id: Id4, body: &[u8]) -> Result<(), Stop>
+    requires untouched { IsUntouched (known_of to.old) }
+    requires meta { holds_meta (known_of to.old).shape.kind ≡ true }
+    requires other { is_wave_own id.0 ≡ false }
+    requires small { length body.now ≤ 65536 }
+    requires few { length (known_of to.old).shape.pieces < 240 }
+    ensures loan { loan_of to.new ≡ loan_of to.old }
+    ensures known { OnOk result (known_of to.new ≡ known_put (length (known_of to.old).shape.pieces) (new_piece id.0 body.now) (known_of to.old)) }
+    ensures stands { OnOk result (StandsAfter E.state to.old to.new (added_to id.0 body.now)) }
+    ensures holds { OnOk result (HoldsPut E.state (length (known_of to.old).shape.pieces) (new_piece id.0 body.now) to.old to.new) }
+    ensures begins { OnOk result (StandsAsOpened E.state to.new) }
+    ensures faults { CountsStop (E.state (disk_of to.old)) (E.state (disk_of to.new)) result }
+    ensures tells { TellsOn E.state to.old to.new }
+    ensures time { GoesOnFrom E.state E.left_between (disk_of to.old) (disk_of to.new) }
+    ensures written { WritesAtMost E.state 16777216 (disk_of to.old) (disk_of to.new) }
+    ensures unasked { AsksNothing E.state to.old to.new }
+{
+    match to.copy_piece(id, body) {
+        Ok(()) => Ok(()),
+        Err(PieceError::DiskFault(_)) => Err(Stop::Fault),
+        Err(PieceError::Memory) => Err(Stop::Memory),
+        Err(
+            PieceError::Broken(_)
+            | PieceError::FramesWritten
+            | PieceError::AutoOn
+            | PieceError::ReservedChunk
+            | PieceError::NoChunks
+            | PieceError::ChunkTooLarge
+            | PieceError::TooManyChunks,
+        ) => unreachable!(),
+    }
+}
+
+// Carries the chunk of the piece at a place of the list, which is one that is carried.
+#[tactic(auto, using(crate::proofs::Heads::outline_put))]
+pub(crate) fn carry_one<D: Disk, E: Disk>(
+    alloc: Global,
+    from: &mut File<'_, D, Read>,
+    to: &mut File<'_, E, Write>,
+    place: usize,
+    piece: Piece,
+) -> Result<(), Stop>
+    requires working { (known_of from.old).broken ≡ None }
+    requires there { slice_get (known_of from.old).shape.pieces place ≡ Some piece }
+    requires carried { is_carried piece ≡ true }
+    requires untouched { IsUntouched (known_of to.old) }
+    requires meta { holds_meta (known_of to.old).shape.kind ≡ true }
+    requires few { length (known_of to.old).shape.pieces < 240 }
+    ensures from_loan { loan_of from.new ≡ loan_of from.old }
+    ensures to_loan { loan_of to.new ≡ loan_of to.old }
+    ensures same { OnOk result (known_of from.new ≡ known_of from.old) }
+    ensures known { OnOk result (known_of to.new ≡ known_put (length (known_of to.old).shape.pieces) (outline piece) (known_of to.old)) }
+    ensures stands { StandsAfter D.state from.old from.new (λ e. e) }
+    ensures carries { OnOk result (CarriesOne D.state E.state piece from.old to.old to.new) }
+    ensures holds { OnOk result (HoldsOne D.state E.state piece from.old to.old to.new) }
+    ensures begins { OnOk result (StandsAsOpened E.state to.new) }
+    ensures faults { CountsBoth (D.state (disk_of from.old)) (D.state (disk_of from.new)) (E.state (disk_of to.old)) (E.state (disk_of to.new)) result }
+    ensures reads { OnlyReadsOn D.state D.may_leave D.left_between (disk_of from.old) (disk_of from.new) }
+    ensures asked { AsksAtMost D.state 65536 (disk_of from.old) (disk_of from.new) }
+    ensures tells { TellsOn E.state to.old to.new }
+    ensures time { GoesOnFrom E.state E.left_between (disk_of to.old) (disk_of to.new) }
+    ensures written { WritesAtMost E.state 16777216 (disk_of to.old) (disk_of to.new) }
+    ensures unasked { AsksNothing E.state to.old to.new }
+{
+    let body = read_body(alloc, from, place, piece)?;
+    put_body(to, piece.id, &body)
+}

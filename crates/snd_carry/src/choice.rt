@@ -1,0 +1,42 @@
+//! Which chunks are carried.
+
+ghost use Rattle.std.specs.Prelude.{◌≡◌, ◌≤◌, length, map};
+ghost use Rattle.snd_chunks.specs.Written.{chunks_bytes};
+ghost use Rattle.snd_fields.specs.declared.field.Order.TheVariants.{Little};
+ghost use Rattle.snd_modes.specs.Relaid.{outline};
+ghost use Rattle.snd_carry.specs.Carried.{TakesBytes, carried_pieces, is_carried};
+
+use snd_layout::{Kind, Piece, PieceList};
+use snd_modes::may_be_piece;
+use snd_room::chunk_size;
+
+/// The most bytes of the body of a chunk that is carried.
+const MOST_BYTES: u64 = 65536;
+
+/// How many chunks are carried at most.
+pub(crate) const MOST_PIECES: usize = 240;
+
+pub(crate) fn is_carried(piece: Piece) -> bool
+    ensures carried { result ≡ is_carried piece }
+    ensures four { length piece.id.0 ≡ 4 }
+{
+    piece.len <= MOST_BYTES && may_be_piece(Kind::Wave, piece.id)
+}
+
+/// The bytes that the chunks take in a head that a copy carries of a file with these pieces: at most
+/// 15730560. It reads nothing, since the lengths of the pieces are known.
+pub fn carried_size(pieces: &PieceList) -> u64
+    ensures size { TakesBytes pieces.now result }
+    ensures outlines { length (chunks_bytes Little (map outline (carried_pieces pieces.now))) ≡ result }
+    ensures most { result ≤ 15730560 }
+{
+    let mut size = 0;
+    let mut count = 0;
+    for piece in pieces.as_slice() {
+        if count < MOST_PIECES && is_carried(*piece) {
+            size += chunk_size(piece.len);
+            count += 1;
+        }
+    }
+    size
+}

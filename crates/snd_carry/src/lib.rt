@@ -1,0 +1,13 @@
+//! The further chunks of a WAVE or RF64 file that a copy of it carries.
+#![tactic(auto)]
+
+mod bodies;
+mod carry;
+mod choice;
+mod stop;
+#[cfg(test)]
+mod tests;
+
+pub use carry::carry_pieces;
+pub use choice::carried_size;
+pub use stop::Stop;

@@ -1,0 +1,116 @@
+-- A file that is begun is one that is being made.
+use Rattle.std.proofs.Common.{◌≡◌, ◌∙◌, ap, sym, subst, refl, inl, inr, ℕ, false, List, [], ◌++◌, Option, None, Some, Ok, Err, length, map, arith}
+use Rattle.std.specs.Prelude.{Result, is_none}
+use Rattle.std.proofs.lemmas.Bool.{cases_Bool}
+use Rattle.std.proofs.lemmas.List.{append-nil}
+use Rattle.snd_container.proofs.EveryKind.{made}
+use Rattle.snd_container.specs.Made.{new_file, new_shape}
+use Rattle.snd_container.specs.Sound.{fixed_of, kept_of}
+use Rattle.snd_layout.specs.Fit.{fit_refusal}
+use Rattle.snd_layout.specs.Params.{AreParams, Parameters}
+use Rattle.snd_layout.specs.Shape.{Shape}
+use Rattle.snd_layout.specs.Opened.{IsCause}
+use Rattle.snd_layout.specs.declared.error.OpenError.{OpenError}
+use Rattle.snd_layout.specs.declared.error.OpenError.TheVariants.{DiskFault, Memory, Refused}
+use Rattle.snd_layout.specs.declared.kind.Kind.{Kind}
+use Rattle.snd_layout.specs.declared.kind.Kind.TheVariants.{Wave, Rf64, W64, Au, Dns, Voc, Svx, Sphere}
+use Rattle.snd_layout.specs.declared.refusal.OpenRefusal.{OpenRefusal}
+use Rattle.snd_modes.specs.Editing.{Editing, first_editing}
+use Rattle.snd_modes.specs.Edits.{coded}
+use Rattle.snd_modes.specs.Laws.{IsEdited}
+use Rattle.snd_modes.specs.Making.{making_of}
+use Rattle.snd_modes.specs.Relaid.{head_with, shape_with}
+use Rattle.snd_modes.proofs.MadeFiles.{made_is_edited}
+use Rattle.snd_modes.proofs.NewFiles.{making_blocks, making_ok, making_refused, never_refused}
+use Rattle.snd_output.specs.declared.stop.Stop.{Stop}
+use Rattle.snd_output.specs.Ends.{IsStopCause, stop_of}
+use Rattle.snd_output.specs.Laws.{BegunIsMaking}
+use Rattle.snd_output.specs.Made.{IsMaking, closing_so_far, frame_count}
+use Rattle.snd_output.proofs.Bytes.{coded_none}
+
+-- the head of a new file is the one without chunks
+pub new_head : (kind : Kind) (p : Parameters) → new_file kind p ≡ head_with kind p []
+new_head Wave p = refl
+new_head Rf64 p = refl
+new_head W64 p = refl
+new_head Au p = refl
+new_head Dns p = refl
+new_head Voc p = refl
+new_head Svx p = refl
+new_head Sphere p = refl
+
+pub new_says : (kind : Kind) (p : Parameters) → new_shape kind p ≡ shape_with kind p []
+new_says Wave p = refl
+new_says Rf64 p = refl
+new_says W64 p = refl
+new_says Au p = refl
+new_says Dns p = refl
+new_says Voc p = refl
+new_says Svx p = refl
+new_says Sphere p = refl
+
+module _ (kind : Kind) (p : Parameters) (good : AreParams p) (fits : fit_refusal kind p ≡ None) (linear : is_none (fixed_of p.codec) ≡ false) where
+  abbrev head : List ℕ
+  head = head_with kind p []
+
+  abbrev says : Shape
+  says = shape_with kind p []
+
+  abbrev first : Editing
+  first = first_editing (new_file kind p) (new_shape kind p)
+
+  no_frames : 0 ≡ frame_count p []
+  no_frames = let some = good.some_channel in omega (arith, some)
+
+  edited : IsEdited (new_file kind p) first
+  edited = made_is_edited kind p first good (making_ok kind p fits linear)
+
+  bytes_are : (n : ℕ) → n ≡ 0 → new_file kind p ≡ head ++ coded p [] ++ closing_so_far says n
+  bytes_are n none =
+      new_head kind p ∙ sym (append-nil head) ∙ ap (λ (l : List ℕ). head ++ l) (sym (coded_none p))
+      ∙ sym (append-nil (head ++ coded p [])) ∙ ap (λ (m : ℕ). head ++ coded p [] ++ closing_so_far says m) (sym none)
+
+  pub first_is_making : IsMaking kind p [] [] first
+  first_is_making =
+      let new = made kind p good fits in
+      let same : says ≡ new_shape kind p = sym (new_says kind p) in
+      record {
+        edited = subst (λ (b : List ℕ). IsEdited b first) (new_head kind p) edited;
+        kind_is = ap (λ (s : Shape). s.kind) same ∙ new.is_kind;
+        kept = ap (λ (s : Shape). map (kept_of head) s.pieces) same ∙ ap (map (kept_of head)) new.pieces;
+        params = ap (λ (s : Shape). s.params) same ∙ new.params;
+        start = ap (λ (s : Shape). s.start) same ∙ new.start ∙ ap length (new_head kind p);
+        free = ap (λ (s : Shape). s.trailing) same ∙ new.free;
+        whole = let some = good.some_channel in omega (arith, some);
+        in_range = λ form is k d lt. absurd (omega (arith, lt));
+        shape = new_says kind p ∙ ap (λ (n : ℕ). record says { frames = n }) (ap (λ (s : Shape). s.frames) same ∙ new.frames ∙ no_frames);
+        bytes = bytes_are (frame_count p []) (sym no_frames);
+        write_place = no_frames;
+        automatic = refl;
+      }
+
+pub begun_is_making : BegunIsMaking
+begun_is_making kind p e good is = by_fit (fit_refusal kind p) refl
+  where
+    by_fit : (r : Option OpenRefusal) → fit_refusal kind p ≡ r → IsMaking kind p [] [] e
+    by_fit (Some refusal) refused = absurd (let no : ◌≡◌ {A = Result Editing OpenRefusal} (Err refusal) (Ok e) = sym (making_refused kind p refusal refused) ∙ is in cc)
+    by_fit None fits = elim (cases_Bool (is_none (fixed_of p.codec))) [
+      | inl blocks ↦ absurd (let no = sym (making_blocks kind p fits blocks) ∙ is in cc)
+      | inr linear ↦
+          let given : ◌≡◌ {A = Result Editing OpenRefusal} (Ok (first_editing (new_file kind p) (new_shape kind p))) (Ok e) = sym (making_ok kind p fits linear) ∙ is in
+          let same : first_editing (new_file kind p) (new_shape kind p) ≡ e = cc in
+          subst (IsMaking kind p [] []) same (first_is_making kind p good fits linear)
+    ]
+
+-- where no refusal is left, the reason that a file is not begun is a fault, or want of memory
+counts_by : (kind : Kind) (p : Parameters) → fit_refusal kind p ≡ None → is_none (fixed_of p.codec) ≡ false → (old new : ℕ) (error : OpenError)
+    → ((r : OpenRefusal) → error ≡ Refused r → making_of kind p ≡ Err r) → IsCause old new error → IsStopCause old new (stop_of error)
+counts_by kind p fits linear old new (Refused r) refused cause = absurd (never_refused kind p fits linear r (refused r refl))
+counts_by kind p fits linear old new (DiskFault step) refused cause = cause
+counts_by kind p fits linear old new Memory refused cause = cause
+counts_by kind p fits linear old new _ refused cause = absurd cause
+
+pub begun_counts : (kind : Kind) (p : Parameters) → fit_refusal kind p ≡ None → is_none (fixed_of p.codec) ≡ false → (old new : ℕ) (error : OpenError) (stop : Stop) → stop ≡ stop_of error
+    → ((r : OpenRefusal) → error ≡ Refused r → making_of kind p ≡ Err r) → IsCause old new error → IsStopCause old new stop
+begun_counts kind p fits linear old new error stop is refused cause =
+    subst (IsStopCause old new) (sym is) (counts_by kind p fits linear old new error refused cause)

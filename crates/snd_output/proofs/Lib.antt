@@ -1,0 +1,9 @@
+pub mod Appending
+pub mod Begun
+pub mod Bytes
+pub mod Finished
+pub mod Lengthened
+pub mod Lists
+pub mod MadeSounds
+pub mod Numbers
+pub mod Ranges

@@ -1,0 +1,87 @@
+-- The sound of a file that is made.
+use Rattle.std.proofs.Common.{◌≡◌, ◌∙◌, ap, sym, subst, refl, ℕ, ℤ, false, List, ◌++◌, Option, None, Some, Ok, length, map, take, drop}
+use Rattle.std.specs.Prelude.{Result, is_none}
+use Rattle.std.proofs.lemmas.List.{append_assoc, drop_at, take_at}
+use Rattle.snd_chunks.specs.Written.{NewChunk}
+use Rattle.snd_container.proofs.FixedSamples.{numbers_are_kept}
+use Rattle.snd_container.specs.Sound.{Kept, Sound, decoded, decoded_as, fixed_of, kept_as, kept_numbers, kept_of, sound_bytes, sound_of}
+use Rattle.snd_container.specs.declared.fixed.Fixed.{Fixed}
+use Rattle.snd_layout.specs.Params.{Parameters, data_bytes}
+use Rattle.snd_layout.specs.Shape.{Shape}
+use Rattle.snd_layout.specs.declared.kind.Kind.{Kind}
+use Rattle.snd_pcm.specs.Groups.{groups}
+use Rattle.snd_modes.specs.Editing.{Editing}
+use Rattle.snd_modes.specs.Edits.{coded, coded_as, sealed_to}
+use Rattle.snd_modes.specs.Reading.{FitCodec}
+use Rattle.snd_modes.specs.Relaid.{head_with, shape_with}
+use Rattle.snd_layout.specs.declared.refusal.OpenRefusal.{OpenRefusal}
+use Rattle.snd_modes.proofs.EditedFiles.{is_linear, sealed_is_edited, sealed_told}
+use Rattle.snd_modes.proofs.EditedSounds.{edited_pieces, sound_by, sound_with}
+use Rattle.snd_output.specs.Laws.{MadeHasSound}
+use Rattle.snd_output.specs.Made.{IsMaking, closing_so_far, frame_count, kept_chunk, made_sound}
+use Rattle.snd_output.proofs.Bytes.{coded_data}
+use Rattle.snd_output.proofs.Finished.{linear, sealed_is_made, whole}
+
+-- the bytes of numbers stand for those that are kept of them
+decoded_coded_as : (p : Parameters) (xs : List ℤ) (o : Option Fixed) → fixed_of p.codec ≡ o → is_none o ≡ false → FitCodec p.codec xs → decoded_as o p.channels (coded_as o xs) ≡ groups p.channels (kept_as o xs)
+decoded_coded_as p xs None is linear fit = absurd (cc)
+decoded_coded_as p xs (Some form) is linear fit = ap (groups p.channels) (numbers_are_kept form xs (fit form is))
+
+pub decoded_coded : (p : Parameters) (xs : List ℤ) → is_none (fixed_of p.codec) ≡ false → FitCodec p.codec xs → decoded p (coded p xs) ≡ groups p.channels (kept_numbers p xs)
+decoded_coded p xs linear fit = decoded_coded_as p xs (fixed_of p.codec) refl linear fit
+
+module _ (kind : Kind) (p : Parameters) (pieces : List NewChunk) (xs : List ℤ) (e : Editing) (m : IsMaking kind p pieces xs e) where
+  abbrev head : List ℕ
+  head = head_with kind p pieces
+
+  abbrev says : Shape
+  says = shape_with kind p pieces
+
+  abbrev n : ℕ
+  n = frame_count p xs
+
+  abbrev body : List ℕ
+  body = coded p xs
+
+  -- the bytes of the frames
+  sound_is : sound_bytes e.bytes e.shape ≡ body
+  sound_is =
+      let rest = closing_so_far says n in
+      let size : length body ≡ data_bytes says.params n = coded_data p xs n (linear kind p pieces xs e m) (whole kind p pieces xs e m) ∙ sym (ap (λ (q : Parameters). data_bytes q n) m.params) in
+      ap (sound_bytes e.bytes) m.shape
+      ∙ ap (λ (b : List ℕ). take (data_bytes says.params n) (drop says.start b)) (m.bytes ∙ append_assoc head body rest)
+      ∙ ap (take (data_bytes says.params n)) (drop_at head (body ++ rest) says.start (sym m.start))
+      ∙ take_at body rest (data_bytes says.params n) size
+
+  pub frames_are : e.frames ≡ groups p.channels (kept_numbers p xs)
+  frames_are =
+      m.edited.holds.sound
+      ∙ ap (λ (s : Shape). decoded s.params (sound_bytes e.bytes e.shape)) m.shape
+      ∙ ap (λ (q : Parameters). decoded q (sound_bytes e.bytes e.shape)) m.params
+      ∙ ap (decoded p) sound_is
+      ∙ decoded_coded p xs (linear kind p pieces xs e m) m.in_range
+
+  -- the file sealed
+  abbrev x : List ℕ
+  x = (sealed_to e).bytes
+
+  sealed_pieces : map (kept_of x) says.pieces ≡ map kept_chunk pieces
+  sealed_pieces =
+      let then = sealed_is_edited head e m.edited in
+      let same : says.pieces ≡ then.head.pieces = sym (ap (λ (s : Shape). s.pieces) m.shape) ∙ ap (λ (s : Shape). s.pieces) then.shape in
+      ap (map (kept_of x)) same ∙ edited_pieces head (sealed_to e) then ∙ ap (map (kept_of head)) (sym same) ∙ m.kept
+
+  pub sealed_has_sound : sound_of x ≡ Ok (made_sound kind p pieces xs)
+  sealed_has_sound =
+      let then = sealed_is_edited head e m.edited in
+      let s = (sealed_to e).shape in
+      let made = λ (k : Kind) (q : Parameters) (frames : List (List ℤ)) (kept : List Kept). ◌≡◌ {A = Result Sound OpenRefusal} (sound_of x) (Ok (record { kind = k; params = q; frames = frames; pieces = kept })) in
+      let first : sound_of x ≡ sound_with x s e.frames = sound_by x s (sealed_told head e m.edited) (is_linear head e m.edited) ∙ ap (sound_with x s) (sym then.holds.sound) in
+      let second : made says.kind says.params e.frames (map (kept_of x) says.pieces) = first ∙ ap (λ (h : Shape). sound_with x h e.frames) m.shape in
+      let third : made kind says.params e.frames (map (kept_of x) says.pieces) = subst (λ (k : Kind). made k says.params e.frames (map (kept_of x) says.pieces)) m.kind_is second in
+      let fourth : made kind p e.frames (map (kept_of x) says.pieces) = subst (λ (q : Parameters). made kind q e.frames (map (kept_of x) says.pieces)) m.params third in
+      let fifth : made kind p (groups p.channels (kept_numbers p xs)) (map (kept_of x) says.pieces) = subst (λ (l : List (List ℤ)). made kind p l (map (kept_of x) says.pieces)) frames_are fourth in
+      subst (λ (l : List Kept). made kind p (groups p.channels (kept_numbers p xs)) l) sealed_pieces fifth
+
+pub made_has_sound : MadeHasSound
+made_has_sound kind p pieces xs e m = ap sound_of (sym (sealed_is_made kind p pieces xs e m)) ∙ sealed_has_sound kind p pieces xs e m

@@ -1,0 +1,51 @@
+-- How a file that is made begins and ends.
+use Rattle.std.specs.Prelude.{◌≡◌, ◌⊎◌, ℕ, ◌≤◌, List, [], ℤ, None, Result, Ok, Err, IfOk, is_some, true}
+use Rattle.std.specs.Borrow.{MutBor}
+use Rattle.snd_chunks.specs.Written.{NewChunk}
+use Rattle.snd_disk.specs.declared.disk.Disk.{Ghosts}
+use Rattle.snd_disk.specs.Device.{Tells}
+use Rattle.snd_disk.specs.State.{Rises, State}
+use Rattle.snd_layout.specs.Params.{Parameters}
+use Rattle.snd_layout.specs.declared.error.OpenError.{OpenError}
+use Rattle.snd_layout.specs.declared.error.OpenError.TheVariants as open_error
+use Rattle.snd_layout.specs.declared.kind.Kind.{Kind}
+use Rattle.snd_modes.specs.declared.handle.File.{File}
+use Rattle.snd_modes.specs.declared.mode.Mode.{Ghosts as ModeGhosts}
+use Rattle.snd_modes.specs.Editing.{Editing}
+use Rattle.snd_modes.specs.Handle.{Stands, disk_of, known_of}
+use Rattle.snd_output.specs.declared.stop.Stop.{Stop}
+use Rattle.snd_output.specs.declared.stop.Stop.TheVariants.{Fault, Memory}
+use Rattle.snd_output.specs.Made.{IsMaking, made_file}
+
+-- the count of faults rises where the answer is a fault, and there alone
+abbrev pub IsStopCause : ℕ → ℕ → Stop → Type 0
+IsStopCause old new Fault = (old ≤ new) × Rises old new
+IsStopCause old new Memory = new ≡ old
+
+abbrev pub CountsStop : {T : Type 0} → ℕ → ℕ → Result T Stop → Type 0
+CountsStop old new (Ok done) = new ≡ old
+CountsStop old new (Err stop) = IsStopCause old new stop
+
+-- what stops a tool whose file is not made
+abbrev pub stop_of : OpenError → Stop
+stop_of open_error.Memory = Memory
+stop_of error = Fault
+
+-- what was begun is a file that is being made, without chunks and numbers, where the disk tells what it holds
+abbrev pub BeginsFile : {D M E : Type 0} {ghosts : Ghosts D} {mode : ModeGhosts M} → (D → State) → Kind → Parameters → D → Result (File D M ghosts mode) E → Type 0
+BeginsFile state kind p disk result =
+    IfOk result (λ file. (b : List ℕ) → Tells state disk b → (e : Editing) × Stands state file e × IsMaking kind p [] [] e)
+
+-- what comes back is the file that was made
+abbrev pub MakesWhole : {D M E : Type 0} {ghosts : Ghosts D} {mode : ModeGhosts M} → (D → State) → File D M ghosts mode → Result (MutBor D) E → Type 0
+MakesWhole state file result =
+    IfOk result (λ disk. (kind : Kind) (p : Parameters) (pieces : List NewChunk) (xs : List ℤ) (e : Editing)
+    → Stands state file e → IsMaking kind p pieces xs e → Tells state disk.now (made_file kind p pieces xs))
+
+-- A file is not finished where a call of its disk had failed, and then the disk is as it was, or where one fails now.
+abbrev pub IsFinishCause : {D M : Type 0} {ghosts : Ghosts D} {mode : ModeGhosts M} → (D → State) → File D M ghosts mode → Result (MutBor D) (Stop × MutBor D) → Type 0
+IsFinishCause state file (Ok disk) = ((known_of file).broken ≡ None) × ((state disk.now).faults ≡ (state (disk_of file)).faults)
+IsFinishCause state file (Err error) =
+    (error.0 ≡ Fault)
+    × (((is_some (known_of file).broken ≡ true) × (error.1.now ≡ disk_of file))
+    ⊎ (((known_of file).broken ≡ None) × ((state (disk_of file)).faults ≤ (state error.1.now).faults) × Rises (state (disk_of file)).faults (state error.1.now).faults))

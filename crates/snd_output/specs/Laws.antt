@@ -1,0 +1,30 @@
+-- What is said of every file that is made.
+use Rattle.std.specs.Prelude.{◌≡◌, ℤ, List, [], ◌++◌, Ok}
+use Rattle.snd_chunks.specs.Written.{NewChunk}
+use Rattle.snd_container.specs.Sound.{sound_of}
+use Rattle.snd_layout.specs.Params.{AreParams, Parameters}
+use Rattle.snd_layout.specs.declared.kind.Kind.{Kind}
+use Rattle.snd_modes.specs.Editing.{Editing}
+use Rattle.snd_modes.specs.Edits.{sealed_to, written_to}
+use Rattle.snd_modes.specs.Making.{making_of}
+use Rattle.snd_modes.specs.WriteCalls.{MayWrite}
+use Rattle.snd_output.specs.Made.{IsMaking, made_file, made_sound}
+
+-- a file begins without chunks and numbers
+abbrev pub BegunIsMaking : Type 0
+BegunIsMaking = (kind : Kind) (p : Parameters) (e : Editing) → AreParams p → making_of kind p ≡ Ok e → IsMaking kind p [] [] e
+
+-- frames that are written stand behind those that it holds
+abbrev pub WrittenIsMaking : Type 0
+WrittenIsMaking = (kind : Kind) (p : Parameters) (pieces : List NewChunk) (xs ys : List ℤ) (e : Editing) →
+    IsMaking kind p pieces xs e → MayWrite ys e.shape e.write_place → IsMaking kind p pieces (xs ++ ys) (written_to ys e)
+
+-- it is made once it is sealed
+abbrev pub SealedIsMade : Type 0
+SealedIsMade = (kind : Kind) (p : Parameters) (pieces : List NewChunk) (xs : List ℤ) (e : Editing) →
+    IsMaking kind p pieces xs e → (sealed_to e).bytes ≡ made_file kind p pieces xs
+
+-- and then has its sound
+abbrev pub MadeHasSound : Type 0
+MadeHasSound = (kind : Kind) (p : Parameters) (pieces : List NewChunk) (xs : List ℤ) (e : Editing) →
+    IsMaking kind p pieces xs e → sound_of (made_file kind p pieces xs) ≡ Ok (made_sound kind p pieces xs)

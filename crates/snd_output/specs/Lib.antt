@@ -1,0 +1,5 @@
+pub mod Appended
+pub mod Ends
+pub mod Laws
+pub mod Made
+pub mod Widths

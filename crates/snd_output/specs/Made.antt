@@ -1,0 +1,53 @@
+-- Sound files that are made of numbers, one for each channel of a frame, in turn: their bytes, and the states on the way there.
+use Rattle.std.specs.Prelude.{◌≡◌, ℕ, ℤ, ◌/◌, ◌%◌, false, List, [], ◌++◌, length, map, nat_lt, if◌then◌else◌}
+use Rattle.snd_chunks.specs.Written.{NewChunk}
+use Rattle.snd_container.specs.Sound.{Kept, Sound, kept_numbers, kept_of}
+use Rattle.snd_container.specs.Values.{closing}
+use Rattle.snd_layout.specs.Params.{Parameters}
+use Rattle.snd_layout.specs.Shape.{Shape}
+use Rattle.snd_layout.specs.declared.kind.Kind.{Kind}
+use Rattle.snd_pcm.specs.Groups.{groups}
+use Rattle.snd_patch.specs.Sealed.{with_fields}
+use Rattle.snd_modes.specs.Editing.{Editing}
+use Rattle.snd_modes.specs.Edits.{coded}
+use Rattle.snd_modes.specs.Laws.{IsEdited}
+use Rattle.snd_modes.specs.Reading.{FitCodec}
+use Rattle.snd_modes.specs.Relaid.{head_with, shape_with}
+
+-- how many frames numbers are
+abbrev pub frame_count : Parameters → List ℤ → ℕ
+frame_count p xs = length xs / p.channels
+
+-- A file of a kind with some chunks: its head, whose fields say so many frames; the bytes of the numbers; and what closes them.
+abbrev pub made_file : Kind → Parameters → List NewChunk → List ℤ → List ℕ
+made_file kind p pieces xs =
+    let h = shape_with kind p pieces in
+    let n = frame_count p xs in
+    with_fields (head_with kind p pieces) h n ++ coded p xs ++ closing h n
+
+-- .. and its sound: the chunks, and the numbers as the codec keeps them
+abbrev pub kept_chunk : NewChunk → Kept
+kept_chunk piece = record { id = piece.id; body = piece.body; after = false }
+
+abbrev pub made_sound : Kind → Parameters → List NewChunk → List ℤ → Sound
+made_sound kind p pieces xs = record { kind = kind; params = p; frames = groups p.channels (kept_numbers p xs); pieces = map kept_chunk pieces }
+
+-- what closes the data of a file while it is made: nothing until a frame is written
+abbrev pub closing_so_far : Shape → ℕ → List ℕ
+closing_so_far h n = if nat_lt 0 n then closing h n else []
+
+-- A file of a kind with some chunks is being made, and holds these numbers so far: its head, which says no frames yet, the bytes
+-- of the numbers, and what closes them. The next frame is written behind them.
+pub record IsMaking (kind : Kind) (p : Parameters) (pieces : List NewChunk) (xs : List ℤ) (e : Editing) : Type 0 where
+  pub edited : IsEdited (head_with kind p pieces) e
+  pub kind_is : (shape_with kind p pieces).kind ≡ kind
+  pub params : (shape_with kind p pieces).params ≡ p
+  pub start : (shape_with kind p pieces).start ≡ length (head_with kind p pieces)
+  pub free : (shape_with kind p pieces).trailing ≡ false
+  pub kept : map (kept_of (head_with kind p pieces)) (shape_with kind p pieces).pieces ≡ map kept_chunk pieces
+  pub whole : length xs % p.channels ≡ 0
+  pub in_range : FitCodec p.codec xs
+  pub shape : e.shape ≡ record (shape_with kind p pieces) { frames = frame_count p xs }
+  pub bytes : e.bytes ≡ head_with kind p pieces ++ coded p xs ++ closing_so_far (shape_with kind p pieces) (frame_count p xs)
+  pub write_place : e.write_place ≡ frame_count p xs
+  pub automatic : e.automatic ≡ false

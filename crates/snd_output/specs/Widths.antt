@@ -1,0 +1,26 @@
+-- Numbers of one codec as numbers of another.
+use Rattle.std.specs.Prelude.{ℕ, ℤ, List, map}
+use Rattle.std.specs.List.{flat_map}
+use Rattle.snd_layout.specs.declared.codec.Codec.{Codec}
+use Rattle.snd_layout.specs.declared.codec.Codec.TheVariants.{U8, S8, S16, S24, S32}
+use Rattle.snd_pcm.specs.Width.{changed}
+
+-- how many bits the numbers of a codec have: those of a linear codec its own, and all others 16
+abbrev pub width_of : Codec → ℕ
+width_of U8 = 8
+width_of S8 = 8
+width_of (S16 order) = 16
+width_of (S24 order) = 24
+width_of (S32 order) = 32
+width_of codec = 16
+
+-- numbers of one width as numbers of another, and those of a codec as those of another
+abbrev pub changed_all : ℕ → ℕ → List ℤ → List ℤ
+changed_all from to xs = map (changed from to) xs
+
+abbrev pub change_numbers : Codec → Codec → List ℤ → List ℤ
+change_numbers from to xs = changed_all (width_of from) (width_of to) xs
+
+-- the numbers of frames
+abbrev pub joined : List (List ℤ) → List ℤ
+joined frames = flat_map (λ frame. frame) frames
