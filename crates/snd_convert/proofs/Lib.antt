@@ -1,0 +1,4 @@
+pub mod Doing
+pub mod Making
+pub mod Parameters
+pub mod Steps

@@ -1,0 +1,4 @@
+pub mod Convert
+pub mod Making
+pub mod Plan
+pub mod Planning

@@ -1,0 +1,96 @@
+-- What a file becomes that is converted: its kind and its parameters. These are this library's own rules.
+use Rattle.std.specs.Prelude.{ℕ, Bool, true, false, Option, Some, None, Result, Ok, Err, unwrap_or, if◌then◌else◌}
+use Rattle.snd_fields.specs.declared.field.Order.{Order}
+use Rattle.snd_fields.specs.declared.field.Order.TheVariants.{Little, Big}
+use Rattle.snd_layout.specs.Fit.{fit_refusal}
+use Rattle.snd_layout.specs.Params.{Parameters, params_of}
+use Rattle.snd_layout.specs.declared.codec.Codec.{Codec}
+use Rattle.snd_layout.specs.declared.codec.Codec.TheVariants as codec
+use Rattle.snd_layout.specs.declared.kind.Kind.{Kind}
+use Rattle.snd_layout.specs.declared.kind.Kind.TheVariants.{Au, Dns, Svx, Sphere}
+use Rattle.snd_layout.specs.declared.refusal.OpenRefusal.{OpenRefusal}
+use Rattle.snd_layout.specs.declared.refusal.OpenRefusal.TheVariants.{BadPair, NotBuilt}
+use Rattle.snd_words.specs.Asked.{Converting}
+use Rattle.snd_words.specs.declared.convert.CodecChoice.{CodecChoice}
+use Rattle.snd_words.specs.declared.convert.CodecChoice.TheVariants as choice
+
+-- an AU with the lowest byte first is a kind of its own
+abbrev pub kind_in : Option Order → Kind → Kind
+kind_in (Some Little) Au = Dns
+kind_in order kind = kind
+
+-- the order of the bytes of a sample in a kind, where none is asked for
+abbrev pub own_order : Kind → Order
+own_order Au = Big
+own_order Svx = Big
+own_order kind = Little
+
+abbrev pub is_same_order : Order → Order → Bool
+is_same_order Little Little = true
+is_same_order Big Big = true
+is_same_order one other = false
+
+-- SPHERE holds either order, and each other kind its own alone, whatever the codec
+abbrev pub holds_order : Kind → Option Order → Bool
+holds_order Sphere order = true
+holds_order kind order = is_same_order (unwrap_or order (own_order kind)) (own_order kind)
+
+-- the codec of 8 bits that a kind holds: with a sign in AU and 8SVX
+abbrev pub eight_bits : Kind → Codec
+eight_bits Au = codec.S8
+eight_bits Dns = codec.S8
+eight_bits Svx = codec.S8
+eight_bits kind = codec.U8
+
+-- the codec of the same class in a kind; ADPCM is not written yet
+abbrev pub same_class : Kind → Order → Codec → Option Codec
+same_class kind order codec.U8 = Some (eight_bits kind)
+same_class kind order codec.S8 = Some (eight_bits kind)
+same_class kind order (codec.S16 from) = Some (codec.S16 order)
+same_class kind order (codec.S24 from) = Some (codec.S24 order)
+same_class kind order (codec.S32 from) = Some (codec.S32 order)
+same_class kind order codec.MuLaw = Some codec.MuLaw
+same_class kind order codec.ALaw = Some codec.ALaw
+same_class kind order other = None
+
+-- the codec that is asked for
+abbrev pub chosen : Order → CodecChoice → Option Codec
+chosen order choice.S8 = Some codec.S8
+chosen order choice.U8 = Some codec.U8
+chosen order choice.Pcm16 = Some (codec.S16 order)
+chosen order choice.Pcm24 = Some (codec.S24 order)
+chosen order choice.Pcm32 = Some (codec.S32 order)
+chosen order choice.MuLaw = Some codec.MuLaw
+chosen order choice.ALaw = Some codec.ALaw
+chosen order other = None
+
+-- .. or kept
+abbrev pub codec_in : Option CodecChoice → Kind → Order → Codec → Option Codec
+codec_in None kind order from = same_class kind order from
+codec_in (Some asked) kind order from = chosen order asked
+
+-- what is made: a kind with its parameters
+pub record Planned : Type 0 where
+  pub kind : Kind
+  pub params : Parameters
+
+-- it is refused by the parameters, then by the kind, and then by the order
+abbrev pub fitting : Kind → Option Order → Parameters → Option OpenRefusal → Result Planned OpenRefusal
+fitting kind order p (Some why) = Err why
+fitting kind order p None = if holds_order kind order then Ok (record { kind = kind; params = p }) else Err BadPair
+
+abbrev pub fitted : Kind → Option Order → Result Parameters OpenRefusal → Result Planned OpenRefusal
+fitted kind order (Err why) = Err why
+fitted kind order (Ok p) = fitting kind order p (fit_refusal kind p)
+
+abbrev pub planned_with : Kind → Option Order → ℕ → ℕ → Option Codec → Result Planned OpenRefusal
+planned_with kind order channels rate None = Err NotBuilt
+planned_with kind order channels rate (Some codec) = fitted kind order (params_of channels rate codec)
+
+abbrev pub planned_as : Converting → Kind → Parameters → Result Planned OpenRefusal
+planned_as c kind from =
+    planned_with kind c.order from.channels (unwrap_or c.rate from.rate) (codec_in c.codec kind (unwrap_or c.order (own_order kind)) from.codec)
+
+-- what a file with these parameters becomes, or why it does not
+unfoldable pub planned : Converting → Kind → Parameters → Result Planned OpenRefusal
+planned c kind from = planned_as c (kind_in c.order kind) from

@@ -1,0 +1,8 @@
+//! Sound files copied into other containers and codecs.
+#![tactic(auto)]
+
+mod converting;
+mod make;
+mod plan;
+
+pub use converting::convert;
