@@ -25,8 +25,8 @@ use Rattle.snd_script.specs.Rules.{chunk_of, finds_none, finds_texts, piece_refu
 use Rattle.snd_script.specs.declared.handle.Reply.{Reply}
 use Rattle.snd_script.specs.declared.handle.StepFault.{StepFault}
 use Rattle.snd_script.specs.declared.handle.StepFault.TheVariants.{Memory}
-use Rattle.snd_script.specs.declared.refusal.Refusal.{Refusal}
-use Rattle.snd_script.specs.declared.refusal.Refusal.TheVariants.{BadInfo, ChunkTooLarge, NoSuchChunk}
+use Rattle.snd_lines.specs.declared.refusal.Refusal.{Refusal}
+use Rattle.snd_lines.specs.declared.refusal.Refusal.TheVariants.{BadInfo, ChunkTooLarge, NoSuchChunk}
 use Rattle.snd_script.proofs.Tells.{Decides, IsWhy}
 
 -- a text that was gathered is said, or there was no memory

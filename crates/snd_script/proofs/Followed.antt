@@ -25,7 +25,7 @@ use Rattle.snd_script.specs.declared.handle.Reply.{Reply}
 use Rattle.snd_script.specs.declared.handle.Reply.TheVariants as reply
 use Rattle.snd_script.specs.declared.handle.StepFault.{StepFault}
 use Rattle.snd_script.specs.declared.handle.StepFault.TheVariants.{Disk, Out, Memory}
-use Rattle.snd_script.specs.declared.refusal.Refusal.{Refusal}
+use Rattle.snd_lines.specs.declared.refusal.Refusal.{Refusal}
 
 -- ---- a reply that was sent, whether or not it got out
 

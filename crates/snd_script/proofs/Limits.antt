@@ -8,8 +8,8 @@ use Rattle.snd_meta.specs.declared.bext.BextKey.TheVariants.{Description, Origin
 use Rattle.snd_script.specs.Desk.{Mode, is_pinned, makes, pinned, reading, reads, updating, writes, writing}
 use Rattle.snd_script.specs.Rules.{Rule, auto_rule, built_rule, in_mode, is_built, is_held, is_set, most_on, read_rule, refused_rule, rule_of, seek_read_rule, seek_rule, seek_write_rule, set_bext_rule, set_chunk_rule, set_cue_rule, set_string_rule, trim_rule, truncate_rule, unless_pinned, update_rule, write_rule}
 use Rattle.snd_script.specs.Script.{asked_by, most_in, written_by}
-use Rattle.snd_script.specs.declared.refusal.Refusal.{Refusal}
-use Rattle.snd_script.specs.declared.refusal.Refusal.TheVariants.{NotBuilt, Pinned}
+use Rattle.snd_lines.specs.declared.refusal.Refusal.{Refusal}
+use Rattle.snd_lines.specs.declared.refusal.Refusal.TheVariants.{NotBuilt, Pinned}
 
 pub record UsesUpTo (asked written : ℕ) (rule : Rule) : Type 0 where
   pub asks : rule.asked ≤ asked

@@ -8,9 +8,9 @@ use Rattle.snd_layout.specs.declared.kind.Kind.TheVariants.{Wave, Rf64, W64, Au,
 use Rattle.snd_layout.specs.declared.refusal.OpenRefusal.{OpenRefusal}
 use Rattle.snd_layout.specs.declared.refusal.OpenRefusal.TheVariants as chunk
 use Rattle.snd_layout.specs.Names.{codec_name, kind_name, refusal_name as open_name}
-use Rattle.snd_script.specs.declared.refusal.Refusal.{Refusal}
-use Rattle.snd_script.specs.declared.refusal.Refusal.TheVariants.{Open, AdpcmUpdate, UnknownLength, PartFrame, SampleRange, SeekRange, TrailingData, ContainerFull, Straddle, FramesWritten, ReservedChunk, NoChunks, ChunkTooLarge, AutoOn, NoSuchChunk, BadCommand, LineTooLong, NotOpen, AlreadyOpen, WrongMode, MissingFile, BadInfo, BadCue, BadBext, TextTooLong, Pinned, NotBuilt}
-use Rattle.snd_script.specs.Replies.{refusal_name}
+use Rattle.snd_lines.specs.declared.refusal.Refusal.{Refusal}
+use Rattle.snd_lines.specs.declared.refusal.Refusal.TheVariants.{Open, AdpcmUpdate, UnknownLength, PartFrame, SampleRange, SeekRange, TrailingData, ContainerFull, Straddle, FramesWritten, ReservedChunk, NoChunks, ChunkTooLarge, AutoOn, NoSuchChunk, BadCommand, LineTooLong, NotOpen, AlreadyOpen, WrongMode, SameName, MixedParams, NotMono, UnknownSuffix, MissingFile, BadInfo, BadCue, BadBext, TextTooLong, Pinned, NotBuilt}
+use Rattle.snd_lines.specs.Refusals.{refusal_name}
 
 pub short_kind : (kind : Kind) → length (kind_name kind) ≤ 16
 short_kind Wave = lit≤ tt
@@ -72,6 +72,10 @@ short_refusal BadCommand = lit≤ tt
 short_refusal LineTooLong = lit≤ tt
 short_refusal NotOpen = lit≤ tt
 short_refusal AlreadyOpen = lit≤ tt
+short_refusal SameName = lit≤ tt
+short_refusal MixedParams = lit≤ tt
+short_refusal NotMono = lit≤ tt
+short_refusal UnknownSuffix = lit≤ tt
 short_refusal MissingFile = lit≤ tt
 short_refusal FramesWritten = lit≤ tt
 short_refusal ReservedChunk = lit≤ tt

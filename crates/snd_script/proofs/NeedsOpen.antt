@@ -4,7 +4,7 @@ use Rattle.std.specs.Borrow.{Bor}
 use Rattle.snd_disk.specs.Shelf.{Files}
 use Rattle.snd_script.specs.Edit.{Edited}
 use Rattle.snd_script.specs.Work.{work_closed}
-use Rattle.snd_script.specs.declared.refusal.Refusal.TheVariants as refusal
+use Rattle.snd_lines.specs.declared.refusal.Refusal.TheVariants as refusal
 use Rattle.snd_script.specs.declared.work.Asking.{Asking}
 use Rattle.snd_script.specs.declared.work.Setting.{Setting}
 use Rattle.snd_script.specs.declared.work.Work.{Work}

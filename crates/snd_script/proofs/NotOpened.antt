@@ -20,7 +20,7 @@ use Rattle.snd_script.specs.Served.{none_lost}
 use Rattle.snd_script.specs.Serving.{DiskStands, IsAnswered, IsNotOpened, IsServedOn, is_longer, moment, steps_from, steps_left}
 use Rattle.snd_script.specs.declared.open.OpenAs.{OpenAs}
 use Rattle.snd_script.specs.declared.open.OpenAs.TheVariants.{Read, Update, Make}
-use Rattle.snd_script.specs.declared.refusal.Refusal.{Refusal}
+use Rattle.snd_lines.specs.declared.refusal.Refusal.{Refusal}
 use Rattle.snd_script.specs.declared.stop.Stop.{Stop}
 use Rattle.snd_script.specs.declared.stop.Stop.TheVariants.{File, Memory}
 use Rattle.snd_script.proofs.Chains.{line_stops}

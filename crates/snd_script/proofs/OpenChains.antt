@@ -8,7 +8,7 @@ use Rattle.snd_script.specs.Lines.{Reading}
 use Rattle.snd_script.specs.Replies.{is_refusal, refuses, text_of}
 use Rattle.snd_script.specs.Serving.{Brings, IsAnswered, IsLineServed, IsStepAnswered, IsStopped, Moment, Serves, StopsLine, is_longer, moment, steps_from, steps_left}
 use Rattle.snd_script.specs.Served.{none_lost}
-use Rattle.snd_script.specs.declared.refusal.Refusal.{Refusal}
+use Rattle.snd_lines.specs.declared.refusal.Refusal.{Refusal}
 use Rattle.snd_script.specs.declared.stop.Next.TheVariants as next
 use Rattle.snd_script.specs.declared.stop.Stop.{Stop}
 use Rattle.snd_script.specs.declared.stop.Stop.TheVariants.{Ended, TooLong, Script, Sink, File, Memory}

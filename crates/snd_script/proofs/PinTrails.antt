@@ -18,7 +18,7 @@ use Rattle.snd_script.specs.Script.{ending, lines_within, steps}
 use Rattle.snd_script.specs.Serving.{IsAnswered}
 use Rattle.snd_script.specs.Trail.{MovesSafely, StepMoves, TrailsOn, pinned_file, reached, state_behind}
 use Rattle.snd_script.specs.declared.handle.Handle.{Handle}
-use Rattle.snd_script.specs.declared.refusal.Refusal.{Refusal}
+use Rattle.snd_lines.specs.declared.refusal.Refusal.{Refusal}
 use Rattle.snd_script.specs.declared.stop.Stop.{Stop}
 use Rattle.snd_script.specs.declared.stop.Stop.TheVariants as stop
 use Rattle.snd_script.proofs.PinnedMoves.{leaves_still, ok_speaks, unless_speaks}

@@ -20,14 +20,15 @@ use Rattle.snd_patch.specs.Images.{LeavesEach}
 use Rattle.snd_script.specs.Desk.{Mode, OpenFile, open_desk, pinned, updating}
 use Rattle.snd_script.specs.Edit.{Edited, close_edit, edit_by, edit_file, edit_open, edit_unless, keep_open, line_edit}
 use Rattle.snd_script.specs.Handled.{HandleAtRest, HandleStands, handle_disk, handle_known}
-use Rattle.snd_script.specs.Replies.{bext_text, body_text, error_line, ok_line, frame_line, frames_text, points_text, refusal_name, refusal_number, says, text_of, texts_text}
+use Rattle.snd_script.specs.Replies.{bext_text, body_text, error_line, ok_line, frame_line, frames_text, points_text, says, text_of, texts_text}
+use Rattle.snd_lines.specs.Refusals.{refusal_name, refusal_number}
 use Rattle.snd_script.specs.Rules.{FileEdited, Rule, chunk_of, found_answer, get_bext_rule, get_chunk_rule, get_chunks_rule, get_cues_rule, get_strings_rule, grounds_of, is_built, is_close, is_held, read_rule, refused_rule, rule_of, seek_both_rule, seek_read_rule, seek_write_rule, tell_rule, trim_rule, truncate_rule, update_rule, write_rule}
 use Rattle.snd_script.specs.Trail.{MovesSafely, RestsAt, pinned_file, state_behind}
 use Rattle.snd_script.proofs.StaysOpen.{carried}
 use Rattle.snd_script.specs.declared.handle.Handle.{Handle}
 use Rattle.snd_script.specs.declared.handle.Handle.TheVariants.{R, W, U}
-use Rattle.snd_script.specs.declared.refusal.Refusal.{Refusal}
-use Rattle.snd_script.specs.declared.refusal.Refusal.TheVariants.{BadBext, BadCommand, BadCue, BadInfo, ChunkTooLarge, LineTooLong, NoSuchChunk, NotBuilt, Pinned, WrongMode}
+use Rattle.snd_lines.specs.declared.refusal.Refusal.{Refusal}
+use Rattle.snd_lines.specs.declared.refusal.Refusal.TheVariants.{BadBext, BadCommand, BadCue, BadInfo, ChunkTooLarge, LineTooLong, NoSuchChunk, NotBuilt, Pinned, WrongMode}
 use Rattle.snd_script.specs.declared.stop.Stop.{Stop}
 use Rattle.snd_script.specs.declared.stop.Stop.TheVariants as stop
 

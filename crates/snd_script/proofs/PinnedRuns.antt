@@ -19,7 +19,7 @@ use Rattle.snd_script.specs.Script.{ending, steps}
 use Rattle.snd_script.specs.Served.{Appends, lost_at, made_next, none_lost}
 use Rattle.snd_script.specs.Serving.{DiskStands, IsAnswered, IsNotOpened, IsStopped, Moment, Serves, StopsLine, is_longer, lines_left, moment, steps_left}
 use Rattle.snd_script.specs.declared.open.OpenAs.TheVariants.{Update}
-use Rattle.snd_script.specs.declared.refusal.Refusal.{Refusal}
+use Rattle.snd_lines.specs.declared.refusal.Refusal.{Refusal}
 use Rattle.snd_script.specs.declared.stop.Stop.{Stop}
 use Rattle.snd_script.specs.declared.stop.Stop.TheVariants.{Ended, File, Memory}
 use Rattle.snd_script.proofs.Chains.{line_stops, or_none, serves_one, serves_then, stopped_then}

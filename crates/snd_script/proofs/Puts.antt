@@ -33,8 +33,8 @@ use Rattle.snd_script.specs.Work.{Follows}
 use Rattle.snd_script.specs.declared.handle.Reply.{Reply}
 use Rattle.snd_script.specs.declared.handle.StepFault.{StepFault}
 use Rattle.snd_script.specs.declared.handle.StepFault.TheVariants.{Disk, Memory}
-use Rattle.snd_script.specs.declared.refusal.Refusal.{Refusal}
-use Rattle.snd_script.specs.declared.refusal.Refusal.TheVariants.{AutoOn, BadCommand, ChunkTooLarge, FramesWritten, NoChunks, Open, ReservedChunk, TextTooLong}
+use Rattle.snd_lines.specs.declared.refusal.Refusal.{Refusal}
+use Rattle.snd_lines.specs.declared.refusal.Refusal.TheVariants.{AutoOn, BadCommand, ChunkTooLarge, FramesWritten, NoChunks, Open, ReservedChunk, TextTooLong}
 use Rattle.snd_script.proofs.Followed.{carried_out, edited_on, refused_on, sent_cause, sent_knows, sent_memory, sent_silent, sent_stands}
 use Rattle.snd_script.proofs.Refused.{is_refused, not_refused}
 

@@ -15,8 +15,8 @@ use Rattle.snd_container.specs.Fixed.{InRange, range_form}
 use Rattle.snd_container.specs.declared.fixed.Fixed.{Fixed}
 use Rattle.snd_pcm.specs.Pcm.{high, low}
 use Rattle.snd_script.specs.Rules.{are_between, auto_refusal, growth_refusal, is_between, is_voc, refused_if, trim_refusal, truncate_refusal, write_refusal}
-use Rattle.snd_script.specs.declared.refusal.Refusal.{Refusal}
-use Rattle.snd_script.specs.declared.refusal.Refusal.TheVariants.{PartFrame, SampleRange, SeekRange, TrailingData, ContainerFull, Straddle}
+use Rattle.snd_lines.specs.declared.refusal.Refusal.{Refusal}
+use Rattle.snd_lines.specs.declared.refusal.Refusal.TheVariants.{PartFrame, SampleRange, SeekRange, TrailingData, ContainerFull, Straddle}
 
 -- ---- tests
 

@@ -13,7 +13,7 @@ use Rattle.snd_script.specs.Served.{lost_at, made_next, none_lost}
 use Rattle.snd_script.specs.Serving.{IsAnswered, IsServedOn, IsStopped, Moment, is_longer, moment, steps_from, steps_left}
 use Rattle.snd_script.specs.declared.open.OpenAs.{OpenAs}
 use Rattle.snd_script.specs.declared.open.OpenAs.TheVariants.{Read, Update, Make}
-use Rattle.snd_script.specs.declared.refusal.Refusal.TheVariants.{MissingFile}
+use Rattle.snd_lines.specs.declared.refusal.Refusal.TheVariants.{MissingFile}
 use Rattle.snd_script.specs.declared.stop.Stop.{Stop}
 use Rattle.snd_script.specs.declared.stop.Stop.TheVariants.{Ended, TooLong, Script, Sink, File, Memory}
 use Rattle.snd_script.proofs.Chains.{appends_none, line_stops, or_none, serves_one}

@@ -11,7 +11,7 @@ use Rattle.snd_script.specs.Handled.{mode_of, open_as}
 use Rattle.snd_script.specs.Rules.{Rule, is_close, is_held, refused_rule, rule_of}
 use Rattle.snd_script.specs.declared.handle.Handle.{Handle}
 use Rattle.snd_script.specs.declared.handle.Handle.TheVariants.{R, W, U}
-use Rattle.snd_script.specs.declared.refusal.Refusal.{Refusal}
+use Rattle.snd_lines.specs.declared.refusal.Refusal.{Refusal}
 
 -- a command that is not refused
 pub record IsCarried (said : Said) : Type 0 where

@@ -16,7 +16,8 @@ use Rattle.snd_tags.specs.declared.error.TagError.{TagError}
 use Rattle.snd_tags.specs.declared.error.TagError.TheVariants.{Get, BadBody}
 use Rattle.snd_script.specs.Answered.{Lacks, SaysNothing, Sends}
 use Rattle.snd_script.specs.Edit.{edit_by, edit_unless}
-use Rattle.snd_script.specs.Replies.{Answer, refusal_number, refuses, says}
+use Rattle.snd_script.specs.Replies.{Answer, refuses, says}
+use Rattle.snd_lines.specs.Refusals.{refusal_number}
 use Rattle.snd_script.specs.Rules.{FileEdited, Grounds, Rule, answered, found_answer, grounds_of, known_grounds, telling_of}
 use Rattle.snd_script.specs.Stepped.{IsSaid, IsSilent, IsStepCause, Knows, LeavesFile, RepliesBy, RepliesUnless, Rose, reply_of}
 use Rattle.snd_script.specs.Work.{Follows}
@@ -24,8 +25,8 @@ use Rattle.snd_script.specs.declared.handle.Reply.{Reply}
 use Rattle.snd_script.specs.declared.handle.Reply.TheVariants as reply
 use Rattle.snd_script.specs.declared.handle.StepFault.{StepFault}
 use Rattle.snd_script.specs.declared.handle.StepFault.TheVariants.{Disk, Out, Memory}
-use Rattle.snd_script.specs.declared.refusal.Refusal.{Refusal}
-use Rattle.snd_script.specs.declared.refusal.Refusal.TheVariants.{ChunkTooLarge, NoSuchChunk}
+use Rattle.snd_lines.specs.declared.refusal.Refusal.{Refusal}
+use Rattle.snd_lines.specs.declared.refusal.Refusal.TheVariants.{ChunkTooLarge, NoSuchChunk}
 use Rattle.snd_script.proofs.Followed.{same_grounds, sent_cause, sent_knows, sent_memory, sent_silent}
 
 -- a refusal: as every disk has it, or as the disk alone has it

@@ -10,8 +10,8 @@ use Rattle.snd_script.specs.Desk.{Mode, is_pinned, makes, pinned, reading, reads
 use Rattle.snd_script.specs.Rules.{Rule, auto_rule, built_rule, in_mode, is_built, is_held, read_rule, refused_rule, rule_of, seek_read_rule, seek_rule, seek_write_rule, set_bext_rule, set_chunk_rule, set_cue_rule, set_string_rule, trim_rule, truncate_rule, unless_pinned, update_rule, write_rule}
 use Rattle.snd_script.specs.Stepped.{IsBrokenAt, IsKnown, RepliesBy, RepliesUnless}
 use Rattle.snd_script.specs.declared.handle.Reply.{Reply}
-use Rattle.snd_script.specs.declared.refusal.Refusal.{Refusal}
-use Rattle.snd_script.specs.declared.refusal.Refusal.TheVariants.{NotBuilt, Pinned}
+use Rattle.snd_lines.specs.declared.refusal.Refusal.{Refusal}
+use Rattle.snd_lines.specs.declared.refusal.Refusal.TheVariants.{NotBuilt, Pinned}
 
 pub record KeepsBroken (rule : Rule) : Type 0 where
   pub same : (k : Known) → (rule.known k).broken ≡ k.broken

@@ -16,8 +16,8 @@ use Rattle.snd_script.specs.Work.{IsSent}
 use Rattle.snd_script.specs.declared.handle.Reply.{Reply}
 use Rattle.snd_script.specs.declared.handle.StepFault.{StepFault}
 use Rattle.snd_script.specs.declared.handle.StepFault.TheVariants.{Disk, Out, Memory}
-use Rattle.snd_script.specs.declared.refusal.Refusal.{Refusal}
-use Rattle.snd_script.specs.declared.refusal.Refusal.TheVariants.{AutoOn, ChunkTooLarge, FramesWritten, NoChunks, NoSuchChunk, Open, ReservedChunk, TextTooLong}
+use Rattle.snd_lines.specs.declared.refusal.Refusal.{Refusal}
+use Rattle.snd_lines.specs.declared.refusal.Refusal.TheVariants.{AutoOn, ChunkTooLarge, FramesWritten, NoChunks, NoSuchChunk, Open, ReservedChunk, TextTooLong}
 
 -- an answer was sent
 pub record Sends {O : Type 0} (o : SinkMeaning O) (answer : Answer) (result : Result Reply StepFault) (out out' : O) : Type 0 where

@@ -17,8 +17,8 @@ use Rattle.snd_modes.specs.Updating.{updating_of}
 use Rattle.snd_script.specs.Desk.{Desk, Mode, OpenFile, is_pinned, pinned, reading, updating, writing, closed_desk, files_closed, open_desk}
 use Rattle.snd_script.specs.Rules.{FileEdited, Rule, fixed_word, grounds_of, is_built, is_close, rule_of}
 use Rattle.snd_script.specs.Replies.{Answer, nothing, says, refuses, file_line, ok_line}
-use Rattle.snd_script.specs.declared.refusal.Refusal.{Refusal}
-use Rattle.snd_script.specs.declared.refusal.Refusal.TheVariants.{Open, AdpcmUpdate, UnknownLength, BadCommand, LineTooLong, NotOpen, MissingFile, NotBuilt}
+use Rattle.snd_lines.specs.declared.refusal.Refusal.{Refusal}
+use Rattle.snd_lines.specs.declared.refusal.Refusal.TheVariants.{Open, AdpcmUpdate, UnknownLength, BadCommand, LineTooLong, NotOpen, MissingFile, NotBuilt}
 
 -- what is answered, and the state afterwards
 pub record Edited : Type 0 where

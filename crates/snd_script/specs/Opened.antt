@@ -21,7 +21,7 @@ use Rattle.snd_script.specs.Handled.{HandleAtRest, HandleStands, handle_disk, ha
 use Rattle.snd_script.specs.declared.handle.Handle.{Handle}
 use Rattle.snd_script.specs.declared.open.OpenAs.{OpenAs}
 use Rattle.snd_script.specs.declared.open.OpenAs.TheVariants.{Read, Update, Make}
-use Rattle.snd_script.specs.declared.refusal.Refusal.TheVariants.{Open}
+use Rattle.snd_lines.specs.declared.refusal.Refusal.TheVariants.{Open}
 
 abbrev pub opening_by : OpenAs → Opening
 opening_by Read = Opening.for_reading

@@ -9,7 +9,7 @@ use Rattle.snd_script.specs.Edit.{Edited, Opening, edit_by, keep_open, open_edit
 use Rattle.snd_script.specs.Replies.{is_refusal}
 use Rattle.snd_script.specs.Rules.{auto_rule, is_held, refused_rule, rule_of}
 use Rattle.snd_script.specs.Script.{any_writes, asked_by, by_lines, ending, is_too_long, lines_within, most_bytes, most_in, script_steps, steps, written_by}
-use Rattle.snd_script.specs.declared.refusal.Refusal.{Refusal}
+use Rattle.snd_lines.specs.declared.refusal.Refusal.{Refusal}
 
 -- ---- what is answered
 

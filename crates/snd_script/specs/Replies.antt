@@ -3,7 +3,7 @@ use Rattle.std.specs.Prelude.{◌≡◌, ◌⊎◌, ℕ, ℤ, List, [], ◌∷�
 use Rattle.std.specs.Fmt.{signed_decimal}
 use Rattle.std.specs.List.{flat_map}
 use Rattle.snd_disk.specs.Streams.{AppendsFront}
-use Rattle.snd_layout.specs.Names.{codec_name, kind_name, refusal_name as open_name, refusal_number as open_number}
+use Rattle.snd_layout.specs.Names.{codec_name, kind_name}
 use Rattle.snd_layout.specs.Params.{Parameters}
 use Rattle.snd_layout.specs.declared.piece.Piece.{Piece}
 use Rattle.snd_lines.specs.Lines.{behind_each, bext_lines, chunk_line, cue_line, hex_text, text_line}
@@ -13,66 +13,8 @@ use Rattle.snd_meta.specs.declared.cue.CuePoint.{CuePoint}
 use Rattle.snd_layout.specs.Shape.{Shape}
 use Rattle.snd_pcm.specs.Groups.{first_groups}
 use Rattle.snd_layout.specs.declared.kind.Kind.{Kind}
-use Rattle.snd_script.specs.declared.refusal.Refusal.{Refusal}
-use Rattle.snd_script.specs.declared.refusal.Refusal.TheVariants.{Open, AdpcmUpdate, UnknownLength, PartFrame, SampleRange, SeekRange, TrailingData, ContainerFull, Straddle, FramesWritten, ReservedChunk, NoChunks, ChunkTooLarge, AutoOn, NoSuchChunk, BadCommand, LineTooLong, NotOpen, AlreadyOpen, WrongMode, MissingFile, BadInfo, BadCue, BadBext, TextTooLong, Pinned, NotBuilt}
-
-abbrev pub refusal_number : Refusal → ℕ
-refusal_number (Open refusal) = open_number refusal
-refusal_number AdpcmUpdate = 20
-refusal_number UnknownLength = 21
-refusal_number PartFrame = 22
-refusal_number SampleRange = 23
-refusal_number SeekRange = 24
-refusal_number TrailingData = 25
-refusal_number ContainerFull = 26
-refusal_number Straddle = 27
-refusal_number FramesWritten = 28
-refusal_number ReservedChunk = 29
-refusal_number NoChunks = 30
-refusal_number ChunkTooLarge = 31
-refusal_number AutoOn = 32
-refusal_number NoSuchChunk = 34
-refusal_number BadCommand = 40
-refusal_number LineTooLong = 41
-refusal_number NotOpen = 42
-refusal_number AlreadyOpen = 43
-refusal_number WrongMode = 44
-refusal_number MissingFile = 56
-refusal_number BadInfo = 61
-refusal_number BadCue = 62
-refusal_number BadBext = 63
-refusal_number TextTooLong = 64
-refusal_number Pinned = 65
-refusal_number NotBuilt = 99
-
-abbrev pub refusal_name : Refusal → List ℕ
-refusal_name (Open refusal) = open_name refusal
-refusal_name AdpcmUpdate = codes "AdpcmUpdate"
-refusal_name UnknownLength = codes "UnknownLength"
-refusal_name PartFrame = codes "PartFrame"
-refusal_name SampleRange = codes "SampleRange"
-refusal_name SeekRange = codes "SeekRange"
-refusal_name TrailingData = codes "TrailingData"
-refusal_name ContainerFull = codes "ContainerFull"
-refusal_name Straddle = codes "Straddle"
-refusal_name FramesWritten = codes "FramesWritten"
-refusal_name ReservedChunk = codes "ReservedChunk"
-refusal_name NoChunks = codes "NoChunks"
-refusal_name ChunkTooLarge = codes "ChunkTooLarge"
-refusal_name AutoOn = codes "AutoOn"
-refusal_name NoSuchChunk = codes "NoSuchChunk"
-refusal_name BadCommand = codes "BadCommand"
-refusal_name LineTooLong = codes "LineTooLong"
-refusal_name NotOpen = codes "NotOpen"
-refusal_name AlreadyOpen = codes "AlreadyOpen"
-refusal_name WrongMode = codes "WrongMode"
-refusal_name MissingFile = codes "MissingFile"
-refusal_name BadInfo = codes "BadInfo"
-refusal_name BadCue = codes "BadCue"
-refusal_name BadBext = codes "BadBext"
-refusal_name TextTooLong = codes "TextTooLong"
-refusal_name Pinned = codes "Pinned"
-refusal_name NotBuilt = codes "NotBuilt"
+use Rattle.snd_lines.specs.Refusals.{refusal_name, refusal_number}
+use Rattle.snd_lines.specs.declared.refusal.Refusal.{Refusal}
 
 -- what a line is answered: a text of whole lines, or a refusal; or nothing at all
 pub data Answer : Type 0 where

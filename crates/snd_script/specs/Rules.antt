@@ -41,8 +41,8 @@ use Rattle.snd_wave.specs.Heads.{new_piece}
 use Rattle.snd_script.specs.Desk.{Mode, is_pinned, makes, pinned, reading, reads, updating, writes, writing}
 use Rattle.snd_script.specs.Hex.{bytes_of_hex}
 use Rattle.snd_script.specs.Replies.{Answer, nothing, refuses, says, bext_text, body_text, chunks_text, done_line, file_line, frames_text, ok_line, points_text, texts_text}
-use Rattle.snd_script.specs.declared.refusal.Refusal.{Refusal}
-use Rattle.snd_script.specs.declared.refusal.Refusal.TheVariants.{PartFrame, SampleRange, SeekRange, TrailingData, ContainerFull, Straddle, FramesWritten, ReservedChunk, NoChunks, ChunkTooLarge, AutoOn, NoSuchChunk, Open, BadCommand, AlreadyOpen, WrongMode, BadInfo, BadCue, BadBext, TextTooLong, Pinned, NotBuilt}
+use Rattle.snd_lines.specs.declared.refusal.Refusal.{Refusal}
+use Rattle.snd_lines.specs.declared.refusal.Refusal.TheVariants.{PartFrame, SampleRange, SeekRange, TrailingData, ContainerFull, Straddle, FramesWritten, ReservedChunk, NoChunks, ChunkTooLarge, AutoOn, NoSuchChunk, Open, BadCommand, AlreadyOpen, WrongMode, BadInfo, BadCue, BadBext, TextTooLong, Pinned, NotBuilt}
 
 -- ---- why a command is refused
 

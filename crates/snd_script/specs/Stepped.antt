@@ -10,12 +10,13 @@ use Rattle.snd_modes.specs.Relaid.{place_named}
 use Rattle.snd_modes.specs.WriteCalls.{known_sealed}
 use Rattle.snd_wave.specs.Heads.{new_piece}
 use Rattle.snd_script.specs.Rules.{FileEdited, Rule, known_grounds}
-use Rattle.snd_script.specs.Replies.{Answer, refuses, refusal_number, text_of}
+use Rattle.snd_script.specs.Replies.{Answer, refuses, text_of}
+use Rattle.snd_lines.specs.Refusals.{refusal_number}
 use Rattle.snd_script.specs.declared.handle.Reply.{Reply}
 use Rattle.snd_script.specs.declared.handle.Reply.TheVariants as reply
 use Rattle.snd_script.specs.declared.handle.StepFault.{StepFault}
 use Rattle.snd_script.specs.declared.handle.StepFault.TheVariants.{Disk, Out, Memory}
-use Rattle.snd_script.specs.declared.refusal.Refusal.{Refusal}
+use Rattle.snd_lines.specs.declared.refusal.Refusal.{Refusal}
 
 -- the reply of an answer
 abbrev pub reply_of : Answer → Reply

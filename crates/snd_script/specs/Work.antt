@@ -31,7 +31,7 @@ use Rattle.snd_script.specs.Stepped.{IsAutomatic, IsSaid, IsSilent, IsStepCause,
 use Rattle.snd_script.specs.declared.handle.Reply.{Reply}
 use Rattle.snd_script.specs.declared.handle.StepFault.{StepFault}
 use Rattle.snd_script.specs.declared.handle.StepFault.TheVariants.{Disk, Out, Memory}
-use Rattle.snd_script.specs.declared.refusal.Refusal.TheVariants as refusal
+use Rattle.snd_lines.specs.declared.refusal.Refusal.TheVariants as refusal
 use Rattle.snd_script.specs.declared.work.Asking.{Asking}
 use Rattle.snd_script.specs.declared.work.Asking.TheVariants as asking
 use Rattle.snd_script.specs.declared.work.Setting.{Setting}

@@ -7,12 +7,12 @@ ghost use Rattle.snd_script.specs.Answered.{IsWhole, Lacks, SendsText, gathered}
 ghost use Rattle.snd_script.specs.Work.{Follows, asking_rule};
 
 use crate::handle::{Reply, StepFault};
-use crate::refusal::Refusal;
 use crate::replies::{bext_text, body_text, chunks_text, points_text, texts_text};
 use crate::say::{refuse, say_text};
 use crate::work::Asking;
 use snd_disk::{Disk, Sink};
 use snd_fields::Id4;
+use snd_lines::Refusal;
 use snd_modes::{File, GetError, Mode};
 use snd_tags::{TagError, broadcast, points, texts};
 use std::alloc::{AllocError, Global};

@@ -7,10 +7,10 @@ ghost use Rattle.snd_script.specs.Work.{Follows};
 
 use crate::handle::{Reply, StepFault};
 use crate::reading::read_some;
-use crate::refusal::Refusal;
 use crate::room::Room;
 use crate::say::{refuse, say_file, say_frames, say_ok};
 use snd_disk::{Disk, Sink};
+use snd_lines::Refusal;
 use snd_modes::{CanRead, CanWrite, File, Mode, SeekError, Update};
 
 /// Refuses a command.

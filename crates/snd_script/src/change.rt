@@ -6,9 +6,9 @@ ghost use Rattle.snd_script.specs.Rules.{auto_rule, trim_rule, truncate_rule, up
 ghost use Rattle.snd_script.specs.Work.{Follows};
 
 use crate::handle::{Reply, StepFault};
-use crate::refusal::Refusal;
 use crate::say::{refuse, say_ok};
 use snd_disk::{Disk, Sink};
+use snd_lines::Refusal;
 use snd_modes::{AutoError, CanShrink, CanWrite, File, ShrinkError, UpdateError, WriteError};
 
 /// Writes the frames of these numbers.

@@ -19,7 +19,7 @@ ghost use Rattle.snd_script.specs.Work.{name_of};
 use crate::open::OpenAs;
 use crate::opening::serve_disk;
 use crate::reader::Line;
-use crate::refusal::{Refusal, line_refusal};
+use crate::refusal::line_refusal;
 use crate::run::Run;
 use crate::stop::Stop;
 use crate::work::{Work, work_of};
@@ -27,6 +27,7 @@ use snd_command::LineCommand;
 use snd_container::fit;
 use snd_disk::{Shelf, ShelfFault, Sink, Source};
 use snd_layout::{Codec, Kind, OpenRefusal, Params};
+use snd_lines::Refusal;
 use std::alloc::Global;
 use std::str;
 

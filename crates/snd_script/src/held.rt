@@ -3,9 +3,9 @@
 ghost use Rattle.snd_command.specs.Said.{line_said};
 ghost use Rattle.snd_script.specs.Pinned.{RefusesHeld};
 
-use crate::refusal::Refusal;
 use crate::work::is_made;
 use snd_command::LineCommand;
+use snd_lines::Refusal;
 
 /// Why a file that is to stay open refuses a command that would open or close one, or say whether it is
 /// updated automatically. None for other commands, and for another file.

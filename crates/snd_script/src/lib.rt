@@ -29,6 +29,5 @@ mod text;
 mod work;
 
 pub use handle::{Handle, Reply, StepFault};
-pub use refusal::Refusal;
 pub use serving::{ScriptEnd, serve};
 pub use session::Session;

@@ -14,12 +14,12 @@ ghost use Rattle.snd_script.specs.Serving.{AnswersClose, AnswersError, AnswersFi
 use crate::handle::Handle;
 use crate::open::{OpenAs, open_disk};
 use crate::opened::serve_open;
-use crate::refusal::Refusal;
 use crate::run::Run;
 use crate::stop::Stop;
 use crate::text::{put_file_line, put_ok};
 use snd_disk::{Disk, Sink, Source};
 use snd_layout::OpenError;
+use snd_lines::Refusal;
 use snd_modes::{File, Mode};
 use std::alloc::Global;
 

@@ -3,12 +3,13 @@
 ghost use Rattle.std.specs.Prelude.{◌≡◌, ◌+◌, ◌*◌, ◌≤◌, ◌∷◌, ◌++◌, length, decimal};
 ghost use Rattle.std.specs.Fmt.{signed_decimal};
 ghost use Rattle.snd_layout.specs.Names.{codec_name, kind_name};
-ghost use Rattle.snd_script.specs.Replies.{described, error_line, frame_line, ok_line, refusal_name, spaced, counts_text};
+ghost use Rattle.snd_script.specs.Replies.{described, error_line, frame_line, ok_line, spaced, counts_text};
+ghost use Rattle.snd_lines.specs.Refusals.{refusal_name};
 
-use crate::refusal::Refusal;
 use arrayvec::ArrayVec;
 use itoa::Buffer;
 use snd_layout::{Codec, Kind, Params};
+use snd_lines::Refusal;
 
 /// Appends a text.
 #[inline]

@@ -16,11 +16,11 @@ use crate::handle::Handle;
 use crate::open::{OpenAs, open_disk};
 use crate::opened::serve_open;
 use crate::opening::{not_opened, reply_opened};
-use crate::refusal::Refusal;
 use crate::run::Run;
 use crate::stop::Stop;
 use snd_command::LineCommand;
 use snd_disk::{Disk, Shelf, ShelfFault, Sink, Source};
+use snd_lines::Refusal;
 use std::alloc::Global;
 
 // Answers that a file was opened, and that it is updated automatically. Then it carries out lines up to

@@ -11,12 +11,12 @@ ghost use Rattle.snd_script.specs.Serving.{IsScriptCounted, IsSinkCounted, IsWho
 
 use crate::handle::{Handle, Reply, StepFault};
 use crate::reader::{Line, NextLine, ScriptLines};
-use crate::refusal::Refusal;
 use crate::session::Session;
 use crate::stop::Stop;
 use crate::text::put_refusal;
 use snd_command::LineCommand;
 use snd_disk::{Disk, Sink, Source};
+use snd_lines::Refusal;
 
 /// A run over a script: its lines, what is used again from command to command, and whether a line was
 /// refused so far.

@@ -7,11 +7,11 @@ ghost use Rattle.snd_script.specs.Replies.{described, ok_line, refuses, says, re
 ghost use Rattle.snd_script.specs.Work.{IsSent};
 
 use crate::handle::{Reply, StepFault};
-use crate::refusal::Refusal;
 use crate::text::{PAGE_BYTES, put_file_line, put_frames, put_ok, put_refusal};
 use arrayvec::ArrayVec;
 use snd_disk::Sink;
 use snd_layout::{Kind, Params};
+use snd_lines::Refusal;
 
 /// Says that a command was carried out, with a number.
 pub fn say_ok<O: Sink>(out: &mut O, number: u64) -> Result<Reply, StepFault>

@@ -8,7 +8,6 @@ ghost use Rattle.snd_script.specs.Work.{Follows, setting_rule};
 
 use crate::handle::{Reply, StepFault};
 use crate::hex::bytes_of_hex;
-use crate::refusal::Refusal;
 use crate::say::{refuse, say_text};
 use crate::work::Setting;
 use arrayvec::ArrayVec;
@@ -16,6 +15,7 @@ use snd_command::{MOST_CUES, is_text};
 use snd_disk::{Disk, Sink};
 use snd_fields::{Id4, decimal};
 use snd_layout::{OpenRefusal, PieceError};
+use snd_lines::Refusal;
 use snd_meta::{BextKey, InfoKey};
 use snd_modes::{File, Write};
 use snd_tags::{SetError, set_field, set_points, set_text, set_time};

@@ -9,11 +9,11 @@ use crate::asking::ask;
 use crate::carry::{read, refuse_on, seek_both, seek_read, seek_write, tell};
 use crate::change::{bring_up, set_auto, trim, truncate, write};
 use crate::handle::{Reply, StepFault};
-use crate::refusal::Refusal;
 use crate::room::Room;
 use crate::setting::set;
 use crate::work::Work;
 use snd_disk::{Disk, Sink};
+use snd_lines::Refusal;
 use snd_modes::{CanShrink, File, Read, Update, Write};
 use std::alloc::Global;
 

@@ -5,10 +5,10 @@ ghost use Rattle.snd_disk.specs.State.{Counts};
 ghost use Rattle.snd_script.specs.Replies.{MakesRoom, PutsAll, PutsFront, described, error_line, ok_line, read_text};
 
 use crate::page::{push_error, push_file, push_frame, push_ok};
-use crate::refusal::Refusal;
 use arrayvec::ArrayVec;
 use snd_disk::{Failed, Sink};
 use snd_layout::{Kind, Params};
+use snd_lines::Refusal;
 
 /// The most bytes that are put at once.
 pub(crate) const PAGE_BYTES: usize = 16384;

@@ -5,7 +5,7 @@ use Rattle.snd_modes.specs.Pieces.{first_piece}
 use Rattle.snd_tags.specs.Found.{broadcast_of}
 use Rattle.snd_script.specs.Replies.{bext_text}
 use Rattle.snd_script.specs.Rules.{finds_broadcast, piece_refusal}
-use Rattle.snd_script.specs.declared.refusal.Refusal.TheVariants.{BadBext}
+use Rattle.snd_lines.specs.declared.refusal.Refusal.TheVariants.{BadBext}
 use Rattle.snd_script.proofs.Decided.{asks_more, decides_piece, gathered_reply}
 use Rattle.snd_script.proofs.Tells.{told}
 use Rattle.snd_script.proofs.asking.say_broadcast.Goals as goal

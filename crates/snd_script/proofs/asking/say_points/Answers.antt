@@ -5,7 +5,7 @@ use Rattle.snd_modes.specs.Pieces.{first_piece}
 use Rattle.snd_tags.specs.Found.{points_of}
 use Rattle.snd_script.specs.Replies.{points_text}
 use Rattle.snd_script.specs.Rules.{finds_points, piece_refusal}
-use Rattle.snd_script.specs.declared.refusal.Refusal.TheVariants.{BadCue}
+use Rattle.snd_lines.specs.declared.refusal.Refusal.TheVariants.{BadCue}
 use Rattle.snd_script.proofs.Decided.{asks_more, decides_piece, gathered_reply}
 use Rattle.snd_script.proofs.Tells.{told}
 use Rattle.snd_script.proofs.asking.say_points.Goals as goal

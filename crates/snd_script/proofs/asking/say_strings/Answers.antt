@@ -4,7 +4,7 @@ use Rattle.snd_modes.specs.Handle.{known_of}
 use Rattle.snd_tags.specs.Found.{texts_of}
 use Rattle.snd_script.specs.Replies.{texts_text}
 use Rattle.snd_script.specs.Rules.{finds_texts}
-use Rattle.snd_script.specs.declared.refusal.Refusal.TheVariants.{BadInfo}
+use Rattle.snd_lines.specs.declared.refusal.Refusal.TheVariants.{BadInfo}
 use Rattle.snd_script.proofs.Decided.{decides_info, gathered_reply, list_refusal}
 use Rattle.snd_script.proofs.Tells.{told}
 use Rattle.snd_script.proofs.asking.say_strings.Goals as goal

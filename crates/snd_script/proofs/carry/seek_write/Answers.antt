@@ -1,6 +1,6 @@
 use Rattle.std.proofs.Common.{rules}
 use Rattle.snd_script.specs.Rules.{seek_write_rule}
-use Rattle.snd_script.specs.declared.refusal.Refusal.TheVariants.{SeekRange}
+use Rattle.snd_lines.specs.declared.refusal.Refusal.TheVariants.{SeekRange}
 use Rattle.snd_script.proofs.Followed.{refused_on}
 use Rattle.snd_script.proofs.carry.seek_write.Goals as goal
 

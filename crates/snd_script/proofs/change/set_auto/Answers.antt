@@ -3,7 +3,7 @@ use Rattle.snd_layout.specs.Shape.{Shape}
 use Rattle.snd_modes.specs.Handle.{known_of}
 use Rattle.snd_script.specs.Replies.{ok_line, says}
 use Rattle.snd_script.specs.Rules.{auto_rule}
-use Rattle.snd_script.specs.declared.refusal.Refusal.TheVariants.{Straddle}
+use Rattle.snd_lines.specs.declared.refusal.Refusal.TheVariants.{Straddle}
 use Rattle.snd_script.proofs.Followed.{carried_out, failed, refused_on}
 use Rattle.snd_script.proofs.Refused.{auto_free}
 use Rattle.snd_script.proofs.change.set_auto.Goals as goal

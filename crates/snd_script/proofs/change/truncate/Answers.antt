@@ -2,7 +2,7 @@ use Rattle.std.proofs.Common.{refl, rules}
 use Rattle.snd_modes.specs.Handle.{known_of}
 use Rattle.snd_script.specs.Replies.{ok_line}
 use Rattle.snd_script.specs.Rules.{truncate_rule}
-use Rattle.snd_script.specs.declared.refusal.Refusal.TheVariants.{SeekRange, TrailingData}
+use Rattle.snd_lines.specs.declared.refusal.Refusal.TheVariants.{SeekRange, TrailingData}
 use Rattle.snd_script.proofs.Followed.{carried_out, failed, refused_on}
 use Rattle.snd_script.proofs.Refused.{truncate_free, truncate_past, truncate_trailing}
 use Rattle.snd_script.proofs.change.truncate.Goals as goal

@@ -3,7 +3,7 @@ use Rattle.snd_layout.specs.Shape.{Shape}
 use Rattle.snd_modes.specs.Handle.{known_of}
 use Rattle.snd_script.specs.Replies.{ok_line, says}
 use Rattle.snd_script.specs.Rules.{write_rule}
-use Rattle.snd_script.specs.declared.refusal.Refusal.TheVariants.{ContainerFull, PartFrame, SampleRange, TrailingData}
+use Rattle.snd_lines.specs.declared.refusal.Refusal.TheVariants.{ContainerFull, PartFrame, SampleRange, TrailingData}
 use Rattle.snd_script.proofs.Followed.{carried_out, failed, refused_on}
 use Rattle.snd_script.proofs.Refused.{write_free, write_full, write_part, write_range, write_trailing}
 use Rattle.snd_script.proofs.WrittenBytes.{written_for_numbers}

@@ -4,7 +4,7 @@ use Rattle.snd_script.specs.Edit.{edit_closed}
 use Rattle.snd_script.specs.Replies.{refuses}
 use Rattle.snd_script.specs.Script.{asked_by, written_by}
 use Rattle.snd_script.specs.Serving.{ShelfStands}
-use Rattle.snd_script.specs.declared.refusal.Refusal.TheVariants as refusal
+use Rattle.snd_lines.specs.declared.refusal.Refusal.TheVariants as refusal
 use Rattle.snd_script.proofs.NeedsOpen.{needs_open}
 use Rattle.snd_script.proofs.ShelfLeft.{leaves_shelf_same, still_stands}
 use Rattle.snd_script.proofs.ShelfSteps.{replied_closed}

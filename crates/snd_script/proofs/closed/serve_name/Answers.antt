@@ -5,7 +5,7 @@ use Rattle.snd_script.specs.Opened.{opens_edit}
 use Rattle.snd_script.specs.Replies.{refuses}
 use Rattle.snd_script.specs.Served.{none_lost}
 use Rattle.snd_script.specs.Serving.{DiskStands, ShelfStands}
-use Rattle.snd_script.specs.declared.refusal.Refusal.TheVariants.{MissingFile}
+use Rattle.snd_lines.specs.declared.refusal.Refusal.TheVariants.{MissingFile}
 use Rattle.snd_script.proofs.ShelfLeft.{came_back, stands_on_shelf, stayed, stayed_stands, taken_there}
 use Rattle.snd_script.proofs.ShelfSteps.{made_not, opened_on_shelf, opens_missing, replied_closed, take_failed, take_lacks_memory}
 use Rattle.snd_script.proofs.Tails.{returned_unless, stayed_unless}

@@ -9,7 +9,7 @@ use Rattle.snd_script.specs.Pinned.{pinned_opening, pinned_steps, pins}
 use Rattle.snd_script.specs.PinnedRun.{IsPinnedStop, opened_pinned}
 use Rattle.snd_script.specs.Served.{lost_at, made_next, none_lost}
 use Rattle.snd_script.specs.Serving.{DiskStands, Moment, ShelfStands, lines_left, moment, moment_of}
-use Rattle.snd_script.specs.declared.refusal.Refusal.TheVariants.{MissingFile}
+use Rattle.snd_lines.specs.declared.refusal.Refusal.TheVariants.{MissingFile}
 use Rattle.snd_script.specs.declared.stop.Stop.TheVariants.{File, Memory}
 use Rattle.snd_script.proofs.Openings.{stopped_stands}
 use Rattle.snd_script.proofs.PinOpenings.{trail_resting}

@@ -5,7 +5,7 @@ use Rattle.snd_modes.specs.Handle.{known_of}
 use Rattle.snd_tags.specs.Drafts.{bext_with}
 use Rattle.snd_script.specs.Rules.{Rule, known_grounds, text_refusal}
 use Rattle.snd_script.specs.Work.{Follows}
-use Rattle.snd_script.specs.declared.refusal.Refusal.TheVariants.{BadCommand}
+use Rattle.snd_lines.specs.declared.refusal.Refusal.TheVariants.{BadCommand}
 use Rattle.snd_script.proofs.Followed.{refused_on}
 use Rattle.snd_script.proofs.Puts.{field_rule, follows_drafting, not_text, set_bext_is, text_why}
 use Rattle.snd_script.proofs.setting.put_field.Goals as goal

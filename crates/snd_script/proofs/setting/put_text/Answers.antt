@@ -3,7 +3,7 @@ use Rattle.std.specs.Prelude.{codes}
 use Rattle.snd_modes.specs.Handle.{known_of}
 use Rattle.snd_tags.specs.Drafts.{info_with}
 use Rattle.snd_script.specs.Rules.{known_grounds, set_string_rule, text_refusal}
-use Rattle.snd_script.specs.declared.refusal.Refusal.TheVariants.{BadCommand}
+use Rattle.snd_lines.specs.declared.refusal.Refusal.TheVariants.{BadCommand}
 use Rattle.snd_script.proofs.Followed.{refused_on}
 use Rattle.snd_script.proofs.Puts.{follows_drafting, not_text, text_why}
 use Rattle.snd_script.proofs.setting.put_text.Goals as goal

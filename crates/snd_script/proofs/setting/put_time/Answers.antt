@@ -4,7 +4,7 @@ use Rattle.snd_modes.specs.Handle.{known_of}
 use Rattle.snd_tags.specs.Drafts.{bext_timed}
 use Rattle.snd_script.specs.Rules.{draft_refusal, known_grounds, set_time_rule}
 use Rattle.snd_script.specs.Work.{Follows}
-use Rattle.snd_script.specs.declared.refusal.Refusal.TheVariants.{BadCommand}
+use Rattle.snd_lines.specs.declared.refusal.Refusal.TheVariants.{BadCommand}
 use Rattle.snd_script.proofs.Followed.{refused_on}
 use Rattle.snd_script.proofs.Puts.{follows_drafting, plain_why}
 use Rattle.snd_script.proofs.setting.put_time.Goals as goal
