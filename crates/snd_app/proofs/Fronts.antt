@@ -16,7 +16,7 @@ module _ (before after : Option (List ℕ)) where
   pub whole_front : (text : List ℕ) → Appends before after text → AppendsFront before after text
   whole_front text put t told = (length text, omega arith, put t told ∙ ap (λ (l : List ℕ). Some (t ++ l)) (sym (take_all (length text) text (omega arith))))
 
-  part_front : (text more others : List ℕ) → AppendsPart before after text more → AppendsFront before after (text ++ more ++ others)
+  pub part_front : (text more others : List ℕ) → AppendsPart before after text more → AppendsFront before after (text ++ more ++ others)
   part_front text more others put t told =
       let part = put t told in
       (length text + part.0, grind (arith, places, part.1), part.2 ∙ ap (λ (l : List ℕ). Some l) (append_assoc t text (take part.0 more)) ∙ ap (λ (l : List ℕ). Some (t ++ l)) (take_part text more others part.0 part.1))

@@ -1,11 +1,17 @@
--- How the shelf is left where no file was changed.
-use Rattle.std.proofs.Common.{ℕ, List, Option, sym, ◌∙◌, ap}
+-- How the shelf is left where no file was changed, or one.
+use Rattle.std.proofs.Common.{◌≡◌, inl, inr, ℕ, List, Option, sym, ◌∙◌, ap, subst, false}
+use Rattle.std.proofs.lemmas.Bool.{cases_Bool}
 use Rattle.std.specs.Prelude.{is_none}
+use Rattle.std.specs.Str.{bytes_eq}
 use Rattle.snd_disk.proofs.Chains.{goes_on_kept}
+use Rattle.snd_disk.proofs.Names.{same_name}
 use Rattle.snd_disk.specs.Shelf.{KeepsFiles, ShelfState}
 use Rattle.snd_disk.specs.Shelves.{KeepsFileImages}
+use Rattle.snd_disk.specs.State.{GoesOn}
+use Rattle.snd_disk.specs.declared.shelf.Shelf.{Ghosts as ShelfMeaning}
 use Rattle.snd_script.proofs.ShelfLeft.{some_of}
 use Rattle.snd_script.specs.Served.{LeavesShelf}
+use Rattle.snd_tools.specs.Shelves.{ChangesOne}
 use Rattle.snd_app.specs.Run.{IsAllIn}
 
 pub kept_leaves : {S : Type 0} (state : S → ShelfState) (may_leave : S → List ℕ → List ℕ → Type 0) (left_between : S → List ℕ → ℕ → ℕ → List ℕ → Type 0) (old new : S)
@@ -19,3 +25,29 @@ kept_leaves state may_leave left_between old new all_in back files images = reco
       let is = some_of (f n) there in
       goes_on_kept ((state old).clock n) ((state new).clock n) (may_leave old n) (may_leave new n) (left_between old n) (left_between new n) (images f n is.0 told is.1);
 }
+
+module _ {S D : Type 0} (s : ShelfMeaning S D) (name : List ℕ) (old new : S) (changes : ChangesOne s name old new) where
+  abbrev Time : List ℕ → Type 0
+  Time n = GoesOn ((s.state old).clock n) ((s.state new).clock n) (s.left_between old n) (s.left_between new n)
+
+  pub changed_leaves : LeavesShelf s.state s.left_between old new
+  changed_leaves = record {
+    back = changes.back;
+    files = λ f told.
+        let kept = changes.files f told in (
+          kept.0,
+          kept.1,
+          λ n there. elim (cases_Bool (bytes_eq n name)) [
+            | inl is ↦
+                let same = same_name n name is in
+                subst (λ (m : List ℕ). is_none (kept.0 m) ≡ false) (sym same) (kept.3 (subst (λ (m : List ℕ). is_none (f m) ≡ false) same there))
+            | inr other ↦ ap (λ (o : Option (List ℕ)). is_none o) (kept.2 n other) ∙ there
+          ],
+        );
+    time = λ f n told there. elim (cases_Bool (bytes_eq n name)) [
+      | inl is ↦
+          let same = same_name n name is in
+          subst Time (sym same) (changes.time f told (subst (λ (m : List ℕ). is_none (f m) ≡ false) same there))
+      | inr other ↦ goes_on_kept ((s.state old).clock n) ((s.state new).clock n) (s.may_leave old n) (s.may_leave new n) (s.left_between old n) (s.left_between new n) (changes.others f n told there other)
+    ];
+  }

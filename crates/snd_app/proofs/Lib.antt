@@ -1,6 +1,6 @@
 mod Fronts
+mod Infos
 mod Left
 mod Looks
 mod Outcomes
 mod Scripts
-mod Words

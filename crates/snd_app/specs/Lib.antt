@@ -3,4 +3,3 @@ pub mod Look
 pub mod Outcome
 pub mod Run
 pub mod Text
-pub mod Words

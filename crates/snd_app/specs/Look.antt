@@ -1,5 +1,5 @@
 -- How the file of a name is looked at.
-use Rattle.std.specs.Prelude.{◌≡◌, ℕ, ◌≤◌, Result, Ok, Err, IfOk}
+use Rattle.std.specs.Prelude.{◌≡◌, ℕ, ◌*◌, ◌≤◌, Result, Ok, Err, IfOk}
 use Rattle.snd_disk.specs.State.{AtMost, Rises}
 use Rattle.snd_disk.specs.Shelf.{Files, ShelfState}
 use Rattle.snd_disk.specs.Shelves.{TellsFiles}
@@ -16,7 +16,7 @@ CountsStop old new (Err Memory) = new ≡ old
 abbrev pub IfOkFiles : {S T E : Type 0} → (S → ShelfState) → S → Result T E → (Files → T → Type 0) → Type 0
 IfOkFiles state shelf result P = IfOk result (λ value. (files : Files) → TellsFiles state shelf files → P files value)
 
--- at most 98304 bytes are asked of the disks, and none is written
-pub record OnlyLooks (old new : ShelfState) : Type 0 where
-  pub asked : AtMost old.asked 98304 new.asked
+-- at most 98304 bytes are asked of the disks for each of so many names, and none is written
+pub record OnlyLooks (names : ℕ) (old new : ShelfState) : Type 0 where
+  pub asked : AtMost old.asked (98304 * names) new.asked
   pub written : new.written ≡ old.written

@@ -1,8 +1,6 @@
 -- What a run of the program prints and answers, and which files it leaves: functions of the words, the files that are there,
 -- and the script.
-use Rattle.std.specs.Prelude.{ℕ, Bool, true, false, ◌&&◌, ◌==◌, not, List, [], ◌∷◌, Option, Some, None, Result, Ok, Err, length, slice_index, codes, nat_le, if◌then◌else◌}
-use Rattle.std.specs.List.{list_all}
-use Rattle.std.specs.Str.{bytes_eq}
+use Rattle.std.specs.Prelude.{ℕ, Bool, true, false, List, [], ◌∷◌, ◌++◌, Option, Some, None, Result, Ok, Err, codes, max, if◌then◌else◌}
 use Rattle.snd_container.specs.Sound.{layout_of}
 use Rattle.snd_disk.specs.Shelf.{Files}
 use Rattle.snd_layout.specs.Shape.{Shape}
@@ -11,14 +9,19 @@ use Rattle.snd_meta.specs.Info.{Entry}
 use Rattle.snd_modes.specs.Heads.{holds_meta}
 use Rattle.snd_tags.specs.Found.{texts_of}
 use Rattle.snd_tags.specs.declared.error.TagError.{TagError}
-use Rattle.snd_script.specs.declared.refusal.Refusal.TheVariants.{MissingFile, Open}
+use Rattle.snd_lines.specs.declared.refusal.Refusal.TheVariants.{MissingFile, Open}
+use Rattle.snd_convert.specs.Convert.{converted}
+use Rattle.snd_script.specs.Replies.{ok_line}
+use Rattle.snd_tools.specs.Done.{Done, Said, files_after as after_tool, said_of}
+use Rattle.snd_words.specs.Asked.{Asked}
+use Rattle.snd_words.specs.Grammar.{asked}
 use Rattle.snd_script.specs.Desk.{closed_desk}
 use Rattle.snd_script.specs.Edit.{Edited}
 use Rattle.snd_script.specs.Pinned.{run_steps, run_too_long}
 use Rattle.snd_script.specs.Script.{any_refused, last_desk, texts}
 use Rattle.snd_app.specs.declared.look.Found.{Found}
 use Rattle.snd_app.specs.declared.look.Found.TheVariants.{Missing, Refused, Sound}
-use Rattle.snd_lines.specs.Lines.{is_printed}
+use Rattle.snd_app.specs.declared.help.TheConstants.{HELP, VERSION}
 use Rattle.snd_app.specs.Text.{refusal}
 use Rattle.snd_app.specs.Info.{description}
 
@@ -26,10 +29,6 @@ pub record Outcome : Type 0 where
   pub out : List ℕ
   pub err : List ℕ
   pub status : ℕ
-
--- a name has 1 to 255 bytes, each of them printed and no space, and does not begin with '-'
-abbrev pub is_name : List ℕ → Bool
-is_name n = nat_le 1 (length n) && nat_le (length n) 255 && list_all is_printed n && not (slice_index n 0 == 45)
 
 abbrev pub bad_words : Outcome
 bad_words = record { out = []; err = codes "snd: bad words\n"; status = 2 }
@@ -85,23 +84,48 @@ files_of_script name files text = (last_desk (closed_desk files) (run_steps name
 abbrev pub outcome_of_info : List ℕ → Files → Outcome
 outcome_of_info name files = info name (found_in (files name))
 
--- what the words ask for: `info NAME`; `script`, or `script --auto NAME`, in which the file of the name is pinned
-pub data Asked : Type 0 where
-  info_of : List ℕ → Asked
-  script : Option (List ℕ) → Asked
-  nothing : Asked
+-- one outcome behind another, of which the greater status counts
+abbrev pub and_then : Outcome → Outcome → Outcome
+and_then one other = record { out = one.out ++ other.out; err = one.err ++ other.err; status = max one.status other.status }
 
-abbrev pub asked : List (List ℕ) → Asked
-asked (command ∷ word ∷ name ∷ []) =
-    if bytes_eq command (codes "script") && bytes_eq word (codes "--auto") && is_name name then Asked.script (Some name) else Asked.nothing
-asked (command ∷ name ∷ []) = if bytes_eq command (codes "info") && is_name name then Asked.info_of name else Asked.nothing
-asked (command ∷ []) = if bytes_eq command (codes "script") then Asked.script None else Asked.nothing
-asked words = Asked.nothing
+-- a text on `out`
+abbrev pub says : List ℕ → Outcome
+says text = record { out = text; err = []; status = 0 }
 
+-- each of the names, in their order
+abbrev pub outcome_of_infos : List (List ℕ) → Files → Outcome
+outcome_of_infos [] files = says []
+outcome_of_infos (name ∷ names) files = and_then (outcome_of_info name files) (outcome_of_infos names files)
+
+-- a tool says how many frames it made, or which file it refused, and why
+abbrev pub text_said : Said → List ℕ
+text_said (Said.made frames) = ok_line frames
+text_said (Said.refused name why) = refusal name why
+
+abbrev pub is_refusal : Said → Bool
+is_refusal (Said.made frames) = false
+is_refusal (Said.refused name why) = true
+
+abbrev pub outcome_said : Said → Outcome
+outcome_said (Said.made frames) = says (text_said (Said.made frames))
+outcome_said (Said.refused name why) = record { out = []; err = text_said (Said.refused name why); status = 1 }
+
+abbrev pub outcome_of_tool : Done → Outcome
+outcome_of_tool todo = outcome_said (said_of todo)
+
+-- what the words ask for, over these files and with this script to come
 abbrev pub outcome_of : Asked → Files → List ℕ → Outcome
 outcome_of Asked.nothing files text = bad_words
-outcome_of (Asked.info_of name) files text = outcome_of_info name files
+outcome_of (Asked.info_of names) files text = outcome_of_infos names files
 outcome_of (Asked.script name) files text = outcome_of_script name files text
+outcome_of Asked.help files text = says HELP.now
+outcome_of Asked.version files text = says VERSION.now
+outcome_of (Asked.convert c) files text = outcome_of_tool (converted c files)
+-- a tool that is not built yet
+outcome_of (Asked.concat inputs output) files text = bad_words
+outcome_of (Asked.interleave inputs output) files text = bad_words
+outcome_of (Asked.gen seed frames name) files text = bad_words
+outcome_of (Asked.set_metadata settings input output) files text = bad_words
 
 -- whether that is a script; and the name that is pinned in it, where there is one
 abbrev pub is_script : Asked → Bool
@@ -112,6 +136,22 @@ abbrev pub pinned_by : Asked → Option (List ℕ)
 pinned_by (Asked.script name) = name
 pinned_by other = None
 
+-- the name of the file that a tool makes
+abbrev pub output_by : Asked → Option (List ℕ)
+output_by (Asked.convert c) = Some c.output
+output_by other = None
+
+-- whether files are looked at alone
+abbrev pub looks_by : Asked → Bool
+looks_by (Asked.script name) = false
+looks_by (Asked.convert c) = false
+looks_by other = true
+
+-- the names of the files that are described
+abbrev pub names_by : Asked → List (List ℕ)
+names_by (Asked.info_of names) = names
+names_by other = []
+
 -- .. by the words
 abbrev pub runs_script : List (List ℕ) → Bool
 runs_script words = is_script (asked words)
@@ -119,13 +159,22 @@ runs_script words = is_script (asked words)
 abbrev pub pinned_for : List (List ℕ) → Option (List ℕ)
 pinned_for words = pinned_by (asked words)
 
--- the outcome of the words, over these files and with this script to come
+abbrev pub output_for : List (List ℕ) → Option (List ℕ)
+output_for words = output_by (asked words)
+
+abbrev pub looks_for : List (List ℕ) → Bool
+looks_for words = looks_by (asked words)
+
+abbrev pub names_for : List (List ℕ) → List (List ℕ)
+names_for words = names_by (asked words)
+
 abbrev pub outcome : List (List ℕ) → Files → List ℕ → Outcome
 outcome words files text = outcome_of (asked words) files text
 
--- the files that are there afterwards: only a script changes any
+-- the files that are there afterwards: only a script and a tool change any
 abbrev pub files_of : Asked → Files → List ℕ → Files
 files_of (Asked.script name) files text = files_of_script name files text
+files_of (Asked.convert c) files text = after_tool (converted c files) files
 files_of other files text = files
 
 abbrev pub files_after : List (List ℕ) → Files → List ℕ → Files

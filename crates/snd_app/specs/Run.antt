@@ -11,7 +11,8 @@ use Rattle.snd_disk.specs.declared.streams.Source.{Ghosts as SourceMeaning}
 use Rattle.snd_script.specs.Edit.{Edited}
 use Rattle.snd_script.specs.Pinned.{run_steps}
 use Rattle.snd_script.specs.Served.{FaultCounts, HasFiles, IsDone, IsFault, StopsAtMemory}
-use Rattle.snd_app.specs.Outcome.{Outcome, files_of_script, outcome_of_script}
+use Rattle.snd_tools.specs.Done.{Done, files_after as after_tool}
+use Rattle.snd_app.specs.Outcome.{Outcome, files_of_script, outcome_of_script, outcome_of_tool}
 
 -- no name is taken out
 abbrev pub IsAllIn : ShelfState → Type 0
@@ -120,6 +121,10 @@ DescribesAs s o e given shelf out err shelf' out' err' status =
 abbrev pub DescribingFaultRises : {S D O E : Type 0} → ShelfMeaning S D → SinkMeaning O → SinkMeaning E → S → O → E → S → O → E → Type 0
 DescribingFaultRises s o e shelf out err shelf' out' err' = (script : ℕ) → AnyRises (faults_with s o e script shelf out err) (faults_with s o e script shelf' out' err')
 
+-- .. and no count of faults changes
+abbrev pub IsCalm : {S D O E : Type 0} → ShelfMeaning S D → SinkMeaning O → SinkMeaning E → S → O → E → S → O → E → Type 0
+IsCalm s o e shelf out err shelf' out' err' = (script : ℕ) → SameFaults (faults_with s o e script shelf out err) (faults_with s o e script shelf' out' err')
+
 -- a text was appended to one sink, and the status is the given one; or 3, where the sink's count of faults rose
 abbrev pub IsPut : ℕ → ℕ → List ℕ → ℕ → ℕ → Told → Type 0
 IsPut status given text old new sink =
@@ -131,3 +136,15 @@ PutsText o given text old new status = IsPut status given text (o.faults old) (o
 -- what a crash may leave of each file is as it was
 abbrev pub KeepsAllImages : {S D : Type 0} → ShelfMeaning S D → S → S → Type 0
 KeepsAllImages s shelf shelf' = KeepsFileImages s.state s.may_leave s.left_between shelf shelf'
+
+-- a tool does what is to be done with the files that the shelf tells, and says so
+abbrev pub ToolsAs : {S D O E : Type 0} → ShelfMeaning S D → SinkMeaning O → SinkMeaning E → (Files → Done) → S → O → E → S → O → E → ℕ → Type 0
+ToolsAs s o e todo shelf out err shelf' out' err' status =
+    (files : Files) (script : ℕ) → TellsFiles s.state shelf files
+    → IsRun status (outcome_of_tool (todo files)) (faults_with s o e script shelf out err) (faults_with s o e script shelf' out' err') (told_by o out out') (told_by e err err')
+    (HasFiles s.state shelf' (after_tool (todo files) files))
+
+-- Where a stream failed and no file did, all is done that was to be done with the files.
+abbrev pub DoneAtStream : {S : Type 0} → (S → ShelfState) → (Files → Files) → S → S → ℕ → Type 0
+DoneAtStream state after shelf shelf' status =
+    (files : Files) → TellsFiles state shelf files → status ≡ 3 → (Rises (state shelf).faults (state shelf').faults → ⊥) → HasFiles state shelf' (after files)

@@ -1,7 +1,7 @@
 -- Printed lines.
 use Rattle.std.specs.Prelude.{ℕ, ◌-◌, List, [], ◌∷◌, ◌++◌, length, replicate, codes, decimal}
-use Rattle.snd_script.specs.Replies.{refusal_name, refusal_number}
-use Rattle.snd_script.specs.declared.refusal.Refusal.{Refusal}
+use Rattle.snd_lines.specs.Refusals.{refusal_name, refusal_number}
+use Rattle.snd_lines.specs.declared.refusal.Refusal.{Refusal}
 
 -- a number's decimal digits, with zeros before them up to a width
 abbrev pub padded : ℕ → ℕ → List ℕ

@@ -4,9 +4,8 @@ ghost use Rattle.snd_app.specs.Text.{refusal as message};
 
 use crate::text::push_padded;
 use snd_layout::Layout;
-use snd_lines::{push_chunks, push_line, push_number, push_number_line, push_texts};
+use snd_lines::{Refusal, push_chunks, push_line, push_number, push_number_line, push_texts};
 use snd_meta::InfoList;
-use snd_script::Refusal;
 use std::alloc::{AllocError, Global};
 
 const HOUR: u128 = 3_600_000;

@@ -101,7 +101,7 @@ pub fn look<S: Shelf>(alloc: Global, shelf: &mut S, name: &str) -> Result<Found,
     ensures back { (n : List ℕ) → (S.state shelf.new).out n ≡ (S.state shelf.old).out n }
     ensures files { KeepsFiles (S.state shelf.old) (S.state shelf.new) }
     ensures images { KeepsFileImages S.state S.may_leave S.left_between shelf.old shelf.new }
-    ensures looks { OnlyLooks (S.state shelf.old) (S.state shelf.new) }
+    ensures looks { OnlyLooks 1 (S.state shelf.old) (S.state shelf.new) }
 {
     let mut disk = match shelf.take(name, false) {
         Ok(disk) => disk,

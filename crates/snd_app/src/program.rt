@@ -1,101 +1,28 @@
 //! What the program does with its words.
 
-ghost use Rattle.std.specs.Prelude.{◌≡◌, ◌≤◌, ◌+◌, [], ◌∷◌, IfOk, false, true};
-ghost use Rattle.std.specs.List.{list_all};
+ghost use Rattle.std.specs.Prelude.{◌≡◌, ◌≤◌, ◌+◌, List, ℕ, IfOk, None, Some, [], false, length, true};
 ghost use Rattle.snd_disk.specs.Shelf.{KeepsFiles};
-ghost use Rattle.snd_lines.specs.Lines.{is_printed};
 ghost use Rattle.snd_script.specs.Served.{BoundsScript, KeepsUnnamed, LeavesScript, LeavesShelf};
 ghost use Rattle.snd_script.specs.PinnedRun.{named};
 ghost use Rattle.snd_script.specs.Trail.{TrailsScript};
 ghost use Rattle.snd_app.specs.Look.{OnlyLooks};
-ghost use Rattle.snd_app.specs.Outcome.{Asked, asked, bad_words, is_name, files_after, outcome, outcome_of_info, pinned_for, runs_script, text_of};
-ghost use Rattle.snd_app.specs.Run.{DescribesAs, DescribingFaultRises, EndsAs, FaultRises, IsAllIn, KeepsAllImages, PutsText, RunsAs, RunsScript, StopsAs};
-ghost use Rattle.snd_app.specs.Words.{asked_by};
+ghost use Rattle.snd_words.specs.Asked.{Asked};
+ghost use Rattle.snd_words.specs.Grammar.{asked};
+ghost use Rattle.snd_tools.specs.Shelves.{ChangesOne};
+ghost use Rattle.snd_app.specs.Outcome.{bad_words, files_after, looks_for, names_for, outcome, outcome_of_info, outcome_of_infos, output_for, pinned_for, runs_script, text_of};
+ghost use Rattle.snd_app.specs.Run.{DescribesAs, DescribingFaultRises, DoneAtStream, EndsAs, FaultRises, IsAllIn, IsCalm, KeepsAllImages, RunsAs, RunsScript, StopsAs};
 
+use crate::help::{HELP, VERSION};
 use crate::info::{describe, refuse};
 use crate::look::{Found, Stop, look};
+use crate::put::{FAULT, NO_MEMORY, put_text};
+use crate::tools::run_convert;
 use snd_disk::{Shelf, Sink, Source};
 use snd_fields::Words;
-use snd_lines::is_printed;
-use snd_script::{Refusal, ScriptEnd, serve};
+use snd_lines::Refusal;
+use snd_script::{ScriptEnd, serve};
+use snd_words::{Names, Request, request_of};
 use std::alloc::{AllocError, Global};
-
-const FAULT: u8 = 3;
-
-const NO_MEMORY: u8 = 4;
-
-/// What the words ask for.
-#[derive(Clone, Copy, Debug, PartialEq, Eq)]
-enum Request<'a> {
-    /// To describe the file of a name.
-    Info(&'a str),
-    /// To carry out a script, with the file of a name pinned where there is one.
-    Script(Option<&'a str>),
-}
-
-fn are_printed(word: &[u8]) -> bool
-    ensures { result ≡ list_all is_printed word.now }
-{
-    word.iter().all(|c| is_printed(*c))
-}
-
-/// Whether a word is a name: 1 to 255 printed bytes that do not begin with `-`.
-fn has_name_form(word: &[u8]) -> bool
-    ensures { result ≡ is_name word.now }
-{
-    1 <= word.len() && word.len() <= 255 && are_printed(word) && word[0] != b'-'
-}
-
-/// What one word asks for.
-fn plain_request<'a>(command: &str) -> Option<Request<'a>>
-    ensures { asked_by result ≡ asked (command.now ∷ []) }
-{
-    if command == "script" {
-        Some(Request::Script(None))
-    } else {
-        None
-    }
-}
-
-/// What a word and a name ask for.
-fn info_request<'a>(command: &str, name: &'a str) -> Option<Request<'a>>
-    ensures { asked_by result ≡ asked (command.now ∷ name.entry.now ∷ []) }
-{
-    if command == "info" && has_name_form(name.as_bytes()) {
-        Some(Request::Info(name))
-    } else {
-        None
-    }
-}
-
-/// What two words and a name ask for.
-fn pinned_request<'a>(command: &str, word: &str, name: &'a str) -> Option<Request<'a>>
-    ensures { asked_by result ≡ asked (command.now ∷ word.now ∷ name.entry.now ∷ []) }
-{
-    if command == "script" && word == "--auto" && has_name_form(name.as_bytes()) {
-        Some(Request::Script(Some(name)))
-    } else {
-        None
-    }
-}
-
-/// What the words ask for, or none where they are refused.
-fn request_of(words: &Words) -> Option<Request<'_>>
-    ensures { asked_by result ≡ asked words.now }
-{
-    let command = words.get(0)?;
-    let Some(second) = words.get(1) else {
-        return plain_request(command);
-    };
-    let Some(third) = words.get(2) else {
-        return info_request(command, second);
-    };
-    if words.len() == 3 {
-        pinned_request(command, second, third)
-    } else {
-        None
-    }
-}
 
 /// What is printed of what was found.
 fn text_for(alloc: Global, name: &str, found: &Found) -> Result<Vec<u8>, AllocError>
@@ -105,16 +32,6 @@ fn text_for(alloc: Global, name: &str, found: &Found) -> Result<Vec<u8>, AllocEr
         Found::Missing => refuse(alloc, name, Refusal::MissingFile),
         Found::Refused(refusal) => refuse(alloc, name, Refusal::Open(*refusal)),
         Found::Sound(layout, texts) => describe(alloc, name, layout, texts),
-    }
-}
-
-/// Puts a text, and answers a status where all of it was appended.
-fn put_text<O: Sink>(sink: &mut O, text: &[u8], status: u8) -> u8
-    ensures { PutsText O.Sink status text.now sink.old sink.new result }
-{
-    match sink.put(text) {
-        Ok(()) => status,
-        Err(_) => FAULT,
     }
 }
 
@@ -131,10 +48,12 @@ fn run_info<S: Shelf, O: Sink, E: Sink>(
         shelf.old out.old err.old shelf.new out.new err.new result }
     ensures fault { result ≡ 3 →
         DescribingFaultRises S.Shelf O.Sink E.Sink shelf.old out.old err.old shelf.new out.new err.new }
+    ensures calm { (result ≡ 3 → ⊥) →
+        IsCalm S.Shelf O.Sink E.Sink shelf.old out.old err.old shelf.new out.new err.new }
     ensures back { IsAllIn (S.state shelf.new) }
     ensures files { KeepsFiles (S.state shelf.old) (S.state shelf.new) }
     ensures images { KeepsAllImages S.Shelf shelf.old shelf.new }
-    ensures looks { OnlyLooks (S.state shelf.old) (S.state shelf.new) }
+    ensures looks { OnlyLooks 1 (S.state shelf.old) (S.state shelf.new) }
 {
     let found = match look(alloc, shelf, name) {
         Ok(found) => found,
@@ -149,6 +68,40 @@ fn run_info<S: Shelf, O: Sink, E: Sink>(
     } else {
         put_text(out, &text, 0)
     }
+}
+
+/// Describes the files of names, one after the other, and answers the greatest status; a fault or want of
+/// memory ends it.
+fn run_infos<S: Shelf, O: Sink, E: Sink>(
+    alloc: Global,
+    names: &Names<'_>,
+    shelf: &mut S,
+    out: &mut O,
+    err: &mut E,
+) -> u8
+    requires { IsAllIn (S.state shelf.old) }
+    ensures outcome { DescribesAs S.Shelf O.Sink E.Sink (outcome_of_infos names.now)
+        shelf.old out.old err.old shelf.new out.new err.new result }
+    ensures fault { result ≡ 3 →
+        DescribingFaultRises S.Shelf O.Sink E.Sink shelf.old out.old err.old shelf.new out.new err.new }
+    ensures back { IsAllIn (S.state shelf.new) }
+    ensures files { KeepsFiles (S.state shelf.old) (S.state shelf.new) }
+    ensures images { KeepsAllImages S.Shelf shelf.old shelf.new }
+    ensures looks { OnlyLooks (length names.now) (S.state shelf.old) (S.state shelf.new) }
+{
+    let mut status = 0;
+    for at in 0..names.len() {
+        let Some(name) = names.get(at) else {
+            unreachable!();
+        };
+        let one = run_info(alloc, name, shelf, out, err);
+        let stops = FAULT <= one;
+        if stops {
+            return one;
+        }
+        status = one.max(status);
+    }
+    status
 }
 
 /// Carries out a script, with its replies on `out`, and with the file of a name pinned where there is one.
@@ -184,10 +137,12 @@ fn run_script<S: Shelf, R: Source, O: Sink, E: Sink>(
 
 /// Carries out the words of a command line, and answers the status that the program ends with.
 ///
-/// The words `info NAME` describe a file, and `script` carries out the commands that come from
+/// The words `info NAME..` describe 1 to 64 files, and `script` carries out the commands that come from
 /// `script`, one a line; with `script --auto NAME` the file of the name is open in all of them, and updated
-/// automatically. Any other words are refused. Beside the statuses 0, 1 and 2 that the outcome has, 3
-/// says that the shelf, the script or a sink failed, and 4 that memory ran out.
+/// automatically. `convert OPTION.. IN OUT` copies a file into another container or codec. `--help` and
+/// `--version` print a text on `out`. Any other words are refused. Beside the
+/// statuses 0, 1 and 2 that the outcome has, 3 says that the shelf, the script or a sink failed, and 4 that
+/// memory ran out.
 pub fn run<S: Shelf, R: Source, O: Sink, E: Sink>(
     alloc: Global,
     words: &Words,
@@ -226,20 +181,35 @@ pub fn run<S: Shelf, R: Source, O: Sink, E: Sink>(
     ensures unread { LeavesScript S.state (pinned_for words.now) shelf.old script.old script.new }
 
     // Every file that was taken is given back, none is gone, and time has gone on for each. Without a
-    // script no file changes, nor what a crash may leave of one, and few bytes are asked of one.
+    // script and a tool no file changes, nor what a crash may leave of one, and few bytes are asked of one.
     ensures leaves { LeavesShelf S.state S.left_between shelf.old shelf.new }
-    ensures files { runs_script words.now ≡ false → KeepsFiles (S.state shelf.old) (S.state shelf.new) }
-    ensures images { runs_script words.now ≡ false → KeepsAllImages S.Shelf shelf.old shelf.new }
-    ensures looks { runs_script words.now ≡ false → OnlyLooks (S.state shelf.old) (S.state shelf.new) }
+    ensures files { looks_for words.now ≡ true → KeepsFiles (S.state shelf.old) (S.state shelf.new) }
+    ensures images { looks_for words.now ≡ true → KeepsAllImages S.Shelf shelf.old shelf.new }
+    ensures looks { looks_for words.now ≡ true →
+        OnlyLooks (length (names_for words.now)) (S.state shelf.old) (S.state shelf.new) }
 
-    // With one, so does a file that no line opens to be written, and that is not pinned; and no more bytes
+    // With a tool, so does each file but the one that it makes; and where a stream failed and no file did,
+    // that is made, or was refused, as the outcome says.
+    ensures others { (name : List ℕ) → output_for words.now ≡ Some name → ChangesOne S.Shelf name shelf.old shelf.new }
+    ensures done { (name : List ℕ) → output_for words.now ≡ Some name →
+        DoneAtStream S.state (λ files. files_after words.now files []) shelf.old shelf.new result }
+
+    // With a script, so does a file that no line opens to be written, and that is not pinned; and no more bytes
     // are asked of the files and written than the lines may.
-    ensures unnamed { KeepsUnnamed S.state S.may_leave S.left_between R.left (pinned_for words.now) shelf.old script.old shelf.new }
+    ensures unnamed { output_for words.now ≡ None → KeepsUnnamed S.state S.may_leave S.left_between R.left (pinned_for words.now) shelf.old script.old shelf.new }
     ensures bounds { runs_script words.now ≡ true → BoundsScript S.state R.left (pinned_for words.now) shelf.old script.old shelf.new }
 {
     match request_of(words) {
-        Some(Request::Info(name)) => run_info(alloc, name, shelf, out, err),
+        Some(Request::Info(names)) => run_infos(alloc, &names, shelf, out, err),
         Some(Request::Script(pinned)) => run_script(alloc, pinned, shelf, script, out, err),
+        Some(Request::Help) => put_text(out, HELP.as_bytes(), 0),
+        Some(Request::Version) => put_text(out, VERSION.as_bytes(), 0),
+        Some(Request::Convert(conversion)) => run_convert(alloc, &conversion, shelf, out, err),
+        // the words of a tool that is not built yet are refused
+        Some(Request::Concat(_)) => put_text(err, b"snd: bad words\n", 2),
+        Some(Request::Interleave(_)) => put_text(err, b"snd: bad words\n", 2),
+        Some(Request::Generate(_)) => put_text(err, b"snd: bad words\n", 2),
+        Some(Request::SetMetadata(_)) => put_text(err, b"snd: bad words\n", 2),
         None => put_text(err, b"snd: bad words\n", 2),
     }
 }

@@ -1,6 +1,6 @@
 use Rattle.std.proofs.Common.{◌≡◌, ◌∙◌, ap, refl, rules, []}
 use Rattle.snd_app.specs.Outcome.{found_in, info, text_of}
-use Rattle.snd_app.proofs.Outcomes.{described_is, is_put_err, is_put_out, refused_is, with_files}
+use Rattle.snd_app.proofs.Outcomes.{described_is, is_put_err, is_put_out, put_calm, refused_is, with_files}
 use Rattle.snd_app.proofs.program.run_info.Goals as goal
 
 pub returns-then-is_refused-clause-outcome : goal.returns-then-is_refused-clause-outcome
@@ -18,3 +18,19 @@ returns-clause-outcome g c = λ files script told.
     (is_put_out c.put_text-else-is_refused.result _ _ _ _ (info c.args.name.now (found_in (files c.args.name.now))) c.deref-else-is_refused.result.now
     (ap (λ t. record { out = t; err = []; status = 0 }) text ∙ described_is c.args.name.now c.in-Ok.found (search rules) ∙ ap (info c.args.name.now) (c.in-Ok.ensures.found files told))
     c.in-Ok.ensures.faults refl refl refl c.put_text-else-is_refused.ensures)
+
+pub returns-then-is_refused-clause-calm : goal.returns-then-is_refused-clause-calm
+returns-then-is_refused-clause-calm g c = λ calm script. record {
+  shelf = c.in-Ok.ensures.faults;
+  script = refl;
+  out = refl;
+  err = put_calm c.put_text.result _ _ _ _ _ c.put_text.ensures calm;
+}
+
+pub returns-clause-calm : goal.returns-clause-calm
+returns-clause-calm g c = λ calm script. record {
+  shelf = c.in-Ok.ensures.faults;
+  script = refl;
+  out = put_calm c.put_text-else-is_refused.result _ _ _ _ _ c.put_text-else-is_refused.ensures calm;
+  err = refl;
+}
