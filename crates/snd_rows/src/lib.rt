@@ -16,6 +16,8 @@ mod metadata;
 #[cfg(test)]
 mod tests;
 #[cfg(test)]
+mod tools;
+#[cfg(test)]
 mod writing;
 
 pub use memory::{Printed, run_in_memory};

@@ -37,10 +37,17 @@ pub fn printed(
     )
 }
 
-static BAD_WORDS: [&[&str]; 13] = [
+static BAD_WORDS: [&[&str]; 20] = [
     &[],
     &["info"],
-    &["info", "a.wav", "a.wav"],
+    &["info", "a.wav", "-a.wav"],
+    &["--help", "a.wav"],
+    &["--Version"],
+    &["convert", "a.wav"],
+    &["convert", "a.wav", "b.au", "-pcm16"],
+    &["convert", "-pcm16", "-pcm24", "a.wav", "b.au"],
+    &["convert", "-endian=big", "-endian=little", "a.wav", "b.au"],
+    &["concat", "a.wav", "b.wav", "c.wav"],
     &["Info", "a.wav"],
     &["info", "-a.wav"],
     &["info", "a b"],
@@ -63,6 +70,21 @@ fn words_have_their_answers(rt: HostRuntime) -> Result<(), Fail> {
         found.out.as_slice(),
         b"name a.wav\nkind wave\ncodec pcm_16_le\nchannels 1\nrate 8000\nframes 2\nduration 00:00:00.000\nchunk LIST 14\nstring title A\n".as_slice()
     );
+    assert_eq!(rt; found.status, 0);
+    let found = printed(
+        rt.alloc(),
+        &["info", "no.wav", "a.wav", "no.wav"],
+        PLAIN,
+        b"",
+    )?;
+    assert_eq!(rt; found.out.as_slice(), DESCRIPTION.as_bytes());
+    assert_eq!(rt;
+        found.err.as_slice(),
+        b"snd: no.wav: error 56 MissingFile\nsnd: no.wav: error 56 MissingFile\n".as_slice()
+    );
+    assert_eq!(rt; found.status, 1);
+    let found = printed(rt.alloc(), &["--version"], PLAIN, b"")?;
+    assert_eq!(rt; found.out.as_slice(), b"snd 0.1.0\n".as_slice());
     assert_eq!(rt; found.status, 0);
     let found = printed(rt.alloc(), &["info", "no.wav"], PLAIN, b"")?;
     assert_eq!(rt;
