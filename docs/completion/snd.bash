@@ -1,0 +1,18 @@
+# Completion of the words of snd in bash. A name is completed as a file's.
+_snd() {
+    local typed=${COMP_LINE:0:COMP_POINT} words
+    typed=${typed##* }
+    COMPREPLY=()
+    case $COMP_CWORD:${COMP_WORDS[1]}:$typed in
+        1:*) words="info script convert --help --version" ;;
+        2:script:*) words="--auto" ;;
+        # bash takes what stands behind an equals sign for the word to be completed
+        *:convert:-endian=*) words="little big" ;;
+        *:convert:-*=*) return ;;
+        *:convert:-*) words="-pcmu8 -pcms8 -pcm16 -pcm24 -pcm32 -ulaw -alaw -ima-adpcm -ms-adpcm -endian= -override-sample-rate=" ;;
+        *) return ;;
+    esac
+    mapfile -t COMPREPLY < <(compgen -W "$words" -- "${typed##*=}")
+    [[ ${COMPREPLY[*]} != *= ]] || compopt -o nospace
+}
+complete -o default -F _snd snd
