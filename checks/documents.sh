@@ -1,7 +1,7 @@
 #!/usr/bin/env bash
 # The documents and examples against the repository: what README.md says that the first command prints, the code that it quotes,
 # each block of which is one piece of its file, the files that the documents name, the numbers and names of refusals that the
-# crates have, and the files that examples/make.py makes. Needs Python 3.
+# crates and the manual page have, and the files that examples/make.py makes. Needs Python 3.
 set -u
 source "$(dirname "$(readlink -f "${BASH_SOURCE[0]}")")/built_program.bash"
 PYTHONDONTWRITEBYTECODE=1 PYTHONPATH=$top/checks python3 - "$program" "$top" <<'PY'
@@ -43,17 +43,21 @@ part = re.search(r"(?s)^## The library in use\n(.*?)^## ", readme, re.M)[1]
 quoted = [(name, block) for name, told in re.findall(r"(?s)^From `(crates/\S+?\.rt)`(.*?)(?=^From `|\Z)", part, re.M) for block in blocks(told)]
 apart = [f"no piece of {name}: {block}" for name, block in quoted if not stands_in(text(name), block)]
 cases.case("README.md: the code that it quotes", apart + ["it quotes nothing"] * (not quoted) + ["a block with no file"] * (len(quoted) != len(blocks(part))))
-for name in ["README.md", *(f"docs/{it}" for it in sorted(os.listdir(f"{top}/docs")))]:
+pages = ["README.md", *(f"docs/{it}" for it in sorted(os.listdir(f"{top}/docs")) if it.endswith(".md"))]
+for name in pages:
     named = re.findall(r"`((?:crates|checks|bench|docs|examples|misuse|\.ci)/[\w./-]*)`", text(name))
     named = [it for it in named if "NAME" not in it and not it.endswith("/out")]
     cases.case(f"{name}: the files that it names", [f"missing: {it}" for it in named if not os.path.exists(os.path.join(top, it))])
 told = dict(re.findall(r"(?m)^\| (\d+) \| (\w+) \|", text("docs/refusals.md")))
-for name in ("crates/snd_layout/src/refusal.rt", "crates/snd_script/src/refusal.rt"):
+for name in ("crates/snd_layout/src/refusal.rt", "crates/snd_lines/src/refusal.rt"):
     found = re.findall(r"::(\w+) => (\d+),", text(name))
     cases.case(f"docs/refusals.md against {name}", [f"{number} {word}" for word, number in found if told.get(number) != word] + ["none found"] * (not found))
+listed = dict(re.findall(r"(?m)^\.B (\d+) (\w+)$", text("docs/snd.1")))
+apart = sorted({*told.items()} ^ {*listed.items()}, key=lambda it: int(it[0]))
+cases.case("docs/refusals.md against docs/snd.1", [f"{number} {word}" for number, word in apart])
 subprocess.run([sys.executable, f"{top}/examples/make.py", "."], check=True)
 made = sorted(os.listdir("."))
 other = [it for it in made if open(it, "rb").read() != open(f"{top}/examples/{it}", "rb").read()]
 cases.case("examples/make.py", [f"makes another {it}" for it in other] + ["makes nothing"] * (not made))
-cases.end(6 + len(os.listdir(f"{top}/docs")))
+cases.end(6 + len(pages))
 PY

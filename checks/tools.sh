@@ -1,0 +1,160 @@
+#!/usr/bin/env bash
+# The tools of the built program. Files of every kind and codec are converted into every kind and codec that holds them, and each
+# file that is made is compared byte for byte with what it is to be, and sample by sample with what sox, ffmpeg and libsndfile's
+# programs decode of it. Files of these programs are converted too. Refused words and files change
+# nothing, and neither does a disk that is full or another spelling of the input's name. Needs Python 3. Of the Debian packages sox,
+# ffmpeg and sndfile-programs what is missing is skipped, with a line for each; a program that is there and fails is a failure.
+set -u
+source "$(dirname "$(readlink -f "${BASH_SOURCE[0]}")")/built_program.bash"
+PYTHONDONTWRITEBYTECODE=1 PYTHONPATH=$top/checks python3 - "$program" <<'PY'
+import os
+import random
+import shutil
+import struct
+import subprocess
+import sys
+
+import kinds
+from common import SECONDS, Cases, first_difference, run, sums
+from readers import Readers
+
+program = sys.argv[1]
+cases = Cases("tools")
+OPTION = {"pcm_u8": "-pcmu8", "pcm_s8": "-pcms8", "ulaw": "-ulaw", "alaw": "-alaw"}
+OPTION |= {codec: f"-pcm{kinds.width(codec)}" for codec in (*kinds.LITTLE, *kinds.BIG)}
+PAIRS = [(kind, codec) for kind in kinds.HOLDS for codec in kinds.HOLDS[kind]]
+RATE = 8000
+FRAMES = 700
+
+
+def numbers(codec, count):
+    """Numbers of a codec: its least and greatest, those about 0, and others."""
+    random.seed(f"{codec} {count}")
+    least = -(1 << kinds.width(codec) - 1)
+    first = [least, -least - 1, 0, -1, 1, least + 1]
+    drawn = first + [random.randint(least, -least - 1) for _ in range(count - len(first))]
+    return kinds.kept(codec, drawn[:count])
+
+
+def changed(one, other, found):
+    """Numbers of one codec as those of another: multiplied by a power of two, or divided and rounded down."""
+    old, new = kinds.width(one), kinds.width(other)
+    return [x << new - old if new >= old else x >> old - new for x in found]
+
+
+def options_for(kind, codec):
+    """The options that make this codec in a file of this kind, by its suffix."""
+    order = ["-endian=little"] if kind == "dns" else ["-endian=big"] if (kind, codec) == ("sphere", "pcm_16_be") else []
+    return [*order, OPTION[codec]]
+
+
+def channels_for(*many):
+    return min(2, *(kinds.MOST.get(kind, 2) for kind in many))
+
+
+def wrong_run(words, out, err, status, made=None):
+    """The faults of a run that makes one file at most, which is to hold these bytes."""
+    before = sums()
+    done = subprocess.run([program, *words], capture_output=True, timeout=SECONDS)
+    wrong = first_difference("standard output", done.stdout, out) + first_difference("standard error", done.stderr, err)
+    if done.returncode != status:
+        wrong.append(f"status {done.returncode} for {status}")
+    after = sums()
+    name = made[0] if made else None
+    wrong += [f"{other} was changed, made or removed" for other in sorted({*before, *after}) if other != f"./{name}" and before.get(other) != after.get(other)]
+    if made:
+        with open(name, "rb") as file:
+            wrong += first_difference(name, file.read(), made[1])
+    return wrong
+
+
+def as_decoded(name, kind, codec, channels, found):
+    """The faults of what other programs decode of a file that is to hold these numbers."""
+    it = kinds.Stated(kind, codec, channels, RATE, kinds.coded(codec, found))
+    return [f"{tool} decodes other numbers" for tool, samples in readers.decoded(name, it).items() if samples != found]
+
+
+def converted(one, other):
+    """Converts a file of one kind and codec into another."""
+    channels = channels_for(one[0], other[0])
+    held = numbers(one[1], FRAMES * channels)
+    wanted = changed(one[1], other[1], held)
+    source, target = f"in-{one[0]}.{kinds.SUFFIX[one[0]]}", f"out-{other[0]}.{kinds.SUFFIX[other[0]]}"
+    with open(source, "wb") as file:
+        file.write(kinds.whole_file(*one, channels, RATE, held))
+    words = ["convert", *options_for(*other), source, target]
+    wrong = wrong_run(words, f"ok {FRAMES}\n".encode(), b"", 0, (target, kinds.whole_file(*other, channels, RATE, wanted)))
+    if not wrong and one[0] in ("wave", "au"):
+        wrong = as_decoded(target, *other, channels, kinds.kept(other[1], wanted))
+    cases.case(f"{one[0]} {one[1]} to {other[0]} {other[1]}", wrong)
+    os.remove(source)
+    if os.path.exists(target):
+        os.remove(target)
+
+
+def refused(words, err, status=1):
+    cases.case(" ".join(words), wrong_run(words, b"", err.encode(), status))
+
+
+readers = Readers("tools")
+for one in PAIRS:
+    for other in PAIRS:
+        converted(one, other)
+
+# ---- files of other programs
+held = numbers("pcm_24_le", FRAMES * 2)
+with open("plain.wav", "wb") as file:
+    file.write(kinds.whole_file("wave", "pcm_24_le", 2, 44100, held))
+many = 0
+if readers.tools["sndfile"]:
+    subprocess.run(["sndfile-metadata-set", "--str-title", "Dawn", "--str-artist", "A B", "--bext-description", "wood", "plain.wav", "titled.wav"], check=True, capture_output=True)
+    many += 2
+    cases.case("no chunk is lost", wrong_run(["convert", "titled.wav", "titled.rf64"], b"", b"snd: titled.wav: error 99 NotBuilt\n", 1))
+    cases.case("a file of libsndfile with chunks", wrong_run(["convert", "-pcm16", "titled.wav", "titled.w64"], f"ok {FRAMES}\n".encode(), b"", 0,
+               ("titled.w64", kinds.whole_file("w64", "pcm_16_le", 2, 44100, changed("pcm_24_le", "pcm_16_le", held)))))
+if readers.tools["sox"]:
+    many += 1
+    subprocess.run(["sox", "plain.wav", "-b", "16", "by-sox.au"], check=True, capture_output=True)
+    with open("by-sox.au", "rb") as file:
+        it = kinds.stated(file.read())
+    found = kinds.numbers_of(it.codec, it.data)
+    cases.case("a file of sox", wrong_run(["convert", "by-sox.au", "by-sox.w64"], f"ok {it.frames}\n".encode(), b"", 0,
+               ("by-sox.w64", kinds.whole_file("w64", "pcm_16_le", 2, 44100, found))))
+if readers.tools["ffmpeg"]:
+    many += 1
+    subprocess.run(["ffmpeg", "-v", "error", "-i", "plain.wav", "-c:a", "pcm_alaw", "by-ffmpeg.wav"], check=True, capture_output=True)
+    with open("by-ffmpeg.wav", "rb") as file:
+        it = kinds.stated(file.read())
+    found = kinds.numbers_of(it.codec, it.data)
+    cases.case("a file of ffmpeg", wrong_run(["convert", "-pcm32", "by-ffmpeg.wav", "by-ffmpeg.au"], f"ok {it.frames}\n".encode(), b"", 0,
+               ("by-ffmpeg.au", kinds.whole_file("au", "pcm_32_be", 2, 44100, changed("alaw", "pcm_32_be", found)))))
+
+# ---- what is refused changes nothing
+for words in (["convert", "plain.wav"], ["convert", "plain.wav", "x.au", "-pcm16"], ["convert", "-pcm16", "-pcm24", "plain.wav", "x.au"],
+              ["convert", "-endian=big", "-endian=little", "plain.wav", "x.au"], ["convert", "-pcm16", "plain.wav", "-x.au"]):
+    refused(words, "snd: bad words\n", 2)
+refused(["convert", "plain.wav", "plain.wav"], "snd: plain.wav: error 50 SameName\n")
+refused(["convert", "plain.wav", "x.mp3"], "snd: x.mp3: error 54 UnknownSuffix\n")
+refused(["convert", "no.wav", "x.au"], "snd: no.wav: error 56 MissingFile\n")
+refused(["convert", "-override-sample-rate=0", "plain.wav", "x.au"], "snd: x.au: error 12 BadRate\n")
+refused(["convert", "plain.wav", "x.voc"], "snd: x.voc: error 18 BadPair\n")
+
+# ---- another spelling of the input's name, and a disk that is full: the input stays whole
+refused(["convert", "plain.wav", "./plain.wav"], "", 3)
+os.mkdir("full")
+if os.geteuid() == 0 and subprocess.run(["mount", "-t", "tmpfs", "-o", "size=64k", "none", "full"], capture_output=True).returncode == 0:
+    many += 1
+    long = numbers("pcm_16_le", 60000)
+    with open("long.wav", "wb") as file:
+        file.write(kinds.whole_file("wave", "pcm_16_le", 1, 8000, long))
+    before = sums()
+    done = subprocess.run([program, "convert", "long.wav", "full/long.au"], capture_output=True, timeout=SECONDS)
+    after = sums()
+    before.pop("./full/long.au", None)
+    after.pop("./full/long.au", None)
+    subprocess.run(["umount", "full"], check=True)
+    cases.case("a full disk", ([] if (done.returncode, done.stdout, done.stderr) == (3, b"", b"") else [repr(done)]) + ([] if before == after else ["other files changed"]))
+else:
+    print("tools: skipped: a disk that is full, since only the superuser makes one")
+cases.end(len(PAIRS) ** 2 + 5 + 5 + 1 + many)
+PY
