@@ -17,6 +17,8 @@ for crate in $libraries snd_modes; do
     done
 done
 grep -E "^($(echo "$libraries snd_modes" | tr ' ' '|')):" "$top/crates.txt" >"$folder/crates.txt"
+# a text of its own, so that no library is taken that another checkout has built
+echo "// $folder" >>"$folder/crates/snd_disk/src/lib.rt"
 echo "misuse: $libraries snd_modes" >>"$folder/crates.txt"
 mkdir -p "$folder/crates/misuse/src"
 passed=0
@@ -28,6 +30,7 @@ for case in "$top"/misuse/*.txt; do
         echo
         sed '1,/^message: /d' "$case"
     } >"$folder/crates/misuse/src/lib.rt"
+    rm -rf "$folder"/crates/*/out
     (cd "$folder/crates/misuse" && rt check) >"$folder/log" 2>&1
     errors=$(grep -c 'error\[' "$folder/log")
     if [ "$errors" = 1 ] && [ -n "$message" ] && grep -qF "$message" "$folder/log"; then
