@@ -12,14 +12,18 @@ pub record Converting : Type 0 where
   pub input : List ℕ
   pub output : List ℕ
 
+-- what a tool is to do
+pub data Work : Type 0 where
+  convert : Converting → Work
+  concat : List (List ℕ) → List ℕ → Work
+  interleave : List (List ℕ) → List ℕ → Work
+  gen : ℕ → ℕ → List ℕ → Work
+  set_metadata : List Stated → List ℕ → List ℕ → Work
+
 pub data Asked : Type 0 where
   info_of : List (List ℕ) → Asked
   script : Option (List ℕ) → Asked
   help : Asked
   version : Asked
-  convert : Converting → Asked
-  concat : List (List ℕ) → List ℕ → Asked
-  interleave : List (List ℕ) → List ℕ → Asked
-  gen : ℕ → ℕ → List ℕ → Asked
-  set_metadata : List Stated → List ℕ → List ℕ → Asked
+  tool : Work → Asked
   nothing : Asked

@@ -10,7 +10,7 @@ use Rattle.snd_words.specs.declared.convert.CodecChoice.TheVariants.{S8, U8, Pcm
 use Rattle.snd_words.specs.declared.convert.Setting.{Setting}
 use Rattle.snd_words.specs.declared.convert.Setting.TheVariants as sets
 use Rattle.snd_words.specs.declared.convert.Settings.{Settings}
-use Rattle.snd_words.specs.Asked.{Asked}
+use Rattle.snd_words.specs.Asked.{Asked, Work}
 use Rattle.snd_words.specs.Names.{two_names}
 use Rattle.snd_words.specs.Options.{all_of, at_most_one, named, option_count, text_behind}
 
@@ -60,7 +60,7 @@ settled_on s options = together (at_most_one (option_to_list s.rate ++ filter_ma
     (at_most_one (option_to_list s.order ++ filter_map order_in options)) (at_most_one (option_to_list s.codec ++ filter_map codec_in options))
 
 abbrev pub convert_with : Option Settings → Option (List ℕ × List ℕ) → Asked
-convert_with (Some s) (Some (input, output)) = Asked.convert (record { rate = s.rate; order = s.order; codec = s.codec; input = input; output = output })
+convert_with (Some s) (Some (input, output)) = Asked.tool (Work.convert (record { rate = s.rate; order = s.order; codec = s.codec; input = input; output = output }))
 convert_with settings names = Asked.nothing
 
 -- `convert OPTION.. IN OUT`

@@ -1,7 +1,7 @@
 -- The command `gen`, by the words behind it.
 use Rattle.std.specs.Prelude.{ℕ, ◌&&◌, List, [], ◌∷◌, Option, None, Some, nat_le, if◌then◌else◌}
 use Rattle.snd_fields.specs.Decimal.{decimal}
-use Rattle.snd_words.specs.Asked.{Asked}
+use Rattle.snd_words.specs.Asked.{Asked, Work}
 use Rattle.snd_words.specs.Names.{is_name}
 
 -- a number that is not below one and not above another
@@ -13,7 +13,7 @@ unfoldable pub number_within : ℕ → ℕ → List ℕ → Option ℕ
 number_within least most word = within least most (decimal word)
 
 abbrev pub gen_with : Option ℕ → Option ℕ → List ℕ → Asked
-gen_with (Some seed) (Some frames) name = Asked.gen seed frames name
+gen_with (Some seed) (Some frames) name = Asked.tool (Work.gen seed frames name)
 gen_with seed frames name = Asked.nothing
 
 -- `gen SEED N NAME`: a seed of 32 bits, 1 to 10000000 frames

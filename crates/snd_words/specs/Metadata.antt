@@ -8,7 +8,7 @@ use Rattle.snd_meta.specs.declared.bext.BextKey.{BextKey}
 use Rattle.snd_meta.specs.declared.bext.BextKey.TheVariants.{Description, Originator, OrigRef, OrigDate, OrigTime, CodingHist}
 use Rattle.snd_meta.specs.declared.info.InfoKey.{InfoKey}
 use Rattle.snd_meta.specs.declared.info.InfoKey.TheVariants.{Title, Artist, Comment, Copyright, Date, Album}
-use Rattle.snd_words.specs.Asked.{Asked}
+use Rattle.snd_words.specs.Asked.{Asked, Work}
 use Rattle.snd_words.specs.Names.{two_names}
 use Rattle.snd_words.specs.Options.{all_of, is_option, named}
 use Rattle.snd_words.specs.Stated.{Stated}
@@ -72,7 +72,7 @@ pub record ArePairs (pairs : List (List ℕ × List ℕ)) (count : ℕ) : Type 0
   pub known : all_stated pairs ≡ Some (stated_list pairs)
 
 abbrev pub set_with : Option (List Stated) → Option (List ℕ × List ℕ) → Asked
-set_with (Some settings) (Some (input, output)) = Asked.set_metadata settings input output
+set_with (Some settings) (Some (input, output)) = Asked.tool (Work.set_metadata settings input output)
 set_with settings names = Asked.nothing
 
 -- pairs, one or more and none of an option that another has, and the words behind them

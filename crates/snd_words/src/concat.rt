@@ -5,7 +5,7 @@ ghost use Rattle.snd_words.specs.Gather.{concat_asked};
 ghost use Rattle.snd_words.specs.Request.{asked_by};
 
 use crate::names::{Names, name_at};
-use crate::request::Request;
+use crate::request::{Request, Tool};
 use snd_fields::Words;
 
 /// The most files that `concat` and `interleave` read.
@@ -31,5 +31,5 @@ pub(crate) fn concat_request(words: &Words) -> Option<Request<'_>>
     }
     let inputs = Names::between(words, 1, count - 1)?;
     let output = name_at(words, count - 1)?;
-    Some(Request::Concat(Concatenation { inputs, output }))
+    Some(Request::Tool(Tool::Concat(Concatenation { inputs, output })))
 }

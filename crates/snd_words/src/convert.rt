@@ -8,7 +8,7 @@ ghost use Rattle.snd_words.specs.Options.{option_count, text_behind};
 
 use crate::names::two_names;
 use crate::options::{options_end, text_behind};
-use crate::request::Request;
+use crate::request::{Request, Tool};
 use snd_fields::{Order, Words, decimal};
 
 /// A codec that an option of `convert` names.
@@ -179,11 +179,11 @@ pub(crate) fn convert_request(words: &Words) -> Option<Request<'_>>
     let end = options_end(words);
     let settings = settings_of(words, end)?;
     let (input, output) = two_names(words, end)?;
-    Some(Request::Convert(Conversion {
+    Some(Request::Tool(Tool::Convert(Conversion {
         rate: settings.rate,
         order: settings.order,
         codec: settings.codec,
         input,
         output,
-    }))
+    })))
 }

@@ -5,7 +5,7 @@ ghost use Rattle.snd_words.specs.Generate.{gen_asked, number_within};
 ghost use Rattle.snd_words.specs.Request.{asked_by};
 
 use crate::names::is_name;
-use crate::request::Request;
+use crate::request::{Request, Tool};
 use snd_fields::{Words, decimal};
 
 const LARGEST_SEED: u64 = 4_294_967_295;
@@ -49,5 +49,5 @@ pub(crate) fn gen_request(words: &Words) -> Option<Request<'_>>
     }
     let seed = number_within(0, LARGEST_SEED, seed)?;
     let frames = number_within(1, MOST_FRAMES, frames)?;
-    Some(Request::Generate(Generation { seed, frames, name }))
+    Some(Request::Tool(Tool::Generate(Generation { seed, frames, name })))
 }

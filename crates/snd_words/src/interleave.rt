@@ -6,7 +6,7 @@ ghost use Rattle.snd_words.specs.Request.{asked_by};
 
 use crate::concat::MOST_INPUTS;
 use crate::names::{Names, name_at};
-use crate::request::Request;
+use crate::request::{Request, Tool};
 use snd_fields::Words;
 
 /// What `interleave` is to do.
@@ -33,5 +33,5 @@ pub(crate) fn interleave_request(words: &Words) -> Option<Request<'_>>
     }
     let inputs = Names::between(words, 1, count - 2)?;
     let output = name_at(words, count - 1)?;
-    Some(Request::Interleave(Interleaving { inputs, output }))
+    Some(Request::Tool(Tool::Interleave(Interleaving { inputs, output })))
 }

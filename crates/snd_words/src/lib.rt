@@ -25,6 +25,6 @@ pub use metadata::MetadataChange;
 pub use names::Names;
 pub use pairs::MetadataSettings;
 pub use repeats::first_repeated;
-pub use request::{Request, request_of};
+pub use request::{Request, Tool, request_of};
 pub use settings::MetadataSetting;
 pub use suffix::kind_by_suffix;

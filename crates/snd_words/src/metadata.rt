@@ -6,7 +6,7 @@ ghost use Rattle.snd_words.specs.Request.{asked_by};
 
 use crate::names::two_names;
 use crate::pairs::{MetadataSettings, are_distinct, count_pairs};
-use crate::request::Request;
+use crate::request::{Request, Tool};
 use snd_fields::Words;
 
 /// What `metadata-set` is to do.
@@ -32,9 +32,9 @@ pub(crate) fn metadata_request(words: &Words) -> Option<Request<'_>>
     }
     let (input, output) = two_names(words, 2 * count + 1)?;
     let settings = MetadataSettings::read(words, count)?;
-    Some(Request::SetMetadata(MetadataChange {
+    Some(Request::Tool(Tool::SetMetadata(MetadataChange {
         settings,
         input,
         output,
-    }))
+    })))
 }

@@ -25,6 +25,13 @@ pub enum Request<'a> {
     Help,
     /// `--version`
     Version,
+    /// A tool, with what it is to do.
+    Tool(Tool<'a>),
+}
+
+/// What a tool is to do.
+#[derive(Drop)]
+pub enum Tool<'a> {
     /// `convert OPTION.. IN OUT`: to make a file of another one's sound.
     Convert(Conversion<'a>),
     /// `concat IN IN.. OUT`: to make a file of the frames of several others, one after the other.

@@ -63,7 +63,7 @@ fn reads_conversions(rt: HostRuntime) -> Result<(), Fail> {
         output: "b.wav",
     };
     match request_of(&words) {
-        Some(Request::Convert(conversion)) => assert!(rt; conversion == wanted),
+        Some(Request::Tool(Tool::Convert(conversion))) => assert!(rt; conversion == wanted),
         _ => panic!(rt; "convert"),
     }
     assert!(rt; is_refused(rt.alloc(), &["convert", "-ulaw", "-alaw", "a", "b"])?);
@@ -74,7 +74,7 @@ fn reads_conversions(rt: HostRuntime) -> Result<(), Fail> {
 fn reads_commands_on_many_files(rt: HostRuntime) -> Result<(), Fail> {
     let words = words_of(rt.alloc(), &["concat", "a", "b", "a"])?;
     match request_of(&words) {
-        Some(Request::Concat(gathered)) => {
+        Some(Request::Tool(Tool::Concat(gathered))) => {
             are(&rt, &gathered.inputs, "a", "b");
             assert!(rt; gathered.output == "a");
             assert!(rt; first_repeated(&gathered.inputs, gathered.output) == Some(2));
@@ -83,7 +83,7 @@ fn reads_commands_on_many_files(rt: HostRuntime) -> Result<(), Fail> {
     }
     let words = words_of(rt.alloc(), &["interleave", "a", "b", "-o", "c"])?;
     match request_of(&words) {
-        Some(Request::Interleave(gathered)) => {
+        Some(Request::Tool(Tool::Interleave(gathered))) => {
             are(&rt, &gathered.inputs, "a", "b");
             assert!(rt; gathered.output == "c");
             assert!(rt; first_repeated(&gathered.inputs, gathered.output) == None);
@@ -102,7 +102,7 @@ fn reads_gen_and_metadata_set(rt: HostRuntime) -> Result<(), Fail> {
         name: "a",
     };
     match request_of(&words) {
-        Some(Request::Generate(generation)) => assert!(rt; generation == wanted),
+        Some(Request::Tool(Tool::Generate(generation))) => assert!(rt; generation == wanted),
         _ => panic!(rt; "gen"),
     }
     let words = words_of(
@@ -120,7 +120,7 @@ fn reads_gen_and_metadata_set(rt: HostRuntime) -> Result<(), Fail> {
         ],
     )?;
     match request_of(&words) {
-        Some(Request::SetMetadata(change)) => {
+        Some(Request::Tool(Tool::SetMetadata(change))) => {
             let settings = &change.settings;
             assert!(rt; settings.len() == 3);
             assert!(rt; settings.get(0) == Some(MetadataSetting::Text(InfoKey::Title, "--x y")));
