@@ -1,4 +1,5 @@
 pub mod Coupled
 pub mod Repeated
 pub mod Runs
+pub mod Stating
 pub mod Together

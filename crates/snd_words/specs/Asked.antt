@@ -1,8 +1,8 @@
 -- What the words of a command line can ask for.
-use Rattle.std.specs.Prelude.{ℕ, List, Option}
+use Rattle.std.specs.Prelude.{ℕ, ◌^◌, ◌<◌, ◌≤◌, List, All, Option}
 use Rattle.snd_fields.specs.declared.field.Order.{Order}
 use Rattle.snd_words.specs.declared.convert.CodecChoice.{CodecChoice}
-use Rattle.snd_words.specs.Stated.{Stated}
+use Rattle.snd_words.specs.Stated.{IsStated, Stated}
 
 -- what `convert` is to do
 pub record Converting : Type 0 where
@@ -27,3 +27,13 @@ pub data Asked : Type 0 where
   version : Asked
   tool : Work → Asked
   nothing : Asked
+
+-- Words ask for numbers in their ranges alone, and for texts that can be set.
+abbrev pub IsWork : Work → Type 0
+IsWork (Work.gen seed frames name) = (seed < 2 ^ 32) × (1 ≤ frames) × (frames ≤ 10000000)
+IsWork (Work.set_metadata settings input output) = All IsStated settings
+IsWork work = Unit {0}
+
+abbrev pub IsAsked : Asked → Type 0
+IsAsked (Asked.tool work) = IsWork work
+IsAsked asked = Unit {0}

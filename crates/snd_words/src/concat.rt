@@ -1,6 +1,7 @@
 //! The command `concat`.
 
 ghost use Rattle.std.specs.Prelude.{◌≡◌, drop};
+ghost use Rattle.snd_words.specs.Asked.{IsAsked};
 ghost use Rattle.snd_words.specs.Gather.{concat_asked};
 ghost use Rattle.snd_words.specs.Request.{asked_by};
 
@@ -23,7 +24,8 @@ pub struct Concatenation<'a> {
 /// What the words behind `concat` ask for.
 #[tactic(auto, unfolding(crate::specs::Gather::gather_asked, crate::specs::Gather::concat_asked))]
 pub(crate) fn concat_request(words: &Words) -> Option<Request<'_>>
-    ensures { asked_by result ≡ concat_asked (drop 1 words.now) }
+    ensures words { asked_by result ≡ concat_asked (drop 1 words.now) }
+    ensures good { IsAsked (asked_by result) }
 {
     let count = words.len();
     if count < 4 || count > MOST_INPUTS + 2 {

@@ -2,6 +2,7 @@
 
 ghost use Rattle.std.specs.Prelude.{◌≡◌, ◌+◌, ◌≤◌, ◌∷◌, [], drop, length, option_map};
 ghost use Rattle.std.specs.List.{slice_range};
+ghost use Rattle.snd_words.specs.Asked.{IsAsked};
 ghost use Rattle.snd_words.specs.Convert.{codec_of, convert_asked, order_of, rate_of, setting_of, settings_of, settled_on};
 ghost use Rattle.snd_words.specs.Request.{asked_by};
 ghost use Rattle.snd_words.specs.Options.{option_count, text_behind};
@@ -174,7 +175,8 @@ fn settings_of(words: &Words, end: usize) -> Option<Settings>
 #[tactic(auto, unfolding(crate::specs::Convert::convert_asked))]
 pub(crate) fn convert_request(words: &Words) -> Option<Request<'_>>
     requires { 1 ≤ length words.now }
-    ensures { asked_by result ≡ convert_asked (drop 1 words.now) }
+    ensures words { asked_by result ≡ convert_asked (drop 1 words.now) }
+    ensures good { IsAsked (asked_by result) }
 {
     let end = options_end(words);
     let settings = settings_of(words, end)?;

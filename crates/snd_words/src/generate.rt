@@ -1,6 +1,7 @@
 //! The command `gen`.
 
-ghost use Rattle.std.specs.Prelude.{◌≡◌, drop};
+ghost use Rattle.std.specs.Prelude.{◌≡◌, ◌≤◌, IfSome, drop};
+ghost use Rattle.snd_words.specs.Asked.{IsAsked};
 ghost use Rattle.snd_words.specs.Generate.{gen_asked, number_within};
 ghost use Rattle.snd_words.specs.Request.{asked_by};
 
@@ -26,7 +27,8 @@ pub struct Generation<'a> {
 /// The number that a word writes, where it is not below one and not above another.
 #[tactic(auto, unfolding(crate::specs::Generate::number_within))]
 fn number_within(least: u64, most: u64, word: &str) -> Option<u64>
-    ensures { result ≡ number_within least most word.now }
+    ensures number { result ≡ number_within least most word.now }
+    ensures range { IfSome result (λ n. (least ≤ n) × (n ≤ most)) }
 {
     let number = decimal(word.as_bytes())?;
     if least <= number && number <= most {
@@ -39,7 +41,8 @@ fn number_within(least: u64, most: u64, word: &str) -> Option<u64>
 /// What the words behind `gen` ask for.
 #[tactic(auto, unfolding(crate::specs::Generate::gen_asked))]
 pub(crate) fn gen_request(words: &Words) -> Option<Request<'_>>
-    ensures { asked_by result ≡ gen_asked (drop 1 words.now) }
+    ensures words { asked_by result ≡ gen_asked (drop 1 words.now) }
+    ensures good { IsAsked (asked_by result) }
 {
     let seed = words.get(1)?;
     let frames = words.get(2)?;

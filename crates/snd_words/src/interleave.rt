@@ -1,6 +1,7 @@
 //! The command `interleave`.
 
 ghost use Rattle.std.specs.Prelude.{◌≡◌, drop};
+ghost use Rattle.snd_words.specs.Asked.{IsAsked};
 ghost use Rattle.snd_words.specs.Gather.{interleave_asked};
 ghost use Rattle.snd_words.specs.Request.{asked_by};
 
@@ -21,7 +22,8 @@ pub struct Interleaving<'a> {
 /// What the words behind `interleave` ask for.
 #[tactic(auto, unfolding(crate::specs::Gather::gather_asked, crate::specs::Gather::interleave_asked))]
 pub(crate) fn interleave_request(words: &Words) -> Option<Request<'_>>
-    ensures { asked_by result ≡ interleave_asked (drop 1 words.now) }
+    ensures words { asked_by result ≡ interleave_asked (drop 1 words.now) }
+    ensures good { IsAsked (asked_by result) }
 {
     let count = words.len();
     if count < 5 || count > MOST_INPUTS + 3 {

@@ -1,6 +1,7 @@
 //! The command `metadata-set`.
 
 ghost use Rattle.std.specs.Prelude.{◌≡◌, ◌≤◌, drop, length};
+ghost use Rattle.snd_words.specs.Asked.{IsAsked};
 ghost use Rattle.snd_words.specs.Metadata.{metadata_asked};
 ghost use Rattle.snd_words.specs.Request.{asked_by};
 
@@ -24,7 +25,8 @@ pub struct MetadataChange<'a> {
 #[tactic(auto, unfolding(crate::specs::Metadata::metadata_asked))]
 pub(crate) fn metadata_request(words: &Words) -> Option<Request<'_>>
     requires { 1 ≤ length words.now }
-    ensures { asked_by result ≡ metadata_asked (drop 1 words.now) }
+    ensures words { asked_by result ≡ metadata_asked (drop 1 words.now) }
+    ensures good { IsAsked (asked_by result) }
 {
     let count = count_pairs(words);
     if count == 0 || !are_distinct(words, count) {

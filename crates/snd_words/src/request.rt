@@ -1,6 +1,7 @@
 //! What the words of a command line ask for.
 
 ghost use Rattle.std.specs.Prelude.{◌≡◌, ◌≤◌, drop, length};
+ghost use Rattle.snd_words.specs.Asked.{IsAsked};
 ghost use Rattle.snd_words.specs.Grammar.{asked, asked_with};
 ghost use Rattle.snd_words.specs.Request.{asked_by};
 
@@ -47,7 +48,8 @@ pub enum Tool<'a> {
 /// What the words ask for, of which the first one is the command.
 fn request_with<'a>(command: &str, words: &'a Words) -> Option<Request<'a>>
     requires { 1 ≤ length words.now }
-    ensures { asked_by result ≡ asked_with command.now (drop 1 words.now) }
+    ensures words { asked_by result ≡ asked_with command.now (drop 1 words.now) }
+    ensures good { IsAsked (asked_by result) }
 {
     if command == "info" {
         return info_request(words);
@@ -73,7 +75,8 @@ fn request_with<'a>(command: &str, words: &'a Words) -> Option<Request<'a>>
 
 /// What the words ask for, those behind the program's own name, or none where they are refused.
 pub fn request_of(words: &Words) -> Option<Request<'_>>
-    ensures { asked_by result ≡ asked words.now }
+    ensures words { asked_by result ≡ asked words.now }
+    ensures good { IsAsked (asked_by result) }
 {
     let command = words.get(0)?;
     request_with(command, words)

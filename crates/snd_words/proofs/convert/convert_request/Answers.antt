@@ -17,17 +17,17 @@ without_names None names none = refl
 without_names (Some s) None none = refl
 without_names (Some s) (Some (one, two)) none = cc
 
-pub returns-in_err-settings : goal.returns-in_err-settings
+pub returns-in_err-settings-clause-words : goal.returns-in_err-settings-clause-words
 unfolding convert_asked
-returns-in_err-settings c =
+returns-in_err-settings-clause-words c =
     let words : List (List ℕ) = drop 1 c.args.words.now in
     let count : c.options_end-end.result - 1 ≡ option_count words = omega (arith, c.options_end-end.ensures.end) in
     let none : None ≡ settings_of (take (option_count words) words) = c.in_err-settings.ensures ∙ ap (λ n. settings_of (take n words)) count in
     ap asked_by c.from_residual.ensures ∙ without_settings _ (two_names (drop (option_count words) words)) none
 
-pub returns-in_err-input : goal.returns-in_err-input
+pub returns-in_err-input-clause-words : goal.returns-in_err-input-clause-words
 unfolding convert_asked
-returns-in_err-input c =
+returns-in_err-input-clause-words c =
     let words : List (List ℕ) = drop 1 c.args.words.now in
     let names : drop c.options_end-end.result c.args.words.now ≡ drop (option_count words) words
     = ap (λ n. drop n c.args.words.now) c.options_end-end.ensures.end ∙ sym (drop-drop (option_count words) 1 c.args.words.now) in
