@@ -89,18 +89,27 @@ module _ (kind : Kind) (p : Parameters) (good : AreParams p) (fits : fit_refusal
         automatic = refl;
       }
 
-pub begun_is_making : BegunIsMaking
-begun_is_making kind p e good is = by_fit (fit_refusal kind p) refl
+-- what is made holds its parameters, and does not stand in blocks
+pub record MayMake (kind : Kind) (p : Parameters) : Type 0 where
+  pub fits : fit_refusal kind p ≡ None
+  pub linear : is_none (fixed_of p.codec) ≡ false
+
+pub may_make : (kind : Kind) (p : Parameters) (e : Editing) → making_of kind p ≡ Ok e → MayMake kind p
+may_make kind p e is = by_fit (fit_refusal kind p) refl
   where
-    by_fit : (r : Option OpenRefusal) → fit_refusal kind p ≡ r → IsMaking kind p [] [] e
+    by_fit : (r : Option OpenRefusal) → fit_refusal kind p ≡ r → MayMake kind p
     by_fit (Some refusal) refused = absurd (let no : ◌≡◌ {A = Result Editing OpenRefusal} (Err refusal) (Ok e) = sym (making_refused kind p refusal refused) ∙ is in cc)
     by_fit None fits = elim (cases_Bool (is_none (fixed_of p.codec))) [
       | inl blocks ↦ absurd (let no = sym (making_blocks kind p fits blocks) ∙ is in cc)
-      | inr linear ↦
-          let given : ◌≡◌ {A = Result Editing OpenRefusal} (Ok (first_editing (new_file kind p) (new_shape kind p))) (Ok e) = sym (making_ok kind p fits linear) ∙ is in
-          let same : first_editing (new_file kind p) (new_shape kind p) ≡ e = cc in
-          subst (IsMaking kind p [] []) same (first_is_making kind p good fits linear)
+      | inr linear ↦ record { fits = fits; linear = linear }
     ]
+
+pub begun_is_making : BegunIsMaking
+begun_is_making kind p e good is =
+    let may = may_make kind p e is in
+    let given : ◌≡◌ {A = Result Editing OpenRefusal} (Ok (first_editing (new_file kind p) (new_shape kind p))) (Ok e) = sym (making_ok kind p may.fits may.linear) ∙ is in
+    let same : first_editing (new_file kind p) (new_shape kind p) ≡ e = cc in
+    subst (IsMaking kind p [] []) same (first_is_making kind p good may.fits may.linear)
 
 -- where no refusal is left, the reason that a file is not begun is a fault, or want of memory
 counts_by : (kind : Kind) (p : Parameters) → fit_refusal kind p ≡ None → is_none (fixed_of p.codec) ≡ false → (old new : ℕ) (error : OpenError)

@@ -1,6 +1,7 @@
 pub mod Appending
 pub mod Begun
 pub mod Bytes
+pub mod Carried
 pub mod Finished
 pub mod Lengthened
 pub mod Lists

@@ -12,7 +12,8 @@ use Rattle.snd_layout.specs.declared.kind.Kind.{Kind}
 use Rattle.snd_modes.specs.declared.handle.File.{File}
 use Rattle.snd_modes.specs.declared.mode.Mode.{Ghosts as ModeGhosts}
 use Rattle.snd_modes.specs.Editing.{Editing}
-use Rattle.snd_modes.specs.Handle.{Stands, disk_of, known_of}
+use Rattle.snd_modes.specs.Handle.{Known, Stands, disk_of, known_of}
+use Rattle.snd_modes.specs.Making.{making_of}
 use Rattle.snd_output.specs.declared.stop.Stop.{Stop}
 use Rattle.snd_output.specs.declared.stop.Stop.TheVariants.{Fault, Memory}
 use Rattle.snd_output.specs.Made.{IsMaking, made_file}
@@ -26,15 +27,26 @@ abbrev pub CountsStop : {T : Type 0} → ℕ → ℕ → Result T Stop → Type 
 CountsStop old new (Ok done) = new ≡ old
 CountsStop old new (Err stop) = IsStopCause old new stop
 
+-- of two counts one rises so
+abbrev pub CountsOneOf : {T : Type 0} → ℕ → ℕ → ℕ → ℕ → Result T Stop → Type 0
+CountsOneOf old new old' new' (Ok done) = (new ≡ old) × (new' ≡ old')
+CountsOneOf old new old' new' (Err Fault) = (old ≤ new) × (old' ≤ new') × (Rises old new ⊎ Rises old' new')
+CountsOneOf old new old' new' (Err Memory) = (new ≡ old) × (new' ≡ old')
+
+-- a fault alone may break a file
+abbrev pub BreaksByFault : {T : Type 0} → Known → Result T Stop → Type 0
+BreaksByFault file (Err Fault) = Unit {0}
+BreaksByFault file result = file.broken ≡ None
+
 -- what stops a tool whose file is not made
 abbrev pub stop_of : OpenError → Stop
 stop_of open_error.Memory = Memory
 stop_of error = Fault
 
--- what was begun is a file that is being made, without chunks and numbers, where the disk tells what it holds
+-- what was begun is a file as it is made, and one that is being made, without chunks and numbers, where the disk tells what it holds
 abbrev pub BeginsFile : {D M E : Type 0} {ghosts : Ghosts D} {mode : ModeGhosts M} → (D → State) → Kind → Parameters → D → Result (File D M ghosts mode) E → Type 0
 BeginsFile state kind p disk result =
-    IfOk result (λ file. (b : List ℕ) → Tells state disk b → (e : Editing) × Stands state file e × IsMaking kind p [] [] e)
+    IfOk result (λ file. (b : List ℕ) → Tells state disk b → (e : Editing) × Stands state file e × IsMaking kind p [] [] e × (making_of kind p ≡ Ok e))
 
 -- what comes back is the file that was made
 abbrev pub MakesWhole : {D M E : Type 0} {ghosts : Ghosts D} {mode : ModeGhosts M} → (D → State) → File D M ghosts mode → Result (MutBor D) E → Type 0

@@ -1,18 +1,24 @@
 -- What is said of every file that is made.
-use Rattle.std.specs.Prelude.{◌≡◌, ℤ, List, [], ◌++◌, Ok}
+use Rattle.std.specs.Prelude.{◌≡◌, ℤ, true, List, [], ◌++◌, Ok}
 use Rattle.snd_chunks.specs.Written.{NewChunk}
 use Rattle.snd_container.specs.Sound.{sound_of}
 use Rattle.snd_layout.specs.Params.{AreParams, Parameters}
 use Rattle.snd_layout.specs.declared.kind.Kind.{Kind}
 use Rattle.snd_modes.specs.Editing.{Editing}
 use Rattle.snd_modes.specs.Edits.{sealed_to, written_to}
+use Rattle.snd_modes.specs.Heads.{holds_meta}
 use Rattle.snd_modes.specs.Making.{making_of}
 use Rattle.snd_modes.specs.WriteCalls.{MayWrite}
-use Rattle.snd_output.specs.Made.{IsMaking, made_file, made_sound}
+use Rattle.snd_output.specs.Made.{AreChunks, IsMaking, made_file, made_sound, made_with}
 
 -- a file begins without chunks and numbers
 abbrev pub BegunIsMaking : Type 0
 BegunIsMaking = (kind : Kind) (p : Parameters) (e : Editing) → AreParams p → making_of kind p ≡ Ok e → IsMaking kind p [] [] e
+
+-- and one into which chunks were carried is one that is being made with these
+abbrev pub CarriedIsMaking : Type 0
+CarriedIsMaking = (kind : Kind) (p : Parameters) (pieces : List NewChunk) (e : Editing) → AreParams p → making_of kind p ≡ Ok e →
+    holds_meta kind ≡ true → AreChunks pieces → IsMaking kind p pieces [] (made_with kind p pieces)
 
 -- frames that are written stand behind those that it holds
 abbrev pub WrittenIsMaking : Type 0

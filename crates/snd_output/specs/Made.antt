@@ -1,13 +1,15 @@
 -- Sound files that are made of numbers, one for each channel of a frame, in turn: their bytes, and the states on the way there.
-use Rattle.std.specs.Prelude.{◌≡◌, ℕ, ℤ, ◌/◌, ◌%◌, false, List, [], ◌++◌, length, map, nat_lt, if◌then◌else◌}
+use Rattle.std.specs.Prelude.{◌≡◌, ℕ, ℤ, ◌/◌, ◌%◌, ◌≤◌, false, List, [], ◌++◌, All, length, map, nat_lt, if◌then◌else◌}
 use Rattle.snd_chunks.specs.Written.{NewChunk}
 use Rattle.snd_container.specs.Sound.{Kept, Sound, kept_numbers, kept_of}
 use Rattle.snd_container.specs.Values.{closing}
+use Rattle.snd_fields.specs.Laws.{IsByte}
 use Rattle.snd_layout.specs.Params.{Parameters}
 use Rattle.snd_layout.specs.Shape.{Shape}
 use Rattle.snd_layout.specs.declared.kind.Kind.{Kind}
 use Rattle.snd_pcm.specs.Groups.{groups}
 use Rattle.snd_patch.specs.Sealed.{with_fields}
+use Rattle.snd_wave.specs.Written.{MayBePiece}
 use Rattle.snd_modes.specs.Editing.{Editing}
 use Rattle.snd_modes.specs.Edits.{coded}
 use Rattle.snd_modes.specs.Laws.{IsEdited}
@@ -51,3 +53,27 @@ pub record IsMaking (kind : Kind) (p : Parameters) (pieces : List NewChunk) (xs 
   pub bytes : e.bytes ≡ head_with kind p pieces ++ coded p xs ++ closing_so_far (shape_with kind p pieces) (frame_count p xs)
   pub write_place : e.write_place ≡ frame_count p xs
   pub automatic : e.automatic ≡ false
+
+-- ---- files that are made with chunks
+
+-- the state of a file that was made with some chunks, and has no frames
+abbrev pub made_with : Kind → Parameters → List NewChunk → Editing
+made_with kind p pieces = record {
+  bytes = head_with kind p pieces;
+  shape = shape_with kind p pieces;
+  frames = [];
+  place = 0;
+  write_place = 0;
+  automatic = false;
+  written = false;
+}
+
+-- a chunk of bytes that a WAVE or RF64 file may keep beside its sound, and chunks with which such a file may be made
+pub record IsChunk (piece : NewChunk) : Type 0 where
+  pub may : MayBePiece piece
+  pub id : All IsByte piece.id
+  pub body : All IsByte piece.body
+
+pub record AreChunks (pieces : List NewChunk) : Type 0 where
+  pub each : All IsChunk pieces
+  pub few : length pieces ≤ 240

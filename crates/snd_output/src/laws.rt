@@ -1,12 +1,13 @@
 //! The laws of files that are made, proved of every file. The functions do nothing: their contracts are
 //! the laws.
 
-ghost use Rattle.snd_output.specs.Laws.{BegunIsMaking, MadeHasSound, SealedIsMade, WrittenIsMaking};
+ghost use Rattle.snd_output.specs.Laws.{BegunIsMaking, CarriedIsMaking, MadeHasSound, SealedIsMade, WrittenIsMaking};
 
-/// A file that is begun is one that is being made, and so is one to which frames are written; once it is
-/// sealed it is made.
+/// A file that is begun is one that is being made, and so is one into which chunks were carried, and one to
+/// which frames are written; once it is sealed it is made.
 pub fn files_are_made()
     ensures begun { BegunIsMaking }
+    ensures carried { CarriedIsMaking }
     ensures written { WrittenIsMaking }
     ensures sealed { SealedIsMade }
 {}

@@ -1,5 +1,10 @@
 //! Why a tool stops.
 
+ghost use Rattle.std.specs.Prelude.{◌≡◌};
+ghost use Rattle.snd_output.specs.declared.stop.Stop.TheVariants as stop;
+
+use std::alloc::AllocError;
+
 /// Why a tool stops before it has done its work.
 #[derive(Clone, Copy, Debug, PartialEq, Eq)]
 pub enum Stop {
@@ -7,4 +12,12 @@ pub enum Stop {
     Fault,
     /// There was no memory.
     Memory,
+}
+
+impl From<AllocError> for Stop {
+    ghost from_gives = { λ _ e. e ≡ stop.Memory };
+
+    fn from(_e: AllocError) -> Stop {
+        Stop::Memory
+    }
 }

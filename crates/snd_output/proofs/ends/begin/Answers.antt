@@ -4,7 +4,7 @@ use Rattle.snd_output.proofs.ends.begin.Goals as goal
 pub returns-in-Ok-clause-begun : goal.returns-in-Ok-clause-begun
 returns-in-Ok-clause-begun g c = λ b told.
     let made = c.in-Ok.ensures.made b told in
-    (made.0, made.2, begun_is_making c.args.kind c.args.params made.0 c.are_good.ensures made.1)
+    (made.0, made.2, begun_is_making c.args.kind c.args.params made.0 c.are_good.ensures made.1, made.1)
 
 pub returns-in-Err-clause-faults : goal.returns-in-Err-clause-faults
 returns-in-Err-clause-faults g c =
