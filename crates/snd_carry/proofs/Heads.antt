@@ -3,8 +3,7 @@ use Rattle.std.proofs.Common.{◌≡◌, ◌∙◌, ap, sym, refl, ℕ, ◌+◌,
 use Rattle.std.proofs.lemmas.List.{length-map, length-replicate, map-append, places, same_lists}
 use Rattle.std.specs.Prelude.{map, replicate}
 use Rattle.snd_chunks.specs.Written.{NewChunk}
-use Rattle.snd_container.specs.Made.{new_file, new_shape}
-use Rattle.snd_container.specs.Put.{heads_of}
+use Rattle.snd_container.specs.Made.{new_shape}
 use Rattle.snd_layout.specs.Params.{Parameters}
 use Rattle.snd_layout.specs.Shape.{Shape}
 use Rattle.snd_layout.specs.declared.kind.Kind.{Kind}
@@ -20,78 +19,12 @@ use Rattle.snd_wave.specs.Written.{made_shape as wave_shape}
 use Rattle.snd_modes.specs.Handle.{Known}
 use Rattle.snd_modes.specs.Heads.{holds_meta}
 use Rattle.snd_modes.specs.PieceCalls.{known_put}
-use Rattle.snd_modes.specs.Relaid.{head_with, outline, shape_put, shape_with}
+use Rattle.snd_modes.specs.Relaid.{outline, shape_put, shape_with}
 use Rattle.snd_modes.proofs.Blanks.{blank, blanks, blanks_blanks, blanks_with}
-use Rattle.snd_modes.proofs.HeadLaws.{HeadLaws}
-use Rattle.snd_modes.proofs.Rf64Heads.{rf64_laws}
-use Rattle.snd_modes.proofs.WaveHeads.{wave_laws}
+use Rattle.snd_output.proofs.Carried.{laws_of, says_of}
 use Rattle.snd_carry.specs.Carrying.{known_with}
 
-laws_of : (kind : Kind) → holds_meta kind ≡ true → HeadLaws kind (heads_of kind)
-laws_of Wave meta = wave_laws
-laws_of Rf64 meta = rf64_laws
-laws_of W64 meta = absurd (cc)
-laws_of Au meta = absurd (cc)
-laws_of Dns meta = absurd (cc)
-laws_of Voc meta = absurd (cc)
-laws_of Svx meta = absurd (cc)
-laws_of Sphere meta = absurd (cc)
-
--- what their layouts say
-pub kind_is : (kind : Kind) (p : Parameters) (cs : List NewChunk) → holds_meta kind ≡ true → (shape_with kind p cs).kind ≡ kind
-unfolding wave_shape rf64_shape
-kind_is Wave p cs meta = refl
-kind_is Rf64 p cs meta = refl
-kind_is W64 p cs meta = absurd (cc)
-kind_is Au p cs meta = absurd (cc)
-kind_is Dns p cs meta = absurd (cc)
-kind_is Voc p cs meta = absurd (cc)
-kind_is Svx p cs meta = absurd (cc)
-kind_is Sphere p cs meta = absurd (cc)
-
-pub params_are : (kind : Kind) (p : Parameters) (cs : List NewChunk) → holds_meta kind ≡ true → (shape_with kind p cs).params ≡ p
-unfolding wave_shape rf64_shape
-params_are Wave p cs meta = refl
-params_are Rf64 p cs meta = refl
-params_are W64 p cs meta = absurd (cc)
-params_are Au p cs meta = absurd (cc)
-params_are Dns p cs meta = absurd (cc)
-params_are Voc p cs meta = absurd (cc)
-params_are Svx p cs meta = absurd (cc)
-params_are Sphere p cs meta = absurd (cc)
-
-pub no_frames : (kind : Kind) (p : Parameters) (cs : List NewChunk) → holds_meta kind ≡ true → (shape_with kind p cs).frames ≡ 0
-unfolding wave_shape rf64_shape
-no_frames Wave p cs meta = refl
-no_frames Rf64 p cs meta = refl
-no_frames W64 p cs meta = absurd (cc)
-no_frames Au p cs meta = absurd (cc)
-no_frames Dns p cs meta = absurd (cc)
-no_frames Voc p cs meta = absurd (cc)
-no_frames Svx p cs meta = absurd (cc)
-no_frames Sphere p cs meta = absurd (cc)
-
--- a file as it is made has no chunks
-pub new_is : (kind : Kind) (p : Parameters) → new_shape kind p ≡ shape_with kind p []
-new_is Wave p = refl
-new_is Rf64 p = refl
-new_is W64 p = refl
-new_is Au p = refl
-new_is Dns p = refl
-new_is Voc p = refl
-new_is Svx p = refl
-new_is Sphere p = refl
-
-pub file_is : (kind : Kind) (p : Parameters) → new_file kind p ≡ head_with kind p []
-file_is Wave p = refl
-file_is Rf64 p = refl
-file_is W64 p = refl
-file_is Au p = refl
-file_is Dns p = refl
-file_is Voc p = refl
-file_is Svx p = refl
-file_is Sphere p = refl
-
+-- the kind and the parameters of a file as it is made
 pub new_kind : (kind : Kind) (p : Parameters) → (new_shape kind p).kind ≡ kind
 unfolding wave_shape rf64_shape w64_shape voc_shape svx_shape sphere_shape
 new_kind Wave p = refl
@@ -149,8 +82,8 @@ module _ (kind : Kind) (p : Parameters) (meta : holds_meta kind ≡ true) where
   pub put_behind : (cs : List NewChunk) (c : NewChunk) (n : ℕ) → n ≡ length cs → shape_put n c (shape_with kind p cs) ≡ shape_with kind p (cs ++ c ∷ [])
   put_behind cs c n all =
       let h : Shape = shape_with kind p cs in
-      ap (λ (k : Kind). shape_with k h.params (with_piece (map outline h.pieces) n c)) (kind_is kind p cs meta)
-      ∙ ap (λ (q : Parameters). shape_with kind q (with_piece (map outline h.pieces) n c)) (params_are kind p cs meta)
+      ap (λ (k : Kind). shape_with k h.params (with_piece (map outline h.pieces) n c)) (says_of kind p cs meta).kind_is
+      ∙ ap (λ (q : Parameters). shape_with kind q (with_piece (map outline h.pieces) n c)) (says_of kind p cs meta).params
       ∙ ap (λ (l : List NewChunk). shape_with kind p (with_piece l n c)) ((laws_of kind meta).outlined p cs)
       ∙ same_shape (with_piece (blanks cs) n c) (with_piece cs n c)
       (blanks_with (blanks cs) n c ∙ ap (λ (l : List NewChunk). with_piece l n (blank c)) (blanks_blanks cs) ∙ sym (blanks_with cs n c))
@@ -175,4 +108,4 @@ pub count_with : (xs : List Piece) (k : Known) → holds_meta k.shape.kind ≡ t
 count_with xs k meta = as_many k.shape.kind k.shape.params meta (map outline xs) ∙ length-map xs outline
 
 pub meta_with : (xs : List Piece) (k : Known) → holds_meta k.shape.kind ≡ true → holds_meta (known_with xs k).shape.kind ≡ true
-meta_with xs k meta = ap holds_meta (kind_is k.shape.kind k.shape.params (map outline xs) meta) ∙ meta
+meta_with xs k meta = ap holds_meta (says_of k.shape.kind k.shape.params (map outline xs) meta).kind_is ∙ meta

@@ -1,6 +1,7 @@
 -- What a loop that carries chunks has done so far.
-use Rattle.std.proofs.Common.{◌≡◌, ◌∙◌, ap, sym, subst, ℕ, true, ℤ, List, [], ◌∷◌, ◌++◌, Bool, cond, Option, None, Some, Result, Ok, Err, inl, inr, length}
+use Rattle.std.proofs.Common.{◌≡◌, ◌∙◌, ap, sym, subst, ℕ, true, ℤ, List, [], ◌∷◌, ◌++◌, All, Bool, cond, Option, None, Some, Result, Ok, Err, inl, inr, length, arith}
 use Rattle.std.proofs.lemmas.List.{length-map, map-append, nil_from_length}
+use Rattle.std.proofs.lemmas.List.Elements.{All-append, All-cons, All-nil}
 use Rattle.std.proofs.lemmas.Bool.{cases_Bool}
 use Rattle.std.specs.Prelude.{is_none, map, slice_get}
 use Rattle.snd_chunks.specs.Written.{NewChunk}
@@ -26,8 +27,12 @@ use Rattle.snd_modes.specs.Making.{making_as, making_of}
 use Rattle.snd_modes.specs.Pieces.{body_of}
 use Rattle.snd_modes.specs.Relaid.{added_to, head_with, pieces_held, shape_put, shape_with}
 use Rattle.snd_carry.specs.Carried.{carried_pieces}
-use Rattle.snd_carry.specs.Carrying.{Carries, CarriesOne, HoldsOne, IsNewShape, known_with, made_with}
-use Rattle.snd_carry.proofs.Heads.{as_many, count_with, file_is, kind_is, new_is, new_kind, new_params, no_frames, params_are, put_behind, put_last}
+use Rattle.snd_output.specs.Made.{IsChunk, made_with}
+use Rattle.snd_output.proofs.Begun.{new_head, new_says}
+use Rattle.snd_output.proofs.Carried.{says_of}
+use Rattle.snd_carry.specs.Carrying.{Carries, CarriesOne, HoldsChunk, HoldsChunks, HoldsOne, IsNewShape, known_with}
+use Rattle.snd_carry.proofs.Heads.{as_many, count_with, new_kind, new_params, put_behind, put_last}
+use Rattle.snd_carry.proofs.Taken.{few_carried}
 
 -- one chunk more of a file that was made with some
 pub added_is : (kind : Kind) (p : Parameters) (cs : List NewChunk) (id body : List ℕ) → holds_meta kind ≡ true → pieces_held (made_with kind p cs) ≡ cs
@@ -38,8 +43,8 @@ added_is kind p cs id body meta held =
     let c : NewChunk = new_piece id body in
     let all : n ≡ length cs = as_many kind p meta cs in
     let bytes : head_with h.kind h.params (with_piece (pieces_held (made_with kind p cs)) n c) ≡ head_with kind p (cs ++ c ∷ []) =
-    ap (λ (k : Kind). head_with k h.params (with_piece (pieces_held (made_with kind p cs)) n c)) (kind_is kind p cs meta)
-    ∙ ap (λ (q : Parameters). head_with kind q (with_piece (pieces_held (made_with kind p cs)) n c)) (params_are kind p cs meta)
+    ap (λ (k : Kind). head_with k h.params (with_piece (pieces_held (made_with kind p cs)) n c)) (says_of kind p cs meta).kind_is
+    ∙ ap (λ (q : Parameters). head_with kind q (with_piece (pieces_held (made_with kind p cs)) n c)) (says_of kind p cs meta).params
     ∙ ap (λ (l : List NewChunk). head_with kind p (with_piece l n c)) held
     ∙ ap (head_with kind p) (put_last cs c n all) in
     let shape : shape_put n c h ≡ shape_with kind p (cs ++ c ∷ []) = put_behind kind p meta cs c n all in
@@ -64,13 +69,13 @@ first_is kind p e made = first_by kind p e (fit_refusal kind p) made
 pub made_none : (kind : Kind) (p : Parameters) (e : Editing) → holds_meta kind ≡ true → making_of kind p ≡ Ok e → e.shape.frames ≡ length e.frames → e ≡ made_with kind p []
 made_none kind p e meta made count =
     let first : e ≡ first_editing (new_file kind p) (new_shape kind p) = first_is kind p e made in
-    let shape : e.shape ≡ shape_with kind p [] = ap (λ (x : Editing). x.shape) first ∙ new_is kind p in
-    let few : length e.frames ≡ 0 = sym count ∙ ap (λ (s : Shape). s.frames) shape ∙ no_frames kind p [] meta in
+    let shape : e.shape ≡ shape_with kind p [] = ap (λ (x : Editing). x.shape) first ∙ new_says kind p in
+    let few : length e.frames ≡ 0 = sym count ∙ ap (λ (s : Shape). s.frames) shape ∙ (says_of kind p [] meta).frames in
     let none : e.frames ≡ [] = nil_from_length e.frames few in
     let framed : decoded (new_shape kind p).params (sound_bytes (new_file kind p) (new_shape kind p)) ≡ [] = sym (ap (λ (x : Editing). x.frames) first) ∙ none in
     first ∙ ap (λ (l : List (List ℤ)). record (first_editing (new_file kind p) (new_shape kind p)) { frames = l }) framed
-    ∙ ap (λ (b : List ℕ). record (made_with kind p []) { bytes = b; shape = new_shape kind p }) (file_is kind p)
-    ∙ ap (λ (s : Shape). record (made_with kind p []) { shape = s }) (new_is kind p)
+    ∙ ap (λ (b : List ℕ). record (made_with kind p []) { bytes = b; shape = new_shape kind p }) (new_head kind p)
+    ∙ ap (λ (s : Shape). record (made_with kind p []) { shape = s }) (new_says kind p)
 
 held_none : (kind : Kind) (p : Parameters) → holds_meta kind ≡ true → pieces_held (made_with kind p []) ≡ []
 held_none kind p meta =
@@ -114,6 +119,27 @@ module _ {D E M N : Type 0} {ghosts : Ghosts D} {others : Ghosts E} {mode : Mode
   all_carried now so_far e e' kind p s made stands =
       subst (λ (ps : List Piece). Stands state' now (made_with kind p (map (chunk_read e.bytes) (carried_pieces ps)))) (ap (λ (h : Shape). h.pieces) s.shape) (so_far.so e e' kind p s made stands).0
 
+-- the chunks of pieces that were read are of bytes, and such as a file may be made with
+module _ {D M : Type 0} {ghosts : Ghosts D} {mode : ModeGhosts M} (state : D → State) (from : File D M ghosts mode) where
+  pub record ChunksSoFar (xs : List Piece) : Type 0 where
+    pub each : (e : Editing) → Stands state from e → All IsChunk (map (chunk_read e.bytes) xs)
+
+  pub no_chunks : ChunksSoFar []
+  no_chunks = record { each = λ e s. All-nil IsChunk }
+
+  pub chunks_more : (from' : File D M ghosts mode) (xs : List Piece) (piece : Piece) → ChunksSoFar xs → StandsAfter state from from' (λ e. e) → HoldsChunk state piece from' → ChunksSoFar (xs ++ piece ∷ [])
+  chunks_more from' xs piece was stays is = record {
+    each = λ e s.
+        let read : Piece → NewChunk = chunk_read e.bytes in
+        subst (All IsChunk) (sym (map-append read xs (piece ∷ []))) (All-append IsChunk (map read xs) (read piece ∷ []) (was.each e s) (All-cons IsChunk (read piece) [] (is e (stays e s)) (All-nil IsChunk)));
+  }
+
+  pub all_chunks : ChunksSoFar (carried_pieces (known_of from).shape.pieces) → HoldsChunks state from
+  all_chunks are e s = record {
+    each = subst (λ (ps : List Piece). All IsChunk (map (chunk_read e.bytes) (carried_pieces ps))) (ap (λ (h : Shape). h.pieces) s.shape) (are.each e s);
+    few = omega (arith, length-map (carried_pieces e.shape.pieces) (chunk_read e.bytes), few_carried e.shape.pieces);
+  }
+
 -- what is known of a file as it is made
 made_again : (h : Shape) (kind : Kind) (p : Parameters) → h ≡ new_shape kind p → h ≡ new_shape h.kind h.params
 made_again h kind p is =
@@ -122,7 +148,7 @@ made_again h kind p is =
     is ∙ ap (λ (k : Kind). new_shape k p) (sym kinds) ∙ ap (new_shape h.kind) (sym params)
 
 pub known_none : (k : Known) → IsNewShape k.shape → k ≡ known_with [] k
-known_none k new = ap (λ (s : Shape). record k { shape = s }) (made_again k.shape new.0 new.1 new.2 ∙ new_is k.shape.kind k.shape.params)
+known_none k new = ap (λ (s : Shape). record k { shape = s }) (made_again k.shape new.0 new.1 new.2 ∙ new_says k.shape.kind k.shape.params)
 
 -- what is read of the list of a handle, and how many pieces that of the new file has
 pub read_at : (old now : Known) (listed : List Piece) (place : ℕ) (got x : Option Piece) → now ≡ old → listed ≡ now.shape.pieces → got ≡ slice_get listed place → got ≡ x → slice_get old.shape.pieces place ≡ x

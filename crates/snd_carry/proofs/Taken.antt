@@ -115,7 +115,7 @@ pub record IsSized (taken : List Piece) (count size : ℕ) : Type 0 where
 pub sized_none : IsSized [] 0 0
 sized_none = record { counted = refl; sized = refl; few = omega arith; fours = All-nil IsFour }
 
-small : (p : Piece) → is_carried p ≡ true → p.len ≤ 65536
+pub small : (p : Piece) → is_carried p ≡ true → p.len ≤ 65536
 small p is = leb-true _ _ (and_parts _ _ is).0
 
 pub sized_more : (taken : List Piece) (p : Piece) (count size more n : ℕ) → IsSized taken count size → is_carried p ≡ true → IsFour p → more ≡ count + 1 → n ≡ size + chunk_size p.len → IsSized (taken ++ p ∷ []) more n

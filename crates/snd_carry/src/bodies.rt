@@ -1,7 +1,8 @@
 //! One chunk that is carried: its body is read from one file and put into the other.
 
-ghost use Rattle.std.specs.Prelude.{◌≡◌, ◌<◌, ◌≤◌, IfOk, None, OnOk, Some, false, length, slice_get, true};
+ghost use Rattle.std.specs.Prelude.{◌≡◌, ◌<◌, ◌≤◌, All, IfOk, None, OnOk, Some, false, length, slice_get, true};
 ghost use Rattle.snd_disk.specs.Device.{AsksAtMost, GoesOnFrom, OnlyReadsOn, WritesAtMost};
+ghost use Rattle.snd_fields.specs.Laws.{IsByte};
 ghost use Rattle.snd_modes.specs.Chunks.{HoldsPut, StandsAsOpened};
 ghost use Rattle.snd_modes.specs.Handle.{IfOkStanding, StandsAfter, disk_of, known_of, loan_of};
 ghost use Rattle.snd_modes.specs.Heads.{holds_meta, is_wave_own};
@@ -10,15 +11,21 @@ ghost use Rattle.snd_modes.specs.PieceCalls.{IsUntouched, known_put};
 ghost use Rattle.snd_modes.specs.Pieces.{body_of};
 ghost use Rattle.snd_modes.specs.Relaid.{added_to, outline};
 ghost use Rattle.snd_wave.specs.Heads.{new_piece};
+ghost use Rattle.snd_output.specs.Ends.{BreaksByFault, CountsOneOf, CountsStop};
 ghost use Rattle.snd_carry.specs.Carried.{is_carried};
-ghost use Rattle.snd_carry.specs.Carrying.{CarriesOne, CountsBoth, CountsStop, HoldsOne};
+ghost use Rattle.snd_carry.specs.Carrying.{CarriesOne, HoldsChunk, HoldsOne};
 
-use crate::stop::Stop;
 use snd_disk::Disk;
 use snd_fields::Id4;
 use snd_layout::{Piece, PieceError};
 use snd_modes::{File, PieceReadError, Read, Write};
+use snd_output::Stop;
 use std::alloc::Global;
+
+// Each item of a slice of bytes is a byte.
+fn are_bytes(bytes: &[u8])
+    ensures { All IsByte bytes.now }
+{}
 
 // The body of the piece at a place of the list, in a file that is not broken.
 fn read_body<D: Disk>(
@@ -34,14 +41,18 @@ fn read_body<D: Disk>(
     ensures known { OnOk result (known_of from.new ≡ known_of from.old) }
     ensures body { IfOkStanding D.state from.old result (λ e body. body.items ≡ body_of e.bytes piece) }
     ensures size { IfOk result (λ body. length body.items ≡ piece.len) }
+    ensures bytes { IfOk result (λ body. All IsByte body.items) }
     ensures stands { StandsAfter D.state from.old from.new (λ e. e) }
-    ensures faults { CountsStop (D.state (disk_of from.old)) (D.state (disk_of from.new)) result }
+    ensures faults { CountsStop (D.state (disk_of from.old)).faults (D.state (disk_of from.new)).faults result }
     ensures reads { OnlyReadsOn D.state D.may_leave D.left_between (disk_of from.old) (disk_of from.new) }
     ensures asked { AsksAtMost D.state 65536 (disk_of from.old) (disk_of from.new) }
 {
     let mut body = vec![in alloc; 0u8; piece.len as usize]?;
     match from.piece_read(place, &mut body) {
-        Ok(_) => Ok(body),
+        Ok(_) => {
+            are_bytes(&body);
+            Ok(body)
+        }
         Err(PieceReadError::DiskFault(_)) => Err(Stop::Fault),
         Err(PieceReadError::Broken(_)) => unreachable!(),
     }
@@ -59,7 +70,8 @@ fn put_body<E: Disk>(to: &mut File<'_, E, Write>, id: Id4, body: &[u8]) -> Resul
     ensures stands { OnOk result (StandsAfter E.state to.old to.new (added_to id.0 body.now)) }
     ensures holds { OnOk result (HoldsPut E.state (length (known_of to.old).shape.pieces) (new_piece id.0 body.now) to.old to.new) }
     ensures begins { OnOk result (StandsAsOpened E.state to.new) }
-    ensures faults { CountsStop (E.state (disk_of to.old)) (E.state (disk_of to.new)) result }
+    ensures works { BreaksByFault (known_of to.new) result }
+    ensures faults { CountsStop (E.state (disk_of to.old)).faults (E.state (disk_of to.new)).faults result }
     ensures tells { TellsOn E.state to.old to.new }
     ensures time { GoesOnFrom E.state E.left_between (disk_of to.old) (disk_of to.new) }
     ensures written { WritesAtMost E.state 16777216 (disk_of to.old) (disk_of to.new) }
@@ -93,6 +105,8 @@ pub(crate) fn carry_one<D: Disk, E: Disk>(
     requires working { (known_of from.old).broken ≡ None }
     requires there { slice_get (known_of from.old).shape.pieces place ≡ Some piece }
     requires carried { is_carried piece ≡ true }
+    requires four { length piece.id.0 ≡ 4 }
+    requires id { All IsByte piece.id.0 }
     requires untouched { IsUntouched (known_of to.old) }
     requires meta { holds_meta (known_of to.old).shape.kind ≡ true }
     requires few { length (known_of to.old).shape.pieces < 240 }
@@ -104,7 +118,9 @@ pub(crate) fn carry_one<D: Disk, E: Disk>(
     ensures carries { OnOk result (CarriesOne D.state E.state piece from.old to.old to.new) }
     ensures holds { OnOk result (HoldsOne D.state E.state piece from.old to.old to.new) }
     ensures begins { OnOk result (StandsAsOpened E.state to.new) }
-    ensures faults { CountsBoth (D.state (disk_of from.old)) (D.state (disk_of from.new)) (E.state (disk_of to.old)) (E.state (disk_of to.new)) result }
+    ensures chunk { OnOk result (HoldsChunk D.state piece from.old) }
+    ensures works { BreaksByFault (known_of to.new) result }
+    ensures faults { CountsOneOf (D.state (disk_of from.old)).faults (D.state (disk_of from.new)).faults (E.state (disk_of to.old)).faults (E.state (disk_of to.new)).faults result }
     ensures reads { OnlyReadsOn D.state D.may_leave D.left_between (disk_of from.old) (disk_of from.new) }
     ensures asked { AsksAtMost D.state 65536 (disk_of from.old) (disk_of from.new) }
     ensures tells { TellsOn E.state to.old to.new }

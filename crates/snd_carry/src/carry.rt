@@ -5,14 +5,15 @@ ghost use Rattle.snd_disk.specs.Device.{AsksAtMost, GoesOnFrom, OnlyReadsOn, Wri
 ghost use Rattle.snd_modes.specs.Handle.{IsFresh, StandsAfter, disk_of, known_of, loan_of};
 ghost use Rattle.snd_modes.specs.Heads.{holds_meta};
 ghost use Rattle.snd_modes.specs.Outcomes.{AsksNothing, TellsOn};
+ghost use Rattle.snd_output.specs.Ends.{BreaksByFault, CountsOneOf};
 ghost use Rattle.snd_carry.specs.Carried.{carried_pieces};
-ghost use Rattle.snd_carry.specs.Carrying.{Carries, CountsBoth, IsNewShape, StaysAsOpened, known_with};
+ghost use Rattle.snd_carry.specs.Carrying.{Carries, HoldsChunks, IsNewShape, StaysAsOpened, known_with};
 
 use crate::bodies::carry_one;
 use crate::choice::{MOST_PIECES, is_carried};
-use crate::stop::Stop;
 use snd_disk::Disk;
 use snd_modes::{File, Read, Write};
+use snd_output::Stop;
 use std::alloc::Global;
 
 /// Carries the further chunks of a file into a WAVE or RF64 file that was just made: those with at most 65536
@@ -21,7 +22,7 @@ use std::alloc::Global;
 /// bytes of it; at most 4026531840 bytes are written to the other, since its head is closed anew behind each.
 ///
 /// `Fault` exactly where a call of one of the two disks failed; `Memory` where there is none: then the new file
-/// has only some of the chunks.
+/// has only some of the chunks, and can be finished.
 pub fn carry_pieces<D: Disk, E: Disk>(
     alloc: Global,
     from: &mut File<'_, D, Read>,
@@ -36,9 +37,11 @@ pub fn carry_pieces<D: Disk, E: Disk>(
     ensures same { OnOk result (known_of from.new ≡ known_of from.old) }
     ensures known { OnOk result (known_of to.new ≡ known_with (carried_pieces (known_of from.old).shape.pieces) (known_of to.old)) }
     ensures carried { OnOk result (Carries D.state E.state from.old to.old to.new) }
+    ensures chunks { OnOk result (HoldsChunks D.state from.old) }
     ensures begins { OnOk result (StaysAsOpened E.state to.old to.new) }
     ensures stands { StandsAfter D.state from.old from.new (λ e. e) }
-    ensures faults { CountsBoth (D.state (disk_of from.old)) (D.state (disk_of from.new)) (E.state (disk_of to.old)) (E.state (disk_of to.new)) result }
+    ensures works { BreaksByFault (known_of to.new) result }
+    ensures faults { CountsOneOf (D.state (disk_of from.old)).faults (D.state (disk_of from.new)).faults (E.state (disk_of to.old)).faults (E.state (disk_of to.new)).faults result }
     ensures reads { OnlyReadsOn D.state D.may_leave D.left_between (disk_of from.old) (disk_of from.new) }
     ensures asked { AsksAtMost D.state 15728640 (disk_of from.old) (disk_of from.new) }
     ensures tells { TellsOn E.state to.old to.new }

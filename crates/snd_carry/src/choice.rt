@@ -1,7 +1,8 @@
 //! Which chunks are carried.
 
-ghost use Rattle.std.specs.Prelude.{◌≡◌, ◌≤◌, length, map};
+ghost use Rattle.std.specs.Prelude.{◌≡◌, ◌≤◌, All, length, map};
 ghost use Rattle.snd_chunks.specs.Written.{chunks_bytes};
+ghost use Rattle.snd_fields.specs.Laws.{IsByte};
 ghost use Rattle.snd_fields.specs.declared.field.Order.TheVariants.{Little};
 ghost use Rattle.snd_modes.specs.Relaid.{outline};
 ghost use Rattle.snd_carry.specs.Carried.{TakesBytes, carried_pieces, is_carried};
@@ -19,6 +20,7 @@ pub(crate) const MOST_PIECES: usize = 240;
 pub(crate) fn is_carried(piece: Piece) -> bool
     ensures carried { result ≡ is_carried piece }
     ensures four { length piece.id.0 ≡ 4 }
+    ensures bytes { All IsByte piece.id.0 }
 {
     piece.len <= MOST_BYTES && may_be_piece(Kind::Wave, piece.id)
 }

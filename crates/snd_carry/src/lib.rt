@@ -4,10 +4,8 @@
 mod bodies;
 mod carry;
 mod choice;
-mod stop;
 #[cfg(test)]
 mod tests;
 
 pub use carry::carry_pieces;
 pub use choice::carried_size;
-pub use stop::Stop;

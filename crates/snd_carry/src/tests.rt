@@ -1,9 +1,10 @@
 //! Chunks that are carried, against a file written out by hand.
 
-use super::{Stop, carried_size, carry_pieces};
+use super::{carried_size, carry_pieces};
 use snd_disk::SteadyDisk;
 use snd_layout::{Codec, Kind, Params};
 use snd_modes::{create, open_read};
+use snd_output::Stop;
 use std::alloc::Global;
 use std::test::Fail;
 

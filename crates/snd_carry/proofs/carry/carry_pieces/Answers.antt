@@ -11,7 +11,7 @@ use Rattle.snd_modes.specs.Relaid.{outline}
 use Rattle.snd_carry.specs.Carried.{carried_pieces, is_carried}
 use Rattle.snd_carry.specs.Carrying.{known_with}
 use Rattle.snd_carry.proofs.Heads.{known_more, meta_with}
-use Rattle.snd_carry.proofs.Steps.{SoFar, all_carried, count_of, known_none, none_yet, one_more, read_at}
+use Rattle.snd_carry.proofs.Steps.{ChunksSoFar, SoFar, all_carried, all_chunks, chunks_more, count_of, known_none, no_chunks, none_yet, one_more, read_at}
 use Rattle.snd_carry.proofs.Taken.{all_asked, all_taken, carried_full, carried_more, carried_other, few_carried, last_asked, more_asked, nowhere}
 use Rattle.snd_carry.proofs.carry.carry_pieces.Goals as goal
 
@@ -22,6 +22,7 @@ loop-place-init g c = record {
   same = refl;
   known = known_none (known_of c.args.to.now) c.requires.empty;
   so_far = none_yet g.D.Disk.state g.E.Disk.state c.args.from.now c.args.to.now c.requires.meta;
+  chunks = no_chunks g.D.Disk.state c.args.from.now;
   begins = λ opened. opened;
   stands = λ e s. s;
   from_calm = refl;
@@ -59,6 +60,7 @@ loop-place-preserved-then-not-is_carried g c =
       same = was.same;
       known = was.known ∙ ap (λ (l : List Piece). known_with l k) (sym same);
       so_far = subst (SoFar g.D.Disk.state g.E.Disk.state c.args.from.now c.args.to.now c.loop-place.to) (sym same) was.so_far;
+      chunks = subst (ChunksSoFar g.D.Disk.state c.args.from.now) (sym same) was.chunks;
       begins = was.begins;
       stands = was.stands;
       from_calm = was.from_calm;
@@ -89,6 +91,7 @@ loop-place-preserved-then-len-eq-MOST_PIECES g c =
       same = was.same;
       known = was.known ∙ ap (λ (l : List Piece). known_with l k) (sym same);
       so_far = subst (SoFar g.D.Disk.state g.E.Disk.state c.args.from.now c.args.to.now c.loop-place.to) (sym same) was.so_far;
+      chunks = subst (ChunksSoFar g.D.Disk.state c.args.from.now) (sym same) was.chunks;
       begins = was.begins;
       stands = was.stands;
       from_calm = was.from_calm;
@@ -134,6 +137,7 @@ loop-place-preserved g c =
       known = did.known ∙ ap (λ (k : Known). known_put (length k.shape.pieces) (outline piece) k) was.known ∙ known_more xs piece k c.requires.meta ∙ ap (λ (l : List Piece). known_with l k) (sym more);
       so_far = subst (SoFar g.D.Disk.state g.E.Disk.state c.args.from.now c.args.to.now c.carry_one.new.to) (sym more)
           (one_more g.D.Disk.state g.E.Disk.state c.args.from.now c.args.to.now c.requires.meta c.loop-place.from c.loop-place.to c.carry_one.new.to xs piece was.so_far was.stands did.carries did.holds);
+      chunks = subst (ChunksSoFar g.D.Disk.state c.args.from.now) (sym more) (chunks_more g.D.Disk.state c.args.from.now c.loop-place.from xs piece was.chunks was.stands did.chunk);
       begins = λ opened. did.begins;
       stands = λ e s. did.stands e (was.stands e s);
       from_calm = did.faults.0 ∙ was.from_calm;
@@ -152,6 +156,12 @@ returns-clause-carried g c =
     let all : carried_pieces (take c.loop-place.place ps) ≡ carried_pieces ps = all_taken ps c.loop-place.place (omega (arith, c.loop-place-test.false, c.len-count.ensures, ap length c.pieces.ensures)) in
     all_carried g.D.Disk.state g.E.Disk.state c.args.from.now c.args.to.now c.loop-place.to
     (subst (SoFar g.D.Disk.state g.E.Disk.state c.args.from.now c.args.to.now c.loop-place.to) all c.loop-place.invariant.so_far)
+
+pub returns-clause-chunks : goal.returns-clause-chunks
+returns-clause-chunks g c =
+    let ps : List Piece = (known_of c.args.from.now).shape.pieces in
+    let all : carried_pieces (take c.loop-place.place ps) ≡ carried_pieces ps = all_taken ps c.loop-place.place (omega (arith, c.loop-place-test.false, c.len-count.ensures, ap length c.pieces.ensures)) in
+    all_chunks g.D.Disk.state c.args.from.now (subst (ChunksSoFar g.D.Disk.state c.args.from.now) all c.loop-place.invariant.chunks)
 
 pub returns-in_err-carry_one-clause-asked : goal.returns-in_err-carry_one-clause-asked
 returns-in_err-carry_one-clause-asked g c =

@@ -4,7 +4,7 @@ use Rattle.snd_modes.specs.Handle.{StandsAfter, disk_of, known_of, loan_of}
 use Rattle.snd_modes.specs.Outcomes.{AsksNothing, TellsOn}
 use Rattle.snd_carry.specs.Carried.{carried_pieces}
 use Rattle.snd_carry.specs.Carrying.{StaysAsOpened, known_with}
-use Rattle.snd_carry.proofs.Steps.{SoFar}
+use Rattle.snd_carry.proofs.Steps.{ChunksSoFar, SoFar}
 use Rattle.snd_carry.proofs.carry.carry_pieces.Given as goal
 
 abbrev pub invariant-loop-place : goal.invariant-loop-place
@@ -14,6 +14,7 @@ invariant-loop-place g l = record {
   same : known_of l.from ≡ known_of l.fn.from;
   known : known_of l.to ≡ known_with (carried_pieces (take l.place (known_of l.fn.from).shape.pieces)) (known_of l.fn.to);
   so_far : SoFar g.D.Disk.state g.E.Disk.state l.fn.from l.fn.to l.to (carried_pieces (take l.place (known_of l.fn.from).shape.pieces));
+  chunks : ChunksSoFar g.D.Disk.state l.fn.from (carried_pieces (take l.place (known_of l.fn.from).shape.pieces));
   begins : StaysAsOpened g.E.Disk.state l.fn.to l.to;
   stands : StandsAfter g.D.Disk.state l.fn.from l.from (λ e. e);
   from_calm : (g.D.Disk.state (disk_of l.from)).faults ≡ (g.D.Disk.state (disk_of l.fn.from)).faults;
