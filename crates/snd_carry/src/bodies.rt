@@ -58,8 +58,11 @@ fn read_body<D: Disk>(
     }
 }
 
-// Puts a chunk behind the others of a file that was made and has room for one more.
-fn put_body<E: Disk>(to: &mut File<'_, E, Write>, id: Id4, body: &[u8]) -> Result<(), Stop>
+/// Puts a chunk with at most 65536 bytes behind the others of a WAVE or RF64 file that was made, has no frame yet
+/// and fewer than 240 chunks. It writes at most 16777216 bytes and reads none.
+///
+/// `Fault` exactly where a call of the disk failed: then the file is broken; `Memory` where there is none.
+pub fn put_chunk<E: Disk>(to: &mut File<'_, E, Write>, id: Id4, body: &[u8]) -> Result<(), Stop>
     requires untouched { IsUntouched (known_of to.old) }
     requires meta { holds_meta (known_of to.old).shape.kind ≡ true }
     requires other { is_wave_own id.0 ≡ false }
@@ -93,9 +96,10 @@ fn put_body<E: Disk>(to: &mut File<'_, E, Write>, id: Id4, body: &[u8]) -> Resul
     }
 }
 
-// Carries the chunk of the piece at a place of the list, which is one that is carried.
+/// Carries one chunk of a file into a file that was made, in the same way: that of the piece at a place of its
+/// list, which is one that is carried.
 #[tactic(auto, using(crate::proofs::Heads::outline_put))]
-pub(crate) fn carry_one<D: Disk, E: Disk>(
+pub fn carry_chunk<D: Disk, E: Disk>(
     alloc: Global,
     from: &mut File<'_, D, Read>,
     to: &mut File<'_, E, Write>,
@@ -129,5 +133,5 @@ pub(crate) fn carry_one<D: Disk, E: Disk>(
     ensures unasked { AsksNothing E.state to.old to.new }
 {
     let body = read_body(alloc, from, place, piece)?;
-    put_body(to, piece.id, &body)
+    put_chunk(to, piece.id, &body)
 }

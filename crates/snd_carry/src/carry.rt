@@ -9,7 +9,7 @@ ghost use Rattle.snd_output.specs.Ends.{BreaksByFault, CountsOneOf};
 ghost use Rattle.snd_carry.specs.Carried.{carried_pieces};
 ghost use Rattle.snd_carry.specs.Carrying.{Carries, HoldsChunks, IsNewShape, StaysAsOpened, known_with};
 
-use crate::bodies::carry_one;
+use crate::bodies::carry_chunk;
 use crate::choice::{MOST_PIECES, is_carried};
 use snd_disk::Disk;
 use snd_modes::{File, Read, Write};
@@ -60,7 +60,7 @@ pub fn carry_pieces<D: Disk, E: Disk>(
         if to.pieces().len() == MOST_PIECES {
             continue;
         }
-        carry_one(alloc, from, to, place, piece)?;
+        carry_chunk(alloc, from, to, place, piece)?;
     }
     Ok(())
 }

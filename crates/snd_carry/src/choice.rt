@@ -17,7 +17,9 @@ const MOST_BYTES: u64 = 65536;
 /// How many chunks are carried at most.
 pub(crate) const MOST_PIECES: usize = 240;
 
-pub(crate) fn is_carried(piece: Piece) -> bool
+/// Whether a copy of a file carries the chunk of a piece: it has at most 65536 bytes, and is none of the chunks
+/// that a WAVE file has of its own.
+pub fn is_carried(piece: Piece) -> bool
     ensures carried { result ≡ is_carried piece }
     ensures four { length piece.id.0 ≡ 4 }
     ensures bytes { All IsByte piece.id.0 }

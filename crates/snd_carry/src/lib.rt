@@ -7,5 +7,6 @@ mod choice;
 #[cfg(test)]
 mod tests;
 
+pub use bodies::{carry_chunk, put_chunk};
 pub use carry::carry_pieces;
-pub use choice::carried_size;
+pub use choice::{carried_size, is_carried};

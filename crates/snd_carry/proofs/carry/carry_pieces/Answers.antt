@@ -104,13 +104,13 @@ loop-place-preserved-then-len-eq-MOST_PIECES g c =
       time = was.time;
     }
 
-pub carry_one-requires-clause-meta : goal.carry_one-requires-clause-meta
-carry_one-requires-clause-meta g c =
+pub carry_chunk-requires-clause-meta : goal.carry_chunk-requires-clause-meta
+carry_chunk-requires-clause-meta g c =
     let xs : List Piece = carried_pieces (take c.loop-place.place (known_of c.args.from.now).shape.pieces) in
     ap (λ (k : Known). holds_meta k.shape.kind) c.loop-place.invariant.known ∙ meta_with xs (known_of c.args.to.now) c.requires.meta
 
-pub carry_one-requires-clause-few : goal.carry_one-requires-clause-few
-carry_one-requires-clause-few g c =
+pub carry_chunk-requires-clause-few : goal.carry_chunk-requires-clause-few
+carry_chunk-requires-clause-few g c =
     let ps : List Piece = (known_of c.args.from.now).shape.pieces in
     let xs : List Piece = carried_pieces (take c.loop-place.place ps) in
     let many : c.len.result ≡ length xs = count_of (known_of c.args.to.now) (known_of c.loop-place.to) xs c.pieces-in-loop-place-2.result.now c.len.result c.requires.meta c.loop-place.invariant.known c.pieces-in-loop-place-2.ensures c.len.ensures in
@@ -129,14 +129,14 @@ loop-place-preserved g c =
     let many : c.len.result ≡ length xs = count_of k (known_of c.loop-place.to) xs c.pieces-in-loop-place-2.result.now c.len.result c.requires.meta was.known c.pieces-in-loop-place-2.ensures c.len.ensures in
     let few : length xs < 240 = omega (arith, many, few_carried (take place ps), c.if-len-eq-MOST_PIECES.false) in
     let more : carried_pieces (take (place + 1) ps) ≡ xs ++ piece ∷ [] = carried_more ps place piece here is few in
-    let did = c.in_ok-carry_one.ensures in
+    let did = c.in_ok-carry_chunk.ensures in
     record {
       from_loan = did.from_loan ∙ was.from_loan;
       to_loan = did.to_loan ∙ was.to_loan;
       same = did.same ∙ was.same;
       known = did.known ∙ ap (λ (k : Known). known_put (length k.shape.pieces) (outline piece) k) was.known ∙ known_more xs piece k c.requires.meta ∙ ap (λ (l : List Piece). known_with l k) (sym more);
-      so_far = subst (SoFar g.D.Disk.state g.E.Disk.state c.args.from.now c.args.to.now c.carry_one.new.to) (sym more)
-          (one_more g.D.Disk.state g.E.Disk.state c.args.from.now c.args.to.now c.requires.meta c.loop-place.from c.loop-place.to c.carry_one.new.to xs piece was.so_far was.stands did.carries did.holds);
+      so_far = subst (SoFar g.D.Disk.state g.E.Disk.state c.args.from.now c.args.to.now c.carry_chunk.new.to) (sym more)
+          (one_more g.D.Disk.state g.E.Disk.state c.args.from.now c.args.to.now c.requires.meta c.loop-place.from c.loop-place.to c.carry_chunk.new.to xs piece was.so_far was.stands did.carries did.holds);
       chunks = subst (ChunksSoFar g.D.Disk.state c.args.from.now) (sym more) (chunks_more g.D.Disk.state c.args.from.now c.loop-place.from xs piece was.chunks was.stands did.chunk);
       begins = λ opened. did.begins;
       stands = λ e s. did.stands e (was.stands e s);
@@ -163,23 +163,23 @@ returns-clause-chunks g c =
     let all : carried_pieces (take c.loop-place.place ps) ≡ carried_pieces ps = all_taken ps c.loop-place.place (omega (arith, c.loop-place-test.false, c.len-count.ensures, ap length c.pieces.ensures)) in
     all_chunks g.D.Disk.state c.args.from.now (subst (ChunksSoFar g.D.Disk.state c.args.from.now) all c.loop-place.invariant.chunks)
 
-pub returns-in_err-carry_one-clause-asked : goal.returns-in_err-carry_one-clause-asked
-returns-in_err-carry_one-clause-asked g c =
+pub returns-in_err-carry_chunk-clause-asked : goal.returns-in_err-carry_chunk-clause-asked
+returns-in_err-carry_chunk-clause-asked g c =
     let ps : List Piece = (known_of c.args.from.now).shape.pieces in
     let k : Known = known_of c.args.to.now in
     let xs : List Piece = carried_pieces (take c.loop-place.place ps) in
     let many : c.len.result ≡ length xs = count_of k (known_of c.loop-place.to) xs c.pieces-in-loop-place-2.result.now c.len.result c.requires.meta c.loop-place.invariant.known c.pieces-in-loop-place-2.ensures c.len.ensures in
     let few : length xs < 240 = omega (arith, many, few_carried (take c.loop-place.place ps), c.if-len-eq-MOST_PIECES.false) in
-    last_asked _ _ _ 65536 (length xs) 15728640 (omega arith) few c.loop-place.invariant.asked c.carry_one.ensures.asked
+    last_asked _ _ _ 65536 (length xs) 15728640 (omega arith) few c.loop-place.invariant.asked c.carry_chunk.ensures.asked
 
-pub returns-in_err-carry_one-clause-written : goal.returns-in_err-carry_one-clause-written
-returns-in_err-carry_one-clause-written g c =
+pub returns-in_err-carry_chunk-clause-written : goal.returns-in_err-carry_chunk-clause-written
+returns-in_err-carry_chunk-clause-written g c =
     let ps : List Piece = (known_of c.args.from.now).shape.pieces in
     let k : Known = known_of c.args.to.now in
     let xs : List Piece = carried_pieces (take c.loop-place.place ps) in
     let many : c.len.result ≡ length xs = count_of k (known_of c.loop-place.to) xs c.pieces-in-loop-place-2.result.now c.len.result c.requires.meta c.loop-place.invariant.known c.pieces-in-loop-place-2.ensures c.len.ensures in
     let few : length xs < 240 = omega (arith, many, few_carried (take c.loop-place.place ps), c.if-len-eq-MOST_PIECES.false) in
-    last_asked _ _ _ 16777216 (length xs) 4026531840 (omega arith) few c.loop-place.invariant.written c.carry_one.ensures.written
+    last_asked _ _ _ 16777216 (length xs) 4026531840 (omega arith) few c.loop-place.invariant.written c.carry_chunk.ensures.written
 
 pub returns-clause-asked : goal.returns-clause-asked
 returns-clause-asked g c =
