@@ -1,15 +1,13 @@
 -- From what was found to what is done.
-use Rattle.std.proofs.Common.{◌≡◌, ℕ, List, [], Bool, false, cond, inl, inr, Option, Some, Result, Ok, Err, IfOk, refl, sym, ◌∙◌, ap, subst}
+use Rattle.std.proofs.Common.{◌≡◌, ℕ, List, Bool, false, cond, inl, inr, Option, Some, Result, Ok, Err, IfOk, refl, sym, ◌∙◌, ap, subst}
 use Rattle.std.proofs.lemmas.Bool.{cases_Bool}
 use Rattle.std.specs.Str.{bytes_eq}
 use Rattle.snd_disk.specs.Shelf.{Files, ShelfState, put}
 use Rattle.snd_disk.specs.Shelves.{TellsFiles}
 use Rattle.snd_layout.specs.declared.kind.Kind.{Kind}
 use Rattle.snd_layout.specs.declared.refusal.OpenRefusal.{OpenRefusal}
-use Rattle.snd_layout.specs.declared.refusal.OpenRefusal.TheVariants.{NotBuilt}
 use Rattle.snd_lines.specs.declared.refusal.Refusal.TheVariants.{ContainerFull, Open, SameName}
 use Rattle.snd_modes.specs.Editing.{Editing, opening_of}
-use Rattle.snd_output.specs.Made.{made_file}
 use Rattle.snd_output.specs.declared.stop.Stop.{Stop}
 use Rattle.snd_tools.proofs.Names.{MakesOnly}
 use Rattle.snd_tools.specs.Done.{Done, Said, files_after, said_of}
@@ -17,31 +15,22 @@ use Rattle.snd_tools.specs.Shelves.{Does, HasFiles, IsDone}
 use Rattle.snd_tools.specs.declared.answer.Answer.{Answer}
 use Rattle.snd_words.specs.Asked.{Converting}
 use Rattle.snd_words.specs.Suffix.{kind_by_suffix}
-use Rattle.snd_convert.specs.Convert.{converted, done_by_plan, done_from, done_into, done_with, has_chunks_for, made_as, made_of, numbers_for}
-use Rattle.snd_convert.specs.Making.{is_full}
+use Rattle.snd_convert.specs.Convert.{converted, done_by_plan, done_from, done_into, done_with, file_made, is_full, made_of}
 use Rattle.snd_convert.specs.Plan.{Planned, planned}
 
 -- the output alone is made
 makes_of : (c : Converting) (plan : Planned) (e : Editing) → MakesOnly c.output (made_of c plan e)
 makes_of c plan e =
-    let made = Done.makes c.output (made_file plan.kind plan.params [] (numbers_for plan e)) e.shape.frames in
+    let made = Done.makes c.output (file_made plan e) e.shape.frames in
     let P : Bool → Type 0 = λ t. MakesOnly c.output (cond t (Done.refuses c.output ContainerFull) made) in
-    elim (cases_Bool (is_full plan e.shape.frames)) [
+    elim (cases_Bool (is_full plan e)) [
       | inl full ↦ subst P (sym full) tt
       | inr room ↦ subst P (sym room) refl
     ]
 
-makes_as : (c : Converting) (plan : Planned) (e : Editing) → MakesOnly c.output (made_as c plan e)
-makes_as c plan e =
-    let P : Bool → Type 0 = λ t. MakesOnly c.output (cond t (Done.refuses c.input (Open NotBuilt)) (made_of c plan e)) in
-    elim (cases_Bool (has_chunks_for plan.kind e.shape)) [
-      | inl some ↦ subst P (sym some) tt
-      | inr none ↦ subst P (sym none) (makes_of c plan e)
-    ]
-
 makes_by_plan : (c : Converting) (e : Editing) (r : Result Planned OpenRefusal) → MakesOnly c.output (done_by_plan c e r)
 makes_by_plan c e (Err why) = tt
-makes_by_plan c e (Ok plan) = makes_as c plan e
+makes_by_plan c e (Ok plan) = makes_of c plan e
 
 pub makes_output : (c : Converting) (kind : Kind) (r : Result Editing OpenRefusal) → MakesOnly c.output (done_with c kind r)
 makes_output c kind (Err why) = tt
@@ -71,12 +60,10 @@ module _ {S : Type 0} (state : S → ShelfState) (new : S) (c : Converting) (fil
   input_refused kind why r is has = subst (λ (x : Result Editing OpenRefusal). (Said.refused c.input (Open why) ≡ said_of (done_with c kind x)) × HasFiles state new (files_after (done_with c kind x) files)) (sym is) (refl, has)
 
   -- the output was made
-  pub output_made : (plan : Planned) (e : Editing) (frames : ℕ) → has_chunks_for plan.kind e.shape ≡ false → is_full plan e.shape.frames ≡ false → frames ≡ e.shape.frames
-      → HasFiles state new (put files c.output (Some (made_file plan.kind plan.params [] (numbers_for plan e))))
-      → (Said.made frames ≡ said_of (made_as c plan e)) × HasFiles state new (files_after (made_as c plan e) files)
-  output_made plan e frames none room same has =
-      let made = Done.makes c.output (made_file plan.kind plan.params [] (numbers_for plan e)) e.shape.frames in
+  pub output_made : (plan : Planned) (e : Editing) (frames : ℕ) → is_full plan e ≡ false → frames ≡ e.shape.frames → HasFiles state new (put files c.output (Some (file_made plan e)))
+      → (Said.made frames ≡ said_of (made_of c plan e)) × HasFiles state new (files_after (made_of c plan e) files)
+  output_made plan e frames room same has =
+      let made = Done.makes c.output (file_made plan e) e.shape.frames in
       let P : Done → Type 0 = λ d. (Said.made frames ≡ said_of d) × HasFiles state new (files_after d files) in
       let Q : Bool → Type 0 = λ t. P (cond t (Done.refuses c.output ContainerFull) made) in
-      let R : Bool → Type 0 = λ t. P (cond t (Done.refuses c.input (Open NotBuilt)) (made_of c plan e)) in
-      subst R (sym none) (subst Q (sym room) (ap Said.made same, has))
+      subst Q (sym room) (ap Said.made same, has)

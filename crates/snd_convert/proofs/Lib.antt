@@ -1,4 +1,5 @@
 pub mod Doing
+pub mod Filling
 pub mod Making
 pub mod Parameters
 pub mod Steps

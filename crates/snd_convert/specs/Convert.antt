@@ -1,13 +1,14 @@
 -- What `convert` does: the whole file that it makes, or what it refuses. It refuses in this order: equal names; an unknown suffix
--- of the output; the input; what it is to become; chunks that are to go with the frames; and more data than the head has room for.
-use Rattle.std.specs.Prelude.{ℕ, ℤ, Bool, ◌&&◌, List, [], Option, Some, None, Result, Ok, Err, length, nat_lt, if◌then◌else◌}
+-- of the output; the input; what it is to become; and more data than the head has room for.
+use Rattle.std.specs.Prelude.{ℕ, ℤ, Bool, ◌&&◌, List, [], Option, Some, None, Result, Ok, Err, nat_lt, if◌then◌else◌}
 use Rattle.std.specs.Str.{bytes_eq}
+use Rattle.snd_carry.specs.Carried.{carried}
+use Rattle.snd_chunks.specs.Written.{NewChunk}
 use Rattle.snd_disk.specs.Shelf.{Files}
 use Rattle.snd_layout.specs.Params.{data_bytes}
-use Rattle.snd_layout.specs.Shape.{Shape, room}
+use Rattle.snd_layout.specs.Shape.{room}
 use Rattle.snd_layout.specs.declared.kind.Kind.{Kind}
 use Rattle.snd_layout.specs.declared.refusal.OpenRefusal.{OpenRefusal}
-use Rattle.snd_layout.specs.declared.refusal.OpenRefusal.TheVariants.{NotBuilt}
 use Rattle.snd_lines.specs.declared.refusal.Refusal.TheVariants.{ContainerFull, MissingFile, Open, SameName, UnknownSuffix}
 use Rattle.snd_modes.specs.Editing.{Editing, opening_of}
 use Rattle.snd_modes.specs.Heads.{holds_meta}
@@ -23,22 +24,27 @@ use Rattle.snd_convert.specs.Plan.{Planned, planned}
 abbrev pub numbers_for : Planned → Editing → List ℤ
 numbers_for plan e = change_numbers e.shape.params.codec plan.params.codec (joined e.frames)
 
--- the file with these, without further chunks; or more data than the head has room for
+-- the further chunks that go with them: between WAVE and RF64 those that a copy carries, and else none
+abbrev pub carries : Kind → Kind → Bool
+carries to from = holds_meta to && holds_meta from
+
+abbrev pub chunks_for : Planned → Editing → List NewChunk
+chunks_for plan e = if carries plan.kind e.shape.kind then carried e.bytes e.shape.pieces else []
+
+-- the file that is made of both
+abbrev pub file_made : Planned → Editing → List ℕ
+file_made plan e = made_file plan.kind plan.params (chunks_for plan e) (numbers_for plan e)
+
+-- the head with these chunks has no room for the data
+abbrev pub is_full : Planned → Editing → Bool
+is_full plan e = nat_lt (room (shape_with plan.kind plan.params (chunks_for plan e))) (data_bytes plan.params e.shape.frames)
+
 abbrev pub made_of : Converting → Planned → Editing → Done
-made_of c plan e =
-    if nat_lt (room (shape_with plan.kind plan.params [])) (data_bytes plan.params e.shape.frames) then Done.refuses c.output ContainerFull
-    else Done.makes c.output (made_file plan.kind plan.params [] (numbers_for plan e)) e.shape.frames
-
--- Further chunks of a WAVE or RF64 file belong into another one, beside the frames. That is not built yet, and none is lost.
-abbrev pub has_chunks_for : Kind → Shape → Bool
-has_chunks_for kind h = holds_meta kind && (holds_meta h.kind && nat_lt 0 (length h.pieces))
-
-abbrev pub made_as : Converting → Planned → Editing → Done
-made_as c plan e = if has_chunks_for plan.kind e.shape then Done.refuses c.input (Open NotBuilt) else made_of c plan e
+made_of c plan e = if is_full plan e then Done.refuses c.output ContainerFull else Done.makes c.output (file_made plan e) e.shape.frames
 
 abbrev pub done_by_plan : Converting → Editing → Result Planned OpenRefusal → Done
 done_by_plan c e (Err why) = Done.refuses c.output (Open why)
-done_by_plan c e (Ok plan) = made_as c plan e
+done_by_plan c e (Ok plan) = made_of c plan e
 
 abbrev pub done_with : Converting → Kind → Result Editing OpenRefusal → Done
 done_with c kind (Err why) = Done.refuses c.input (Open why)

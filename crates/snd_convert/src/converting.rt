@@ -4,18 +4,19 @@ ghost use Rattle.std.specs.Prelude.{◌≡◌, None, OnOk, false, is_none};
 ghost use Rattle.snd_container.specs.Sound.{fixed_of};
 ghost use Rattle.snd_disk.specs.Device.{OnlyReadsOn};
 ghost use Rattle.snd_layout.specs.Fit.{fit_refusal};
-ghost use Rattle.snd_modes.specs.Handle.{channels_of, disk_of, known_of, loan_of};
-ghost use Rattle.snd_output.specs.Ends.{CountsStop};
-ghost use Rattle.snd_tools.specs.Shelves.{ChangesOne, CountsOneOf, Does, IsAllIn};
-ghost use Rattle.snd_modes.specs.Heads.{holds_meta};
-ghost use Rattle.snd_convert.specs.Convert.{converted, has_chunks_for};
-ghost use Rattle.snd_convert.specs.Making.{Converts, ConvertsAs, ConvertsDisk, IsUnread, MakesUnder, is_full};
+ghost use Rattle.snd_modes.specs.Editing.{Editing};
+ghost use Rattle.snd_modes.specs.Handle.{Stands, channels_of, disk_of, known_of, loan_of};
+ghost use Rattle.snd_output.specs.Ends.{CountsOneOf, CountsStop};
+ghost use Rattle.snd_tools.specs.Shelves.{ChangesOne, Does, IsAllIn};
+ghost use Rattle.snd_convert.specs.Convert.{converted, is_full};
+ghost use Rattle.snd_convert.specs.Making.{Converts, ConvertsAs, ConvertsDisk, IsUnread, MakesUnder, is_full_by};
 ghost use Rattle.snd_convert.specs.Planning.{asked_of, planned_by};
 
+use crate::chunks::chunks_size;
 use crate::make::make;
 use crate::plan::{Plan, plan_of};
 use snd_disk::{Disk, Shelf, ShelfFault};
-use snd_layout::{Kind, OpenError, OpenRefusal};
+use snd_layout::{Kind, OpenError};
 use snd_lines::Refusal;
 use snd_modes::{File, Read, open_read};
 use snd_output::Stop;
@@ -37,7 +38,7 @@ fn make_under<S: Shelf, D: Disk>(
     requires fits { fit_refusal plan.now.kind plan.now.params ≡ None }
     requires linear { is_none (fixed_of plan.now.params.codec) ≡ false }
     requires alike { plan.now.params.channels ≡ channels_of file.old }
-    requires room { is_full (planned_by plan.now) (known_of file.old).shape.frames ≡ false }
+    requires room { is_full_by (planned_by plan.now) (known_of file.old).shape ≡ false }
     ensures loan { loan_of file.new ≡ loan_of file.old }
     ensures made { OnOk result (MakesUnder D.state S.state name.now (planned_by plan.now) file.old shelf.old shelf.new) }
     ensures changes { ChangesOne S.Shelf name.now shelf.old shelf.new }
@@ -55,27 +56,17 @@ fn make_under<S: Shelf, D: Disk>(
     made
 }
 
-// Whether the head of what is made has no room for so many frames.
-fn is_full(plan: &Plan, frames: u64) -> bool
+// Whether the head of what is made has no room for the data.
+fn is_full<D: Disk>(plan: &Plan, file: &File<'_, D, Read>) -> bool
     requires fits { fit_refusal plan.now.kind plan.now.params ≡ None }
     requires linear { is_none (fixed_of plan.now.params.codec) ≡ false }
-    ensures { result ≡ is_full (planned_by plan.now) frames }
+    requires working { (known_of file.now).broken ≡ None }
+    ensures outlines { result ≡ is_full_by (planned_by plan.now) (known_of file.now).shape }
+    ensures told { (e : Editing) → Stands D.state file.now e → result ≡ is_full (planned_by plan.now) e }
 {
-    let bytes = u128::from(frames) * u128::from(plan.params.block_align());
-    bytes > u128::from(room_with(plan.kind, plan.params, 0))
-}
-
-fn holds_meta(kind: Kind) -> bool
-    ensures { result ≡ holds_meta kind }
-{
-    matches!(kind, Kind::Wave | Kind::Rf64)
-}
-
-// Whether a file has further chunks that belong into one of a kind, beside the frames.
-fn has_chunks_for<D: Disk>(kind: Kind, file: &File<'_, D, Read>) -> bool
-    ensures { result ≡ has_chunks_for kind (known_of file.now).shape }
-{
-    holds_meta(kind) && holds_meta(file.kind()) && file.pieces().len() > 0
+    let chunks = chunks_size(plan, file);
+    let bytes = u128::from(file.frames()) * u128::from(plan.params.block_align());
+    bytes > u128::from(room_with(plan.kind, plan.params, chunks))
 }
 
 // Makes what a plan makes of an open file.
@@ -97,12 +88,8 @@ fn convert_as<'a, S: Shelf, D: Disk>(
     ensures faults { CountsOneOf (D.state (disk_of file.old)).faults (D.state (disk_of file.new)).faults (S.state shelf.old).faults (S.state shelf.new).faults result }
     ensures reads { OnlyReadsOn D.state D.may_leave D.left_between (disk_of file.old) (disk_of file.new) }
 {
-    if has_chunks_for(plan.kind, file) {
-        let why = Refusal::Open(OpenRefusal::NotBuilt);
-        return Ok(Answer::Refused(conversion.input, why));
-    }
     let frames = file.frames();
-    if is_full(plan, frames) {
+    if is_full(plan, file) {
         return Ok(Answer::Refused(conversion.output, Refusal::ContainerFull));
     }
     match make_under(alloc, file, conversion.output, plan, shelf) {
@@ -185,13 +172,15 @@ fn convert_disk<'a, S: Shelf, D: Disk>(
 
 /// Copies a sound file into another container or codec: see the README and the manual page for what a
 /// conversion may ask. The output is made, or replaced, whole, with the input's frames, each number in the
-/// width of the output's codec, and without further chunks. Each other file is as before, whatever comes.
+/// width of the output's codec. Each other file is as before, whatever comes.
+///
+/// From WAVE or RF64 into either of them the further chunks go with the frames: those with at most 65536
+/// bytes, the first 240 of them, in their order and before the data. Into and from any other kind none go.
 ///
 /// All that is refused is refused before the output is touched, in this order: `SameName`;
-/// `UnknownSuffix` of the output; `MissingFile`, or why the input does not open; why the output's kind does
-/// not hold its parameters; `NotBuilt` of an ADPCM codec, and of a WAVE or RF64 input with further chunks,
-/// where the output is of these kinds too, so that none is lost; `ContainerFull` where its head has no room
-/// for the data.
+/// `UnknownSuffix` of the output; `MissingFile`, or why the input does not open; `NotBuilt` of an ADPCM
+/// codec, or why the output's kind does not hold its parameters; `ContainerFull` where its head, with the
+/// chunks, has no room for the data.
 ///
 /// `Fault` where a call of the shelf or of a disk failed, and `Memory` where there is none: then the output
 /// may stand there in part.

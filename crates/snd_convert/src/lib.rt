@@ -1,6 +1,7 @@
 //! Sound files copied into other containers and codecs.
 #![tactic(auto)]
 
+mod chunks;
 mod converting;
 mod make;
 mod plan;

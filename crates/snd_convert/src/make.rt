@@ -1,23 +1,55 @@
 //! A file that is made of another, on two disks.
 
-ghost use Rattle.std.specs.Prelude.{◌≡◌, None, OnOk, false, is_none};
+ghost use Rattle.std.specs.Prelude.{◌≡◌, [], None, OnOk, false, is_none};
 ghost use Rattle.snd_container.specs.Sound.{fixed_of};
 ghost use Rattle.snd_disk.specs.Device.{GoesOnFrom, OnlyReadsOn};
 ghost use Rattle.snd_layout.specs.Fit.{fit_refusal};
-ghost use Rattle.snd_modes.specs.Handle.{channels_of, disk_of, known_of, loan_of};
+ghost use Rattle.snd_layout.specs.Params.{AreParams};
+ghost use Rattle.snd_modes.specs.Handle.{IsFresh, channels_of, disk_of, known_of, loan_of};
+ghost use Rattle.snd_modes.specs.Outcomes.{TellsOn};
+ghost use Rattle.snd_modes.specs.Relaid.{shape_with};
+ghost use Rattle.snd_output.specs.Ends.{BreaksByFault, CountsOneOf};
 ghost use Rattle.snd_patch.specs.Steps.{StillTells};
-ghost use Rattle.snd_tools.specs.Shelves.{CountsOneOf};
-ghost use Rattle.snd_convert.specs.Making.{IsUnread, Makes, is_full};
+ghost use Rattle.snd_convert.specs.Making.{Fills, IsUnread, Makes, is_full_by};
 ghost use Rattle.snd_convert.specs.Planning.{planned_by};
 
+use crate::chunks::carry;
 use crate::plan::Plan;
 use snd_disk::Disk;
-use snd_modes::{File, Read};
+use snd_modes::{File, Read, Write};
 use snd_output::{Stop, append, begin, finish};
 use std::alloc::Global;
 
 /// The numbers that are held at once.
 const BLOCK: usize = 16384;
+
+// Puts the chunks that go with them, and all frames, into a file that was begun by a plan.
+fn fill<D: Disk, E: Disk>(
+    alloc: Global,
+    plan: &Plan,
+    from: &mut File<'_, D, Read>,
+    to: &mut File<'_, E, Write>,
+) -> Result<(), Stop>
+    requires unread { IsUnread (known_of from.old) }
+    requires good { AreParams plan.now.params }
+    requires fits { fit_refusal plan.now.kind plan.now.params ≡ None }
+    requires alike { plan.now.params.channels ≡ channels_of from.old }
+    requires room { is_full_by (planned_by plan.now) (known_of from.old).shape ≡ false }
+    requires fresh { IsFresh (known_of to.old) }
+    requires begun { (known_of to.old).shape ≡ shape_with plan.now.kind plan.now.params [] }
+    ensures loan { loan_of from.new ≡ loan_of from.old }
+    ensures to_loan { loan_of to.new ≡ loan_of to.old }
+    ensures fills { OnOk result (Fills D.state E.state (planned_by plan.now) from.old to.old to.new) }
+    ensures works { BreaksByFault (known_of to.new) result }
+    ensures faults { CountsOneOf (D.state (disk_of from.old)).faults (D.state (disk_of from.new)).faults (E.state (disk_of to.old)).faults (E.state (disk_of to.new)).faults result }
+    ensures reads { OnlyReadsOn D.state D.may_leave D.left_between (disk_of from.old) (disk_of from.new) }
+    ensures tells { TellsOn E.state to.old to.new }
+    ensures time { GoesOnFrom E.state E.left_between (disk_of to.old) (disk_of to.new) }
+{
+    carry(alloc, plan, from, to)?;
+    let mut block = [0; BLOCK];
+    append(from, to, &mut block)
+}
 
 // Makes the whole file.
 pub(crate) fn make<D: Disk, E: Disk>(
@@ -30,7 +62,7 @@ pub(crate) fn make<D: Disk, E: Disk>(
     requires fits { fit_refusal plan.now.kind plan.now.params ≡ None }
     requires linear { is_none (fixed_of plan.now.params.codec) ≡ false }
     requires alike { plan.now.params.channels ≡ channels_of from.old }
-    requires room { is_full (planned_by plan.now) (known_of from.old).shape.frames ≡ false }
+    requires room { is_full_by (planned_by plan.now) (known_of from.old).shape ≡ false }
     ensures loan { loan_of from.new ≡ loan_of from.old }
     ensures made { OnOk result (Makes D.state E.state (planned_by plan.now) from.old disk.old disk.new) }
     ensures faults { CountsOneOf (D.state (disk_of from.old)).faults (D.state (disk_of from.new)).faults (E.state disk.old).faults (E.state disk.new).faults result }
@@ -46,12 +78,11 @@ pub(crate) fn make<D: Disk, E: Disk>(
             return Err(stop);
         }
     };
-    let mut block = [0; BLOCK];
-    let appended = append(from, &mut to, &mut block);
+    let filled = fill(alloc, plan, from, &mut to);
     match finish(to) {
         Ok(back) => {
             let _ = back;
-            appended
+            filled
         }
         Err((stop, back)) => {
             let _ = back;

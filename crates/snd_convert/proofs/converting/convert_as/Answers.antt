@@ -1,7 +1,5 @@
-use Rattle.std.proofs.Common.{◌≡◌, ◌∙◌, ap, false, sym}
+use Rattle.std.proofs.Common.{◌≡◌, ◌∙◌, ap, sym}
 use Rattle.snd_layout.specs.Shape.{Shape}
-use Rattle.snd_convert.specs.Convert.{has_chunks_for}
-use Rattle.snd_convert.specs.Making.{is_full}
 use Rattle.snd_convert.specs.Planning.{asked_of, planned_by}
 use Rattle.snd_convert.proofs.Doing.{output_made}
 use Rattle.snd_convert.proofs.converting.convert_as.Goals as goal
@@ -10,7 +8,5 @@ pub returns-in-Ok-clause-done : goal.returns-in-Ok-clause-done
 returns-in-Ok-clause-done g c =
     λ files e told stands.
     let plan = planned_by c.args.plan.now in
-    let none : has_chunks_for plan.kind e.shape ≡ false = ap (has_chunks_for plan.kind) (sym stands.shape) ∙ sym c.has_chunks_for.ensures ∙ c.if-has_chunks_for.false in
     let same : c.frames-frames.result ≡ e.shape.frames = c.frames-frames.ensures ∙ ap (λ (h : Shape). h.frames) stands.shape in
-    output_made g.S.Shelf.state c.make_under.new.shelf (asked_of c.args.conversion.now) files plan e c.frames-frames.result none
-    (ap (is_full plan) (sym same) ∙ sym c.is_full.ensures ∙ c.if-is_full.false) same (c.in-Ok.ensures.made files e told stands)
+    output_made g.S.Shelf.state c.make_under.new.shelf (asked_of c.args.conversion.now) files plan e c.frames-frames.result (sym (c.is_full.ensures.told e stands) ∙ c.if-is_full.false) same (c.in-Ok.ensures.made files e told stands)

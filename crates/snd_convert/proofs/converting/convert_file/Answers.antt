@@ -1,6 +1,6 @@
 use Rattle.std.proofs.Common.{◌≡◌, ◌∙◌, ap, sym}
 use Rattle.snd_layout.specs.Shape.{Shape}
-use Rattle.snd_convert.specs.Convert.{done_by_plan, made_as}
+use Rattle.snd_convert.specs.Convert.{done_by_plan, made_of}
 use Rattle.snd_convert.specs.Plan.{planned}
 use Rattle.snd_convert.specs.Planning.{asked_of, planned_by}
 use Rattle.snd_convert.proofs.Doing.{done_same}
@@ -15,6 +15,6 @@ returns-in-Ok-clause-done g c =
     let plan = planned_by c.in-Ok.plan in
     let same : e.shape.params ≡ c.params.result = sym (c.params.ensures ∙ ap (λ (h : Shape). h.params) stands.shape) in
     let is = ap (planned asked c.args.kind) same ∙ sym c.in-Ok.ensures.value in
-    done_same g.S.Shelf.state c.convert_as.new.shelf asked files answer (made_as asked plan e) (done_by_plan asked e (planned asked c.args.kind e.shape.params))
+    done_same g.S.Shelf.state c.convert_as.new.shelf asked files answer (made_of asked plan e) (done_by_plan asked e (planned asked c.args.kind e.shape.params))
     (ap (done_by_plan asked e) is) (done files e told stands))
     c.convert_as.ensures.done

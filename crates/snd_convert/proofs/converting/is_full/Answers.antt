@@ -1,18 +1,28 @@
-use Rattle.std.proofs.Common.{◌≡◌, ◌∙◌, ap, [], ◌*◌, ℕ, nat_lt, rules}
+use Rattle.std.proofs.Common.{◌≡◌, ◌∙◌, ap, rules}
 use Rattle.snd_layout.specs.Blocks.{block_align}
-use Rattle.snd_layout.specs.Params.{data_bytes}
-use Rattle.snd_layout.specs.Shape.{room}
-use Rattle.snd_modes.specs.Relaid.{shape_with}
-use Rattle.snd_convert.proofs.Making.{frame_bytes, none_take}
+use Rattle.snd_layout.specs.Shape.{Shape}
+use Rattle.snd_modes.specs.Handle.{known_of}
+use Rattle.snd_convert.specs.Convert.{chunks_for}
+use Rattle.snd_convert.specs.Making.{outlines_for}
+use Rattle.snd_convert.specs.Planning.{planned_by}
+use Rattle.snd_convert.proofs.Making.{full_by}
 use Rattle.snd_convert.proofs.converting.is_full.Goals as goal
 
-pub returns : goal.returns
-returns c =
-    let plan = c.args.plan.now in
-    let frames : c.from.result ≡ c.args.frames = search rules in
+pub returns-clause-outlines : goal.returns-clause-outlines
+returns-clause-outlines g c =
+    let plan = planned_by c.args.plan.now in
+    let h : Shape = (known_of c.args.file.now).shape in
+    let frames : c.from.result ≡ h.frames = search rules in
     let align : c.from-2.result ≡ block_align plan.params.channels plan.params.codec = search rules in
-    let bytes : c.from.result * c.from-2.result ≡ data_bytes plan.params c.args.frames =
-    ap (λ (n : ℕ). n * c.from-2.result) frames ∙ ap (λ (n : ℕ). c.args.frames * n) align ∙ frame_bytes plan.params c.args.frames c.requires.linear in
-    let most : c.room_with.result ≡ room (shape_with plan.kind plan.params []) = c.room_with.ensures [] (none_take plan.kind) in
     let wide : c.from-3.result ≡ c.room_with.result = search rules in
-    ap (λ (n : ℕ). nat_lt n (c.from.result * c.from-2.result)) (wide ∙ most) ∙ ap (λ (n : ℕ). nat_lt (room (shape_with plan.kind plan.params [])) n) bytes
+    full_by plan.params h.frames c.from.result c.from-2.result c.from-3.result _ c.requires.linear frames align (wide ∙ c.room_with.ensures (outlines_for plan h) c.chunks_size-chunks.ensures.outlines)
+
+pub returns-clause-told : goal.returns-clause-told
+returns-clause-told g c = λ e stands.
+    let plan = planned_by c.args.plan.now in
+    let same : (known_of c.args.file.now).shape ≡ e.shape = stands.shape in
+    let known : c.from.result ≡ (known_of c.args.file.now).shape.frames = search rules in
+    let frames : c.from.result ≡ e.shape.frames = known ∙ ap (λ (h : Shape). h.frames) same in
+    let align : c.from-2.result ≡ block_align plan.params.channels plan.params.codec = search rules in
+    let wide : c.from-3.result ≡ c.room_with.result = search rules in
+    full_by plan.params e.shape.frames c.from.result c.from-2.result c.from-3.result _ c.requires.linear frames align (wide ∙ c.room_with.ensures (chunks_for plan e) (c.chunks_size-chunks.ensures.told e stands))

@@ -1,0 +1,94 @@
+-- A file that was begun is given the chunks that go with the frames of another, and these.
+use Rattle.std.proofs.Common.{◌≡◌, ℕ, ◌≤◌, List, [], Bool, true, false, cond, inl, inr, ⊎_elim, None, Ok, Err, OnOk, Result, map, sym, ◌∙◌, ap, subst}
+use Rattle.std.proofs.lemmas.Bool.{and_parts}
+use Rattle.snd_carry.specs.Carried.{carried, carried_pieces}
+use Rattle.snd_carry.specs.Carrying.{IsNewShape, known_with}
+use Rattle.snd_chunks.specs.Written.{NewChunk}
+use Rattle.snd_disk.specs.State.{Rises}
+use Rattle.snd_layout.specs.Params.{AreParams, Parameters}
+use Rattle.snd_layout.specs.Shape.{Shape}
+use Rattle.snd_layout.specs.declared.kind.Kind.{Kind}
+use Rattle.snd_modes.specs.Editing.{Editing}
+use Rattle.snd_modes.specs.Handle.{Known}
+use Rattle.snd_modes.specs.Heads.{holds_meta}
+use Rattle.snd_modes.specs.Making.{making_of}
+use Rattle.snd_modes.specs.Relaid.{outline, shape_with}
+use Rattle.snd_output.proofs.Begun.{begun_is_making, new_says}
+use Rattle.snd_output.proofs.Carried.{carried_is_making, says_of}
+use Rattle.snd_output.specs.Appended.{AppendLeaves, CountsEither}
+use Rattle.snd_output.specs.Ends.{BreaksByFault, CountsOneOf}
+use Rattle.snd_output.specs.Made.{AreChunks, IsMaking, made_with}
+use Rattle.snd_output.specs.declared.stop.Stop.{Stop}
+use Rattle.snd_output.specs.declared.stop.Stop.TheVariants.{Fault, Memory}
+use Rattle.snd_convert.specs.Convert.{carries, chunks_for}
+use Rattle.snd_convert.specs.Making.{known_filled}
+use Rattle.snd_convert.specs.Plan.{Planned}
+
+-- ---- the chunks that go
+
+module _ (plan : Planned) (h : Shape) (both : carries plan.kind h.kind ≡ true) where
+  meta : holds_meta plan.kind ≡ true
+  meta = (and_parts _ _ both).0
+
+  module _ (k : Known) (begun : k.shape ≡ shape_with plan.kind plan.params []) where
+    kind_is : k.shape.kind ≡ plan.kind
+    kind_is = ap (λ (s : Shape). s.kind) begun ∙ (says_of plan.kind plan.params [] meta).kind_is
+
+    params_are : k.shape.params ≡ plan.params
+    params_are = ap (λ (s : Shape). s.params) begun ∙ (says_of plan.kind plan.params [] meta).params
+
+    pub into_meta : holds_meta k.shape.kind ≡ true
+    into_meta = ap holds_meta kind_is ∙ meta
+
+    -- what is known of the file with them
+    pub filled : known_with (carried_pieces h.pieces) k ≡ known_filled plan h k
+    filled =
+        let chunks : List NewChunk = map outline (carried_pieces h.pieces) in
+        ap (λ (q : Kind). record k { shape = shape_with q k.shape.params chunks }) kind_is
+        ∙ ap (λ (q : Parameters). record k { shape = shape_with plan.kind q chunks }) params_are
+        ∙ ap (λ (t : Bool). record k { shape = shape_with plan.kind plan.params (cond t chunks []) }) (sym both)
+
+  -- it is one that is being made with them
+  pub making_with : (r e : Editing) → AreParams plan.params → making_of plan.kind plan.params ≡ Ok e → h ≡ r.shape → AreChunks (carried r.bytes r.shape.pieces)
+      → IsMaking plan.kind plan.params (chunks_for plan r) [] (made_with plan.kind plan.params (carried r.bytes r.shape.pieces))
+  making_with r e good made same are =
+      let chunks : List NewChunk = carried r.bytes r.shape.pieces in
+      let goes : carries plan.kind r.shape.kind ≡ true = ap (λ (s : Shape). carries plan.kind s.kind) (sym same) ∙ both in
+      subst (λ (t : Bool). IsMaking plan.kind plan.params (cond t chunks []) [] (made_with plan.kind plan.params chunks)) (sym goes)
+      (carried_is_making plan.kind plan.params chunks e good made meta are)
+
+pub new_shape_is : (plan : Planned) (k : Known) → k.shape ≡ shape_with plan.kind plan.params [] → IsNewShape k.shape
+new_shape_is plan k begun = (plan.kind, plan.params, begun ∙ sym (new_says plan.kind plan.params))
+
+-- ---- none go
+
+module _ (plan : Planned) (h : Shape) (none : carries plan.kind h.kind ≡ false) where
+  pub filled_none : (k : Known) → k.shape ≡ shape_with plan.kind plan.params [] → k ≡ known_filled plan h k
+  filled_none k begun =
+      let chunks : List NewChunk = map outline (carried_pieces h.pieces) in
+      ap (λ (s : Shape). record k { shape = s }) begun ∙ ap (λ (t : Bool). record k { shape = shape_with plan.kind plan.params (cond t chunks []) }) (sym none)
+
+  pub making_without : (r e : Editing) → AreParams plan.params → making_of plan.kind plan.params ≡ Ok e → h ≡ r.shape → IsMaking plan.kind plan.params (chunks_for plan r) [] e
+  making_without r e good made same =
+      let stay : carries plan.kind r.shape.kind ≡ false = ap (λ (s : Shape). carries plan.kind s.kind) (sym same) ∙ none in
+      subst (λ (t : Bool). IsMaking plan.kind plan.params (cond t (carried r.bytes r.shape.pieces) []) [] e) (sym stay) (begun_is_making plan.kind plan.params e good made)
+
+-- ---- what follows of two calls
+
+pub on_both : {T E : Type 0} (r : Result T E) (P Q R : Type 0) → (P → Q → R) → OnOk r P → OnOk r Q → OnOk r R
+on_both (Ok x) P Q R f p q = f p q
+on_both (Err e) P Q R f p q = p
+
+pub then_appended : {T : Type 0} (r : Result T Stop) (from mid from' to mid' to' : ℕ) → mid ≡ from → mid' ≡ to → CountsEither mid from' mid' to' r → CountsOneOf from from' to to' r
+then_appended (Ok x) from mid from' to mid' to' same same' counts = (counts.0 ∙ same, counts.1 ∙ same')
+then_appended (Err Memory) from mid from' to mid' to' same same' counts = absurd counts
+then_appended (Err Fault) from mid from' to mid' to' same same' counts = (
+  subst (λ (n : ℕ). n ≤ from') same counts.0,
+  subst (λ (n : ℕ). n ≤ to') same' counts.1,
+  ⊎_elim (λ rose. inl (subst (λ (n : ℕ). Rises n from') same rose)) (λ rose. inr (subst (λ (n : ℕ). Rises n to') same' rose)) counts.2,
+)
+
+pub still_works : {T : Type 0} (r : Result T Stop) (n : ℕ) (from from' to to' : Known) (a b c d : ℕ) → AppendLeaves n from from' to to' r → CountsEither a b c d r → to.broken ≡ None → BreaksByFault to' r
+still_works (Ok x) n from from' to to' a b c d left counts working = ap (λ (k : Known). k.broken) left.1 ∙ working
+still_works (Err Memory) n from from' to to' a b c d left counts working = absurd counts
+still_works (Err Fault) n from from' to to' a b c d left counts working = tt

@@ -1,0 +1,40 @@
+use Rattle.std.proofs.Common.{◌≡◌, ◌∙◌, ap, sym, subst, [], ℤ, List}
+use Rattle.snd_layout.specs.Params.{Parameters}
+use Rattle.snd_layout.specs.Shape.{Shape}
+use Rattle.snd_modes.specs.Handle.{Known, codec_of, known_of}
+use Rattle.snd_output.specs.Appended.{left_in}
+use Rattle.snd_output.specs.Made.{IsMaking}
+use Rattle.snd_convert.specs.Convert.{chunks_for}
+use Rattle.snd_convert.specs.Planning.{planned_by}
+use Rattle.snd_convert.proofs.Filling.{still_works, then_appended}
+use Rattle.snd_convert.proofs.Making.{begun_with, may_append, numbers_same}
+use Rattle.snd_convert.proofs.Steps.{on_ok}
+use Rattle.snd_convert.proofs.make.fill.Goals as goal
+
+pub append-requires-clause-may : goal.append-requires-clause-may
+append-requires-clause-may g c =
+    may_append (planned_by c.args.plan.now) (known_of c.args.from.now) (known_of c.carry.new.from) (known_of c.args.to.now) (known_of c.carry.new.to) c.requires.good c.requires.fits c.requires.unread c.requires.fresh c.requires.alike c.requires.room
+    c.in_ok-carry.ensures.same c.in_ok-carry.ensures.known
+
+pub returns-clause-fills : goal.returns-clause-fills
+returns-clause-fills g c =
+    on_ok c.append.result _ _
+    (λ lengthens r e stands made begun.
+    let plan = planned_by c.args.plan.now in
+    let carried = c.in_ok-carry.ensures.carried r e stands made begun in
+    let reads = c.in_ok-carry.ensures.stands r stands in
+    let longer = lengthens plan.kind plan.params (chunks_for plan r) [] r carried.0 reads carried.1 carried.2 in
+    let from_codec : codec_of c.carry.new.from ≡ r.shape.params.codec = ap (λ (h : Shape). h.params.codec) reads.shape in
+    let params : (known_of c.carry.new.to).shape.params ≡ plan.params = ap (λ (k : Known). k.shape.params) c.in_ok-carry.ensures.known ∙ (begun_with plan (known_of c.args.from.now).shape c.requires.good c.requires.fits).params in
+    let numbers = numbers_same plan r (codec_of c.carry.new.from) (codec_of c.carry.new.to) from_codec (ap (λ (p : Parameters). p.codec) params) (sym stands.place ∙ c.requires.unread.first) in
+    (longer.0, longer.1, subst (λ (l : List ℤ). IsMaking plan.kind plan.params (chunks_for plan r) l longer.0) numbers longer.2))
+    c.append.ensures.lengthens
+
+pub returns-clause-works : goal.returns-clause-works
+returns-clause-works g c =
+    still_works c.append.result (left_in (known_of c.carry.new.from)) (known_of c.carry.new.from) (known_of c.append.new.from) (known_of c.carry.new.to) (known_of c.append.new.to) _ _ _ _ c.append.ensures.left c.append.ensures.faults
+    (ap (λ (k : Known). k.broken) c.in_ok-carry.ensures.known ∙ c.requires.fresh.broken)
+
+pub returns-clause-faults : goal.returns-clause-faults
+returns-clause-faults g c =
+    then_appended c.append.result _ _ _ _ _ _ c.in_ok-carry.ensures.faults.0 c.in_ok-carry.ensures.faults.1 c.append.ensures.faults
