@@ -1,0 +1,10 @@
+pub mod Asking
+pub mod Bytes
+pub mod Calling
+pub mod Edits
+pub mod Generator
+pub mod Heads
+pub mod Lists
+pub mod Opened
+pub mod States
+pub mod Sums

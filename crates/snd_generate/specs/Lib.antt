@@ -1,0 +1,4 @@
+pub mod Edited
+pub mod Generating
+pub mod Numbers
+pub mod Steps
