@@ -1,4 +1,3 @@
-pub mod Asking
 pub mod Bytes
 pub mod Calling
 pub mod Edits
