@@ -1,0 +1,98 @@
+-- From what was looked at to what is done.
+use Rattle.std.proofs.Common.{◌≡◌, ℕ, ◌<◌, List, [], ◌∷◌, ◌++◌, All, Bool, true, false, cond, not, Option, None, Some, Result, Ok, Err, IfOk, IsOk, length, slice_get, get_or, position, refl, sym, ◌∙◌, ap, subst, inl, inr, arith}
+use Rattle.std.proofs.lemmas.Bool.{cases_lt, lt-ltb}
+use Rattle.std.proofs.lemmas.List.{get_or_append_left}
+use Rattle.std.proofs.lemmas.List.Quantifiers.{position-Some}
+use Rattle.std.proofs.lemmas.List.Sums.{fails_before_first}
+use Rattle.std.specs.List.{position_or_len}
+use Rattle.snd_disk.specs.Shelf.{Files, ShelfState}
+use Rattle.snd_disk.specs.Shelves.{TellsFiles}
+use Rattle.snd_inputs.specs.Inputs.{input_as}
+use Rattle.snd_inputs.specs.Looking.{all_seen}
+use Rattle.snd_layout.specs.Shape.{Shape}
+use Rattle.snd_layout.specs.declared.refusal.OpenRefusal.{OpenRefusal}
+use Rattle.snd_lines.specs.declared.refusal.Refusal.{Refusal}
+use Rattle.snd_lines.specs.declared.refusal.Refusal.TheVariants.{MissingFile}
+use Rattle.snd_modes.specs.Editing.{Editing}
+use Rattle.snd_output.specs.declared.stop.Stop.{Stop}
+use Rattle.snd_tools.proofs.Names.{after_same}
+use Rattle.snd_tools.specs.Done.{Done}
+use Rattle.snd_tools.specs.Shelves.{Does, IsDone}
+use Rattle.snd_tools.specs.declared.answer.Answer.{Answer}
+use Rattle.snd_concat.specs.Concat.{done_if_alike, done_like, first_mixed, is_alike, shapes_of}
+
+-- what holds of an answer, told otherwise
+pub if_ok : {T E : Type 0} (r : Result T E) (P Q : T → Type 0) → ((x : T) → P x → Q x) → IfOk r P → IfOk r Q
+if_ok (Ok x) P Q f p = f x p
+if_ok (Err e) P Q f p = p
+
+pub does_so : {S : Type 0} (state : S → ShelfState) (todo : Files → Done) (old new : S) (r : Result Answer Stop) → IfOk r (λ answer. (files : Files) → TellsFiles state old files → IsDone state new answer (todo files) files)
+    → Does state todo old new r
+does_so state todo old new (Ok answer) is = is
+does_so state todo old new (Err stop) is = tt
+
+module _ {S : Type 0} (state : S → ShelfState) (new : S) where
+  -- nothing that is known in two ways is done otherwise
+  pub done_same : (answer : Answer) (todo todo' : Done) (files : Files) → todo' ≡ todo → IsDone state new answer todo files → IsDone state new answer todo' files
+  done_same answer todo todo' files is done = subst (λ (d : Done). IsDone state new answer d files) (sym is) done
+
+  -- .. over files that are the same
+  pub done_over : (answer : Answer) (todo : Done) (files files' : Files) → ((n : List ℕ) → files' n ≡ files n) → IsDone state new answer todo files' → IsDone state new answer todo files
+  done_over answer todo files files' same done = (done.0, (done.1.0, done.1.1, λ n. done.1.2 n ∙ after_same todo files files' n (same n)))
+
+-- ---- inputs by their layouts
+
+module _ (inputs : List (List ℕ)) (output : List ℕ) where
+  pub like_done : (es : List Editing) (hs : List Shape) (h : Shape) → shapes_of es ≡ hs → slice_get hs 0 ≡ Some h → done_like inputs output es ≡ done_if_alike inputs output h es (first_mixed h.params hs)
+  like_done [] hs h seen first = absurd (let no : ◌≡◌ {A = Option Shape} None (Some h) = ap (λ (l : List Shape). slice_get l 0) seen ∙ first in cc)
+  like_done (e ∷ others) hs h seen first =
+      let is : ◌≡◌ {A = Option Shape} (Some e.shape) (Some h) = ap (λ (l : List Shape). slice_get l 0) seen ∙ first in
+      let same : e.shape ≡ h = cc in
+      ap (λ (g : Shape). done_if_alike inputs output g (e ∷ others) (first_mixed g.params (shapes_of (e ∷ others)))) same
+      ∙ ap (λ (l : List Shape). done_if_alike inputs output h (e ∷ others) (first_mixed h.params l)) seen
+
+  pub none_done : (es : List Editing) → shapes_of es ≡ [] → done_like inputs output es ≡ Done.refuses output MissingFile
+  none_done [] seen = refl
+  none_done (e ∷ others) seen = absurd (cc)
+
+  -- the name at a place is that of the input there
+  pub named : (at : ℕ) → at < length inputs → get_or (inputs ++ output ∷ []) at [] ≡ get_or inputs at []
+  named at lt = get_or_append_left inputs (output ∷ []) [] at lt
+
+pub mixed_within : (h : Shape) (hs : List Shape) (at : ℕ) → first_mixed h.params hs ≡ Some at → at < length hs
+mixed_within h hs at is = (position-Some (λ (g : Shape). not (is_alike h.params g.params)) hs at h is).0
+
+not_not : (t : Bool) → not t ≡ false → t ≡ true
+not_not true is = refl
+not_not false is = absurd (cc)
+
+-- ---- what was seen
+
+pub input_opened : (r : Result Editing OpenRefusal) (e : Editing) → input_as r ≡ Ok e → r ≡ Ok e
+input_opened (Ok other) e is = let same : other ≡ e = cc in ap (λ (x : Editing). Ok x) same
+input_opened (Err why) e is = absurd (cc)
+
+pub refused_not_ok : {T E : Type 0} (r : Result T E) (why : E) → r ≡ Err why → IsOk r → ⊥
+refused_not_ok (Ok x) why is ok = absurd (cc)
+refused_not_ok (Err other) why is ok = absurd (cc)
+
+pub seen_refused : (r : Result (List Editing) (List ℕ × Refusal)) (refused : List ℕ × Refusal) → Err refused ≡ all_seen r → r ≡ Err refused
+seen_refused (Ok es) refused is = absurd (cc)
+seen_refused (Err other) refused is = let same : other ≡ refused = cc in ap (λ (x : List ℕ × Refusal). Err x) same
+
+pub seen_sound : (r : Result (List Editing) (List ℕ × Refusal)) (hs : List Shape) → Ok hs ≡ all_seen r → (es : List Editing) × (r ≡ Ok es) × (shapes_of es ≡ hs)
+seen_sound (Ok es) hs is = (es, refl, (let same : shapes_of es ≡ hs = cc in same))
+seen_sound (Err refused) hs is = absurd (cc)
+
+-- ---- inputs that may be put together
+
+pub none_mixed : (h : Shape) (hs : List Shape) → first_mixed h.params hs ≡ None → All (λ (g : Shape). is_alike h.params g.params ≡ true) hs
+none_mixed h hs none k d lt =
+    let test : Shape → Bool = λ g. not (is_alike h.params g.params) in
+    elim (cases_lt (position_or_len test hs) (length hs)) [
+      | inl found ↦ absurd (
+          let is : position test hs ≡ Some (position_or_len test hs) = ap (λ (t : Bool). cond t (Some (position_or_len test hs)) None) (lt-ltb (position_or_len test hs) (length hs) found) in
+          let no : ◌≡◌ {A = Option ℕ} None (Some (position_or_len test hs)) = sym none ∙ is in
+          cc)
+      | inr past ↦ not_not (is_alike h.params (get_or hs k d).params) (fails_before_first test hs k d (omega (arith, lt, past)))
+    ]

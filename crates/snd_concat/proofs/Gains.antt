@@ -1,0 +1,42 @@
+-- A file that is being made and gains the numbers of others.
+use Rattle.std.proofs.Common.{◌≡◌, ℕ, ℤ, List, ◌++◌, drop, ◌∙◌, ap, subst, append_assoc}
+use Rattle.snd_disk.specs.declared.disk.Disk.{Ghosts}
+use Rattle.snd_disk.specs.State.{State}
+use Rattle.snd_layout.specs.Shape.{Shape}
+use Rattle.snd_modes.specs.declared.handle.File.{File}
+use Rattle.snd_modes.specs.declared.mode.Mode.{Ghosts as ModeGhosts}
+use Rattle.snd_modes.specs.Editing.{Editing}
+use Rattle.snd_modes.specs.Handle.{Known, Stands, codec_of}
+use Rattle.snd_output.specs.Appended.{Lengthens, numbers_left}
+use Rattle.snd_output.specs.Made.{IsMaking}
+use Rattle.snd_output.specs.Widths.{change_numbers, joined}
+use Rattle.snd_concat.specs.Appending.{Gains, StillMade}
+use Rattle.snd_concat.specs.Concat.{numbers_for}
+
+-- ---- what is known of it
+
+pub made_then : (a b c : Known) → StillMade a b → StillMade b c → StillMade a c
+made_then a b c first second = (second.0, second.1 ∙ ap (λ (h : Shape). record h { frames = c.shape.frames }) first.1)
+
+-- ---- what it holds
+
+module _ {E N : Type 0} {t : Ghosts E} {n : ModeGhosts N} (state' : E → State) where
+  pub gains_then : (first second : List ℤ) (a b c : File E N t n) → Gains state' first a b → Gains state' second b c → Gains state' (first ++ second) a c
+  gains_then first second a b c one two = λ kind p pieces xs e stands making.
+      let mid = one kind p pieces xs e stands making in
+      let last = two kind p pieces (xs ++ first) mid.0 mid.1 mid.2 in
+      (last.0, last.1, subst (λ (l : List ℤ). IsMaking kind p pieces l last.0) (append_assoc xs first second) last.2)
+
+  pub gains_same : (numbers numbers' : List ℤ) (a b : File E N t n) → numbers ≡ numbers' → Gains state' numbers a b → Gains state' numbers' a b
+  gains_same numbers numbers' a b is gains = subst (λ (l : List ℤ). Gains state' l a b) is gains
+
+  module _ {D M : Type 0} {d : Ghosts D} {m : ModeGhosts M} (state : D → State) (from : File D M d m) (a b : File E N t n) (r : Editing) (stands : Stands state from r) (first : r.place ≡ 0) where
+    same_numbers : change_numbers (codec_of from) (codec_of a) (numbers_left r) ≡ numbers_for (codec_of a) r
+    same_numbers =
+        ap (λ (h : Shape). change_numbers h.params.codec (codec_of a) (numbers_left r)) stands.shape
+        ∙ ap (λ (k : ℕ). change_numbers r.shape.params.codec (codec_of a) (joined (drop k r.frames))) first
+
+    pub gains_file : Lengthens state state' numbers_left from a b → Gains state' (numbers_for (codec_of a) r) a b
+    gains_file lengthens = λ kind p pieces xs e to_stands making.
+        let is = lengthens kind p pieces xs r e stands to_stands making in
+        (is.0, is.1, subst (λ (l : List ℤ). IsMaking kind p pieces (xs ++ l) is.0) same_numbers is.2)

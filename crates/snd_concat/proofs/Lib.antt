@@ -1,0 +1,5 @@
+pub mod Doing
+pub mod Gains
+pub mod Joined
+pub mod Making
+pub mod Repeats

@@ -1,0 +1,45 @@
+-- How the output is made, and how what was looked at is judged. It is said for the proofs alone.
+use Rattle.std.specs.Prelude.{◌≡◌, ℕ, List, [], All, Some, Result, Ok, IfOk, true, false}
+use Rattle.std.specs.Str.{bytes_eq}
+use Rattle.snd_disk.specs.Device.{Tells}
+use Rattle.snd_disk.specs.Shelf.{Files, ShelfState, put}
+use Rattle.snd_disk.specs.Shelves.{TellsFiles}
+use Rattle.snd_disk.specs.State.{State}
+use Rattle.snd_inputs.specs.Inputs.{inputs_in}
+use Rattle.snd_layout.specs.Shape.{Shape}
+use Rattle.snd_modes.specs.Editing.{Editing}
+use Rattle.snd_output.specs.Made.{made_file}
+use Rattle.snd_tools.specs.Done.{Said, said_by}
+use Rattle.snd_tools.specs.Shelves.{HasFiles, IsDone}
+use Rattle.snd_tools.specs.declared.answer.Answer.{Answer}
+use Rattle.snd_concat.specs.Concat.{all_frames, all_numbers, done_like, is_alike, is_full, shapes_of}
+
+-- no name is the given one
+abbrev pub AllApart : List ℕ → List (List ℕ) → Type 0
+AllApart output names = All (λ n. bytes_eq n output ≡ false) names
+
+-- files with these layouts may be put together into a new one like the given one
+pub record MayJoin (h : Shape) (hs : List Shape) : Type 0 where
+  pub alike : All (λ g. is_alike h.params g.params ≡ true) hs
+  pub in_room : is_full h (all_frames hs) ≡ false
+
+-- the bytes of what is made
+abbrev pub bytes_made : Shape → List Editing → List ℕ
+bytes_made h es = made_file h.kind h.params [] (all_numbers h.params.codec es)
+
+-- Where the shelf and the disk tell what they hold, and the files may be put together, that is made; on a disk, or under a name.
+abbrev pub Makes : {S E R : Type 0} → (S → ShelfState) → (E → State) → List (List ℕ) → Shape → S → E → E → Result Answer R → Type 0
+Makes state disk_state names h shelf old new result =
+    IfOk result (λ answer. (files : Files) (es : List Editing) (b : List ℕ) → TellsFiles state shelf files → Tells disk_state old b → inputs_in files names ≡ Ok es → MayJoin h (shapes_of es)
+    → (said_by answer ≡ Said.made (all_frames (shapes_of es))) × Tells disk_state new (bytes_made h es))
+
+abbrev pub MakesUnder : {S R : Type 0} → (S → ShelfState) → List (List ℕ) → List ℕ → Shape → S → S → Result Answer R → Type 0
+MakesUnder state names output h old new result =
+    IfOk result (λ answer. (files : Files) (es : List Editing) → TellsFiles state old files → inputs_in files names ≡ Ok es → MayJoin h (shapes_of es)
+    → (said_by answer ≡ Said.made (all_frames (shapes_of es))) × HasFiles state new (put files output (Some (bytes_made h es))))
+
+-- what is to be done with files of these layouts is done
+abbrev pub DoesLike : {S R : Type 0} → (S → ShelfState) → List (List ℕ) → List ℕ → List Shape → S → S → Result Answer R → Type 0
+DoesLike state names output hs old new result =
+    IfOk result (λ answer. (files : Files) (es : List Editing) → TellsFiles state old files → inputs_in files names ≡ Ok es → shapes_of es ≡ hs
+    → IsDone state new answer (done_like names output es) files)

@@ -1,0 +1,82 @@
+-- A shelf of which files are only read: where none was handed out, where one came back as it was, and where one thing follows another.
+use Rattle.std.proofs.Common.{◌≡◌, ℕ, List, [], false, true, None, Some, inl, inr, ◌⊎◌, ◌∙◌, refl, Result, Ok, Err, arith}
+use Rattle.snd_disk.proofs.Chains.{keeps_images_then}
+use Rattle.snd_disk.proofs.Returned.{returned_files, returned_images, returned_out, stayed_images}
+use Rattle.snd_disk.specs.declared.disk.Disk.{Ghosts as DiskMeaning}
+use Rattle.snd_disk.specs.declared.shelf.Shelf.{Ghosts as ShelfMeaning}
+use Rattle.snd_disk.specs.Device.{OnlyReadsOn}
+use Rattle.snd_disk.specs.Shelf.{Files, Gives, KeepsBytes, SameFiles, Stays, Takes, put}
+use Rattle.snd_disk.specs.Shelves.{HandsOut, HandsOutNone, KeepsOthers, TakesBack, TellsFiles}
+use Rattle.snd_disk.specs.State.{Adds}
+use Rattle.snd_output.specs.declared.stop.Stop.{Stop}
+use Rattle.snd_output.specs.declared.stop.Stop.TheVariants.{Fault, Memory}
+use Rattle.snd_output.specs.Ends.{CountsStop}
+use Rattle.snd_tools.proofs.Counts.{counts_back}
+use Rattle.snd_tools.proofs.Left.{kept_changes}
+use Rattle.snd_tools.specs.Shelves.{ChangesOne, CountsOneOf}
+use Rattle.snd_inputs.specs.Looking.{ReadsFiles}
+
+module _ {S D : Type 0} (s : ShelfMeaning S D) where
+  pub reads_itself : (old : S) → ReadsFiles s old old
+  reads_itself old = record {
+    back = λ n. refl;
+    files = λ f told. (f, told, λ n. refl);
+    images = λ f n b told is. record { same_time = refl; now = record { no_more = λ x left. left; no_fewer = λ x left. left }; no_more = λ t t' x left. left; no_fewer = λ t t' x left. left };
+    written = refl;
+  }
+
+  pub reads_then : (a b c : S) → ReadsFiles s a b → ReadsFiles s b c → ReadsFiles s a c
+  reads_then a b c first second = record {
+    back = λ n. second.back n ∙ first.back n;
+    files = λ f told.
+        let mid = first.files f told in
+        let last = second.files mid.0 mid.1 in
+        (last.0, last.1, λ n. last.2 n ∙ mid.2 n);
+    images = λ f n bytes told is.
+        let mid = first.files f told in
+        keeps_images_then ((s.state a).clock n) ((s.state b).clock n) ((s.state c).clock n) (s.may_leave a n) (s.may_leave b n) (s.may_leave c n) (s.left_between a n) (s.left_between b n) (s.left_between c n)
+        (first.images f n bytes told is) (second.images mid.0 n bytes mid.1 (mid.2 n ∙ is));
+    written = second.written ∙ first.written;
+  }
+
+  -- a shelf of which files were only read has no file changed
+  pub reads_changes : (name : List ℕ) (old new : S) → ReadsFiles s old new → ChangesOne s name old new
+  reads_changes name old new reads = kept_changes s name old new reads.back reads.files reads.images
+
+  -- no disk was handed out
+  pub not_handed : (name : List ℕ) (old new : S) → Stays (s.state old) (s.state new) name false → HandsOutNone s.state s.may_leave s.left_between name old new
+      → KeepsOthers s.state s.may_leave s.left_between name old new → KeepsBytes (s.state old) (s.state new) → ReadsFiles s old new
+  not_handed name old new stays handed others bytes = record {
+    back = stays.out;
+    files = λ f told. same_files f told (stays.files f told);
+    images = stayed_images s.state s.may_leave s.left_between name old new handed others;
+    written = bytes.written;
+  }
+    where
+      same_files : (f : Files) → TellsFiles s.state old f → (f' : Files) × ((s.state new).files ≡ Some f') × (SameFiles f f' ⊎ ((false ≡ true) × (f name ≡ None) × SameFiles (put f name (Some [])) f'))
+          → (f' : Files) × ((s.state new).files ≡ Some f') × SameFiles f f'
+      same_files f told (f', is, inl same) = (f', is, same)
+      same_files f told (f', is, inr (made, none, with_it)) = absurd (cc)
+
+  -- one was, and came back as it was
+  module _ (d : DiskMeaning D) (name : List ℕ) (old mid new : S) (taken given : D) (takes : Takes (s.state old) (s.state mid) name false (d.state taken))
+      (gives : Gives (s.state mid) (s.state new) name (d.state given)) (reads : OnlyReadsOn d.state d.may_leave d.left_between taken given) where
+    pub handed_back : HandsOut s.state s.may_leave s.left_between d.state d.may_leave d.left_between name old taken → TakesBack s.state s.may_leave s.left_between d.state d.may_leave d.left_between name new given
+        → KeepsOthers s.state s.may_leave s.left_between name old mid → KeepsOthers s.state s.may_leave s.left_between name mid new → KeepsBytes (s.state old) (s.state mid)
+        → (s.state old).out name ≡ false → ReadsFiles s old new
+    handed_back handed back others others' bytes was = record {
+      back = returned_out (s.state old) (s.state mid) (s.state new) name (d.state taken) (d.state given) takes reads.keeps.contents gives was;
+      files = returned_files (s.state old) (s.state mid) (s.state new) name (d.state taken) (d.state given) takes reads.keeps.contents gives;
+      images = returned_images s.state s.may_leave s.left_between name d.state d.may_leave d.left_between old mid new taken given handed back others others' reads.images;
+      written = omega (arith, bytes.written, gives.written.later, gives.written.most, reads.written, takes.fresh.1);
+    }
+
+-- one of two counts rose, where the other stayed
+one_of : {T : Type 0} (old new mid : ℕ) (r : Result T Stop) → CountsStop old new r → CountsOneOf old new mid mid r
+one_of old new mid (Ok x) counts = (counts, refl)
+one_of old new mid (Err Memory) counts = (counts, refl)
+one_of old new mid (Err Fault) counts = (counts.0, omega arith, inl counts.1)
+
+-- the count of the disk that came back is added to that of the shelf
+pub counts_back_alone : {T : Type 0} (old mid fresh disk new : ℕ) → mid ≡ old → fresh ≡ 0 → (r : Result T Stop) → CountsStop fresh disk r → Adds mid disk new → CountsStop old new r
+counts_back_alone old mid fresh disk new same none r counts adds = counts_back old mid fresh disk new same none r mid (one_of fresh disk mid r counts) adds

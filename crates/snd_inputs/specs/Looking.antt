@@ -1,0 +1,64 @@
+-- How files are looked at, as the code says it. The first argument is what is known of a shelf, or its whole meaning.
+use Rattle.std.specs.Prelude.{◌≡◌, ℕ, ◌+◌, ◌*◌, ◌^◌, ◌≤◌, List, All, Some, Result, Ok, Err, IfOk, false, is_none, length, map}
+use Rattle.snd_container.specs.Sound.{fixed_of}
+use Rattle.snd_disk.specs.State.{AtMost}
+use Rattle.snd_disk.specs.Shelf.{Files, KeepsFiles, ShelfState}
+use Rattle.snd_disk.specs.Shelves.{KeepsFileImages, TellsFiles}
+use Rattle.snd_disk.specs.declared.shelf.Shelf.{Ghosts as ShelfMeaning}
+use Rattle.snd_layout.specs.Opened.{EndsIn}
+use Rattle.snd_layout.specs.Shape.{Shape, end, room}
+use Rattle.snd_lines.specs.declared.refusal.Refusal.{Refusal}
+use Rattle.snd_modes.specs.Editing.{Editing}
+use Rattle.snd_inputs.specs.declared.looking.Inputs.{Inputs}
+use Rattle.snd_inputs.specs.declared.looking.Inputs.TheVariants as inputs
+
+-- what is seen of a file: its layout, or why it is not opened
+abbrev pub seen_of : Result Editing Refusal → Result Shape Refusal
+seen_of (Ok e) = Ok e.shape
+seen_of (Err why) = Err why
+
+-- .. and of several
+abbrev pub all_seen : Result (List Editing) (List ℕ × Refusal) → Result (List Shape) (List ℕ × Refusal)
+all_seen (Ok es) = Ok (map (λ e. e.shape) es)
+all_seen (Err refused) = Err refused
+
+abbrev pub seen_by : Inputs → Result (List Shape) (List ℕ × Refusal)
+seen_by (inputs.Sound layouts) = Ok layouts.items
+seen_by (inputs.Refused name why) = Err (name.now, why)
+
+-- what is answered is right by the files, where the shelf tells them
+abbrev pub IfOkFiles : {S T E : Type 0} → (S → ShelfState) → S → Result T E → (Files → T → Type 0) → Type 0
+IfOkFiles state shelf result P = IfOk result (λ value. (files : Files) → TellsFiles state shelf files → P files value)
+
+-- a layout of which the frames are read, as its file is opened; the room of its head ends where a disk may
+pub record IsReadable (h : Shape) : Type 0 where
+  pub linear : is_none (fixed_of h.params.codec) ≡ false
+  pub room_ends : h.start + room h + 8 ≤ 2 ^ 63
+
+-- its frames and its chunks lie within so many bytes
+pub record LiesWithin (size : ℕ) (h : Shape) : Type 0 where
+  pub frames : end h h.frames ≤ size
+  pub pieces : All (EndsIn size) h.pieces
+
+abbrev pub SeenReadable : {E : Type 0} → Result (Result Shape Refusal) E → Type 0
+SeenReadable result = IfOk result (λ seen. IfOk seen IsReadable)
+
+-- .. within the bytes of its file, where the shelf tells them
+abbrev pub SeenWithin : {S E : Type 0} → (S → ShelfState) → List ℕ → S → Result (Result Shape Refusal) E → Type 0
+SeenWithin state name shelf result =
+    IfOk result (λ seen. IfOk seen (λ h. (files : Files) (b : List ℕ) → TellsFiles state shelf files → files name ≡ Some b → LiesWithin (length b) h))
+
+-- layouts that are seen are those of files that are read
+abbrev pub AllReadable : {E : Type 0} → Result Inputs E → Type 0
+AllReadable result = IfOk result (λ inputs. IfOk (seen_by inputs) (All IsReadable))
+
+-- files were only read: each disk is back, and no file has changed, nor what a crash may leave of one
+pub record ReadsFiles {S D : Type 0} (s : ShelfMeaning S D) (old new : S) : Type 0 where
+  pub back : (n : List ℕ) → (s.state new).out n ≡ (s.state old).out n
+  pub files : KeepsFiles (s.state old) (s.state new)
+  pub images : KeepsFileImages s.state s.may_leave s.left_between old new
+  pub written : (s.state new).written ≡ (s.state old).written
+
+-- at most 16384 bytes are asked for each of so many names
+abbrev pub AsksToLook : ℕ → ShelfState → ShelfState → Type 0
+AsksToLook names old new = AtMost old.asked (16384 * names) new.asked
