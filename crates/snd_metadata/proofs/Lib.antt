@@ -1,0 +1,5 @@
+pub mod Doing
+pub mod Filling
+pub mod Lists
+pub mod Named
+pub mod Sizes

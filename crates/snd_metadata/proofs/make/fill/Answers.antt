@@ -1,0 +1,32 @@
+use Rattle.std.proofs.Common.{◌≡◌, ◌∙◌, ap, refl, subst, sym, [], ℤ, List}
+use Rattle.std.proofs.lemmas.Result.{on_ok_weaker}
+use Rattle.snd_layout.specs.Params.{Parameters}
+use Rattle.snd_layout.specs.Shape.{Shape}
+use Rattle.snd_modes.specs.Handle.{codec_of, known_of}
+use Rattle.snd_output.specs.Made.{IsMaking}
+use Rattle.snd_metadata.specs.Making.{chunks_planned}
+use Rattle.snd_metadata.specs.declared.chunks.PlannedChunk.{PlannedChunk}
+use Rattle.snd_metadata.proofs.Filling.{may_append, numbers_same, params_filled}
+use Rattle.snd_metadata.proofs.make.fill.Goals as goal
+
+pub append-requires-clause-may : goal.append-requires-clause-may
+append-requires-clause-may g c =
+    may_append (known_of c.args.from.now).shape c.args.plan.now (known_of c.args.from.now) (known_of c.carry.new.from) (known_of c.args.to.now) (known_of c.carry.new.to)
+    c.requires.ready c.requires.unread c.requires.fresh refl c.in_ok-carry.ensures.same c.in_ok-carry.ensures.known
+
+pub returns-clause-fills : goal.returns-clause-fills
+returns-clause-fills g c =
+    on_ok_weaker c.append.result
+    (λ lengthens r e stands made begun.
+    let h : Shape = (known_of c.args.from.now).shape in
+    let plan : List PlannedChunk = c.args.plan.now in
+    let carried = c.in_ok-carry.ensures.carried r e stands made begun in
+    let reads = c.in_ok-carry.ensures.stands r stands in
+    let longer = lengthens h.kind h.params (chunks_planned r plan) [] r carried.0 reads carried.1 carried.2 in
+    let from_codec : codec_of c.carry.new.from ≡ r.shape.params.codec = ap (λ (s : Shape). s.params.codec) reads.shape in
+    let params : (known_of c.carry.new.to).shape.params ≡ h.params =
+    params_filled h plan (known_of c.args.from.now) (known_of c.carry.new.from) (known_of c.args.to.now) (known_of c.carry.new.to) c.requires.ready c.requires.unread c.requires.fresh refl c.in_ok-carry.ensures.known in
+    let to_codec : codec_of c.carry.new.to ≡ r.shape.params.codec = ap (λ (p : Parameters). p.codec) params ∙ ap (λ (s : Shape). s.params.codec) stands.shape in
+    let numbers = numbers_same r (codec_of c.carry.new.from) (codec_of c.carry.new.to) r.shape.params.codec from_codec to_codec (sym stands.place ∙ c.requires.unread.first) in
+    (longer.0, longer.1, subst (λ (l : List ℤ). IsMaking h.kind h.params (chunks_planned r plan) l longer.0) numbers longer.2))
+    c.append.ensures.lengthens

@@ -1,0 +1,7 @@
+pub mod Chunks
+pub mod Judged
+pub mod Looking
+pub mod Making
+pub mod Planned
+pub mod Retagged
+pub mod Settings

@@ -1,0 +1,61 @@
+-- A list of chunks that are to be put, as the code has it.
+use Rattle.std.specs.Prelude.{◌≡◌, ℕ, ◌+◌, ◌≤◌, Bool, true, false, List, [], ◌∷◌, All, None, Some, codes, length, map, slice_get}
+use Rattle.std.specs.Str.{bytes_eq}
+use Rattle.snd_carry.specs.Carried.{is_carried}
+use Rattle.snd_chunks.specs.Written.{NewChunk}
+use Rattle.snd_fields.specs.Laws.{IsByte}
+use Rattle.snd_layout.specs.Fit.{fit_refusal}
+use Rattle.snd_layout.specs.Shape.{Shape}
+use Rattle.snd_layout.specs.declared.piece.Piece.{Piece}
+use Rattle.snd_modes.specs.Heads.{holds_meta, is_wave_own}
+use Rattle.snd_modes.specs.Relaid.{outline}
+use Rattle.snd_room.specs.Room.{chunk_size}
+use Rattle.snd_wave.specs.Heads.{new_piece}
+use Rattle.snd_wave.specs.Written.{chunk_read}
+use Rattle.snd_metadata.specs.declared.chunks.PlannedChunk.{PlannedChunk}
+use Rattle.snd_metadata.specs.declared.chunks.PlannedChunk.TheVariants.{Given, Kept}
+use Rattle.snd_metadata.specs.Retagged.{is_full_with}
+
+-- a chunk of the list, with the body that it has in a file
+abbrev pub chunk_planned : List ℕ → PlannedChunk → NewChunk
+chunk_planned b (Kept place piece) = chunk_read b piece
+chunk_planned b (Given id body) = new_piece id.0 body.items
+
+-- .. and what is known of it over every disk: its identifier and its length
+abbrev pub outline_planned : PlannedChunk → NewChunk
+outline_planned (Kept place piece) = outline piece
+outline_planned (Given id body) = new_piece id.0 body.items
+
+abbrev pub names_extension : PlannedChunk → Bool
+names_extension (Kept place piece) = bytes_eq piece.id.0 (codes "bext")
+names_extension (Given id body) = bytes_eq id.0 (codes "bext")
+
+-- it may be put: it is one of the input that is carried, or is small and none of a file's own
+abbrev pub MayStand : List Piece → PlannedChunk → Type 0
+MayStand pieces (Kept place piece) = (slice_get pieces place ≡ Some piece) × (is_carried piece ≡ true) × (length piece.id.0 ≡ 4) × All IsByte piece.id.0
+MayStand pieces (Given id body) = (is_wave_own id.0 ≡ false) × (length id.0 ≡ 4) × (length body.items ≤ 65536) × All IsByte id.0 × All IsByte body.items
+
+-- all of them may be put
+pub record IsPlan (pieces : List Piece) (plan : List PlannedChunk) : Type 0 where
+  pub few : length plan ≤ 240
+  pub each : All (MayStand pieces) plan
+
+-- ---- what is done with it
+
+-- the bytes that it takes in a head, and those of all
+abbrev pub IsSmall : PlannedChunk → Type 0
+IsSmall chunk = length (outline_planned chunk).body ≤ 65536
+
+abbrev pub size_planned : PlannedChunk → ℕ
+size_planned chunk = chunk_size (length (outline_planned chunk).body)
+
+abbrev pub sizes_planned : List PlannedChunk → ℕ
+sizes_planned [] = 0
+sizes_planned (chunk ∷ chunks) = size_planned chunk + sizes_planned chunks
+
+-- the plan of a file that is read: its kind holds such chunks and its parameters, and the head has room for the data
+pub record IsReady (h : Shape) (plan : List PlannedChunk) : Type 0 where
+  pub meta : holds_meta h.kind ≡ true
+  pub fits : fit_refusal h.kind h.params ≡ None
+  pub plan_is : IsPlan h.pieces plan
+  pub room_is : is_full_with h (map outline_planned plan) ≡ false

@@ -1,0 +1,160 @@
+//! The output, made of an open file by a plan of its chunks.
+
+ghost use Rattle.std.specs.Prelude.{◌≡◌, ◌<◌, [], None, OnOk, false, is_none, length, true};
+ghost use Rattle.snd_container.specs.Sound.{fixed_of};
+ghost use Rattle.snd_disk.specs.Device.{GoesOnFrom, OnlyReadsOn};
+ghost use Rattle.snd_modes.specs.Handle.{IsFresh, StandsAfter, disk_of, known_of, loan_of};
+ghost use Rattle.snd_layout.specs.Params.{AreParams};
+ghost use Rattle.snd_modes.specs.Heads.{holds_meta};
+ghost use Rattle.snd_modes.specs.Outcomes.{TellsOn};
+ghost use Rattle.snd_modes.specs.PieceCalls.{IsUntouched, known_put};
+ghost use Rattle.snd_modes.specs.Relaid.{shape_with};
+ghost use Rattle.snd_output.specs.Ends.{BreaksByFault, CountsOneOf};
+ghost use Rattle.snd_patch.specs.Steps.{StillTells};
+ghost use Rattle.snd_metadata.specs.Making.{Carries, Fills, IsUnread, Makes, PutsPlanned, known_filled};
+ghost use Rattle.snd_metadata.specs.Planned.{IsReady, MayStand, outline_planned};
+
+use crate::chunks::PlannedChunk;
+use snd_carry::{carry_chunk, put_chunk};
+use snd_disk::Disk;
+use snd_layout::Params;
+use snd_modes::{File, Read, Write};
+use snd_output::{Stop, append, begin, finish};
+use std::alloc::Global;
+
+/// The numbers that are held at once.
+const BLOCK: usize = 16384;
+
+// Puts one chunk of a plan behind those of a file that is being made.
+fn put_planned<D: Disk, E: Disk>(
+    alloc: Global,
+    chunk: &PlannedChunk,
+    from: &mut File<'_, D, Read>,
+    to: &mut File<'_, E, Write>,
+) -> Result<(), Stop>
+    requires working { (known_of from.old).broken ≡ None }
+    requires stands { MayStand (known_of from.old).shape.pieces chunk.now }
+    requires untouched { IsUntouched (known_of to.old) }
+    requires meta { holds_meta (known_of to.old).shape.kind ≡ true }
+    requires few { length (known_of to.old).shape.pieces < 240 }
+    ensures loan { loan_of from.new ≡ loan_of from.old }
+    ensures to_loan { loan_of to.new ≡ loan_of to.old }
+    ensures same { OnOk result (known_of from.new ≡ known_of from.old) }
+    ensures known { OnOk result (known_of to.new ≡ known_put (length (known_of to.old).shape.pieces) (outline_planned chunk.now) (known_of to.old)) }
+    ensures stands { StandsAfter D.state from.old from.new (λ e. e) }
+    ensures puts { OnOk result (PutsPlanned D.state E.state chunk.now from.old to.old to.new) }
+    ensures works { BreaksByFault (known_of to.new) result }
+    ensures faults { CountsOneOf (D.state (disk_of from.old)).faults (D.state (disk_of from.new)).faults (E.state (disk_of to.old)).faults (E.state (disk_of to.new)).faults result }
+    ensures reads { OnlyReadsOn D.state D.may_leave D.left_between (disk_of from.old) (disk_of from.new) }
+    ensures tells { TellsOn E.state to.old to.new }
+    ensures time { GoesOnFrom E.state E.left_between (disk_of to.old) (disk_of to.new) }
+{
+    match chunk {
+        PlannedChunk::Kept(place, piece) => carry_chunk(alloc, from, to, *place, *piece),
+        PlannedChunk::Given(id, body) => put_chunk(to, *id, body),
+    }
+}
+
+// Puts all chunks of a plan into a file that was begun.
+fn carry<D: Disk, E: Disk>(
+    alloc: Global,
+    plan: &[PlannedChunk],
+    from: &mut File<'_, D, Read>,
+    to: &mut File<'_, E, Write>,
+) -> Result<(), Stop>
+    requires working { (known_of from.old).broken ≡ None }
+    requires ready { IsReady (known_of from.old).shape plan.now }
+    requires good { AreParams (known_of from.old).shape.params }
+    requires fresh { IsFresh (known_of to.old) }
+    requires begun { (known_of to.old).shape ≡ shape_with (known_of from.old).shape.kind (known_of from.old).shape.params [] }
+    ensures loan { loan_of from.new ≡ loan_of from.old }
+    ensures to_loan { loan_of to.new ≡ loan_of to.old }
+    ensures same { OnOk result (known_of from.new ≡ known_of from.old) }
+    ensures known { OnOk result (known_of to.new ≡ known_filled (known_of from.old).shape plan.now (known_of to.old)) }
+    ensures stands { StandsAfter D.state from.old from.new (λ e. e) }
+    ensures carried { OnOk result (Carries D.state E.state plan.now from.old to.old to.new) }
+    ensures works { BreaksByFault (known_of to.new) result }
+    ensures faults { CountsOneOf (D.state (disk_of from.old)).faults (D.state (disk_of from.new)).faults (E.state (disk_of to.old)).faults (E.state (disk_of to.new)).faults result }
+    ensures reads { OnlyReadsOn D.state D.may_leave D.left_between (disk_of from.old) (disk_of from.new) }
+    ensures tells { TellsOn E.state to.old to.new }
+    ensures time { GoesOnFrom E.state E.left_between (disk_of to.old) (disk_of to.new) }
+{
+    for at in 0..plan.len() {
+        put_planned(alloc, &plan[at], from, to)?;
+    }
+    Ok(())
+}
+
+// Puts the chunks and all frames into a file that was begun.
+fn fill<D: Disk, E: Disk>(
+    alloc: Global,
+    plan: &[PlannedChunk],
+    from: &mut File<'_, D, Read>,
+    to: &mut File<'_, E, Write>,
+) -> Result<(), Stop>
+    requires unread { IsUnread (known_of from.old) }
+    requires ready { IsReady (known_of from.old).shape plan.now }
+    requires good { AreParams (known_of from.old).shape.params }
+    requires fresh { IsFresh (known_of to.old) }
+    requires begun { (known_of to.old).shape ≡ shape_with (known_of from.old).shape.kind (known_of from.old).shape.params [] }
+    ensures loan { loan_of from.new ≡ loan_of from.old }
+    ensures to_loan { loan_of to.new ≡ loan_of to.old }
+    ensures fills { OnOk result (Fills D.state E.state plan.now from.old to.old to.new) }
+    ensures works { BreaksByFault (known_of to.new) result }
+    ensures faults { CountsOneOf (D.state (disk_of from.old)).faults (D.state (disk_of from.new)).faults (E.state (disk_of to.old)).faults (E.state (disk_of to.new)).faults result }
+    ensures reads { OnlyReadsOn D.state D.may_leave D.left_between (disk_of from.old) (disk_of from.new) }
+    ensures tells { TellsOn E.state to.old to.new }
+    ensures time { GoesOnFrom E.state E.left_between (disk_of to.old) (disk_of to.new) }
+{
+    carry(alloc, plan, from, to)?;
+    let mut block = [0; BLOCK];
+    append(from, to, &mut block)
+}
+
+// The parameters of an open file, whose codec is not ADPCM.
+fn params_of<D: Disk>(file: &File<'_, D, Read>) -> Params
+    ensures params { result ≡ (known_of file.now).shape.params }
+    ensures good { AreParams result }
+    ensures linear { is_none (fixed_of result.codec) ≡ false }
+{
+    let params = file.params();
+    params.are_good();
+    params
+}
+
+/// Makes the whole file.
+pub(crate) fn make<D: Disk, E: Disk>(
+    alloc: Global,
+    from: &mut File<'_, D, Read>,
+    disk: &mut E,
+    plan: &[PlannedChunk],
+) -> Result<(), Stop>
+    requires unread { IsUnread (known_of from.old) }
+    requires ready { IsReady (known_of from.old).shape plan.now }
+    ensures loan { loan_of from.new ≡ loan_of from.old }
+    ensures made { OnOk result (Makes D.state E.state plan.now from.old disk.old disk.new) }
+    ensures faults { CountsOneOf (D.state (disk_of from.old)).faults (D.state (disk_of from.new)).faults (E.state disk.old).faults (E.state disk.new).faults result }
+    ensures reads { OnlyReadsOn D.state D.may_leave D.left_between (disk_of from.old) (disk_of from.new) }
+    ensures tells { StillTells (E.state disk.old) (E.state disk.new) }
+    ensures time { GoesOnFrom E.state E.left_between disk.old disk.new }
+{
+    let params = params_of(from);
+    let mut to = match begin(alloc, disk, from.kind(), params) {
+        Ok(to) => to,
+        Err((stop, back)) => {
+            let _ = back;
+            return Err(stop);
+        }
+    };
+    let filled = fill(alloc, plan, from, &mut to);
+    match finish(to) {
+        Ok(back) => {
+            let _ = back;
+            filled
+        }
+        Err((stop, back)) => {
+            let _ = back;
+            Err(stop)
+        }
+    }
+}

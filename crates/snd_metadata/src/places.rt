@@ -1,0 +1,133 @@
+//! Where the INFO list stands among the chunks, and the chunks with those that are changed.
+
+ghost use Rattle.std.specs.Prelude.{◌≡◌, ◌+◌, ◌<◌, ◌≤◌, All, IfOk, IfSome, None, OnOk, codes, false, length, map, slice_get};
+ghost use Rattle.std.specs.List.{position_or_len};
+ghost use Rattle.std.specs.Str.{bytes_eq};
+ghost use Rattle.snd_fields.specs.Laws.{IsByte};
+ghost use Rattle.snd_modes.specs.Editing.{Editing};
+ghost use Rattle.snd_modes.specs.Handle.{IfOkStanding, Stands, known_of};
+ghost use Rattle.snd_tags.specs.Bodies.{begins_info};
+ghost use Rattle.snd_metadata.specs.Chunks.{is_info_list, kept_chunks, with_extension, with_info_list};
+ghost use Rattle.snd_metadata.specs.Looking.{Looks};
+ghost use Rattle.snd_metadata.specs.Planned.{IsPlan, MayStand, chunk_planned};
+ghost use Rattle.snd_metadata.specs.Retagged.{are_too_large};
+
+use crate::bodies::Bodies;
+use crate::chunks::{PlannedChunk, kept_chunks, put_at, put_extension};
+use crate::settings::Summary;
+use snd_disk::Disk;
+use snd_fields::Id4;
+use snd_modes::{File, PieceReadError, Read};
+use snd_output::Stop;
+use std::alloc::Global;
+
+const LIST: Id4 = Id4(*b"LIST");
+
+fn names_list(id: Id4) -> bool
+    ensures { result ≡ bytes_eq id.0 (codes "LIST") }
+{
+    id.0.as_slice() == b"LIST".as_slice()
+}
+
+fn names_info(head: &[u8]) -> bool
+    ensures { result ≡ bytes_eq head.now (codes "INFO") }
+{
+    head == b"INFO".as_slice()
+}
+
+// Whether the body of the chunk at a place of the list begins with `INFO`.
+fn begins_info<D: Disk>(file: &mut File<'_, D, Read>, place: usize) -> Result<bool, Stop>
+    requires working { (known_of file.old).broken ≡ None }
+    requires there { place < length (known_of file.old).shape.pieces }
+    ensures says { IfOkStanding D.state file.old result (λ e says. IfSome (slice_get e.shape.pieces place) (λ piece. says ≡ begins_info e.bytes piece)) }
+    ensures looks { Looks D.Disk file.old file.new result }
+{
+    let mut head = [0u8; 4];
+    match file.piece_read(place, &mut head) {
+        Ok(count) => Ok(names_info(&head[..count])),
+        Err(PieceReadError::DiskFault(_)) => Err(Stop::Fault),
+        Err(PieceReadError::Broken(_)) => unreachable!(),
+    }
+}
+
+// Whether a chunk is an INFO list.
+fn is_info_list<D: Disk>(file: &mut File<'_, D, Read>, chunk: &PlannedChunk) -> Result<bool, Stop>
+    requires working { (known_of file.old).broken ≡ None }
+    requires stands { MayStand (known_of file.old).shape.pieces chunk.now }
+    ensures says { IfOkStanding D.state file.old result (λ e says. says ≡ is_info_list (chunk_planned e.bytes chunk.now)) }
+    ensures looks { Looks D.Disk file.old file.new result }
+{
+    match chunk {
+        PlannedChunk::Kept(place, piece) => {
+            if names_list(piece.id) {
+                begins_info(file, *place)
+            } else {
+                Ok(false)
+            }
+        }
+        PlannedChunk::Given(id, body) => {
+            let head = &body[..body.len().min(4)];
+            Ok(names_list(*id) && names_info(head))
+        }
+    }
+}
+
+// The place of the first INFO list, or how many chunks there are.
+fn info_place<D: Disk>(file: &mut File<'_, D, Read>, plan: &[PlannedChunk]) -> Result<usize, Stop>
+    requires working { (known_of file.old).broken ≡ None }
+    requires stand { All (MayStand (known_of file.old).shape.pieces) plan.now }
+    ensures place { IfOkStanding D.state file.old result (λ e at. at ≡ position_or_len is_info_list (map (chunk_planned e.bytes) plan.now)) }
+    ensures within { IfOk result (λ at. at ≤ length plan.now) }
+    ensures looks { Looks D.Disk file.old file.new result }
+{
+    for at in 0..plan.len() {
+        if is_info_list(file, &plan[at])? {
+            return Ok(at);
+        }
+    }
+    Ok(plan.len())
+}
+
+// Puts an INFO list of this body among chunks, where it is changed.
+fn put_info_list<D: Disk>(
+    file: &mut File<'_, D, Read>,
+    plan: &mut Vec<PlannedChunk>,
+    changed: bool,
+    body: Vec<u8>,
+) -> Result<(), Stop>
+    requires working { (known_of file.old).broken ≡ None }
+    requires stand { All (MayStand (known_of file.old).shape.pieces) plan.old.items }
+    requires small { length body.items ≤ 65536 }
+    requires bytes { All IsByte body.items }
+    ensures put { OnOk result ((e : Editing) → Stands D.state file.old e → map (chunk_planned e.bytes) plan.new.items ≡ with_info_list changed body.items (map (chunk_planned e.bytes) plan.old.items)) }
+    ensures stand { OnOk result (All (MayStand (known_of file.old).shape.pieces) plan.new.items) }
+    ensures few { OnOk result (length plan.new.items ≤ length plan.old.items + 1) }
+    ensures looks { Looks D.Disk file.old file.new result }
+{
+    if !changed {
+        return Ok(());
+    }
+    let at = info_place(file, plan)?;
+    put_at(plan, at, PlannedChunk::Given(LIST, body))
+}
+
+/// The chunks of the file that is made, with these bodies of those that are changed.
+pub(crate) fn chunks_of<D: Disk>(
+    alloc: Global,
+    summary: Summary,
+    bodies: Bodies,
+    file: &mut File<'_, D, Read>,
+) -> Result<Vec<PlannedChunk>, Stop>
+    requires working { (known_of file.old).broken ≡ None }
+    requires small { are_too_large bodies.extension.items bodies.texts.items ≡ false }
+    requires bytes { All IsByte bodies.extension.items × All IsByte bodies.texts.items }
+    ensures chunks { IfOkStanding D.state file.old result (λ e plan. map (chunk_planned e.bytes) plan.items ≡ with_info_list summary.texts bodies.texts.items (with_extension summary.fields bodies.extension.items (kept_chunks e.bytes e.shape.pieces))) }
+    ensures plan { IfOk result (λ plan. IsPlan (known_of file.old).shape.pieces plan.items) }
+    ensures looks { Looks D.Disk file.old file.new result }
+{
+    let Bodies { extension, texts } = bodies;
+    let mut plan = kept_chunks(alloc, file.pieces())?;
+    put_extension(&mut plan, summary.fields, extension)?;
+    put_info_list(file, &mut plan, summary.texts, texts)?;
+    Ok(plan)
+}

@@ -1,0 +1,183 @@
+//! The tool that copies a file with changed texts.
+
+ghost use Rattle.std.specs.Prelude.{◌≡◌, All, OnOk, false};
+ghost use Rattle.snd_disk.specs.Device.{OnlyReadsOn};
+ghost use Rattle.snd_modes.specs.Handle.{disk_of, known_of, loan_of};
+ghost use Rattle.snd_output.specs.Ends.{CountsOneOf, CountsStop};
+ghost use Rattle.snd_tools.specs.Shelves.{ChangesOne, Does, IsAllIn};
+ghost use Rattle.snd_words.specs.Stated.{IsStated};
+ghost use Rattle.snd_metadata.specs.Making.{AnswersHalt, IsUnread, MakesUnder, Retags, RetagsDisk};
+ghost use Rattle.snd_metadata.specs.Planned.{IsReady};
+ghost use Rattle.snd_metadata.specs.Retagged.{retagged};
+
+use crate::chunks::PlannedChunk;
+use crate::halt::Halt;
+use crate::make::make;
+use crate::planning::plan_of;
+use snd_disk::{Disk, Shelf, ShelfFault};
+use snd_layout::OpenError;
+use snd_lines::Refusal;
+use snd_modes::{File, Read, open_read};
+use snd_output::Stop;
+use snd_tools::Answer;
+use snd_words::MetadataChange;
+use std::alloc::Global;
+
+// Makes the output of an open file by its plan, under a name.
+fn make_under<S: Shelf, D: Disk>(
+    alloc: Global,
+    file: &mut File<'_, D, Read>,
+    name: &str,
+    plan: &[PlannedChunk],
+    shelf: &mut S,
+) -> Result<(), Stop>
+    requires is_in { (S.state shelf.old).out name.now ≡ false }
+    requires unread { IsUnread (known_of file.old) }
+    requires ready { IsReady (known_of file.old).shape plan.now }
+    ensures loan { loan_of file.new ≡ loan_of file.old }
+    ensures made { OnOk result (MakesUnder D.state S.state name.now plan.now file.old shelf.old shelf.new) }
+    ensures changes { ChangesOne S.Shelf name.now shelf.old shelf.new }
+    ensures faults { CountsOneOf (D.state (disk_of file.old)).faults (D.state (disk_of file.new)).faults (S.state shelf.old).faults (S.state shelf.new).faults result }
+    ensures reads { OnlyReadsOn D.state D.may_leave D.left_between (disk_of file.old) (disk_of file.new) }
+{
+    let mut disk = match shelf.take(name, true) {
+        Ok(disk) => disk,
+        Err(ShelfFault::Failed) => return Err(Stop::Fault),
+        Err(ShelfFault::Memory) => return Err(Stop::Memory),
+        Err(ShelfFault::Missing) => unreachable!(),
+    };
+    let made = make(alloc, file, &mut disk, plan);
+    shelf.give(name, disk);
+    made
+}
+
+// What is answered where no file is made.
+fn answer_of<'a>(change: &MetadataChange<'a>, halt: Halt) -> Result<Answer<'a>, Stop>
+    ensures { AnswersHalt change.now.input.now change.now.output.now halt result }
+{
+    match halt {
+        Halt::Input(why) => Ok(Answer::Refused(change.input, why)),
+        Halt::Output(why) => Ok(Answer::Refused(change.output, why)),
+        Halt::Stop(stop) => Err(stop),
+    }
+}
+
+// Makes the output of an open file, or answers why it is not made.
+fn retag_file<'a, S: Shelf, D: Disk>(
+    alloc: Global,
+    change: &MetadataChange<'a>,
+    file: &mut File<'_, D, Read>,
+    shelf: &mut S,
+) -> Result<Answer<'a>, Stop>
+    requires is_in { (S.state shelf.old).out change.now.output.now ≡ false }
+    requires good { All IsStated change.now.settings }
+    requires unread { IsUnread (known_of file.old) }
+    ensures loan { loan_of file.new ≡ loan_of file.old }
+    ensures done { Retags D.state S.state change.now.settings change.now.input.now change.now.output.now file.old shelf.old shelf.new result }
+    ensures changes { ChangesOne S.Shelf change.now.output.now shelf.old shelf.new }
+    ensures faults { CountsOneOf (D.state (disk_of file.old)).faults (D.state (disk_of file.new)).faults (S.state shelf.old).faults (S.state shelf.new).faults result }
+    ensures reads { OnlyReadsOn D.state D.may_leave D.left_between (disk_of file.old) (disk_of file.new) }
+{
+    let frames = file.frames();
+    let plan = match plan_of(alloc, &change.settings, file) {
+        Ok(plan) => plan,
+        Err(halt) => return answer_of(change, halt),
+    };
+    match make_under(alloc, file, change.output, &plan, shelf) {
+        Ok(()) => Ok(Answer::Made(frames)),
+        Err(stop) => Err(stop),
+    }
+}
+
+// Gives the disk back of a file that was read.
+fn disk_back<'d, D: Disk>(file: File<'d, D, Read>) -> &'d mut D
+    ensures lends { result.ghost_name ≡ loan_of file.entry }
+    ensures same_disk { result.now ≡ disk_of file.entry }
+{
+    match file.close() {
+        Ok(disk) => disk,
+        Err((_, disk)) => disk,
+    }
+}
+
+// Makes the output of the file that stands on a disk.
+fn retag_disk<'a, S: Shelf, D: Disk>(
+    alloc: Global,
+    change: &MetadataChange<'a>,
+    disk: &mut D,
+    shelf: &mut S,
+) -> Result<Answer<'a>, Stop>
+    requires is_in { (S.state shelf.old).out change.now.output.now ≡ false }
+    requires good { All IsStated change.now.settings }
+    ensures done { RetagsDisk D.state S.state change.now.settings change.now.input.now change.now.output.now disk.old shelf.old shelf.new result }
+    ensures changes { ChangesOne S.Shelf change.now.output.now shelf.old shelf.new }
+    ensures faults { CountsOneOf (D.state disk.old).faults (D.state disk.new).faults (S.state shelf.old).faults (S.state shelf.new).faults result }
+    ensures reads { OnlyReadsOn D.state D.may_leave D.left_between disk.old disk.new }
+{
+    let mut file = match open_read(alloc, disk) {
+        Ok(file) => file,
+        Err((OpenError::Refused(why), back)) => {
+            let _ = back;
+            return Ok(Answer::Refused(change.input, Refusal::Open(why)));
+        }
+        Err((OpenError::DiskFault(_), back)) => {
+            let _ = back;
+            return Err(Stop::Fault);
+        }
+        Err((OpenError::Memory, back)) => {
+            let _ = back;
+            return Err(Stop::Memory);
+        }
+        Err((OpenError::AdpcmUpdate | OpenError::UnknownLength, back)) => {
+            let _ = back;
+            unreachable!()
+        }
+    };
+    let answer = retag_file(alloc, change, &mut file, shelf);
+    let back = disk_back(file);
+    let _ = back;
+    answer
+}
+
+/// Copies a WAVE or RF64 file with changed texts: the output has the kind, the parameters and the frames of
+/// the input, and of its further chunks those with at most 65536 bytes, the first 238 of them, in their order
+/// and before the data. A text of the INFO list or of the broadcast extension that is set is put into what
+/// the first such chunk of the input says, or into a new one; the chunk keeps its place, or stands behind the
+/// others where it has none, the broadcast extension first. Texts of other identifiers than those of the keys
+/// are not kept in a list that is changed. Each other file is as before, whatever comes.
+///
+/// All that is refused is refused before the output is touched, in this order: `SameName`; `MissingFile`, or
+/// why the input does not open; `NoChunks` of an input of another kind; `ChunkTooLarge`, and then `BadBext`
+/// and `BadInfo`, where a chunk that is to be changed has more than 65536 bytes or does not read;
+/// `TextTooLong` where a text exceeds its field, or of the INFO list and the coding history 1024 bytes;
+/// `ChunkTooLarge` of the output where the changed list has more than 65536 bytes; why the output's kind does
+/// not hold the parameters; and `ContainerFull` where its head has no room for the data.
+///
+/// `Fault` where a call of the shelf or of a disk failed, and `Memory` where there is none: then the output
+/// may stand there in part.
+pub fn set_metadata<'a, S: Shelf>(
+    alloc: Global,
+    change: &MetadataChange<'a>,
+    shelf: &mut S,
+) -> Result<Answer<'a>, Stop>
+    requires back { IsAllIn (S.state shelf.old) }
+    requires good { All IsStated change.now.settings }
+    ensures done { Does S.state (retagged change.now.settings change.now.input.now change.now.output.now) shelf.old shelf.new result }
+    ensures changes { ChangesOne S.Shelf change.now.output.now shelf.old shelf.new }
+    ensures faults { CountsStop (S.state shelf.old).faults (S.state shelf.new).faults result }
+{
+    if change.input == change.output {
+        return Ok(Answer::Refused(change.output, Refusal::SameName));
+    }
+    let mut disk = match shelf.take(change.input, false) {
+        Ok(disk) => disk,
+        Err(ShelfFault::Missing) => {
+            return Ok(Answer::Refused(change.input, Refusal::MissingFile));
+        }
+        Err(ShelfFault::Failed) => return Err(Stop::Fault),
+        Err(ShelfFault::Memory) => return Err(Stop::Memory),
+    };
+    let answer = retag_disk(alloc, change, &mut disk, shelf);
+    shelf.give(change.input, disk);
+    answer
+}
