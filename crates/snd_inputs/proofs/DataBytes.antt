@@ -1,17 +1,15 @@
 -- The data bytes of frames that do not stand in blocks.
-use Rattle.std.proofs.Common.{◌≡◌, ℕ, ◌+◌, ◌-◌, ◌*◌, ◌/◌, ◌≤◌, ◌<◌, List, [], Bool, true, false, Option, None, Some, refl, sym, ◌∙◌, ap, arith}
+use Rattle.std.proofs.Common.{◌≡◌, ℕ, ◌+◌, ◌-◌, ◌*◌, ◌/◌, ◌≤◌, [], false, Option, None, Some, refl, sym, ◌∙◌, ap, arith}
 use Rattle.std.proofs.Math.Nat.{mul-le-mul_left}
-use Rattle.std.proofs.lemmas.Bool.{le-ltb, lt-ltb, ltb-false}
+use Rattle.std.proofs.lemmas.Bool.{le-ltb, ltb-false}
 use Rattle.std.specs.Prelude.{is_none, nat_lt}
 use Rattle.snd_chunks.specs.Written.{chunks_bytes}
-use Rattle.snd_container.proofs.FixedSamples.{byte_count_pos}
-use Rattle.snd_container.specs.Fixed.{byte_count}
 use Rattle.snd_container.specs.Sound.{fixed_of}
 use Rattle.snd_container.specs.declared.fixed.Fixed.{Fixed}
 use Rattle.snd_layout.specs.Blocks.{block_align}
 use Rattle.snd_layout.specs.Params.{Parameters, data_bytes}
 use Rattle.snd_layout.specs.declared.kind.Kind.{Kind}
-use Rattle.snd_modes.proofs.SoundFrames.{linear_bytes, linear_frames}
+use Rattle.snd_modes.proofs.SoundFrames.{linear_frames}
 use Rattle.snd_room.specs.Room.{Take}
 
 -- no chunks take no bytes
