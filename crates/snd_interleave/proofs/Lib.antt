@@ -1,0 +1,12 @@
+pub mod Adding
+pub mod Counts
+pub mod Filling
+pub mod Frames
+pub mod Inputs
+pub mod Joining
+pub mod Judging
+pub mod Lists
+pub mod Making
+pub mod Numbers
+pub mod Opened
+pub mod Reading

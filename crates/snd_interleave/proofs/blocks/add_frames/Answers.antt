@@ -1,0 +1,91 @@
+use Rattle.std.proofs.Common.{rules, ◌≡◌, ◌∙◌, ap, sym, subst, refl, ℕ, ◌+◌, ◌≤◌, ℤ, List, ◌++◌, length, take, Err, arith}
+use Rattle.std.proofs.lemmas.List.{append-nil, length-take}
+use Rattle.snd_disk.proofs.Chains.{goes_on_then}
+use Rattle.snd_layout.specs.declared.codec.Codec.{Codec}
+use Rattle.snd_modes.specs.Handle.{Known, codec_of, disk_of, known_of}
+use Rattle.snd_output.proofs.Appending.{longer_none, longer_twice}
+use Rattle.snd_output.specs.Appended.{HasRoom, longer}
+use Rattle.snd_output.specs.Made.{IsMaking}
+use Rattle.snd_interleave.specs.Beside.{frames_from}
+use Rattle.snd_interleave.specs.Channels.{CountsAdding}
+use Rattle.snd_interleave.specs.Interleave.{channels_in}
+use Rattle.snd_interleave.proofs.Adding.{numbers_on, room_on}
+use Rattle.snd_interleave.proofs.Counts.{adding_then, calm_itself, calm_then}
+use Rattle.snd_interleave.proofs.Inputs.{all_unread, hold_still, read_then, still_mono}
+use Rattle.snd_interleave.proofs.blocks.add_frames.Goals as goal
+
+pub loop-place-init : goal.loop-place-init
+loop-place-init g c = record {
+  loan = refl;
+  known = longer_none (known_of c.args.to.now);
+  within = omega arith;
+  lengthens = λ kind p pieces xs es e hold stands making. (e, stands, subst (λ (l : List ℤ). IsMaking kind p pieces l e) (sym (append-nil xs)) making);
+  calm = calm_itself g.D.Disk.state c.args.inputs.now;
+  to_calm = refl;
+  reads = all_unread g.D.Disk.state g.D.Disk.may_leave g.D.Disk.left_between c.args.inputs.now;
+  tells = search rules;
+  time = search rules;
+}
+
+pub add_block-requires-clause-mono : goal.add_block-requires-clause-mono
+add_block-requires-clause-mono g c =
+    still_mono g.D.Disk.state g.D.Disk.may_leave g.D.Disk.left_between c.args.inputs.now c.loop-place.inputs c.loop-place.invariant.reads c.requires.mono
+
+pub add_block-requires-clause-room : goal.add_block-requires-clause-room
+add_block-requires-clause-room g c =
+    let inv = c.loop-place.invariant in
+    let known = known_of c.args.to.now in
+    let numbers = take c.min-count.result c.loop-place.buffer in
+    let few : c.loop-place.place + length numbers ≤ c.args.frames = omega (arith, length-take c.min-count.result c.loop-place.buffer, c.min-count.ensures, inv.within) in
+    subst (λ (k : Known). HasRoom (length numbers) k.shape) (sym inv.known) (room_on known c.args.frames c.loop-place.place (length numbers) c.args.to.now.linear few c.requires.room)
+
+pub loop-place-preserved : goal.loop-place-preserved
+loop-place-preserved g c =
+    let inv = c.loop-place.invariant in
+    let one = c.in_ok-add_block.ensures in
+    let first = c.args.inputs.now in
+    let now = c.loop-place.inputs in
+    let new = c.add_block.new.inputs in
+    let known = known_of c.args.to.now in
+    let n = c.loop-place.place in
+    let k = length (take c.min-count.result c.loop-place.buffer) in
+    let sum : n + k ≡ n + c.min-count.result = omega (arith, length-take c.min-count.result c.loop-place.buffer, c.min-count.array_long, c.min-count.ensures) in
+    let to_codec : codec_of c.loop-place.to ≡ codec_of c.args.to.now = ap (λ (k : Known). k.shape.params.codec) inv.known in
+    record {
+      loan = one.loan ∙ inv.loan;
+      known = one.left ∙ ap (longer k) inv.known ∙ longer_twice n k known ∙ ap (λ (m : ℕ). longer m known) sum;
+      within = omega (arith, c.min-count.ensures, inv.within);
+      lengthens = λ kind p pieces xs es e hold stands making.
+          let channels = channels_in (codec_of c.args.to.now) es in
+          let before = inv.lengthens kind p pieces xs es e hold stands making in
+          let so_far : List ℤ = xs ++ frames_from channels 0 n in
+          let still = hold_still g.D.Disk.state g.D.Disk.may_leave g.D.Disk.left_between first now es inv.reads hold in
+          let then = one.lengthens kind p pieces so_far es before.0 still before.1 before.2 in
+          let same : so_far ++ frames_from (channels_in (codec_of c.loop-place.to) es) n k ≡ xs ++ frames_from channels 0 (n + c.min-count.result) =
+          ap (λ (q : Codec). so_far ++ frames_from (channels_in q es) n k) to_codec ∙ numbers_on channels xs n k ∙ ap (λ (m : ℕ). xs ++ frames_from channels 0 m) sum in
+          (then.0, then.1, subst (λ (l : List ℤ). IsMaking kind p pieces l then.0) same then.2);
+      calm = calm_then g.D.Disk.state first now new c.loop-place.auto.inputs inv.calm one.faults.0;
+      to_calm = one.faults.1 ∙ inv.to_calm;
+      reads = read_then g.D.Disk.state g.D.Disk.may_leave g.D.Disk.left_between first now new inv.reads one.reads;
+      tells = search rules;
+      time = goes_on_then _ _ _ _ _ _ inv.time one.time;
+    }
+
+pub returns-in_err-add_block-clause-faults : goal.returns-in_err-add_block-clause-faults
+returns-in_err-add_block-clause-faults g c =
+    let inv = c.loop-place.invariant in
+    let stop = c.in_err-add_block.field-0.0 in
+    let failed : c.from_residual.result ≡ Err stop = search rules in
+    subst (CountsAdding g.D.Disk.state c.args.inputs.now c.add_block.new.inputs (g.E.Disk.state (disk_of c.args.to.now)).faults (g.E.Disk.state (disk_of c.add_block.new.to)).faults) (sym failed)
+    (adding_then g.D.Disk.state c.args.inputs.now c.loop-place.inputs c.add_block.new.inputs c.loop-place.auto.inputs {T = Unit {0}} (Err stop) _ _ _ inv.calm inv.to_calm c.in_err-add_block.ensures.faults)
+
+pub returns-in_err-add_block-clause-reads : goal.returns-in_err-add_block-clause-reads
+returns-in_err-add_block-clause-reads g c =
+    read_then g.D.Disk.state g.D.Disk.may_leave g.D.Disk.left_between c.args.inputs.now c.loop-place.inputs c.add_block.new.inputs c.loop-place.invariant.reads c.add_block.ensures.reads
+
+pub returns-clause-lengthens : goal.returns-clause-lengthens
+returns-clause-lengthens g c = λ kind p pieces xs es e hold stands making.
+    let inv = c.loop-place.invariant in
+    let got = inv.lengthens kind p pieces xs es e hold stands making in
+    let all : c.loop-place.place ≡ c.args.frames = omega (arith, inv.within, c.loop-place-test.false) in
+    (got.0, got.1, subst (λ (n : ℕ). IsMaking kind p pieces (xs ++ frames_from (channels_in (codec_of c.args.to.now) es) 0 n) got.0) all got.2)

@@ -1,0 +1,23 @@
+use Rattle.std.proofs.Common.{◌≡◌, ◌-◌, ◌≤◌}
+use Rattle.snd_disk.specs.Device.{GoesOnFrom}
+use Rattle.snd_modes.specs.Handle.{disk_of, known_of, loan_of}
+use Rattle.snd_modes.specs.Outcomes.{TellsOn}
+use Rattle.snd_output.specs.Appended.{longer}
+use Rattle.snd_interleave.specs.Channels.{AreCalm, Lengthens, ReadAll}
+use Rattle.snd_interleave.proofs.blocks.add_frames.Given as goal
+
+abbrev pub invariant-loop-place : goal.invariant-loop-place
+invariant-loop-place g l = record {
+  loan : loan_of l.to ≡ loan_of l.fn.to;
+  known : known_of l.to ≡ longer l.place (known_of l.fn.to);
+  within : l.place ≤ l.frames;
+  lengthens : Lengthens g.D.Disk.state g.E.Disk.state 0 l.place l.fn.inputs l.fn.to l.to;
+  calm : AreCalm g.D.Disk.state l.fn.inputs l.inputs;
+  to_calm : (g.E.Disk.state (disk_of l.to)).faults ≡ (g.E.Disk.state (disk_of l.fn.to)).faults;
+  reads : ReadAll g.D.Disk.state g.D.Disk.may_leave g.D.Disk.left_between l.fn.inputs l.inputs;
+  tells : TellsOn g.E.Disk.state l.fn.to l.to;
+  time : GoesOnFrom g.E.Disk.state g.E.Disk.left_between (disk_of l.fn.to) (disk_of l.to);
+}
+
+abbrev pub decreases-loop-place : goal.decreases-loop-place
+decreases-loop-place g l = l.frames - l.place

@@ -1,0 +1,17 @@
+use Rattle.std.proofs.Common.{◌≡◌, ◌+◌, ◌*◌, ◌<◌, ℕ, List, get_or, length, pos}
+use Rattle.snd_modes.specs.Editing.{Editing}
+use Rattle.snd_output.specs.Widths.{width_of}
+use Rattle.snd_pcm.specs.Width.{HasWidth}
+use Rattle.snd_interleave.specs.Beside.{frame_at}
+use Rattle.snd_interleave.specs.Channels.{AreCalm, HoldAll, ReadAll}
+use Rattle.snd_interleave.specs.Interleave.{channels_in}
+use Rattle.snd_interleave.proofs.blocks.fill_block.Given as goal
+
+abbrev pub invariant-loop-i : goal.invariant-loop-i
+invariant-loop-i g l = record {
+  filled : (es : List Editing) → HoldAll g.D.Disk.state l.fn.inputs es → (j c : ℕ) → j < length l.fn.buffer → c < l.i
+      → get_or l.block (j * l.channels + c) (pos 0) ≡ get_or (frame_at (channels_in l.fn.codec es) (l.place + j)) c (pos 0);
+  fit : (j c : ℕ) → j < length l.fn.buffer → c < l.i → HasWidth (width_of l.fn.codec) (get_or l.block (j * l.channels + c) (pos 0));
+  calm : AreCalm g.D.Disk.state l.fn.inputs l.inputs;
+  reads : ReadAll g.D.Disk.state g.D.Disk.may_leave g.D.Disk.left_between l.fn.inputs l.inputs;
+}

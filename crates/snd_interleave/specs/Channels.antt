@@ -1,0 +1,145 @@
+-- Inputs that are open side by side, as the code has them. It is said for the proofs alone.
+use Rattle.std.specs.Prelude.{◌≡◌, ◌⊎◌, ℕ, ℤ, pos, ◌+◌, ◌<◌, ◌≤◌, List, [], ◌∷◌, ◌++◌, Option, None, Some, Result, Ok, Err, IfOk, get_or, length, map, max}
+use Rattle.snd_chunks.specs.Written.{NewChunk}
+use Rattle.snd_disk.specs.declared.disk.Disk.{Ghosts}
+use Rattle.snd_disk.specs.Device.{OnlyReadsOn, Tells}
+use Rattle.snd_disk.specs.Shelf.{Files, ShelfState, put}
+use Rattle.snd_disk.specs.Shelves.{TellsFiles}
+use Rattle.snd_disk.specs.State.{Rises, State}
+use Rattle.snd_layout.specs.Params.{Parameters}
+use Rattle.snd_layout.specs.Shape.{Shape}
+use Rattle.snd_layout.specs.declared.error.OpenError.{OpenError}
+use Rattle.snd_layout.specs.declared.error.OpenError.TheVariants.{Refused}
+use Rattle.snd_layout.specs.declared.kind.Kind.{Kind}
+use Rattle.snd_layout.specs.declared.refusal.OpenRefusal.{OpenRefusal}
+use Rattle.snd_modes.specs.declared.handle.File.{File}
+use Rattle.snd_modes.specs.declared.mode.Mode.{Ghosts as ModeGhosts}
+use Rattle.snd_modes.specs.Editing.{Editing, first_editing, opening_of}
+use Rattle.snd_modes.specs.Handle.{Stands, codec_of}
+use Rattle.snd_output.specs.Made.{IsMaking, made_file}
+use Rattle.snd_output.specs.declared.stop.Stop.{Stop}
+use Rattle.snd_output.specs.declared.stop.Stop.TheVariants.{Fault, Memory}
+use Rattle.snd_tools.specs.Done.{Done}
+use Rattle.snd_tools.specs.Shelves.{HasFiles, IsDone}
+use Rattle.snd_tools.specs.declared.answer.Answer.{Answer}
+use Rattle.snd_interleave.specs.Beside.{frames_from, side_by_side}
+use Rattle.snd_interleave.specs.Interleave.{channels_in}
+use Rattle.snd_interleave.specs.declared.input.Input.{Input}
+
+-- ---- one input
+
+-- an input whose disk tells what it holds is a file that was opened
+pub record Holds {D : Type 0} {ghosts : Ghosts D} (state : D → State) (input : Input D ghosts) (e : Editing) : Type 0 where
+  pub bytes : Tells state input.disk e.bytes
+  pub opened : e ≡ first_editing e.bytes input.layout
+  pub count : e.shape.frames ≡ length e.frames
+
+-- an input was only read
+pub record Reads {D : Type 0} {ghosts : Ghosts D} (state : D → State) (may_leave : D → List ℕ → Type 0) (left_between : D → ℕ → ℕ → List ℕ → Type 0) (old new : Input D ghosts) : Type 0 where
+  pub layout : new.layout ≡ old.layout
+  pub disk : OnlyReadsOn state may_leave left_between old.disk new.disk
+
+abbrev pub faults_of : {D : Type 0} {ghosts : Ghosts D} → (D → State) → Input D ghosts → ℕ
+faults_of state input = (state input.disk).faults
+
+-- numbers are those of a list from a place on, and zeros behind its end
+abbrev pub AreNumbersAt : ℕ → List ℤ → List ℤ → Type 0
+AreNumbersAt place all xs = (j : ℕ) → j < length xs → get_or xs j (pos 0) ≡ get_or all (place + j) (pos 0)
+
+-- a disk that was opened, or was not, and why
+abbrev pub disk_back : {D : Type 0} {ghosts : Ghosts D} → Result (Input D ghosts) (OpenError × D) → D
+disk_back (Ok input) = input.disk
+disk_back (Err error) = error.1
+
+abbrev pub error_of : {D : Type 0} {ghosts : Ghosts D} → Result (Input D ghosts) (OpenError × D) → Result (Input D ghosts) OpenError
+error_of (Ok input) = Ok input
+error_of (Err error) = Err error.0
+
+abbrev pub OpensInput : {D : Type 0} {ghosts : Ghosts D} → (D → State) → D → Result (Input D ghosts) (OpenError × D) → Type 0
+OpensInput state disk (Ok input) = (b : List ℕ) → Tells state disk b → (e : Editing) × (opening_of b ≡ Ok e) × Holds state input e
+OpensInput state disk (Err error) = (why : OpenRefusal) (b : List ℕ) → error.0 ≡ Refused why → Tells state disk b → opening_of b ≡ Err why
+
+-- ---- several
+
+pub record HoldAll {D : Type 0} {ghosts : Ghosts D} (state : D → State) (inputs : List (Input D ghosts)) (es : List Editing) : Type 0 where
+  pub count : length es ≡ length inputs
+  pub each : (k : ℕ) (d : Input D ghosts) (d' : Editing) → k < length inputs → Holds state (get_or inputs k d) (get_or es k d')
+
+pub record ReadAll {D : Type 0} {ghosts : Ghosts D} (state : D → State) (may_leave : D → List ℕ → Type 0) (left_between : D → ℕ → ℕ → List ℕ → Type 0) (old new : List (Input D ghosts)) : Type 0 where
+  pub count : length new ≡ length old
+  pub each : (k : ℕ) (d d' : Input D ghosts) → k < length old → Reads state may_leave left_between (get_or old k d) (get_or new k d')
+
+-- what they say of themselves
+abbrev pub layouts_of : {D : Type 0} {ghosts : Ghosts D} → List (Input D ghosts) → List Shape
+layouts_of inputs = map (λ input. input.layout) inputs
+
+-- the kind and the parameters of the first
+abbrev pub first_of : List Shape → Option (Kind × Parameters)
+first_of [] = None
+first_of (h ∷ hs) = Some (h.kind, h.params)
+
+-- they have one channel each
+abbrev pub AreMono : {D : Type 0} {ghosts : Ghosts D} → List (Input D ghosts) → Type 0
+AreMono {D = D} {ghosts = ghosts} inputs = (k : ℕ) (d : Input D ghosts) → k < length inputs → (get_or inputs k d).layout.params.channels ≡ 1
+
+-- the greatest number of frames that one of them has
+abbrev pub most_frames : List Shape → ℕ
+most_frames [] = 0
+most_frames (h ∷ hs) = max h.frames (most_frames hs)
+
+-- ---- counts of faults
+
+-- those of no disk have risen
+abbrev pub AreCalm : {D : Type 0} {ghosts : Ghosts D} → (D → State) → List (Input D ghosts) → List (Input D ghosts) → Type 0
+AreCalm {D = D} {ghosts = ghosts} state old new = (k : ℕ) (d d' : Input D ghosts) → k < length old → faults_of state (get_or new k d') ≡ faults_of state (get_or old k d)
+
+-- none has fallen
+abbrev pub AreLater : {D : Type 0} {ghosts : Ghosts D} → (D → State) → List (Input D ghosts) → List (Input D ghosts) → Type 0
+AreLater {D = D} {ghosts = ghosts} state old new = (k : ℕ) (d d' : Input D ghosts) → k < length old → faults_of state (get_or old k d) ≤ faults_of state (get_or new k d')
+
+-- that of one has risen
+abbrev pub OneRises : {D : Type 0} {ghosts : Ghosts D} → (D → State) → List (Input D ghosts) → List (Input D ghosts) → Type 0
+OneRises {D = D} {ghosts = ghosts} state old new = (k : ℕ) × (k < length old) × ((d d' : Input D ghosts) → Rises (faults_of state (get_or old k d)) (faults_of state (get_or new k d')))
+
+-- One rises where the answer is a fault, and there alone. There is never no memory.
+abbrev pub CountsInputs : {D T : Type 0} {ghosts : Ghosts D} → (D → State) → List (Input D ghosts) → List (Input D ghosts) → Result T Stop → Type 0
+CountsInputs state old new (Ok done) = AreCalm state old new
+CountsInputs state old new (Err Fault) = AreLater state old new × OneRises state old new
+CountsInputs state old new (Err Memory) = ⊥
+
+-- One of theirs rises so, or another one.
+abbrev pub CountsAdding : {D T : Type 0} {ghosts : Ghosts D} → (D → State) → List (Input D ghosts) → List (Input D ghosts) → ℕ → ℕ → Result T Stop → Type 0
+CountsAdding state old new other other' (Ok done) = AreCalm state old new × (other' ≡ other)
+CountsAdding state old new other other' (Err Fault) = AreLater state old new × (other ≤ other') × (OneRises state old new ⊎ Rises other other')
+CountsAdding state old new other other' (Err Memory) = ⊥
+
+-- .. and there may be no memory
+abbrev pub CountsWith : {D T : Type 0} {ghosts : Ghosts D} → (D → State) → List (Input D ghosts) → List (Input D ghosts) → ℕ → ℕ → Result T Stop → Type 0
+CountsWith state old new other other' (Ok done) = AreCalm state old new × (other' ≡ other)
+CountsWith state old new other other' (Err Fault) = AreLater state old new × (other ≤ other') × (OneRises state old new ⊎ Rises other other')
+CountsWith state old new other other' (Err Memory) = AreCalm state old new × (other' ≡ other)
+
+-- ---- what is made of them
+
+-- Where the disks tell what they hold, a file that was being made then has so many frames of the inputs more, from one on.
+abbrev pub Lengthens : {D E N : Type 0} {d : Ghosts D} {t : Ghosts E} {n : ModeGhosts N} → (D → State) → (E → State) → ℕ → ℕ → List (Input D d) → File E N t n → File E N t n → Type 0
+Lengthens state state' place count inputs to to' =
+    (kind : Kind) (p : Parameters) (pieces : List NewChunk) (xs : List ℤ) (es : List Editing) (e : Editing)
+    → HoldAll state inputs es → Stands state' to e → IsMaking kind p pieces xs e
+    → (e' : Editing) × Stands state' to' e' × IsMaking kind p pieces (xs ++ frames_from (channels_in (codec_of to) es) place count) e'
+
+-- the bytes of the whole
+abbrev pub bytes_made : Kind → Parameters → List Editing → List ℕ
+bytes_made kind p es = made_file kind p [] (side_by_side (channels_in p.codec es))
+
+abbrev pub Makes : {D E : Type 0} {d : Ghosts D} → (D → State) → (E → State) → Kind → Parameters → List (Input D d) → E → E → Type 0
+Makes state state' kind p inputs old new = (b : List ℕ) (es : List Editing) → Tells state' old b → HoldAll state inputs es → Tells state' new (bytes_made kind p es)
+
+abbrev pub MakesUnder : {D S : Type 0} {d : Ghosts D} → (D → State) → (S → ShelfState) → List ℕ → Kind → Parameters → List (Input D d) → S → S → Type 0
+MakesUnder state shelf_state name kind p inputs old new =
+    (files : Files) (es : List Editing) → TellsFiles shelf_state old files → HoldAll state inputs es → HasFiles shelf_state new (put files name (Some (bytes_made kind p es)))
+
+-- what is answered is what is to be done with the inputs that are open, and that is done
+abbrev pub DoesWith : {D S E : Type 0} {d : Ghosts D} → (D → State) → (S → ShelfState) → (Files → List Editing → Done) → List (Input D d) → S → S → Result Answer E → Type 0
+DoesWith state shelf_state todo inputs old new result =
+    IfOk result (λ answer. (files : Files) (es : List Editing) → TellsFiles shelf_state old files → HoldAll state inputs es → IsDone shelf_state new answer (todo files es) files)

@@ -1,0 +1,100 @@
+-- What `interleave` does: the whole file that it makes, or what it refuses. It refuses in this order: equal names; an input that is
+-- missing or is not opened; one that has more channels than one, or another rate than the first; what the output would be; and more
+-- data than its head has room for.
+use Rattle.std.specs.Prelude.{ℕ, ℤ, pos, Bool, ◌==◌, List, [], ◌∷◌, ◌++◌, Option, Some, None, Result, Ok, Err, get_or, length, map, nat_lt, slice_index_or, if◌then◌else◌}
+use Rattle.snd_disk.specs.Shelf.{Files}
+use Rattle.snd_inputs.specs.Inputs.{inputs_in}
+use Rattle.snd_layout.specs.Fit.{fit_refusal}
+use Rattle.snd_layout.specs.Params.{Parameters, data_bytes, params_of}
+use Rattle.snd_layout.specs.Refusals.{unless}
+use Rattle.snd_layout.specs.Shape.{Shape, room}
+use Rattle.snd_layout.specs.declared.codec.Codec.{Codec}
+use Rattle.snd_layout.specs.declared.kind.Kind.{Kind}
+use Rattle.snd_layout.specs.declared.refusal.OpenRefusal.{OpenRefusal}
+use Rattle.snd_layout.specs.declared.refusal.OpenRefusal.TheVariants.{BadChannels}
+use Rattle.snd_lines.specs.declared.refusal.Refusal.{Refusal}
+use Rattle.snd_lines.specs.declared.refusal.Refusal.TheVariants.{ContainerFull, MixedParams, NotMono, Open, SameName}
+use Rattle.snd_modes.specs.Editing.{Editing}
+use Rattle.snd_modes.specs.Relaid.{shape_with}
+use Rattle.snd_output.specs.Made.{made_file}
+use Rattle.snd_output.specs.Widths.{change_numbers}
+use Rattle.snd_tools.specs.Done.{Done}
+use Rattle.snd_words.specs.Repeats.{first_repeated}
+use Rattle.snd_interleave.specs.Beside.{longest, side_by_side}
+
+-- ---- the file that is made
+
+-- the numbers of a file of one channel, one in each frame
+abbrev pub numbers_of : Editing → List ℤ
+numbers_of e = map (λ frame. get_or frame 0 (pos 0)) e.frames
+
+-- .. in the width of a codec; and those of several files
+abbrev pub channel_in : Codec → Editing → List ℤ
+channel_in codec e = change_numbers e.shape.params.codec codec (numbers_of e)
+
+abbrev pub channels_in : Codec → List Editing → List (List ℤ)
+channels_in codec es = map (channel_in codec) es
+
+-- whether so many frames have more data bytes than the head of a new file has room for
+abbrev pub is_full : Kind → Parameters → ℕ → Bool
+is_full kind p frames = nat_lt (room (shape_with kind p [])) (data_bytes p frames)
+
+-- the file of a kind that has these as its channels, without further chunks
+abbrev pub made_of : List ℕ → Kind → Parameters → List (List ℤ) → Done
+made_of output kind p channels =
+    if is_full kind p (longest channels) then Done.refuses output ContainerFull
+    else Done.makes output (made_file kind p [] (side_by_side channels)) (longest channels)
+
+-- ---- what is refused
+
+-- parameters that a kind holds
+abbrev pub fitting : Kind → Result Parameters OpenRefusal → Result Parameters OpenRefusal
+fitting kind (Err why) = Err why
+fitting kind (Ok p) = unless (fit_refusal kind p) p
+
+abbrev pub planned : Kind → ℕ → ℕ → Codec → Result Parameters OpenRefusal
+planned kind channels rate codec = fitting kind (params_of channels rate codec)
+
+-- the output has the kind, the rate and the codec of the first input, and a channel for each
+abbrev pub done_as : List ℕ → Kind → List Editing → Result Parameters OpenRefusal → Done
+done_as output kind es (Err why) = Done.refuses output (Open why)
+done_as output kind es (Ok p) = made_of output kind p (channels_in p.codec es)
+
+-- why a file is no channel beside a first one
+abbrev pub misfit : Parameters → Parameters → Option Refusal
+misfit first p = if p.channels == 1 then (if p.rate == first.rate then None else Some MixedParams) else Some NotMono
+
+-- the first of some files of which that is so
+abbrev pub misfit_or : List ℕ → Option Refusal → Option (List ℕ × Refusal) → Option (List ℕ × Refusal)
+misfit_or name (Some why) others = Some (name, why)
+misfit_or name None others = others
+
+abbrev pub first_misfit : Parameters → List (List ℕ) → List Shape → Option (List ℕ × Refusal)
+first_misfit first (name ∷ names) (h ∷ hs) = misfit_or name (misfit first h.params) (first_misfit first names hs)
+first_misfit first names hs = None
+
+abbrev pub shapes_of : List Editing → List Shape
+shapes_of es = map (λ e. e.shape) es
+
+abbrev pub done_if_fit : List ℕ → Kind → Parameters → List Editing → Option (List ℕ × Refusal) → Done
+done_if_fit output kind first es (Some refused) = Done.refuses refused.0 refused.1
+done_if_fit output kind first es None = done_as output kind es (planned kind (length es) first.rate first.codec)
+
+-- No words name no inputs. There would be no channels.
+abbrev pub done_beside : List (List ℕ) → List ℕ → List Editing → Done
+done_beside inputs output [] = Done.refuses output (Open BadChannels)
+done_beside inputs output (first ∷ others) =
+    let h = first.shape in
+    done_if_fit output h.kind h.params (first ∷ others) (first_misfit h.params inputs (shapes_of (first ∷ others)))
+
+abbrev pub done_with : List (List ℕ) → List ℕ → Result (List Editing) (List ℕ × Refusal) → Done
+done_with inputs output (Err refused) = Done.refuses refused.0 refused.1
+done_with inputs output (Ok es) = done_beside inputs output es
+
+-- the later of two equal names is named
+abbrev pub done_if_apart : List (List ℕ) → List ℕ → Files → Option ℕ → Done
+done_if_apart inputs output files (Some at) = Done.refuses (slice_index_or (inputs ++ output ∷ []) at []) SameName
+done_if_apart inputs output files None = done_with inputs output (inputs_in files inputs)
+
+abbrev pub interleaved : List (List ℕ) → List ℕ → Files → Done
+interleaved inputs output files = done_if_apart inputs output files (first_repeated (inputs ++ output ∷ []))

@@ -1,0 +1,5 @@
+pub mod Beside
+pub mod Channels
+pub mod Interleave
+pub mod Opening
+pub mod Reading

@@ -1,0 +1,152 @@
+//! The frames of inputs side by side, behind those of a file that is made.
+
+ghost use Rattle.std.specs.Prelude.{◌≡◌, ◌≤◌, ◌*◌, None, OnOk, false, is_none, length, List};
+ghost use Rattle.snd_container.specs.Sound.{fixed_of};
+ghost use Rattle.snd_disk.specs.Device.{GoesOnFrom};
+ghost use Rattle.snd_modes.specs.Edits.{written_to};
+ghost use Rattle.snd_modes.specs.Editing.{Editing};
+ghost use Rattle.snd_modes.specs.Handle.{StandsAfter, channels_of, codec_of, disk_of, known_of, loan_of};
+ghost use Rattle.snd_modes.specs.Outcomes.{TellsOn};
+ghost use Rattle.snd_modes.specs.Reading.{FitCodec};
+ghost use Rattle.snd_modes.specs.WriteCalls.{MayWrite, known_written};
+ghost use Rattle.snd_output.specs.Appended.{CountsFault, HasRoom, IsAtEnd, longer};
+ghost use Rattle.snd_interleave.specs.Beside.{frames_from};
+ghost use Rattle.snd_interleave.specs.Channels.{AreMono, CountsAdding, CountsInputs, HoldAll, Lengthens, ReadAll};
+ghost use Rattle.snd_interleave.specs.Interleave.{channels_in};
+
+use crate::channel::{read_numbers, width_in};
+use crate::input::Input;
+use crate::scatter::{put_channel, width_of};
+use snd_disk::Disk;
+use snd_layout::Codec;
+use snd_modes::{File, Write, WriteError};
+use snd_output::Stop;
+use std::alloc::Global;
+
+/// The numbers that are held at once of all channels, and of one.
+const BLOCK: usize = 16384;
+
+// Puts the frames of inputs into a block, from a place on: as many as a buffer has places for the numbers of
+// one input. Each number has the width of a codec, and is zero behind the end of its input.
+fn fill_block<D: Disk>(
+    alloc: Global,
+    inputs: &mut [Input<D>],
+    place: u64,
+    codec: Codec,
+    buffer: &mut [i32],
+    block: &mut [i32],
+) -> Result<(), Stop>
+    requires mono { AreMono inputs.old }
+    requires linear { is_none (fixed_of codec) ≡ false }
+    requires size { length block.old ≡ length buffer.old * length inputs.old }
+    ensures filled { OnOk result ((es : List Editing) → HoldAll D.state inputs.old es → block.new ≡ frames_from (channels_in codec es) place (length buffer.old)) }
+    ensures in_range { OnOk result (FitCodec codec block.new) }
+    ensures faults { CountsInputs D.state inputs.old inputs.new result }
+    ensures reads { ReadAll D.state D.may_leave D.left_between inputs.old inputs.new }
+{
+    let channels = inputs.len();
+    let width = width_of(codec);
+    for i in 0..channels {
+        let input = &mut inputs[i];
+        let own = width_in(input);
+        read_numbers(alloc, input, place, buffer)?;
+        put_channel(own, width, buffer, channels, i, block);
+    }
+    Ok(())
+}
+
+// The codec of a file that is made, which is not ADPCM. It has some channel.
+fn made_codec<E: Disk>(to: &File<'_, E, Write>) -> Codec
+    ensures codec { result ≡ codec_of to.now }
+    ensures linear { is_none (fixed_of result) ≡ false }
+    ensures some { 1 ≤ channels_of to.now }
+{
+    let params = to.params();
+    params.are_good();
+    params.codec
+}
+
+// Writes frames, which may be written.
+fn write_all<E: Disk>(to: &mut File<'_, E, Write>, from: &[i32]) -> Result<(), Stop>
+    requires working { (known_of to.old).broken ≡ None }
+    requires may { MayWrite from.now (known_of to.old).shape (known_of to.old).write_place }
+    ensures loan { loan_of to.new ≡ loan_of to.old }
+    ensures left { OnOk result (known_of to.new ≡ known_written from.now (known_of to.old)) }
+    ensures stands { OnOk result (StandsAfter E.state to.old to.new (written_to from.now)) }
+    ensures faults { CountsFault (E.state (disk_of to.old)).faults (E.state (disk_of to.new)).faults result }
+    ensures tells { TellsOn E.state to.old to.new }
+    ensures time { GoesOnFrom E.state E.left_between (disk_of to.old) (disk_of to.new) }
+{
+    match to.write_frames(from) {
+        Ok(()) => Ok(()),
+        Err(WriteError::DiskFault(_)) => Err(Stop::Fault),
+        Err(_) => unreachable!(),
+    }
+}
+
+// Puts the frames of inputs, from a place on, behind those of a file that is made: as many as a buffer has
+// places for the numbers of one input. The block has places for all of them.
+fn add_block<D: Disk, E: Disk>(
+    alloc: Global,
+    inputs: &mut [Input<D>],
+    to: &mut File<'_, E, Write>,
+    place: u64,
+    buffer: &mut [i32],
+    block: &mut [i32],
+) -> Result<(), Stop>
+    requires mono { AreMono inputs.old }
+    requires alike { channels_of to.old ≡ length inputs.old }
+    requires at_end { IsAtEnd (known_of to.old) }
+    requires room { HasRoom (length buffer.old) (known_of to.old).shape }
+    requires size { length block.old ≡ length buffer.old * length inputs.old }
+    ensures loan { loan_of to.new ≡ loan_of to.old }
+    ensures left { OnOk result (known_of to.new ≡ longer (length buffer.old) (known_of to.old)) }
+    ensures lengthens { OnOk result (Lengthens D.state E.state place (length buffer.old) inputs.old to.old to.new) }
+    ensures faults { CountsAdding D.state inputs.old inputs.new (E.state (disk_of to.old)).faults (E.state (disk_of to.new)).faults result }
+    ensures reads { ReadAll D.state D.may_leave D.left_between inputs.old inputs.new }
+    ensures tells { TellsOn E.state to.old to.new }
+    ensures time { GoesOnFrom E.state E.left_between (disk_of to.old) (disk_of to.new) }
+{
+    let codec = made_codec(to);
+    fill_block(alloc, inputs, place, codec, buffer, block)?;
+    write_all(to, block)
+}
+
+/// Puts the frames of inputs of one channel behind those of a file that is made, side by side, a block at a
+/// time: so many, from the first on, with zeros where an input has ended. Each number has the width of the
+/// codec of the file.
+///
+/// The answer is `Fault` where a call of a disk failed.
+pub(crate) fn add_frames<D: Disk, E: Disk>(
+    alloc: Global,
+    inputs: &mut [Input<D>],
+    to: &mut File<'_, E, Write>,
+    frames: u64,
+) -> Result<(), Stop>
+    requires mono { AreMono inputs.old }
+    requires alike { channels_of to.old ≡ length inputs.old }
+    requires at_end { IsAtEnd (known_of to.old) }
+    requires room { HasRoom frames (known_of to.old).shape }
+    ensures loan { loan_of to.new ≡ loan_of to.old }
+    ensures left { OnOk result ((known_of to.new).broken ≡ None) }
+    ensures lengthens { OnOk result (Lengthens D.state E.state 0 frames inputs.old to.old to.new) }
+    ensures faults { CountsAdding D.state inputs.old inputs.new (E.state (disk_of to.old)).faults (E.state (disk_of to.new)).faults result }
+    ensures reads { ReadAll D.state D.may_leave D.left_between inputs.old inputs.new }
+    ensures tells { TellsOn E.state to.old to.new }
+    ensures time { GoesOnFrom E.state E.left_between (disk_of to.old) (disk_of to.new) }
+{
+    let channels = inputs.len();
+    to.params().are_good();
+    let most = BLOCK / channels;
+    let mut buffer = [0; BLOCK];
+    let mut block = [0; BLOCK];
+    let mut place = 0;
+    while place < frames {
+        let count = (frames - place).min(most as u64) as usize;
+        let numbers = &mut buffer[..count];
+        let whole = &mut block[..count * channels];
+        add_block(alloc, inputs, to, place, numbers, whole)?;
+        place += count as u64;
+    }
+    Ok(())
+}

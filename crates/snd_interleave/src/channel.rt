@@ -1,0 +1,136 @@
+//! The numbers of one input.
+
+ghost use Rattle.std.specs.Prelude.{◌≡◌, ◌+◌, ◌-◌, ◌<◌, ◌≤◌, ◌^◌, ℕ, [], All, IfOk, None, OnOk, false, get_or, is_none, length, min, pos, take};
+ghost use Rattle.snd_container.specs.Sound.{fixed_of};
+ghost use Rattle.snd_disk.specs.Device.{IfOkTold, OnlyReadsOn};
+ghost use Rattle.snd_layout.specs.Shape.{end, room};
+ghost use Rattle.snd_modes.specs.Editing.{Editing, first_editing};
+ghost use Rattle.snd_modes.specs.Handle.{IfOkStanding, channels_of, codec_of, disk_of, known_of, loan_of};
+ghost use Rattle.snd_modes.specs.Reading.{FitCodec};
+ghost use Rattle.snd_output.specs.Appended.{CountsFault};
+ghost use Rattle.snd_output.specs.Widths.{width_of};
+ghost use Rattle.snd_pcm.specs.Width.{HasWidth, IsWidth};
+ghost use Rattle.snd_interleave.specs.Channels.{AreNumbersAt, Holds, Reads};
+ghost use Rattle.snd_interleave.specs.Interleave.{numbers_of};
+ghost use Rattle.snd_interleave.specs.Reading.{GivesNumbers};
+
+use crate::input::Input;
+use crate::opening::{bare_layout, close_read};
+use crate::scatter::width_of;
+use snd_disk::Disk;
+use snd_layout::Layout;
+use snd_modes::{File, Read, ReadError, open_laid};
+use snd_output::Stop;
+use std::alloc::Global;
+
+/// How many bits the numbers of an input have.
+pub(crate) fn width_in<D: Disk>(input: &Input<D>) -> u8
+    ensures value { result ≡ width_of input.now.layout.params.codec }
+    ensures is { IsWidth result }
+{
+    width_of(input.layout.params.codec)
+}
+
+// Reads the numbers of an open file of one channel, from a frame on: as many as the slice has places for,
+// fewer only at the end.
+fn read_from<D: Disk>(
+    file: &mut File<'_, D, Read>,
+    place: u64,
+    into: &mut [i32],
+) -> Result<usize, Stop>
+    requires working { (known_of file.old).broken ≡ None }
+    requires mono { channels_of file.old ≡ 1 }
+    requires within { place ≤ (known_of file.old).shape.frames }
+    ensures loan { loan_of file.new ≡ loan_of file.old }
+    ensures count { IfOk result (λ k. k ≡ min (length into.old) ((known_of file.old).shape.frames - place)) }
+    ensures read { IfOkStanding D.state file.old result (GivesNumbers place into.new) }
+    ensures in_range { IfOk result (λ k. FitCodec (codec_of file.old) (take k into.new)) }
+    ensures faults { CountsFault (D.state (disk_of file.old)).faults (D.state (disk_of file.new)).faults result }
+    ensures reads { OnlyReadsOn D.state D.may_leave D.left_between (disk_of file.old) (disk_of file.new) }
+{
+    let Ok(()) = file.seek_read(place) else {
+        unreachable!()
+    };
+    match file.read_frames(into) {
+        Ok(count) => Ok(count),
+        Err(ReadError::DiskFault(_)) => Err(Stop::Fault),
+        Err(_) => unreachable!(),
+    }
+}
+
+// .. of the file on a disk, by its layout
+fn read_laid<D: Disk>(
+    disk: &mut D,
+    layout: Layout,
+    place: u64,
+    into: &mut [i32],
+) -> Result<usize, Stop>
+    requires held { end layout layout.frames ≤ (D.state disk.old).size }
+    requires linear { is_none (fixed_of layout.params.codec) ≡ false }
+    requires room_ends { layout.start + room layout + 8 ≤ 2 ^ 63 }
+    requires no_pieces { layout.pieces ≡ [] }
+    requires mono { layout.params.channels ≡ 1 }
+    requires within { place ≤ layout.frames }
+    ensures count { IfOk result (λ k. k ≡ min (length into.old) (layout.frames - place)) }
+    ensures read { IfOkTold D.state disk.old result (λ b. GivesNumbers place into.new (first_editing b layout)) }
+    ensures in_range { IfOk result (λ k. FitCodec layout.params.codec (take k into.new)) }
+    ensures faults { CountsFault (D.state disk.old).faults (D.state disk.new).faults result }
+    ensures reads { OnlyReadsOn D.state D.may_leave D.left_between disk.old disk.new }
+{
+    let mut file = open_laid(disk, layout);
+    let count = read_from(&mut file, place, into);
+    let back = close_read(file);
+    let _ = back;
+    count
+}
+
+// .. of an input
+fn read_input<D: Disk>(
+    alloc: Global,
+    input: &mut Input<D>,
+    place: u64,
+    into: &mut [i32],
+) -> Result<usize, Stop>
+    requires mono { input.old.layout.params.channels ≡ 1 }
+    ensures count { IfOk result (λ k. k ≡ min (length into.old) (input.old.layout.frames - place)) }
+    ensures read { IfOk result (λ k. (e : Editing) → Holds D.state input.old e → GivesNumbers place into.new e k) }
+    ensures in_range { IfOk result (λ k. FitCodec input.old.layout.params.codec (take k into.new)) }
+    ensures faults { CountsFault (D.state input.old.disk).faults (D.state input.new.disk).faults result }
+    ensures reads { Reads D.state D.may_leave D.left_between input.old input.new }
+{
+    if place >= input.layout.frames {
+        return Ok(0);
+    }
+    let layout = bare_layout(alloc, &input.layout);
+    read_laid(&mut input.disk, layout, place, into)
+}
+
+// Puts zeros into a slice from a place on.
+fn put_zeros(from: usize, into: &mut [i32])
+    requires { from ≤ length into.old }
+    ensures zeros { (j : ℕ) → from ≤ j → j < length into.new → get_or into.new j (pos 0) ≡ pos 0 }
+    ensures front { take from into.new ≡ take from into.old }
+{
+    for number in into[from..].iter_mut() {
+        *number = 0;
+    }
+}
+
+/// Reads the numbers of an input from a frame on, as many as the slice has places for, with zeros behind
+/// its end.
+pub(crate) fn read_numbers<D: Disk>(
+    alloc: Global,
+    input: &mut Input<D>,
+    place: u64,
+    into: &mut [i32],
+) -> Result<(), Stop>
+    requires mono { input.old.layout.params.channels ≡ 1 }
+    ensures read { OnOk result ((e : Editing) → Holds D.state input.old e → AreNumbersAt place (numbers_of e) into.new) }
+    ensures in_range { OnOk result (All (HasWidth (width_of input.old.layout.params.codec)) into.new) }
+    ensures faults { CountsFault (D.state input.old.disk).faults (D.state input.new.disk).faults result }
+    ensures reads { Reads D.state D.may_leave D.left_between input.old input.new }
+{
+    let count = read_input(alloc, input, place, into)?;
+    put_zeros(count, into);
+    Ok(())
+}

@@ -1,0 +1,165 @@
+//! The tool that puts sound files side by side.
+
+ghost use Rattle.std.specs.Prelude.{◌≡◌, ◌+◌, ◌≤◌, Some, false, length, slice_get, take};
+ghost use Rattle.std.specs.Vec.{vec_len};
+ghost use Rattle.snd_disk.specs.Device.{OnlyReadsOn};
+ghost use Rattle.snd_output.specs.Ends.{CountsStop};
+ghost use Rattle.snd_tools.specs.Shelves.{ChangesOne, Does, IsAllIn};
+ghost use Rattle.snd_interleave.specs.Channels.{CountsWith, DoesWith, ReadAll};
+ghost use Rattle.snd_interleave.specs.Opening.{AreApart, AreOut, CountsBoth, DoesNext, done_next, done_rest};
+ghost use Rattle.snd_interleave.specs.Interleave.{done_beside, interleaved};
+
+use crate::input::Input;
+use crate::judge::{first_misfit, first_of, is_full, most_frames, planned};
+use crate::make::make_under;
+use crate::opening::open_input;
+use snd_disk::{Disk, Shelf, ShelfFault};
+use snd_layout::{OpenError, OpenRefusal};
+use snd_lines::Refusal;
+use snd_output::Stop;
+use snd_tools::Answer;
+use snd_words::{Interleaving, first_repeated};
+use std::alloc::Global;
+
+// Makes the output of inputs that are all open, and fit.
+fn join<'a, S: Shelf, D: Disk>(
+    alloc: Global,
+    interleaving: &Interleaving<'a>,
+    inputs: &mut [Input<D>],
+    shelf: &mut S,
+) -> Result<Answer<'a>, Stop>
+    requires is_in { (S.state shelf.old).out interleaving.now.output.now ≡ false }
+    requires all { length inputs.old ≡ length interleaving.now.inputs }
+    ensures done { DoesWith D.state S.state (λ files es. done_beside interleaving.now.inputs interleaving.now.output.now es) inputs.old shelf.old shelf.new result }
+    ensures changes { ChangesOne S.Shelf interleaving.now.output.now shelf.old shelf.new }
+    ensures faults { CountsWith D.state inputs.old inputs.new (S.state shelf.old).faults (S.state shelf.new).faults result }
+    ensures reads { ReadAll D.state D.may_leave D.left_between inputs.old inputs.new }
+{
+    let output = interleaving.output;
+    let Some((kind, own)) = first_of(inputs) else {
+        let why = Refusal::Open(OpenRefusal::BadChannels);
+        return Ok(Answer::Refused(output, why));
+    };
+    if let Some((name, why)) = first_misfit(own, &interleaving.inputs, inputs) {
+        return Ok(Answer::Refused(name, why));
+    }
+    let params = match planned(kind, inputs.len() as u64, own) {
+        Ok(params) => params,
+        Err(why) => return Ok(Answer::Refused(output, Refusal::Open(why))),
+    };
+    let frames = most_frames(inputs);
+    if is_full(kind, params, frames) {
+        return Ok(Answer::Refused(output, Refusal::ContainerFull));
+    }
+    match make_under(alloc, inputs, kind, params, frames, output, shelf) {
+        Ok(()) => Ok(Answer::Made(frames)),
+        Err(stop) => Err(stop),
+    }
+}
+
+// Opens the inputs that are left, beside those that are open already, and makes the output once all are. Each
+// is held until that is done, and given back.
+#[cycle(opening)]
+fn open_rest<'a, S: Shelf>(
+    alloc: Global,
+    interleaving: &Interleaving<'a>,
+    inputs: &mut Vec<Input<S::Disk>>,
+    shelf: &mut S,
+) -> Result<Answer<'a>, Stop>
+    requires apart { AreApart interleaving.now.inputs interleaving.now.output.now }
+    requires within { vec_len inputs.old ≤ length interleaving.now.inputs }
+    requires out { AreOut (take (vec_len inputs.old) interleaving.now.inputs) (S.state shelf.old) }
+    ensures done { DoesWith S.Disk.state S.state (done_rest interleaving.now.inputs interleaving.now.output.now) inputs.old.items shelf.old shelf.new result }
+    ensures changes { ChangesOne S.Shelf interleaving.now.output.now shelf.old shelf.new }
+    ensures faults { CountsWith S.Disk.state inputs.old.items inputs.new.items (S.state shelf.old).faults (S.state shelf.new).faults result }
+    ensures reads { ReadAll S.Disk.state S.Disk.may_leave S.Disk.left_between inputs.old.items inputs.new.items }
+{
+    let Some(name) = interleaving.inputs.get(inputs.len()) else {
+        return join(alloc, interleaving, inputs.as_mut_slice(), shelf);
+    };
+    let disk = match shelf.take(name, false) {
+        Ok(disk) => disk,
+        Err(ShelfFault::Missing) => return Ok(Answer::Refused(name, Refusal::MissingFile)),
+        Err(ShelfFault::Failed) => return Err(Stop::Fault),
+        Err(ShelfFault::Memory) => return Err(Stop::Memory),
+    };
+    let (answer, disk) = open_next(alloc, interleaving, name, disk, inputs, shelf);
+    shelf.give(name, disk);
+    answer
+}
+
+// .. with the next one, which a disk holds that was taken out. The disk comes back.
+#[cycle(opening)]
+fn open_next<'a, S: Shelf>(
+    alloc: Global,
+    interleaving: &Interleaving<'a>,
+    name: &'a str,
+    disk: S::Disk,
+    inputs: &mut Vec<Input<S::Disk>>,
+    shelf: &mut S,
+) -> (Result<Answer<'a>, Stop>, S::Disk)
+    requires apart { AreApart interleaving.now.inputs interleaving.now.output.now }
+    requires named { slice_get interleaving.now.inputs (vec_len inputs.old) ≡ Some name.now }
+    requires out { AreOut (take (vec_len inputs.old + 1) interleaving.now.inputs) (S.state shelf.old) }
+    ensures done { DoesNext S.Disk.state S.state (done_next interleaving.now.inputs interleaving.now.output.now name.now) inputs.old.items disk shelf.old shelf.new result.0 }
+    ensures changes { ChangesOne S.Shelf interleaving.now.output.now shelf.old shelf.new }
+    ensures faults { CountsBoth S.Disk.state inputs.old.items inputs.new.items disk result.1 (S.state shelf.old).faults (S.state shelf.new).faults result.0 }
+    ensures reads { ReadAll S.Disk.state S.Disk.may_leave S.Disk.left_between inputs.old.items inputs.new.items }
+    ensures disk { OnlyReadsOn S.Disk.state S.Disk.may_leave S.Disk.left_between disk result.1 }
+{
+    let input = match open_input(alloc, disk) {
+        Ok(input) => input,
+        Err((OpenError::Refused(why), disk)) => {
+            return (Ok(Answer::Refused(name, Refusal::Open(why))), disk);
+        }
+        Err((OpenError::Memory, disk)) => return (Err(Stop::Memory), disk),
+        Err((OpenError::DiskFault(_), disk)) => return (Err(Stop::Fault), disk),
+        Err((OpenError::AdpcmUpdate | OpenError::UnknownLength, disk)) => {
+            return (Err(Stop::Fault), disk);
+        }
+    };
+    if let Err(failed) = inputs.push(input) {
+        let Input { disk, layout: _ } = failed.value;
+        return (Err(Stop::Memory), disk);
+    }
+    let answer = open_rest(alloc, interleaving, inputs, shelf);
+    let Some(input) = inputs.pop() else {
+        unreachable!()
+    };
+    let Input { disk, layout: _ } = input;
+    (answer, disk)
+}
+
+/// Puts sound files of one channel side by side: the output is made, or replaced, whole, with the kind, the
+/// rate and the codec of the first input, a channel for each, and as many frames as the longest has. A number
+/// has the width of the first input's codec, and is zero where its input has ended. Further chunks are not
+/// carried. Each other file is as before, whatever comes.
+///
+/// All that is refused is refused before the output is touched, in this order: `SameName`, by the first
+/// name that equals an earlier one; `MissingFile`, or why an input does not open, and `NotBuilt` where its
+/// codec is ADPCM; `NotMono` and `MixedParams` of an input that has more channels or another rate than the
+/// first, input by input; why the output's kind does not hold its parameters, as 2 channels in 8SVX;
+/// `ContainerFull` where its head has no room for the data.
+///
+/// `Fault` where a call of the shelf or of a disk failed, and `Memory` where there is none: then the output
+/// may stand there in part. All inputs are open at once, and frames pass in blocks.
+pub fn interleave<'a, S: Shelf>(
+    alloc: Global,
+    interleaving: &Interleaving<'a>,
+    shelf: &mut S,
+) -> Result<Answer<'a>, Stop>
+    requires back { IsAllIn (S.state shelf.old) }
+    ensures done { Does S.state (interleaved interleaving.now.inputs interleaving.now.output.now) shelf.old shelf.new result }
+    ensures changes { ChangesOne S.Shelf interleaving.now.output.now shelf.old shelf.new }
+    ensures faults { CountsStop (S.state shelf.old).faults (S.state shelf.new).faults result }
+{
+    let output = interleaving.output;
+    if let Some(at) = first_repeated(&interleaving.inputs, output) {
+        let name = interleaving.inputs.get(at).unwrap_or(output);
+        return Ok(Answer::Refused(name, Refusal::SameName));
+    }
+    let mut inputs = Vec::new(alloc);
+    let answer = open_rest(alloc, interleaving, &mut inputs, shelf);
+    inputs.destroy_empty();
+    answer
+}

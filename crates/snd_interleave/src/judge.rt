@@ -1,0 +1,103 @@
+//! What inputs may stand side by side, and as what.
+
+ghost use Rattle.std.specs.Prelude.{◌≡◌, IfOk, IfSome, None, false, is_none, length, option_map};
+ghost use Rattle.snd_container.specs.Sound.{fixed_of};
+ghost use Rattle.snd_layout.specs.Fit.{fit_refusal};
+ghost use Rattle.snd_interleave.specs.Channels.{first_of, layouts_of, most_frames};
+ghost use Rattle.snd_interleave.specs.Interleave.{first_misfit, is_full, misfit, planned};
+
+use crate::input::Input;
+use snd_container::fit;
+use snd_disk::Disk;
+use snd_layout::{Kind, OpenRefusal, Params};
+use snd_lines::Refusal;
+use snd_room::room_with;
+use snd_words::Names;
+
+// Why a file is no channel beside a first one.
+fn misfit(first: Params, params: Params) -> Option<Refusal>
+    ensures { result ≡ misfit first params }
+{
+    if params.channels != 1 {
+        Some(Refusal::NotMono)
+    } else if params.rate != first.rate {
+        Some(Refusal::MixedParams)
+    } else {
+        None
+    }
+}
+
+// The kind of an input, and its parameters, whose codec is not ADPCM.
+fn kind_in<D: Disk>(input: &Input<D>) -> Kind
+    ensures { result ≡ input.now.layout.kind }
+{
+    input.layout.kind
+}
+
+fn params_in<D: Disk>(input: &Input<D>) -> Params
+    ensures value { result ≡ input.now.layout.params }
+    ensures linear { is_none (fixed_of result.codec) ≡ false }
+{
+    input.layout.params
+}
+
+/// The kind and the parameters of the first input.
+pub(crate) fn first_of<D: Disk>(inputs: &[Input<D>]) -> Option<(Kind, Params)>
+    ensures value { result ≡ first_of (layouts_of inputs.now) }
+    ensures linear { IfSome result (λ r. is_none (fixed_of r.1.codec) ≡ false) }
+{
+    let first = inputs.first()?;
+    Some((kind_in(first), params_in(first)))
+}
+
+/// The name of the first input that is no channel beside a first one, and why.
+pub(crate) fn first_misfit<'a, D: Disk>(
+    first: Params,
+    names: &Names<'a>,
+    inputs: &[Input<D>],
+) -> Option<(&'a str, Refusal)>
+    requires { length names.now ≡ length inputs.now }
+    ensures { option_map (λ r. (r.0.now, r.1)) result ≡ first_misfit first names.now (layouts_of inputs.now) }
+{
+    for (at, input) in inputs.iter().enumerate() {
+        let name = names.get(at)?;
+        if let Some(why) = misfit(first, params_in(input)) {
+            return Some((name, why));
+        }
+    }
+    None
+}
+
+/// The greatest number of frames that an input has.
+pub(crate) fn most_frames<D: Disk>(inputs: &[Input<D>]) -> u64
+    ensures { result ≡ most_frames (layouts_of inputs.now) }
+{
+    let mut most = 0;
+    for input in inputs {
+        most = input.layout.frames.max(most);
+    }
+    most
+}
+
+/// The parameters of a file of a kind with so many channels, and else the given ones, where the kind holds
+/// them.
+pub(crate) fn planned(kind: Kind, channels: u64, own: Params) -> Result<Params, OpenRefusal>
+    ensures value { result ≡ planned kind channels own.rate own.codec }
+    ensures fits { IfOk result (λ p. fit_refusal kind p ≡ None) }
+    ensures codec { IfOk result (λ p. p.codec ≡ own.codec) }
+    ensures channels { IfOk result (λ p. p.channels ≡ channels) }
+{
+    let params = Params::new(channels, u64::from(own.rate), own.codec)?;
+    fit(kind, params)?;
+    Ok(params)
+}
+
+/// Whether so many frames have more data bytes than the head of a new file has room for.
+pub(crate) fn is_full(kind: Kind, params: Params, frames: u64) -> bool
+    requires fits { fit_refusal kind params ≡ None }
+    requires linear { is_none (fixed_of params.codec) ≡ false }
+    ensures { result ≡ is_full kind params frames }
+{
+    let bytes = u128::from(frames) * u128::from(params.block_align());
+    bytes > u128::from(room_with(kind, params, 0))
+}

@@ -1,0 +1,13 @@
+//! Sound files of one channel put side by side, as the channels of one file.
+#![tactic(auto)]
+
+mod blocks;
+mod channel;
+mod input;
+mod interleaving;
+mod judge;
+mod make;
+mod opening;
+mod scatter;
+
+pub use interleaving::interleave;

@@ -1,0 +1,92 @@
+//! The file that is made of inputs.
+
+ghost use Rattle.std.specs.Prelude.{◌≡◌, None, OnOk, false, is_none, length};
+ghost use Rattle.snd_container.specs.Sound.{fixed_of};
+ghost use Rattle.snd_disk.specs.Device.{GoesOnFrom};
+ghost use Rattle.snd_layout.specs.Fit.{fit_refusal};
+ghost use Rattle.snd_patch.specs.Steps.{StillTells};
+ghost use Rattle.snd_tools.specs.Shelves.{ChangesOne};
+ghost use Rattle.snd_interleave.specs.Channels.{AreMono, CountsWith, Makes, MakesUnder, ReadAll, layouts_of, most_frames};
+ghost use Rattle.snd_interleave.specs.Interleave.{is_full};
+
+use crate::blocks::add_frames;
+use crate::input::Input;
+use snd_disk::{Disk, Shelf, ShelfFault};
+use snd_layout::{Kind, Params};
+use snd_output::{Stop, begin, finish};
+use std::alloc::Global;
+
+// Makes the whole file of so many frames on a disk.
+fn make<D: Disk, E: Disk>(
+    alloc: Global,
+    inputs: &mut [Input<D>],
+    kind: Kind,
+    params: Params,
+    frames: u64,
+    disk: &mut E,
+) -> Result<(), Stop>
+    requires mono { AreMono inputs.old }
+    requires alike { params.channels ≡ length inputs.old }
+    requires fits { fit_refusal kind params ≡ None }
+    requires linear { is_none (fixed_of params.codec) ≡ false }
+    requires all { frames ≡ most_frames (layouts_of inputs.old) }
+    requires room { is_full kind params frames ≡ false }
+    ensures made { OnOk result (Makes D.state E.state kind params inputs.old disk.old disk.new) }
+    ensures faults { CountsWith D.state inputs.old inputs.new (E.state disk.old).faults (E.state disk.new).faults result }
+    ensures reads { ReadAll D.state D.may_leave D.left_between inputs.old inputs.new }
+    ensures tells { StillTells (E.state disk.old) (E.state disk.new) }
+    ensures time { GoesOnFrom E.state E.left_between disk.old disk.new }
+{
+    params.are_good();
+    let mut to = match begin(alloc, disk, kind, params) {
+        Ok(to) => to,
+        Err((stop, back)) => {
+            let _ = back;
+            return Err(stop);
+        }
+    };
+    let added = add_frames(alloc, inputs, &mut to, frames);
+    match finish(to) {
+        Ok(back) => {
+            let _ = back;
+            added
+        }
+        Err((stop, back)) => {
+            let _ = back;
+            Err(stop)
+        }
+    }
+}
+
+/// Makes it under a name.
+pub(crate) fn make_under<S: Shelf, D: Disk>(
+    alloc: Global,
+    inputs: &mut [Input<D>],
+    kind: Kind,
+    params: Params,
+    frames: u64,
+    name: &str,
+    shelf: &mut S,
+) -> Result<(), Stop>
+    requires is_in { (S.state shelf.old).out name.now ≡ false }
+    requires mono { AreMono inputs.old }
+    requires alike { params.channels ≡ length inputs.old }
+    requires fits { fit_refusal kind params ≡ None }
+    requires linear { is_none (fixed_of params.codec) ≡ false }
+    requires all { frames ≡ most_frames (layouts_of inputs.old) }
+    requires room { is_full kind params frames ≡ false }
+    ensures made { OnOk result (MakesUnder D.state S.state name.now kind params inputs.old shelf.old shelf.new) }
+    ensures changes { ChangesOne S.Shelf name.now shelf.old shelf.new }
+    ensures faults { CountsWith D.state inputs.old inputs.new (S.state shelf.old).faults (S.state shelf.new).faults result }
+    ensures reads { ReadAll D.state D.may_leave D.left_between inputs.old inputs.new }
+{
+    let mut disk = match shelf.take(name, true) {
+        Ok(disk) => disk,
+        Err(ShelfFault::Failed) => return Err(Stop::Fault),
+        Err(ShelfFault::Memory) => return Err(Stop::Memory),
+        Err(ShelfFault::Missing) => unreachable!(),
+    };
+    let made = make(alloc, inputs, kind, params, frames, &mut disk);
+    shelf.give(name, disk);
+    made
+}
