@@ -9,9 +9,9 @@ ghost use Rattle.snd_interleave.specs.Interleave.{first_misfit, is_full, misfit,
 use crate::input::Input;
 use snd_container::fit;
 use snd_disk::Disk;
+use snd_inputs::{bare_room, exceeds_room};
 use snd_layout::{Kind, OpenRefusal, Params};
 use snd_lines::Refusal;
-use snd_room::room_with;
 use snd_words::Names;
 
 // Why a file is no channel beside a first one.
@@ -98,6 +98,5 @@ pub(crate) fn is_full(kind: Kind, params: Params, frames: u64) -> bool
     requires linear { is_none (fixed_of params.codec) ≡ false }
     ensures { result ≡ is_full kind params frames }
 {
-    let bytes = u128::from(frames) * u128::from(params.block_align());
-    bytes > u128::from(room_with(kind, params, 0))
+    exceeds_room(bare_room(kind, params), params, u128::from(frames))
 }
