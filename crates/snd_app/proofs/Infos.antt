@@ -8,7 +8,8 @@ use Rattle.snd_disk.specs.Streams.{AppendsFront}
 use Rattle.snd_disk.proofs.Chains.{keeps_images_then}
 use Rattle.snd_app.specs.Look.{OnlyLooks}
 use Rattle.snd_app.specs.declared.look.Found.{Found}
-use Rattle.snd_app.specs.Outcome.{Outcome, and_then, found_in, info, is_refused, outcome_of_info, outcome_of_infos, says}
+use Rattle.snd_app.specs.Outcome.{found_in, info, is_refused, outcome_of_info, outcome_of_infos}
+use Rattle.snd_app.specs.Printed.{Outcome, and_then, says}
 use Rattle.snd_app.specs.Run.{AnyRises, Appends, Faults, IsRun, Prints, PrintsFront, SameFaults}
 use Rattle.snd_app.proofs.Fronts.{part_front}
 

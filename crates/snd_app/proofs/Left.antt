@@ -11,8 +11,7 @@ use Rattle.snd_disk.specs.State.{GoesOn}
 use Rattle.snd_disk.specs.declared.shelf.Shelf.{Ghosts as ShelfMeaning}
 use Rattle.snd_script.proofs.ShelfLeft.{some_of}
 use Rattle.snd_script.specs.Served.{LeavesShelf}
-use Rattle.snd_tools.specs.Shelves.{ChangesOne}
-use Rattle.snd_app.specs.Run.{IsAllIn}
+use Rattle.snd_tools.specs.Shelves.{ChangesOne, IsAllIn}
 
 pub kept_leaves : {S : Type 0} (state : S → ShelfState) (may_leave : S → List ℕ → List ℕ → Type 0) (left_between : S → List ℕ → ℕ → ℕ → List ℕ → Type 0) (old new : S)
     → IsAllIn (state old) → IsAllIn (state new) → KeepsFiles (state old) (state new) → KeepsFileImages state may_leave left_between old new → LeavesShelf state left_between old new

@@ -1,12 +1,13 @@
 -- What stands under a name that was taken out.
-use Rattle.std.proofs.Common.{◌≡◌, ℕ, List, [], false, Some, unwrap_or, Result, Ok, Err, IfOk, refl, sym, ◌∙◌, ap, inl, inr, subst, arith}
+use Rattle.std.proofs.Common.{◌≡◌, ℕ, List, [], false, Some, unwrap_or, Result, Ok, Err, IfOk, refl, sym, ◌∙◌, ap, subst, arith}
 use Rattle.snd_disk.specs.State.{Adds, Rises, State}
 use Rattle.snd_disk.specs.Shelf.{Files, ShelfState, Takes}
 use Rattle.snd_container.specs.Sound.{layout_of}
 use Rattle.snd_app.specs.declared.look.Found.{Found}
-use Rattle.snd_app.specs.declared.look.Stop.{Stop}
-use Rattle.snd_app.specs.declared.look.Stop.TheVariants.{Fault, Memory}
-use Rattle.snd_app.specs.Look.{CountsStop}
+use Rattle.snd_output.specs.declared.stop.Stop.{Stop}
+use Rattle.snd_output.specs.declared.stop.Stop.TheVariants.{Fault, Memory}
+use Rattle.snd_output.specs.Ends.{CountsStop}
+use Rattle.snd_tools.proofs.Counts.{rises_with}
 use Rattle.snd_app.specs.Outcome.{found_in, found_of}
 
 -- the file's bytes are the disk's
@@ -22,13 +23,9 @@ pub if_ok : {T E : Type 0} (r : Result T E) (P Q : T → Type 0) → ((x : T) �
 if_ok (Ok x) P Q f p = f x p
 if_ok (Err e) P Q f p = p
 
--- a shelf's count rises with that of a disk that was fresh when it was taken
-rises_given : (mid disk new : ℕ) → Rises 0 disk → Adds mid disk new → Rises mid new
-rises_given mid disk new (inl some) adds = elim adds.least [ inl le ↦ inl (omega arith) | inr all ↦ inr all ]
-rises_given mid disk new (inr most) adds = elim adds.least [ inl le ↦ inl (omega arith) | inr all ↦ inr all ]
-
+-- a shelf's count is that of before and that of a disk that was fresh when it was taken
 pub counts_given : {T : Type 0} (r : Result T Stop) (old mid fresh disk new : ℕ) → mid ≡ old → fresh ≡ 0 → CountsStop fresh disk r → Adds mid disk new → CountsStop old new r
 counts_given (Ok x) old mid fresh disk new same none counts adds = omega (arith, adds.later, adds.most)
 counts_given (Err Memory) old mid fresh disk new same none counts adds = omega (arith, adds.later, adds.most)
 counts_given (Err Fault) old mid fresh disk new same none counts adds =
-    (omega (arith, adds.later), subst (λ (m : ℕ). Rises m new) same (rises_given mid disk new (subst (λ (z : ℕ). Rises z disk) none counts.1) adds))
+    (omega (arith, adds.later), subst (λ (m : ℕ). Rises m new) same (rises_with mid disk new (subst (λ (z : ℕ). Rises z disk) none counts.1) adds))

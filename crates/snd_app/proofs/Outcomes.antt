@@ -6,8 +6,8 @@ use Rattle.snd_script.specs.Served.{HasFiles}
 use Rattle.snd_app.specs.declared.look.Found.{Found}
 use Rattle.snd_app.specs.declared.look.Found.TheVariants.{Missing, Refused, Sound}
 use Rattle.snd_words.specs.Asked.{Asked}
-use Rattle.snd_app.specs.Outcome.{Outcome, files_of, info, is_refusal, is_refused, outcome_of, outcome_said, text_of, text_said}
-use Rattle.snd_tools.specs.Done.{Said}
+use Rattle.snd_app.specs.Outcome.{files_of, info, is_refused, outcome_of, text_of}
+use Rattle.snd_app.specs.Printed.{Outcome}
 use Rattle.snd_app.specs.Run.{Appends, Faults, IsOutcome, IsPut, IsRun, PrintsFront, Told}
 
 -- nothing is put to a sink
@@ -49,15 +49,6 @@ pub described_is : (name : List ℕ) (found : Found) → is_refused found ≡ fa
 described_is name Missing is = absurd (cc)
 described_is name (Refused why) is = absurd (cc)
 described_is name (Sound layout texts) is = refl
-
--- what a tool says, where it refuses, and where it does not
-pub tool_refused : (said : Said) → is_refusal said ≡ true → record { out = []; err = text_said said; status = 1 } ≡ outcome_said said
-tool_refused (Said.made frames) is = absurd (cc)
-tool_refused (Said.refused name why) is = refl
-
-pub tool_made : (said : Said) → is_refusal said ≡ false → record { out = text_said said; err = []; status = 0 } ≡ outcome_said said
-tool_made (Said.made frames) is = refl
-tool_made (Said.refused name why) is = absurd (cc)
 
 module _ (result : ℕ) (old new : Faults) (out err : Told) (o : Outcome) where
   pub is_put_out : (text : List ℕ) → record { out = text; err = []; status = 0 } ≡ o → new.shelf ≡ old.shelf → new.script ≡ old.script → new.err ≡ old.err → err.after ≡ err.before → IsPut result 0 text old.out new.out out → IsOutcome result o old new out err

@@ -1,6 +1,6 @@
 -- What a run of the program prints and answers, and which files it leaves: functions of the words, the files that are there,
 -- and the script.
-use Rattle.std.specs.Prelude.{ℕ, Bool, true, false, List, [], ◌∷◌, ◌++◌, Option, Some, None, Result, Ok, Err, codes, max, if◌then◌else◌}
+use Rattle.std.specs.Prelude.{ℕ, Bool, true, false, List, [], ◌∷◌, Option, Some, None, Result, Ok, Err, codes, if◌then◌else◌}
 use Rattle.snd_container.specs.Sound.{layout_of}
 use Rattle.snd_disk.specs.Shelf.{Files}
 use Rattle.snd_layout.specs.Shape.{Shape}
@@ -10,9 +10,6 @@ use Rattle.snd_modes.specs.Heads.{holds_meta}
 use Rattle.snd_tags.specs.Found.{texts_of}
 use Rattle.snd_tags.specs.declared.error.TagError.{TagError}
 use Rattle.snd_lines.specs.declared.refusal.Refusal.TheVariants.{MissingFile, Open}
-use Rattle.snd_convert.specs.Convert.{converted}
-use Rattle.snd_script.specs.Replies.{ok_line}
-use Rattle.snd_tools.specs.Done.{Done, Said, files_after as after_tool, said_of}
 use Rattle.snd_words.specs.Asked.{Asked}
 use Rattle.snd_words.specs.Grammar.{asked}
 use Rattle.snd_script.specs.Desk.{closed_desk}
@@ -22,16 +19,10 @@ use Rattle.snd_script.specs.Script.{any_refused, last_desk, texts}
 use Rattle.snd_app.specs.declared.look.Found.{Found}
 use Rattle.snd_app.specs.declared.look.Found.TheVariants.{Missing, Refused, Sound}
 use Rattle.snd_app.specs.declared.help.TheConstants.{HELP, VERSION}
+use Rattle.snd_app.specs.Printed.{Outcome, and_then, bad_words, says}
 use Rattle.snd_app.specs.Text.{refusal}
+use Rattle.snd_app.specs.Tools.{after_work, made_by, outcome_of_work}
 use Rattle.snd_app.specs.Info.{description}
-
-pub record Outcome : Type 0 where
-  pub out : List ℕ
-  pub err : List ℕ
-  pub status : ℕ
-
-abbrev pub bad_words : Outcome
-bad_words = record { out = []; err = codes "snd: bad words\n"; status = 2 }
 
 -- the texts that are shown: those of the first INFO list of a WAVE or an RF64 file, where it reads and is not too large
 abbrev pub texts_or_none : Result (List Entry) TagError → List Entry
@@ -84,34 +75,10 @@ files_of_script name files text = (last_desk (closed_desk files) (run_steps name
 abbrev pub outcome_of_info : List ℕ → Files → Outcome
 outcome_of_info name files = info name (found_in (files name))
 
--- one outcome behind another, of which the greater status counts
-abbrev pub and_then : Outcome → Outcome → Outcome
-and_then one other = record { out = one.out ++ other.out; err = one.err ++ other.err; status = max one.status other.status }
-
--- a text on `out`
-abbrev pub says : List ℕ → Outcome
-says text = record { out = text; err = []; status = 0 }
-
 -- each of the names, in their order
 abbrev pub outcome_of_infos : List (List ℕ) → Files → Outcome
 outcome_of_infos [] files = says []
 outcome_of_infos (name ∷ names) files = and_then (outcome_of_info name files) (outcome_of_infos names files)
-
--- a tool says how many frames it made, or which file it refused, and why
-abbrev pub text_said : Said → List ℕ
-text_said (Said.made frames) = ok_line frames
-text_said (Said.refused name why) = refusal name why
-
-abbrev pub is_refusal : Said → Bool
-is_refusal (Said.made frames) = false
-is_refusal (Said.refused name why) = true
-
-abbrev pub outcome_said : Said → Outcome
-outcome_said (Said.made frames) = says (text_said (Said.made frames))
-outcome_said (Said.refused name why) = record { out = []; err = text_said (Said.refused name why); status = 1 }
-
-abbrev pub outcome_of_tool : Done → Outcome
-outcome_of_tool todo = outcome_said (said_of todo)
 
 -- what the words ask for, over these files and with this script to come
 abbrev pub outcome_of : Asked → Files → List ℕ → Outcome
@@ -120,12 +87,7 @@ outcome_of (Asked.info_of names) files text = outcome_of_infos names files
 outcome_of (Asked.script name) files text = outcome_of_script name files text
 outcome_of Asked.help files text = says HELP.now
 outcome_of Asked.version files text = says VERSION.now
-outcome_of (Asked.convert c) files text = outcome_of_tool (converted c files)
--- a tool that is not built yet
-outcome_of (Asked.concat inputs output) files text = bad_words
-outcome_of (Asked.interleave inputs output) files text = bad_words
-outcome_of (Asked.gen seed frames name) files text = bad_words
-outcome_of (Asked.set_metadata settings input output) files text = bad_words
+outcome_of (Asked.tool work) files text = outcome_of_work work files
 
 -- whether that is a script; and the name that is pinned in it, where there is one
 abbrev pub is_script : Asked → Bool
@@ -138,13 +100,13 @@ pinned_by other = None
 
 -- the name of the file that a tool makes
 abbrev pub output_by : Asked → Option (List ℕ)
-output_by (Asked.convert c) = Some c.output
+output_by (Asked.tool work) = Some (made_by work)
 output_by other = None
 
 -- whether files are looked at alone
 abbrev pub looks_by : Asked → Bool
 looks_by (Asked.script name) = false
-looks_by (Asked.convert c) = false
+looks_by (Asked.tool work) = false
 looks_by other = true
 
 -- the names of the files that are described
@@ -174,7 +136,7 @@ outcome words files text = outcome_of (asked words) files text
 -- the files that are there afterwards: only a script and a tool change any
 abbrev pub files_of : Asked → Files → List ℕ → Files
 files_of (Asked.script name) files text = files_of_script name files text
-files_of (Asked.convert c) files text = after_tool (converted c files) files
+files_of (Asked.tool work) files text = after_work work files
 files_of other files text = files
 
 abbrev pub files_after : List (List ℕ) → Files → List ℕ → Files

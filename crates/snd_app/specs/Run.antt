@@ -1,6 +1,6 @@
 -- How a run leaves the shelf and the streams. Relations over these take their meanings first, and then the shelf, the
 -- script, `out` and `err`, before and after.
-use Rattle.std.specs.Prelude.{◌≡◌, ◌⊎◌, ℕ, List, ◌++◌, false, Option, Some}
+use Rattle.std.specs.Prelude.{◌≡◌, ◌⊎◌, ℕ, List, ◌++◌, Option, Some}
 use Rattle.snd_disk.specs.State.{Rises}
 use Rattle.snd_disk.specs.Shelf.{Files, ShelfState}
 use Rattle.snd_disk.specs.Shelves.{KeepsFileImages, TellsFiles}
@@ -11,12 +11,10 @@ use Rattle.snd_disk.specs.declared.streams.Source.{Ghosts as SourceMeaning}
 use Rattle.snd_script.specs.Edit.{Edited}
 use Rattle.snd_script.specs.Pinned.{run_steps}
 use Rattle.snd_script.specs.Served.{FaultCounts, HasFiles, IsDone, IsFault, StopsAtMemory}
-use Rattle.snd_tools.specs.Done.{Done, files_after as after_tool}
-use Rattle.snd_app.specs.Outcome.{Outcome, files_of_script, outcome_of_script, outcome_of_tool}
-
--- no name is taken out
-abbrev pub IsAllIn : ShelfState → Type 0
-IsAllIn shelf = (n : List ℕ) → shelf.out n ≡ false
+use Rattle.snd_words.specs.Asked.{Work}
+use Rattle.snd_app.specs.Outcome.{files_of_script, outcome_of_script}
+use Rattle.snd_app.specs.Printed.{Outcome}
+use Rattle.snd_app.specs.Tools.{after_work, outcome_of_work}
 
 -- the counts of faults of the shelf, of the script and of the two sinks
 pub record Faults : Type 0 where
@@ -137,12 +135,12 @@ PutsText o given text old new status = IsPut status given text (o.faults old) (o
 abbrev pub KeepsAllImages : {S D : Type 0} → ShelfMeaning S D → S → S → Type 0
 KeepsAllImages s shelf shelf' = KeepsFileImages s.state s.may_leave s.left_between shelf shelf'
 
--- a tool does what is to be done with the files that the shelf tells, and says so
-abbrev pub ToolsAs : {S D O E : Type 0} → ShelfMeaning S D → SinkMeaning O → SinkMeaning E → (Files → Done) → S → O → E → S → O → E → ℕ → Type 0
-ToolsAs s o e todo shelf out err shelf' out' err' status =
+-- a tool does its work with the files that the shelf tells, and says so
+abbrev pub ToolsAs : {S D O E : Type 0} → ShelfMeaning S D → SinkMeaning O → SinkMeaning E → Work → S → O → E → S → O → E → ℕ → Type 0
+ToolsAs s o e work shelf out err shelf' out' err' status =
     (files : Files) (script : ℕ) → TellsFiles s.state shelf files
-    → IsRun status (outcome_of_tool (todo files)) (faults_with s o e script shelf out err) (faults_with s o e script shelf' out' err') (told_by o out out') (told_by e err err')
-    (HasFiles s.state shelf' (after_tool (todo files) files))
+    → IsRun status (outcome_of_work work files) (faults_with s o e script shelf out err) (faults_with s o e script shelf' out' err') (told_by o out out') (told_by e err err')
+    (HasFiles s.state shelf' (after_work work files))
 
 -- Where a stream failed and no file did, all is done that was to be done with the files.
 abbrev pub DoneAtStream : {S : Type 0} → (S → ShelfState) → (Files → Files) → S → S → ℕ → Type 0

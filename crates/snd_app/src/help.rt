@@ -7,15 +7,23 @@ pub const VERSION: &str = "snd 0.1.0\n";
 pub const HELP: &str = "\
 Usage: snd COMMAND
 
-  snd info NAME..              describe 1 to 64 sound files
-  snd convert OPTION.. IN OUT  copy a file into another container or codec
-  snd script                   carry out the commands on standard input
-  snd script --auto NAME       the same, with one file open and kept up to date
-  snd --help                   print this text
-  snd --version                print the version
+  snd info NAME..                        describe 1 to 64 sound files
+  snd convert OPTION.. IN OUT            copy into another container or codec
+  snd concat IN IN.. OUT                 join files, one behind the other
+  snd interleave IN IN.. -o OUT          join mono files, as channels
+  snd metadata-set OPTION TEXT.. IN OUT  copy with other texts
+  snd gen SEED N NAME                    make a file of N frames, and edit it
+  snd script                             carry out commands on standard input
+  snd script --auto NAME                 the same, with a file kept up to date
+  snd --help                             print this text
+  snd --version                          print the version
 
 Options of convert: -pcmu8 -pcms8 -pcm16 -pcm24 -pcm32 -ulaw -alaw
                     -endian=little -endian=big -override-sample-rate=N
+Options of metadata-set: --str-title --str-artist --str-comment --str-copyright
+                    --str-date --str-album --bext-description --bext-originator
+                    --bext-orig-ref --bext-orig-date --bext-orig-time
+                    --bext-time-ref --bext-coding-hist
 Suffixes of OUT: wav rf64 w64 au snd voc svx 8svx nist sph
 
 Kinds: wave rf64 w64 au dns voc svx sphere

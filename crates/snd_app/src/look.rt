@@ -6,7 +6,8 @@ ghost use Rattle.snd_disk.specs.Shelf.{KeepsFiles};
 ghost use Rattle.snd_disk.specs.Shelves.{KeepsFileImages};
 ghost use Rattle.snd_container.specs.Sound.{layout_of};
 ghost use Rattle.snd_modes.specs.Heads.{holds_meta};
-ghost use Rattle.snd_app.specs.Look.{CountsStop, IfOkFiles, OnlyLooks};
+ghost use Rattle.snd_output.specs.Ends.{CountsStop};
+ghost use Rattle.snd_app.specs.Look.{IfOkFiles, OnlyLooks};
 ghost use Rattle.snd_app.specs.Outcome.{found_in, found_of, shown_texts};
 
 use snd_container::open_layout;
@@ -14,17 +15,9 @@ use snd_disk::{Disk, Shelf, ShelfFault};
 use snd_layout::{Kind, Layout, OpenError, OpenRefusal};
 use snd_meta::InfoList;
 use snd_modes::GetError;
+use snd_output::Stop;
 use snd_tags::{TagError, texts_on};
 use std::alloc::Global;
-
-/// Why a run stops before it has its answer.
-#[derive(Clone, Copy, Debug, PartialEq, Eq)]
-pub enum Stop {
-    /// The outside failed.
-    Fault,
-    /// There was no memory.
-    Memory,
-}
 
 /// What stands under a name.
 #[derive(Drop)]

@@ -8,18 +8,20 @@ ghost use Rattle.snd_script.specs.Trail.{TrailsScript};
 ghost use Rattle.snd_app.specs.Look.{OnlyLooks};
 ghost use Rattle.snd_words.specs.Asked.{Asked};
 ghost use Rattle.snd_words.specs.Grammar.{asked};
-ghost use Rattle.snd_tools.specs.Shelves.{ChangesOne};
-ghost use Rattle.snd_app.specs.Outcome.{bad_words, files_after, looks_for, names_for, outcome, outcome_of_info, outcome_of_infos, output_for, pinned_for, runs_script, text_of};
-ghost use Rattle.snd_app.specs.Run.{DescribesAs, DescribingFaultRises, DoneAtStream, EndsAs, FaultRises, IsAllIn, IsCalm, KeepsAllImages, RunsAs, RunsScript, StopsAs};
+ghost use Rattle.snd_tools.specs.Shelves.{ChangesOne, IsAllIn};
+ghost use Rattle.snd_app.specs.Outcome.{files_after, looks_for, names_for, outcome, outcome_of_info, outcome_of_infos, output_for, pinned_for, runs_script, text_of};
+ghost use Rattle.snd_app.specs.Printed.{bad_words};
+ghost use Rattle.snd_app.specs.Run.{DescribesAs, DescribingFaultRises, DoneAtStream, EndsAs, FaultRises, IsCalm, KeepsAllImages, RunsAs, RunsScript, StopsAs};
 
 use crate::help::{HELP, VERSION};
 use crate::info::{describe, refuse};
-use crate::look::{Found, Stop, look};
+use crate::look::{Found, look};
 use crate::put::{FAULT, NO_MEMORY, put_text};
-use crate::tools::run_convert;
+use crate::tools::run_tool;
 use snd_disk::{Shelf, Sink, Source};
 use snd_fields::Words;
 use snd_lines::Refusal;
+use snd_output::Stop;
 use snd_script::{ScriptEnd, serve};
 use snd_words::{Names, Request, request_of};
 use std::alloc::{AllocError, Global};
@@ -204,12 +206,7 @@ pub fn run<S: Shelf, R: Source, O: Sink, E: Sink>(
         Some(Request::Script(pinned)) => run_script(alloc, pinned, shelf, script, out, err),
         Some(Request::Help) => put_text(out, HELP.as_bytes(), 0),
         Some(Request::Version) => put_text(out, VERSION.as_bytes(), 0),
-        Some(Request::Convert(conversion)) => run_convert(alloc, &conversion, shelf, out, err),
-        // the words of a tool that is not built yet are refused
-        Some(Request::Concat(_)) => put_text(err, b"snd: bad words\n", 2),
-        Some(Request::Interleave(_)) => put_text(err, b"snd: bad words\n", 2),
-        Some(Request::Generate(_)) => put_text(err, b"snd: bad words\n", 2),
-        Some(Request::SetMetadata(_)) => put_text(err, b"snd: bad words\n", 2),
+        Some(Request::Tool(tool)) => run_tool(alloc, &tool, shelf, out, err),
         None => put_text(err, b"snd: bad words\n", 2),
     }
 }

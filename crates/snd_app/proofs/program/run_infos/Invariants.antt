@@ -3,7 +3,8 @@ use Rattle.snd_disk.specs.Shelf.{Files, KeepsFiles}
 use Rattle.snd_disk.specs.Shelves.{TellsFiles}
 use Rattle.snd_app.specs.Look.{OnlyLooks}
 use Rattle.snd_app.specs.Outcome.{outcome_of_infos}
-use Rattle.snd_app.specs.Run.{IsAllIn, IsCalm, KeepsAllImages, Prints, told_by}
+use Rattle.snd_tools.specs.Shelves.{IsAllIn}
+use Rattle.snd_app.specs.Run.{IsCalm, KeepsAllImages, Prints, told_by}
 use Rattle.snd_app.proofs.program.run_infos.Given as goal
 
 abbrev pub invariant-loop-at : goal.invariant-loop-at

@@ -1,0 +1,72 @@
+-- What the tools print, and which files they leave.
+use Rattle.std.specs.Prelude.{◌≡◌, ℕ, List, [], ◌++◌, Some, Result, Ok, Err, IfOk, codes, decimal}
+use Rattle.snd_concat.specs.Concat.{concatenated}
+use Rattle.snd_convert.specs.Convert.{converted}
+use Rattle.snd_disk.specs.Shelf.{Files, ShelfState, put}
+use Rattle.snd_disk.specs.Shelves.{TellsFiles}
+use Rattle.snd_generate.specs.Edited.{file_of, generated, summary_of}
+use Rattle.snd_generate.specs.declared.generating.Summary.{Summary}
+use Rattle.snd_interleave.specs.Interleave.{interleaved}
+use Rattle.snd_lines.specs.Lines.{line}
+use Rattle.snd_metadata.specs.Retagged.{retagged}
+use Rattle.snd_output.specs.declared.stop.Stop.{Stop}
+use Rattle.snd_output.specs.declared.stop.Stop.TheVariants.{Memory}
+use Rattle.snd_tools.specs.Done.{files_after, said_by}
+use Rattle.snd_tools.specs.Shelves.{HasFiles}
+use Rattle.snd_tools.specs.declared.answer.Answer.{Answer}
+use Rattle.snd_words.specs.Asked.{Work}
+use Rattle.snd_app.specs.Printed.{Outcome, outcome_of_tool, outcome_said, says}
+use Rattle.snd_app.specs.declared.tools.Reply.{Reply}
+use Rattle.snd_app.specs.declared.tools.Reply.TheVariants as reply
+
+-- what is said of a file of frames that a seed gives
+abbrev pub summary_text : Summary → List ℕ
+summary_text summary =
+    line (codes "frames") (decimal summary.frames) ++ line (codes "peak") (decimal summary.peak) ++ line (codes "energy") (decimal summary.energy)
+
+-- what a tool's work prints
+abbrev pub outcome_of_work : Work → Files → Outcome
+outcome_of_work (Work.convert c) files = outcome_of_tool (converted c files)
+outcome_of_work (Work.concat inputs output) files = outcome_of_tool (concatenated inputs output files)
+outcome_of_work (Work.interleave inputs output) files = outcome_of_tool (interleaved inputs output files)
+outcome_of_work (Work.gen seed frames name) files = says (summary_text (summary_of (generated seed frames)))
+outcome_of_work (Work.set_metadata settings input output) files = outcome_of_tool (retagged settings input output files)
+
+-- the files then
+abbrev pub after_work : Work → Files → Files
+after_work (Work.convert c) files = files_after (converted c files) files
+after_work (Work.concat inputs output) files = files_after (concatenated inputs output files) files
+after_work (Work.interleave inputs output) files = files_after (interleaved inputs output files) files
+after_work (Work.gen seed frames name) files = put files name (Some (file_of (generated seed frames)))
+after_work (Work.set_metadata settings input output) files = files_after (retagged settings input output files) files
+
+-- the name of the file that it makes
+abbrev pub made_by : Work → List ℕ
+made_by (Work.convert c) = c.output
+made_by (Work.concat inputs output) = output
+made_by (Work.interleave inputs output) = output
+made_by (Work.gen seed frames name) = name
+made_by (Work.set_metadata settings input output) = output
+
+-- ---- as the code says it
+
+abbrev pub outcome_by : Reply → Outcome
+outcome_by (reply.Done text) = says text.items
+outcome_by (reply.Refused text) = record { out = []; err = text.items; status = 1 }
+
+-- what a tool answers is printed, unless there is no memory
+abbrev pub RepliesTo : Result Answer Stop → Result Reply Stop → Type 0
+RepliesTo (Ok answer) (Ok printed) = outcome_by printed ≡ outcome_said (said_by answer)
+RepliesTo (Ok answer) (Err stop) = stop ≡ Memory
+RepliesTo (Err stop) result = result ≡ Err stop
+
+-- .. and a summary
+abbrev pub RepliesOf : Result Summary Stop → Result Reply Stop → Type 0
+RepliesOf (Ok summary) (Ok printed) = outcome_by printed ≡ says (summary_text summary)
+RepliesOf (Ok summary) (Err stop) = stop ≡ Memory
+RepliesOf (Err stop) result = result ≡ Err stop
+
+-- Over files that are told, what is printed is the outcome of the work, and the files are those that it leaves.
+abbrev pub CarriesOut : {S : Type 0} → (S → ShelfState) → Work → S → S → Result Reply Stop → Type 0
+CarriesOut state work old new result =
+    IfOk result (λ printed. (files : Files) → TellsFiles state old files → (outcome_by printed ≡ outcome_of_work work files) × HasFiles state new (after_work work files))
