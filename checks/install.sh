@@ -104,7 +104,7 @@ bash = f"source {prefix}/share/bash-completion/completions/snd; COMP_LINE='snd '
 got = done(["bash", "-uc", bash])
 cases.case("the commands in bash", wrong(got, got.stdout) + [f"it knows {got.stdout!r}"] * ({*got.stdout.split()} != commands or not commands))
 zsh = contents(f"{prefix}/share/zsh/site-functions/_snd").decode()
-named = {*re.findall(r"(?m)^ +'([a-z]+):", zsh), *re.findall(r"'\(- \*\)(--\w+)\[", zsh)}
+named = {*re.findall(r"(?m)^ +'([a-z-]+):", zsh), *re.findall(r"'\(- \*\)(--\w+)\[", zsh)}
 cases.case("the commands in zsh", [f"it knows {named}"] * (named != commands))
 tried_with("zsh", "the completion for zsh", ["zsh", "-n", f"{prefix}/share/zsh/site-functions/_snd"])
 cases.end(12 + len(known) - skipped, f", {skipped} skipped" if skipped else "")

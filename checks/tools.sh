@@ -8,38 +8,25 @@ set -u
 source "$(dirname "$(readlink -f "${BASH_SOURCE[0]}")")/built_program.bash"
 PYTHONDONTWRITEBYTECODE=1 PYTHONPATH=$top/checks python3 - "$program" <<'PY'
 import os
-import random
-import shutil
-import struct
 import subprocess
 import sys
 
 import kinds
-from common import SECONDS, Cases, first_difference, run, sums
+from common import SECONDS, Cases, sums
 from readers import Readers
+from tool_runs import RATE, changed, numbers
+import tool_runs
 
 program = sys.argv[1]
 cases = Cases("tools")
 OPTION = {"pcm_u8": "-pcmu8", "pcm_s8": "-pcms8", "ulaw": "-ulaw", "alaw": "-alaw"}
 OPTION |= {codec: f"-pcm{kinds.width(codec)}" for codec in (*kinds.LITTLE, *kinds.BIG)}
 PAIRS = [(kind, codec) for kind in kinds.HOLDS for codec in kinds.HOLDS[kind]]
-RATE = 8000
 FRAMES = 700
 
 
-def numbers(codec, count):
-    """Numbers of a codec: its least and greatest, those about 0, and others."""
-    random.seed(f"{codec} {count}")
-    least = -(1 << kinds.width(codec) - 1)
-    first = [least, -least - 1, 0, -1, 1, least + 1]
-    drawn = first + [random.randint(least, -least - 1) for _ in range(count - len(first))]
-    return kinds.kept(codec, drawn[:count])
-
-
-def changed(one, other, found):
-    """Numbers of one codec as those of another: multiplied by a power of two, or divided and rounded down."""
-    old, new = kinds.width(one), kinds.width(other)
-    return [x << new - old if new >= old else x >> old - new for x in found]
+def wrong_run(*run):
+    return tool_runs.wrong_run(program, *run)
 
 
 def options_for(kind, codec):
@@ -50,22 +37,6 @@ def options_for(kind, codec):
 
 def channels_for(*many):
     return min(2, *(kinds.MOST.get(kind, 2) for kind in many))
-
-
-def wrong_run(words, out, err, status, made=None):
-    """The faults of a run that makes one file at most, which is to hold these bytes."""
-    before = sums()
-    done = subprocess.run([program, *words], capture_output=True, timeout=SECONDS)
-    wrong = first_difference("standard output", done.stdout, out) + first_difference("standard error", done.stderr, err)
-    if done.returncode != status:
-        wrong.append(f"status {done.returncode} for {status}")
-    after = sums()
-    name = made[0] if made else None
-    wrong += [f"{other} was changed, made or removed" for other in sorted({*before, *after}) if other != f"./{name}" and before.get(other) != after.get(other)]
-    if made:
-        with open(name, "rb") as file:
-            wrong += first_difference(name, file.read(), made[1])
-    return wrong
 
 
 def as_decoded(name, kind, codec, channels, found):
@@ -109,7 +80,12 @@ many = 0
 if readers.tools["sndfile"]:
     subprocess.run(["sndfile-metadata-set", "--str-title", "Dawn", "--str-artist", "A B", "--bext-description", "wood", "plain.wav", "titled.wav"], check=True, capture_output=True)
     many += 2
-    cases.case("no chunk is lost", wrong_run(["convert", "titled.wav", "titled.rf64"], b"", b"snd: titled.wav: error 99 NotBuilt\n", 1))
+    with open("titled.wav", "rb") as file:
+        b = file.read()
+    own = (b"fmt ", b"fact", b"data", *kinds.FILLERS)
+    pieces = b"".join(kinds.chunk(id, b[at:at + many]) for id, at, many in kinds.riff_chunks(b, "<") if id not in own)
+    cases.case("its chunks go with the frames", ["it has none"] * (not pieces) + wrong_run(["convert", "titled.wav", "titled.rf64"], f"ok {FRAMES}\n".encode(), b"", 0,
+               ("titled.rf64", kinds.riff("rf64", "pcm_24_le", 2, 44100, kinds.coded("pcm_24_le", held), pieces))))
     cases.case("a file of libsndfile with chunks", wrong_run(["convert", "-pcm16", "titled.wav", "titled.w64"], f"ok {FRAMES}\n".encode(), b"", 0,
                ("titled.w64", kinds.whole_file("w64", "pcm_16_le", 2, 44100, changed("pcm_24_le", "pcm_16_le", held)))))
 if readers.tools["sox"]:

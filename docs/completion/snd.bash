@@ -4,12 +4,14 @@ _snd() {
     typed=${typed##* }
     COMPREPLY=()
     case $COMP_CWORD:${COMP_WORDS[1]}:$typed in
-        1:*) words="info script convert --help --version" ;;
+        1:*) words="info convert concat interleave metadata-set gen script --help --version" ;;
         2:script:*) words="--auto" ;;
         # bash takes what stands behind an equals sign for the word to be completed
         *:convert:-endian=*) words="little big" ;;
         *:convert:-*=*) return ;;
         *:convert:-*) words="-pcmu8 -pcms8 -pcm16 -pcm24 -pcm32 -ulaw -alaw -ima-adpcm -ms-adpcm -endian= -override-sample-rate=" ;;
+        *:interleave:-*) words="-o" ;;
+        *:metadata-set:-*) words="--str-title --str-artist --str-comment --str-copyright --str-date --str-album --bext-description --bext-originator --bext-orig-ref --bext-orig-date --bext-orig-time --bext-time-ref --bext-coding-hist" ;;
         *) return ;;
     esac
     mapfile -t COMPREPLY < <(compgen -W "$words" -- "${typed##*=}")
