@@ -10,7 +10,7 @@ ghost use Rattle.snd_concat.specs.Making.{AllApart, Makes, MakesUnder};
 
 use crate::append::append_all;
 use snd_disk::{Disk, Shelf, ShelfFault};
-use snd_inputs::bare_room;
+use snd_inputs::{bare_room, look};
 use snd_layout::Layout;
 use snd_output::{Stop, begin, finish};
 use snd_tools::Answer;
@@ -60,6 +60,42 @@ fn make<'a, S: Shelf, E: Disk>(
     }
 }
 
+// Sees that no input is the output under another spelling: a file that is taken out is not handed out again.
+fn see_apart<S: Shelf>(alloc: Global, names: &Names<'_>, shelf: &mut S) -> Result<(), Stop>
+    requires are_in { All (λ n. (S.state shelf.old).out n ≡ false) names.now }
+    ensures faults { CountsStop (S.state shelf.old).faults (S.state shelf.new).faults result }
+    ensures reads { ReadsFiles S.Shelf shelf.old shelf.new }
+{
+    for at in 0..names.len() {
+        let Some(name) = names.get(at) else {
+            unreachable!();
+        };
+        let seen = look(alloc, name, shelf)?;
+        drop(seen);
+    }
+    Ok(())
+}
+
+// Makes it where no input is the output.
+fn make_apart<'a, S: Shelf, E: Disk>(
+    alloc: Global,
+    names: &Names<'a>,
+    like: &Layout,
+    shelf: &mut S,
+    disk: &mut E,
+) -> Result<Answer<'a>, Stop>
+    requires are_in { All (λ n. (S.state shelf.old).out n ≡ false) names.now }
+    requires readable { IsReadable like.now }
+    ensures made { Makes S.state E.state names.now like.now shelf.old disk.old disk.new result }
+    ensures faults { CountsOneOf (E.state disk.old).faults (E.state disk.new).faults (S.state shelf.old).faults (S.state shelf.new).faults result }
+    ensures reads { ReadsFiles S.Shelf shelf.old shelf.new }
+    ensures tells { StillTells (E.state disk.old) (E.state disk.new) }
+    ensures time { GoesOnFrom E.state E.left_between disk.old disk.new }
+{
+    see_apart(alloc, names, shelf)?;
+    make(alloc, names, like, shelf, disk)
+}
+
 /// Makes it under a name that is none of these.
 pub(crate) fn make_under<'a, S: Shelf>(
     alloc: Global,
@@ -81,7 +117,7 @@ pub(crate) fn make_under<'a, S: Shelf>(
         Err(ShelfFault::Memory) => return Err(Stop::Memory),
         Err(ShelfFault::Missing) => unreachable!(),
     };
-    let made = make(alloc, names, like, shelf, &mut disk);
+    let made = make_apart(alloc, names, like, shelf, &mut disk);
     shelf.give(output, disk);
     made
 }

@@ -17,7 +17,7 @@ returns-in-Err-Memory-clause-changes g c = stayed_changes g.S.Shelf c.args.outpu
 
 pub returns-clause-made : goal.returns-clause-made
 returns-clause-made g c =
-    if_ok c.make-made.result _ _
+    if_ok c.make_apart-made.result _ _
     (λ answer made files es told all may.
     let names = c.args.names.now in
     let output = c.args.output.now in
@@ -26,12 +26,12 @@ returns-clause-made g c =
     same_inputs files out.0 names (λ k d lt. out.2 (get_or names k d) ∙ put_beside files output (get_or names k d) None (c.requires.apart k d lt)) ∙ all in
     let done = made out.0 es _ out.1 (c.in-Ok.ensures.taken.contents files told) opened may in (
       done.0,
-      between_files g.S.Shelf g.S.Disk.Disk c.args.shelf.now c.take.new.self c.make-made.new.shelf c.give.new.self c.in-Ok.disk c.make-made.new.disk output true c.in-Ok.ensures.taken c.make-made.ensures.reads c.give.ensures.given
+      between_files g.S.Shelf g.S.Disk.Disk c.args.shelf.now c.take.new.self c.make_apart-made.new.shelf c.give.new.self c.in-Ok.disk c.make_apart-made.new.disk output true c.in-Ok.ensures.taken c.make_apart-made.ensures.reads c.give.ensures.given
           files (bytes_made c.args.like.now es) told done.1,
     ))
-    c.make-made.ensures.made
+    c.make_apart-made.ensures.made
 
 pub returns-clause-changes : goal.returns-clause-changes
 returns-clause-changes g c =
-    between_changes g.S.Shelf g.S.Disk.Disk c.args.shelf.now c.take.new.self c.make-made.new.shelf c.give.new.self c.in-Ok.disk c.make-made.new.disk c.args.output.now true c.in-Ok.ensures.taken c.make-made.ensures.reads
-    c.give.ensures.given c.in-Ok.ensures.images c.give.ensures.images c.take.ensures.others c.give.ensures.others (c.requires.back c.args.output.now) (λ b told. still_told _ _ b c.make-made.ensures.tells told) c.make-made.ensures.time
+    between_changes g.S.Shelf g.S.Disk.Disk c.args.shelf.now c.take.new.self c.make_apart-made.new.shelf c.give.new.self c.in-Ok.disk c.make_apart-made.new.disk c.args.output.now true c.in-Ok.ensures.taken c.make_apart-made.ensures.reads
+    c.give.ensures.given c.in-Ok.ensures.images c.give.ensures.images c.take.ensures.others c.give.ensures.others (c.requires.back c.args.output.now) (λ b told. still_told _ _ b c.make_apart-made.ensures.tells told) c.make_apart-made.ensures.time
