@@ -22,7 +22,7 @@ program = sys.argv[1]
 cases = Cases("joins")
 PAIRS = [(kind, codec) for kind in kinds.HOLDS for codec in kinds.HOLDS[kind]]
 # kinds that the peers write as this library does
-PEERS = ("wave", "w64", "au")
+PEERS = ("wave", "au")
 FRAMES = 700
 
 

@@ -158,7 +158,7 @@ put("a.au", kinds.whole_file("au", "pcm_16_be", 1, 8000, [1]))
 put("list.wav", kinds.riff("wave", "pcm_16_le", 1, 8000, bytes(4), kinds.chunk(b"LIST", b"INFO" + b"INAM" + struct.pack("<I", 99))))
 put("bext.wav", kinds.riff("wave", "pcm_16_le", 1, 8000, bytes(4), kinds.chunk(b"bext", bytes(601))))
 put("both.wav", kinds.riff("wave", "pcm_16_le", 1, 8000, bytes(4), kinds.chunk(b"bext", bytes(601)) + kinds.chunk(b"LIST", b"INFO" + b"INAM" + struct.pack("<I", 99))))
-put("long.wav", kinds.riff("wave", "pcm_16_le", 1, 8000, bytes(4), kinds.chunk(b"LIST", b"INFO" + kinds.chunk(b"ICMT", b"c" * 65524 + b"\0"))))
+put("long.wav", kinds.riff("wave", "pcm_16_le", 1, 8000, bytes(4), kinds.chunk(b"LIST", b"INFO" + kinds.chunk(b"ICMT", b"c" * 65520 + b"\0"))))
 put("wide.wav", kinds.riff("wave", "pcm_16_le", 1, 8000, bytes(4), kinds.chunk(b"LIST", b"INFO" + kinds.chunk(b"ICMT", b"c" * 65600 + b"\0"))))
 TITLED = ["--str-title", "B"]
 REFUSED = [
