@@ -1,0 +1,15 @@
+//! The taps of a session: which of them wait, and which are on and see each frame that is read.
+#![tactic(auto)]
+
+mod laws;
+mod meters;
+mod refusal;
+mod report;
+mod slot;
+#[cfg(test)]
+mod tests;
+
+pub use laws::at_most_one_is_on;
+pub use meters::Meters;
+pub use refusal::TapRefusal;
+pub use report::push_report;
