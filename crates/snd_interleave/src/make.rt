@@ -58,7 +58,8 @@ fn make<D: Disk, E: Disk>(
     }
 }
 
-/// Makes it under a name.
+/// Makes it under a name. Its blocks stay out of the stack frames of the openings, one for each input.
+#[inline(never)]
 pub(crate) fn make_under<S: Shelf, D: Disk>(
     alloc: Global,
     inputs: &mut [Input<D>],
