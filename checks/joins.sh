@@ -113,6 +113,17 @@ def generated(seed, frames):
 
 
 readers = Readers("joins")
+# as many inputs as there may be, of lengths that go over a block, and none
+names, held = [f"{i}.wav" for i in range(64)], [numbers("pcm_24_le", 6 + 37 * i) if i else [] for i in range(64)]
+for name, found in zip(names, held):
+    put(name, "wave", "pcm_24_le", 1, found)
+longest = max(map(len, held))
+wanted = [number for frame in zip(*[found + [0] * (longest - len(found)) for found in held]) for number in frame]
+cases.case("64 files side by side", wrong_run(["interleave", *names, "-o", "whole"], f"ok {longest}\n".encode(), b"", 0, ("whole", kinds.whole_file("wave", "pcm_24_le", 64, RATE, wanted))))
+wanted = [number for found in held for number in found]
+cases.case("64 files in a row", wrong_run(["concat", *names, "whole"], f"ok {len(wanted)}\n".encode(), b"", 0, ("whole", kinds.whole_file("wave", "pcm_24_le", 1, RATE, wanted))))
+for name in os.listdir("."):
+    os.remove(name)
 for at, one in enumerate(PAIRS):
     # each codec meets others of every width
     for step in (5, 12):
@@ -155,5 +166,5 @@ refused(["interleave", "v.voc", "b.wav", "c.wav", "-o", "x.voc"], "snd: x.voc: e
 # ---- another spelling of an input's name is a fault, and the input stays whole
 refused(["concat", "a.wav", "b.wav", "./a.wav"], "", 3)
 refused(["interleave", "a.wav", "b.wav", "-o", "./b.wav"], "", 3)
-cases.end(4 * len(PAIRS) + len(GENERATED) + len(WORDS) + len(FILES) + 1 + 2)
+cases.end(2 + 4 * len(PAIRS) + len(GENERATED) + len(WORDS) + len(FILES) + 1 + 2)
 PY
