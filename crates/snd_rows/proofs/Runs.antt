@@ -2,7 +2,8 @@
 use Rattle.std.proofs.Common.{◌≡◌, inl, inr, ℕ, List, [], ◌++◌, Bool, true, false, cond, Some, refl, sym, ◌∙◌, ap}
 use Rattle.std.proofs.Math.Path.{fun_ext}
 use Rattle.snd_disk.specs.Shelf.{Files, SameFiles}
-use Rattle.snd_app.specs.Outcome.{Outcome, outcome}
+use Rattle.snd_app.specs.Outcome.{outcome}
+use Rattle.snd_app.specs.Printed.{Outcome}
 use Rattle.snd_app.specs.Run.{Faults, IsRun, Told}
 use Rattle.snd_rows.specs.declared.memory.Printed.{Printed}
 use Rattle.snd_rows.specs.Memory.{IsPrinted}

@@ -1,7 +1,7 @@
 -- A run over one file in memory.
 use Rattle.std.specs.Prelude.{◌≡◌, ◌⊎◌, ℕ, List, Some, None}
 use Rattle.snd_disk.specs.Shelf.{Files, put}
-use Rattle.snd_app.specs.Outcome.{Outcome}
+use Rattle.snd_app.specs.Printed.{Outcome}
 use Rattle.snd_rows.specs.declared.memory.Printed.{Printed}
 
 abbrev pub one_file : List ℕ → List ℕ → Files

@@ -2,7 +2,8 @@ use Rattle.std.proofs.Common.{◌≡◌, ◌∙◌, ap, subst, rules, None}
 use Rattle.std.specs.Str.{bytes_eq}
 use Rattle.snd_disk.specs.Shelf.{ShelfState}
 use Rattle.snd_disk.specs.State.{State}
-use Rattle.snd_app.specs.Outcome.{Outcome, outcome}
+use Rattle.snd_app.specs.Outcome.{outcome}
+use Rattle.snd_app.specs.Printed.{Outcome}
 use Rattle.snd_rows.specs.Memory.{one_file, IsPrinted}
 use Rattle.snd_rows.proofs.Runs.{none_out, outcome_same, printed}
 use Rattle.snd_rows.specs.declared.memory.Printed.{Printed}
