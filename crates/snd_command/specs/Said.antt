@@ -4,7 +4,7 @@ use Rattle.snd_layout.specs.declared.kind.Kind.{Kind}
 use Rattle.snd_meta.specs.declared.bext.BextKey.{BextKey}
 use Rattle.snd_meta.specs.declared.info.InfoKey.{InfoKey}
 use Rattle.snd_command.specs.declared.tables.CodecWord.{CodecWord}
-use Rattle.snd_command.specs.declared.tables.TapKind.{TapKind}
+use Rattle.snd_taps.specs.declared.tap.TapKind.{TapKind}
 use Rattle.snd_command.specs.declared.command.Command.{Command}
 use Rattle.snd_command.specs.declared.command.Command.TheVariants as command
 use Rattle.snd_command.specs.declared.line_command.LineCommand.{LineCommand}

@@ -12,8 +12,9 @@ use Rattle.snd_meta.specs.declared.info.InfoKey.{InfoKey}
 use Rattle.snd_meta.specs.declared.info.InfoKey.TheVariants as info
 use Rattle.snd_command.specs.declared.tables.CodecWord.{CodecWord}
 use Rattle.snd_command.specs.declared.tables.CodecWord.TheVariants as codec
-use Rattle.snd_command.specs.declared.tables.TapKind.{TapKind}
-use Rattle.snd_command.specs.declared.tables.TapKind.TheVariants as tap
+use Rattle.snd_taps.specs.Names.{tap_name}
+use Rattle.snd_taps.specs.declared.tap.TapKind.{TapKind}
+use Rattle.snd_taps.specs.declared.tap.TapKind.TheVariants.{Peak, Clips, Energy}
 
 -- what a word names in a table
 abbrev pub named : {T : Type 0} → List ℕ → List (List ℕ × T) → Option T
@@ -51,8 +52,11 @@ bext_of word = named word (
     ∷ (codes "orig-date", bext.OrigDate) ∷ (codes "orig-time", bext.OrigTime) ∷ (codes "time-ref", bext.TimeRef)
     ∷ (codes "coding-hist", bext.CodingHist) ∷ [])
 
+abbrev pub taps : List TapKind
+taps = Peak ∷ Clips ∷ Energy ∷ []
+
 abbrev pub tap_of : List ℕ → Option TapKind
-tap_of word = named word ((codes "peak", tap.Peak) ∷ (codes "clips", tap.Clips) ∷ (codes "energy", tap.Energy) ∷ [])
+tap_of word = find (λ kind. bytes_eq word (tap_name kind)) taps
 
 abbrev pub switch_of : List ℕ → Option Bool
 switch_of word = named word ((codes "on", true) ∷ (codes "off", false) ∷ [])

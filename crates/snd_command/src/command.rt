@@ -4,11 +4,12 @@ ghost use Rattle.std.specs.Prelude.{◌≡◌};
 ghost use Rattle.snd_command.specs.Said.{line_said, said_of};
 
 use crate::line_command::LineCommand;
-use crate::tables::{CodecWord, TapKind};
+use crate::tables::CodecWord;
 use arrayvec::ArrayVec;
 use snd_fields::Id4;
 use snd_layout::Kind;
 use snd_meta::{BextKey, InfoKey};
+use snd_taps::TapKind;
 
 /// The most numbers that a line of `write` can hold.
 pub const MOST_SAMPLES: usize = 2048;

@@ -21,4 +21,4 @@ pub use line::{parse_line, read_line};
 pub use line_command::LineCommand;
 pub use numbers::NumberRoom;
 pub use refusal::ScriptRefusal;
-pub use tables::{CodecWord, TapKind};
+pub use tables::CodecWord;

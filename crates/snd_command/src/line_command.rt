@@ -5,11 +5,12 @@ ghost use Rattle.snd_command.specs.Said.{line_said, said_of};
 
 use crate::command::{Command, MOST_CUES, MOST_SAMPLES};
 use crate::numbers::copy_of;
-use crate::tables::{CodecWord, TapKind};
+use crate::tables::CodecWord;
 use arrayvec::ArrayVec;
 use snd_fields::Id4;
 use snd_layout::Kind;
 use snd_meta::{BextKey, InfoKey};
+use snd_taps::TapKind;
 
 /// What a line of a script says, in few bytes. The variants are those of `Command`; names, texts and hex
 /// digits are slices of the line, and numbers stand in the `NumberRoom` into which they were read. A `Command`

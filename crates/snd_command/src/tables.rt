@@ -6,6 +6,7 @@ ghost use Rattle.snd_command.specs.Tables.{bext_of, codec_of, info_of, kind_of, 
 use snd_fields::Order;
 use snd_layout::Kind;
 use snd_meta::{BextKey, InfoKey};
+use snd_taps::TapKind;
 
 /// Every kind of sound file.
 const KINDS: [Kind; 8] = [
@@ -18,6 +19,9 @@ const KINDS: [Kind; 8] = [
     Kind::Svx,
     Kind::Sphere,
 ];
+
+/// Every kind of tap.
+const TAPS: [TapKind; 3] = [TapKind::Peak, TapKind::Clips, TapKind::Energy];
 
 /// The codec of a sound file, as a script names it.
 #[derive(Clone, Copy, Debug, PartialEq, Eq, Drop)]
@@ -40,17 +44,6 @@ pub enum CodecWord {
     Ima,
     /// `ms`: Microsoft ADPCM.
     Ms,
-}
-
-/// A meter.
-#[derive(Clone, Copy, Debug, PartialEq, Eq, Drop)]
-pub enum TapKind {
-    /// `peak`: the greatest magnitude.
-    Peak,
-    /// `clips`: the number of samples at either end of the range.
-    Clips,
-    /// `energy`: the sum of the squares.
-    Energy,
 }
 
 /// The kind that a word names.
@@ -146,19 +139,13 @@ pub fn bext_of(word: &[u8]) -> Option<BextKey>
     }
 }
 
-/// The meter that a word names.
+/// The kind of tap that a word names.
 pub fn tap_of(word: &[u8]) -> Option<TapKind>
     ensures { result ≡ tap_of word.now }
 {
-    if word == b"peak".as_slice() {
-        Some(TapKind::Peak)
-    } else if word == b"clips".as_slice() {
-        Some(TapKind::Clips)
-    } else if word == b"energy".as_slice() {
-        Some(TapKind::Energy)
-    } else {
-        None
-    }
+    TAPS.iter()
+        .copied()
+        .find(|kind| word == kind.name().as_bytes())
 }
 
 /// Whether a word says `on` or `off`.

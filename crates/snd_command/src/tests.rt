@@ -3,6 +3,7 @@ use arrayvec::ArrayVec;
 use snd_fields::{Id4, Order};
 use snd_layout::Kind;
 use snd_meta::{BextKey, InfoKey};
+use snd_taps::TapKind;
 use std::process::Abort;
 use std::test::Fail;
 

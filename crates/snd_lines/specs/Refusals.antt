@@ -2,7 +2,7 @@
 use Rattle.std.specs.Prelude.{ℕ, List, codes}
 use Rattle.snd_layout.specs.Names.{refusal_name as open_name, refusal_number as open_number}
 use Rattle.snd_lines.specs.declared.refusal.Refusal.{Refusal}
-use Rattle.snd_lines.specs.declared.refusal.Refusal.TheVariants.{Open, AdpcmUpdate, UnknownLength, PartFrame, SampleRange, SeekRange, TrailingData, ContainerFull, Straddle, FramesWritten, ReservedChunk, NoChunks, ChunkTooLarge, AutoOn, NoSuchChunk, BadCommand, LineTooLong, NotOpen, AlreadyOpen, WrongMode, SameName, MixedParams, NotMono, UnknownSuffix, MissingFile, BadInfo, BadCue, BadBext, TextTooLong, Pinned, NotBuilt}
+use Rattle.snd_lines.specs.declared.refusal.Refusal.TheVariants.{Open, AdpcmUpdate, UnknownLength, PartFrame, SampleRange, SeekRange, TrailingData, ContainerFull, Straddle, FramesWritten, ReservedChunk, NoChunks, ChunkTooLarge, AutoOn, NoSuchChunk, BadCommand, LineTooLong, NotOpen, AlreadyOpen, WrongMode, NoSuchTap, TapOn, SameName, MixedParams, NotMono, UnknownSuffix, MissingFile, BadInfo, BadCue, BadBext, TextTooLong, Pinned, NotBuilt}
 
 abbrev pub refusal_number : Refusal → ℕ
 refusal_number (Open refusal) = open_number refusal
@@ -25,6 +25,8 @@ refusal_number LineTooLong = 41
 refusal_number NotOpen = 42
 refusal_number AlreadyOpen = 43
 refusal_number WrongMode = 44
+refusal_number NoSuchTap = 45
+refusal_number TapOn = 46
 refusal_number SameName = 50
 refusal_number MixedParams = 51
 refusal_number NotMono = 52
@@ -58,6 +60,8 @@ refusal_name LineTooLong = codes "LineTooLong"
 refusal_name NotOpen = codes "NotOpen"
 refusal_name AlreadyOpen = codes "AlreadyOpen"
 refusal_name WrongMode = codes "WrongMode"
+refusal_name NoSuchTap = codes "NoSuchTap"
+refusal_name TapOn = codes "TapOn"
 refusal_name SameName = codes "SameName"
 refusal_name MixedParams = codes "MixedParams"
 refusal_name NotMono = codes "NotMono"

@@ -48,6 +48,10 @@ pub enum Refusal {
     AlreadyOpen,
     /// The file was opened in a mode that lacks the command.
     WrongMode,
+    /// No tap of the kind waits, or none is on.
+    NoSuchTap,
+    /// A tap of the kind is on already.
+    TapOn,
     /// Two names are equal.
     SameName,
     /// The channels or the rate of a file are not those of the first.
@@ -98,6 +102,8 @@ impl Refusal {
             Refusal::NotOpen => 42,
             Refusal::AlreadyOpen => 43,
             Refusal::WrongMode => 44,
+            Refusal::NoSuchTap => 45,
+            Refusal::TapOn => 46,
             Refusal::SameName => 50,
             Refusal::MixedParams => 51,
             Refusal::NotMono => 52,
@@ -137,6 +143,8 @@ impl Refusal {
             Refusal::NotOpen => "NotOpen",
             Refusal::AlreadyOpen => "AlreadyOpen",
             Refusal::WrongMode => "WrongMode",
+            Refusal::NoSuchTap => "NoSuchTap",
+            Refusal::TapOn => "TapOn",
             Refusal::SameName => "SameName",
             Refusal::MixedParams => "MixedParams",
             Refusal::NotMono => "NotMono",

@@ -4,7 +4,7 @@ use Rattle.std.specs.List.{list_any, remove}
 use Rattle.std.proofs.lemmas.List.{get_or_read}
 use Rattle.snd_taps.specs.declared.tap.TapKind.{TapKind}
 use Rattle.snd_taps.specs.Meter.{Meter}
-use Rattle.snd_meters.specs.declared.refusal.TapRefusal.TheVariants.{TapOn, NoSuchTap}
+use Rattle.snd_lines.specs.declared.refusal.Refusal.TheVariants.{TapOn, NoSuchTap}
 use Rattle.snd_meters.specs.First.{IsFirst}
 use Rattle.snd_meters.specs.Gauge.{Gauge, waiting, on, gauge_of, is_on, is_waiting, started_gauge}
 use Rattle.snd_meters.specs.Gauges.{first_changed, without_first, start_answer, after_start, stop_answer, after_stop}

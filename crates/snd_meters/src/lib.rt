@@ -3,7 +3,6 @@
 
 mod laws;
 mod meters;
-mod refusal;
 mod report;
 mod slot;
 #[cfg(test)]
@@ -11,5 +10,4 @@ mod tests;
 
 pub use laws::at_most_one_is_on;
 pub use meters::Meters;
-pub use refusal::TapRefusal;
 pub use report::push_report;

@@ -7,8 +7,8 @@ ghost use Rattle.snd_meters.specs.Gauge.{waiting, stands};
 ghost use Rattle.snd_meters.specs.Gauges.{start_answer, after_start, stop_answer, after_stop, after_feed, after_rest};
 ghost use Rattle.snd_meters.specs.Slots.{gauge, gauges, Become};
 
-use crate::TapRefusal;
 use crate::slot::Slot;
+use snd_lines::Refusal;
 use snd_taps::{Tap, TapKind, TapState};
 use std::alloc::{AllocError, Global};
 
@@ -44,27 +44,27 @@ impl Meters {
 
     /// Starts the first that waits of a kind. `low` and `high` are the ends of the range of a sample.
     /// `TapOn` where one of the kind is on, else `NoSuchTap` where none waits.
-    pub fn start(&mut self, kind: TapKind, low: i32, high: i32) -> Result<(), TapRefusal>
+    pub fn start(&mut self, kind: TapKind, low: i32, high: i32) -> Result<(), Refusal>
         ensures answer { result ≡ start_answer kind (gauges (λ s. meter s.tap) self.old) }
         ensures after { Become (λ s. meter s.tap) (after_start kind low high) self.old self.new }
     {
         if let Some(_) = self.find(kind, true) {
-            return Err(TapRefusal::TapOn);
+            return Err(Refusal::TapOn);
         }
         let Some(at) = self.find(kind, false) else {
-            return Err(TapRefusal::NoSuchTap);
+            return Err(Refusal::NoSuchTap);
         };
         self.slots[at].start(low, high);
         Ok(())
     }
 
     /// Drops the one of a kind that is on, which never comes back, and tells what it saw. `NoSuchTap` where none is on.
-    pub fn stop(&mut self, kind: TapKind) -> Result<TapState, TapRefusal>
+    pub fn stop(&mut self, kind: TapKind) -> Result<TapState, Refusal>
         ensures answer { result ≡ stop_answer kind (gauges (λ s. meter s.tap) self.old) }
         ensures after { Become (λ s. meter s.tap) (after_stop kind) self.old self.new }
     {
         let Some(at) = self.find(kind, true) else {
-            return Err(TapRefusal::NoSuchTap);
+            return Err(Refusal::NoSuchTap);
         };
         let slot = self.slots.remove(at);
         Ok(slot.report())

@@ -1,6 +1,7 @@
 //! Boxes of every kind that count the calls of their taps.
 
 use super::*;
+use snd_lines::Refusal;
 use snd_taps::{Clips, Energy, Peak, Tap, TapKind, TapState};
 use std::alloc::{AllocError, Global};
 use std::cell::Cell;
@@ -94,7 +95,7 @@ fn two_taps_are_fed_and_one_is_dropped(rt: HostRuntime) {
     assert_eq!(rt; meters.start(TapKind::Energy, -32768, 32767), Ok(()));
     assert_eq!(rt;
         meters.start(TapKind::Peak, -32768, 32767),
-        Err(TapRefusal::TapOn)
+        Err(Refusal::TapOn)
     );
     meters.feed(1, &[1, -1]);
     for kind in [TapKind::Peak, TapKind::Energy] {
@@ -102,10 +103,10 @@ fn two_taps_are_fed_and_one_is_dropped(rt: HostRuntime) {
         push_report(&mut text, kind, state).expect(&rt, "memory");
     }
     assert_eq!(rt; text.as_slice(), b"ok peak 2 1\nok energy 2 2\n".as_slice());
-    assert_eq!(rt; meters.stop(TapKind::Peak), Err(TapRefusal::NoSuchTap));
+    assert_eq!(rt; meters.stop(TapKind::Peak), Err(Refusal::NoSuchTap));
     assert_eq!(rt;
         meters.start(TapKind::Peak, -32768, 32767),
-        Err(TapRefusal::NoSuchTap)
+        Err(Refusal::NoSuchTap)
     );
 
     for calls in [&of_peak, &of_energy] {
@@ -127,7 +128,7 @@ fn a_tap_that_rests_begins_anew(rt: HostRuntime) {
     meters.feed(2, &[0, 7, 3]);
     meters.rest();
     meters.feed(2, &[0, 7]);
-    assert_eq!(rt; meters.stop(TapKind::Clips), Err(TapRefusal::NoSuchTap));
+    assert_eq!(rt; meters.stop(TapKind::Clips), Err(Refusal::NoSuchTap));
     assert_eq!(rt; meters.start(TapKind::Clips, 0, 9), Ok(()));
     meters.feed(2, &[0, 7, 9, 9, 0]);
     let wanted = TapState {
