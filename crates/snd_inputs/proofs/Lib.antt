@@ -1,5 +1,9 @@
+pub mod Answering
 pub mod Between
+pub mod Copying
 pub mod DataBytes
+pub mod Held
 pub mod Lists
 pub mod Reading
 pub mod Seen
+pub mod Told

@@ -101,3 +101,7 @@ same_inputs files files' (x ∷ xs) same =
 pub seen_err : (r : Result Editing Refusal) (why : Refusal) → Err why ≡ seen_of r → r ≡ Err why
 seen_err (Ok e) why is = absurd (cc)
 seen_err (Err other) why is = let same : other ≡ why = cc in ap (λ (x : Refusal). Err x) same
+
+pub opened_same : (r : Result Editing Refusal) (e f : Editing) → r ≡ Ok e → r ≡ Ok f → e ≡ f
+opened_same (Ok x) e f is is' = cc
+opened_same (Err why) e f is is' = absurd (cc)

@@ -1,13 +1,14 @@
 -- A shelf of which files are only read: where none was handed out, where one came back as it was, and where one thing follows another.
-use Rattle.std.proofs.Common.{◌≡◌, ℕ, List, [], false, true, None, Some, inl, inr, ◌⊎◌, ◌∙◌, refl, Result, Ok, Err, arith}
+use Rattle.std.proofs.Common.{◌≡◌, ℕ, List, [], false, true, None, Some, inl, inr, ◌⊎◌, ◌∙◌, refl, Result, Ok, Err, arith, Bool, cond, ap}
 use Rattle.snd_disk.proofs.Chains.{keeps_images_then}
+use Rattle.snd_disk.proofs.Names.{same_bytes}
 use Rattle.snd_disk.proofs.Returned.{returned_files, returned_images, returned_out, stayed_images}
 use Rattle.snd_disk.specs.declared.disk.Disk.{Ghosts as DiskMeaning}
 use Rattle.snd_disk.specs.declared.shelf.Shelf.{Ghosts as ShelfMeaning}
 use Rattle.snd_disk.specs.Device.{OnlyReadsOn}
-use Rattle.snd_disk.specs.Shelf.{Files, Gives, KeepsBytes, SameFiles, Stays, Takes, put}
+use Rattle.snd_disk.specs.Shelf.{Files, Gives, KeepsBytes, SameFiles, ShelfState, Stays, Takes, put}
 use Rattle.snd_disk.specs.Shelves.{HandsOut, HandsOutNone, KeepsOthers, TakesBack, TellsFiles}
-use Rattle.snd_disk.specs.State.{Adds}
+use Rattle.snd_disk.specs.State.{Adds, State}
 use Rattle.snd_output.specs.declared.stop.Stop.{Stop}
 use Rattle.snd_output.specs.declared.stop.Stop.TheVariants.{Fault, Memory}
 use Rattle.snd_output.specs.Ends.{CountsStop}
@@ -15,6 +16,18 @@ use Rattle.snd_tools.proofs.Counts.{counts_back}
 use Rattle.snd_tools.proofs.Left.{kept_changes}
 use Rattle.snd_tools.specs.Shelves.{ChangesOne, CountsOneOf}
 use Rattle.snd_inputs.specs.Looking.{ReadsFiles}
+
+-- a name that was taken out is out
+pub now_out : (old new : ShelfState) (name : List ℕ) (make : Bool) (disk : State) → Takes old new name make disk → new.out name ≡ true
+now_out old new name make disk takes = takes.out name ∙ ap (λ (t : Bool). cond t true (old.out name)) (same_bytes name)
+
+-- a disk of which nothing was asked
+pub reads_none : {D : Type 0} (state : D → State) (may_leave : D → List ℕ → Type 0) (left_between : D → ℕ → ℕ → List ℕ → Type 0) (d : D) → OnlyReadsOn state may_leave left_between d d
+reads_none state may_leave left_between d = record {
+  keeps = record { size = refl; contents = refl; name = refl };
+  images = record { same_time = refl; now = record { no_more = λ x left. left; no_fewer = λ x left. left }; no_more = λ s t x left. left; no_fewer = λ s t x left. left };
+  written = refl;
+}
 
 module _ {S D : Type 0} (s : ShelfMeaning S D) where
   pub reads_itself : (old : S) → ReadsFiles s old old

@@ -1,3 +1,5 @@
+pub mod Copying
 pub mod Inputs
 pub mod Looking
+pub mod Opening
 pub mod Seeing

@@ -9,6 +9,7 @@ use Rattle.snd_layout.specs.Opened.{EndsIn}
 use Rattle.snd_layout.specs.Shape.{Shape, end, room}
 use Rattle.snd_lines.specs.declared.refusal.Refusal.{Refusal}
 use Rattle.snd_modes.specs.Editing.{Editing}
+use Rattle.snd_inputs.specs.Inputs.{input_in, inputs_in}
 use Rattle.snd_inputs.specs.declared.looking.Inputs.{Inputs}
 use Rattle.snd_inputs.specs.declared.looking.Inputs.TheVariants as inputs
 
@@ -30,10 +31,19 @@ seen_by (inputs.Refused name why) = Err (name.now, why)
 abbrev pub IfOkFiles : {S T E : Type 0} → (S → ShelfState) → S → Result T E → (Files → T → Type 0) → Type 0
 IfOkFiles state shelf result P = IfOk result (λ value. (files : Files) → TellsFiles state shelf files → P files value)
 
--- a layout of which the frames are read, as its file is opened; the room of its head ends where a disk may
+-- a layout of which the frames are read, as its file is opened: it has some channel, and the room of its head ends where a disk
+-- may
 pub record IsReadable (h : Shape) : Type 0 where
   pub linear : is_none (fixed_of h.params.codec) ≡ false
+  pub some : 1 ≤ h.params.channels
   pub room_ends : h.start + room h + 8 ≤ 2 ^ 63
+
+-- what is seen of the file of a name, or of those of several, is what they are
+abbrev pub Sees : {S E : Type 0} → (S → ShelfState) → List ℕ → S → Result (Result Shape Refusal) E → Type 0
+Sees state name shelf result = IfOkFiles state shelf result (λ files seen. seen ≡ seen_of (input_in (files name)))
+
+abbrev pub SeesAll : {S E : Type 0} → (S → ShelfState) → List (List ℕ) → S → Result Inputs E → Type 0
+SeesAll state names shelf result = IfOkFiles state shelf result (λ files inputs. seen_by inputs ≡ all_seen (inputs_in files names))
 
 -- its frames and its chunks lie within so many bytes
 pub record LiesWithin (size : ℕ) (h : Shape) : Type 0 where

@@ -1,8 +1,15 @@
-//! The files that a tool reads, looked at before it makes anything, and what a new file has room for.
+//! The files that a tool reads, looked at or opened, and the file that it makes: how it is taken out, and what
+//! it has room for.
 #![tactic(auto)]
 
+mod input;
 mod looking;
+mod opening;
+mod output;
 mod room;
 
+pub use input::Input;
 pub use looking::{Inputs, look, look_all};
+pub use opening::{close_read, open_input};
+pub use output::take_output;
 pub use room::{bare_room, exceeds_room};

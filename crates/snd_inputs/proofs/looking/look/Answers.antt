@@ -1,23 +1,27 @@
-use Rattle.snd_inputs.proofs.Reading.{handed_back, not_handed}
-use Rattle.snd_inputs.proofs.Seen.{if_ok, seen_there, within_there}
+use Rattle.std.proofs.Common.{Ok, ap, subst, sym, refl}
+use Rattle.snd_inputs.proofs.Held.{only_read}
+use Rattle.snd_inputs.proofs.Reading.{reads_none}
+use Rattle.snd_inputs.proofs.Seen.{seen_open}
+use Rattle.snd_inputs.specs.Looking.{seen_of}
+use Rattle.snd_inputs.specs.Opening.{IsOpen, OpensInput}
 use Rattle.snd_inputs.proofs.looking.look.Goals as goal
 
-pub returns-in-Err-Failed-clause-reads : goal.returns-in-Err-Failed-clause-reads
-returns-in-Err-Failed-clause-reads g c = not_handed g.S.Shelf c.args.name.now _ _ c.in-Err-Failed.ensures.stays c.in-Err-Failed.ensures.same_images c.take.ensures.others c.take.ensures.bytes
-
-pub returns-in-Err-Memory-clause-reads : goal.returns-in-Err-Memory-clause-reads
-returns-in-Err-Memory-clause-reads g c = not_handed g.S.Shelf c.args.name.now _ _ c.in-Err-Memory.ensures.stays c.in-Err-Memory.ensures.same_images c.take.ensures.others c.take.ensures.bytes
+pub returns-in-Err-clause-seen : goal.returns-in-Err-clause-seen
+returns-in-Err-clause-seen g c = λ files told.
+    let looks = subst (λ r. OpensInput g.S.Shelf g.S.Disk.Disk c.args.name.now c.args.shelf.now c.open_input.new.shelf (Ok r)) c.in-Err.is c.in_ok-input.ensures.opened in
+    sym (ap seen_of (looks.1 files told))
 
 pub returns-clause-seen : goal.returns-clause-seen
-returns-clause-seen g c = if_ok c.look_on-seen.result _ _ (λ seen is files told. seen_there _ _ files c.args.name.now _ c.in-Ok.ensures.taken told seen is) c.look_on-seen.ensures.seen
-
-pub returns-clause-within : goal.returns-clause-within
-returns-clause-within g c =
-    if_ok c.look_on-seen.result _ _
-    (λ seen. if_ok seen _ _ (λ h within files b told is. within_there _ _ files c.args.name.now _ c.in-Ok.ensures.taken told h b (g.met.S.Disk.Disk.size_told c.in-Ok.disk) is within))
-    c.look_on-seen.ensures.within
+returns-clause-seen g c = λ files told.
+    let opens : IsOpen g.S.Shelf g.S.Disk.Disk c.args.name.now c.args.shelf.now c.open_input.new.shelf c.in-Ok.input =
+    subst (λ r. OpensInput g.S.Shelf g.S.Disk.Disk c.args.name.now c.args.shelf.now c.open_input.new.shelf (Ok r)) c.in-Ok.is c.in_ok-input.ensures.opened in
+    let found = opens.opened files told in
+    seen_open files c.args.name.now found.0 c.in-Ok.input.layout found.1 found.2
 
 pub returns-clause-reads : goal.returns-clause-reads
 returns-clause-reads g c =
-    handed_back g.S.Shelf g.S.Disk.Disk c.args.name.now c.args.shelf.now c.take.new.self c.give.new.self c.in-Ok.disk c.look_on-seen.new.disk c.in-Ok.ensures.taken c.give.ensures.given c.look_on-seen.ensures.reads
-    c.in-Ok.ensures.images c.give.ensures.images c.take.ensures.others c.give.ensures.others c.take.ensures.bytes c.requires
+    let opens : IsOpen g.S.Shelf g.S.Disk.Disk c.args.name.now c.args.shelf.now c.open_input.new.shelf c.in-Ok.input =
+    subst (λ r. OpensInput g.S.Shelf g.S.Disk.Disk c.args.name.now c.args.shelf.now c.open_input.new.shelf (Ok r)) c.in-Ok.is c.in_ok-input.ensures.opened in
+    only_read g.S.Shelf g.S.Disk.Disk c.args.shelf.now c.open_input.new.shelf c.give.new.self c.in-Ok.input c.in-Ok.input.disk c.in-Ok.input.disk c.in-Ok.input.disk c.args.name.now opens refl refl
+    (reads_none g.S.Disk.Disk.state g.S.Disk.Disk.may_leave g.S.Disk.Disk.left_between c.in-Ok.input.disk) c.give.ensures.given
+    c.give.ensures.images c.give.ensures.others c.requires

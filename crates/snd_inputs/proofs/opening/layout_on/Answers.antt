@@ -2,7 +2,7 @@ use Rattle.std.proofs.Common.{◌≡◌, sym, false, true, rules}
 use Rattle.std.specs.Prelude.{is_none}
 use Rattle.snd_container.specs.Sound.{fixed_of}
 use Rattle.snd_inputs.proofs.Seen.{adpcm_seen, layout_seen, refused_seen}
-use Rattle.snd_inputs.proofs.looking.look_on.Goals as goal
+use Rattle.snd_inputs.proofs.opening.layout_on.Goals as goal
 
 pub returns-in-Err-Refused-clause-seen : goal.returns-in-Err-Refused-clause-seen
 returns-in-Err-Refused-clause-seen g c = λ b told.
