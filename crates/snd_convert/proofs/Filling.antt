@@ -1,10 +1,9 @@
 -- A file that was begun is given the chunks that go with the frames of another, and these.
-use Rattle.std.proofs.Common.{◌≡◌, ℕ, ◌≤◌, List, [], Bool, true, false, cond, inl, inr, ⊎_elim, None, Ok, Err, OnOk, Result, map, sym, ◌∙◌, ap, subst}
+use Rattle.std.proofs.Common.{◌≡◌, List, [], Bool, true, false, cond, Ok, Err, OnOk, Result, map, sym, ◌∙◌, ap, subst}
 use Rattle.std.proofs.lemmas.Bool.{and_parts}
 use Rattle.snd_carry.specs.Carried.{carried, carried_pieces}
 use Rattle.snd_carry.specs.Carrying.{IsNewShape, known_with}
 use Rattle.snd_chunks.specs.Written.{NewChunk}
-use Rattle.snd_disk.specs.State.{Rises}
 use Rattle.snd_layout.specs.Params.{AreParams, Parameters}
 use Rattle.snd_layout.specs.Shape.{Shape}
 use Rattle.snd_layout.specs.declared.kind.Kind.{Kind}
@@ -15,11 +14,7 @@ use Rattle.snd_modes.specs.Making.{making_of}
 use Rattle.snd_modes.specs.Relaid.{outline, shape_with}
 use Rattle.snd_output.proofs.Begun.{begun_is_making, new_says}
 use Rattle.snd_output.proofs.Carried.{carried_is_making, says_of}
-use Rattle.snd_output.specs.Appended.{AppendLeaves, CountsEither}
-use Rattle.snd_output.specs.Ends.{BreaksByFault, CountsOneOf}
 use Rattle.snd_output.specs.Made.{AreChunks, IsMaking, made_with}
-use Rattle.snd_output.specs.declared.stop.Stop.{Stop}
-use Rattle.snd_output.specs.declared.stop.Stop.TheVariants.{Fault, Memory}
 use Rattle.snd_convert.specs.Convert.{carries, chunks_for}
 use Rattle.snd_convert.specs.Making.{known_filled}
 use Rattle.snd_convert.specs.Plan.{Planned}
@@ -78,17 +73,3 @@ module _ (plan : Planned) (h : Shape) (none : carries plan.kind h.kind ≡ false
 pub on_both : {T E : Type 0} (r : Result T E) (P Q R : Type 0) → (P → Q → R) → OnOk r P → OnOk r Q → OnOk r R
 on_both (Ok x) P Q R f p q = f p q
 on_both (Err e) P Q R f p q = p
-
-pub then_appended : {T : Type 0} (r : Result T Stop) (from mid from' to mid' to' : ℕ) → mid ≡ from → mid' ≡ to → CountsEither mid from' mid' to' r → CountsOneOf from from' to to' r
-then_appended (Ok x) from mid from' to mid' to' same same' counts = (counts.0 ∙ same, counts.1 ∙ same')
-then_appended (Err Memory) from mid from' to mid' to' same same' counts = absurd counts
-then_appended (Err Fault) from mid from' to mid' to' same same' counts = (
-  subst (λ (n : ℕ). n ≤ from') same counts.0,
-  subst (λ (n : ℕ). n ≤ to') same' counts.1,
-  ⊎_elim (λ rose. inl (subst (λ (n : ℕ). Rises n from') same rose)) (λ rose. inr (subst (λ (n : ℕ). Rises n to') same' rose)) counts.2,
-)
-
-pub still_works : {T : Type 0} (r : Result T Stop) (n : ℕ) (from from' to to' : Known) (a b c d : ℕ) → AppendLeaves n from from' to to' r → CountsEither a b c d r → to.broken ≡ None → BreaksByFault to' r
-still_works (Ok x) n from from' to to' a b c d left counts working = ap (λ (k : Known). k.broken) left.1 ∙ working
-still_works (Err Memory) n from from' to to' a b c d left counts working = absurd counts
-still_works (Err Fault) n from from' to to' a b c d left counts working = tt

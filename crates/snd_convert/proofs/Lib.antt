@@ -2,4 +2,3 @@ pub mod Doing
 pub mod Filling
 pub mod Making
 pub mod Parameters
-pub mod Steps

@@ -6,8 +6,7 @@ use Rattle.snd_carry.specs.Carried.{carried_pieces}
 use Rattle.snd_chunks.specs.Written.{NewChunk, chunks_bytes}
 use Rattle.snd_container.proofs.EveryKind.{made}
 use Rattle.snd_container.specs.Sound.{fixed_of}
-use Rattle.snd_disk.specs.Device.{Tells}
-use Rattle.snd_disk.specs.State.{State}
+use Rattle.snd_inputs.specs.Opening.{IsUnread}
 use Rattle.snd_layout.specs.Blocks.{block_align, block_frames}
 use Rattle.snd_fields.specs.declared.field.Order.TheVariants.{Little}
 use Rattle.snd_layout.specs.Fit.{fit_refusal}
@@ -28,7 +27,7 @@ use Rattle.snd_output.specs.Appended.{HasRoom, MayAppend, left_in, numbers_left}
 use Rattle.snd_output.specs.Widths.{change_numbers, joined}
 use Rattle.snd_room.specs.Room.{Take}
 use Rattle.snd_convert.specs.Convert.{carries, numbers_for}
-use Rattle.snd_convert.specs.Making.{IsUnread, is_full_by, known_filled, outlines_for}
+use Rattle.snd_convert.specs.Making.{is_full_by, known_filled, outlines_for}
 use Rattle.snd_convert.specs.Plan.{Planned}
 
 -- what is begun has these parameters and no frames, and does not go on behind its data
@@ -124,10 +123,7 @@ no_take to from chunks other = subst (λ (t : Bool). Take to 0 (cond t chunks []
 pub all_end : (size : ℕ) (known h : Shape) (b : List ℕ) → size ≡ length b → known ≡ h → All (EndsIn size) known.pieces → All (EndsIn (length b)) h.pieces
 all_end size known h b long same ends = subst (λ (s : Shape). All (EndsIn (length b)) s.pieces) same (subst (λ (n : ℕ). All (EndsIn n) known.pieces) long ends)
 
--- ---- where it is then
-
-pub told_as : {E : Type 0} (state : E → State) (d d' : E) (b : List ℕ) → d ≡ d' → Tells state d b → Tells state d' b
-told_as {E = E} state d d' b same told = subst (λ (x : E). Tells state x b) same told
+-- ---- what it has
 
 -- the numbers that are put are those of all frames
 pub numbers_same : (plan : Planned) (e : Editing) (from to : Codec) → from ≡ e.shape.params.codec → to ≡ plan.params.codec → e.place ≡ 0 → [] ++ change_numbers from to (numbers_left e) ≡ numbers_for plan e

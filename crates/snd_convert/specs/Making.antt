@@ -1,5 +1,5 @@
 -- A file that is made of an open one, as the code does it: what is asked of the two, and what comes of it.
-use Rattle.std.specs.Prelude.{◌≡◌, ℕ, ℤ, Bool, List, [], Some, None, Result, Ok, IfOk, map, nat_lt, if◌then◌else◌}
+use Rattle.std.specs.Prelude.{◌≡◌, ℕ, ℤ, Bool, List, [], Some, Result, Ok, IfOk, OnOk, map, nat_lt, if◌then◌else◌}
 use Rattle.snd_carry.specs.Carried.{carried_pieces}
 use Rattle.snd_chunks.specs.Written.{NewChunk}
 use Rattle.snd_disk.specs.declared.disk.Disk.{Ghosts}
@@ -12,16 +12,19 @@ use Rattle.snd_layout.specs.Shape.{Shape, room}
 use Rattle.snd_layout.specs.declared.kind.Kind.{Kind}
 use Rattle.snd_modes.specs.declared.handle.File.{File}
 use Rattle.snd_modes.specs.declared.mode.Mode.{Ghosts as ModeGhosts}
-use Rattle.snd_modes.specs.Editing.{Editing, opening_of}
-use Rattle.snd_modes.specs.Handle.{Known, Stands}
+use Rattle.snd_modes.specs.Editing.{Editing}
+use Rattle.snd_modes.specs.Handle.{Known, Stands, known_of}
 use Rattle.snd_modes.specs.Making.{making_of}
 use Rattle.snd_modes.specs.Relaid.{outline, shape_with}
 use Rattle.snd_output.specs.Made.{IsMaking}
 use Rattle.snd_tools.specs.Shelves.{HasFiles, IsDone}
 use Rattle.snd_tools.specs.declared.answer.Answer.{Answer}
-use Rattle.snd_words.specs.Asked.{Converting}
-use Rattle.snd_convert.specs.Convert.{carries, chunks_for, done_by_plan, done_with, file_made, made_of, numbers_for}
+use Rattle.snd_room.specs.Room.{Take}
+use Rattle.snd_words.specs.declared.convert.Conversion.{Conversion}
+use Rattle.snd_convert.specs.Convert.{carries, chunks_for, done_by_plan, file_made, is_full, made_of, numbers_for}
 use Rattle.snd_convert.specs.Plan.{Planned, planned}
+use Rattle.snd_convert.specs.Planning.{asked_of, planned_by}
+use Rattle.snd_convert.specs.declared.plan.Plan.{Plan}
 
 -- the chunks that go with the frames, by their outlines; and whether the head with these has no room for the data
 abbrev pub outlines_for : Planned → Shape → List NewChunk
@@ -30,14 +33,23 @@ outlines_for plan h = if carries plan.kind h.kind then map outline (carried_piec
 abbrev pub is_full_by : Planned → Shape → Bool
 is_full_by plan h = nat_lt (room (shape_with plan.kind plan.params (outlines_for plan h))) (data_bytes plan.params h.frames)
 
--- an open file may be read from its first frame on
-pub record IsUnread (k : Known) : Type 0 where
-  pub working : k.broken ≡ None
-  pub first : k.place ≡ 0
+-- so many bytes are those of these outlines in a head, or, where the disk tells what it holds, of the chunks
+abbrev pub OutlinesTake : Plan → Shape → ℕ → Type 0
+OutlinesTake plan h bytes = Take plan.kind bytes (outlines_for (planned_by plan) h)
+
+abbrev pub ChunksTake : {D M : Type 0} {d : Ghosts D} {m : ModeGhosts M} → (D → State) → Plan → File D M d m → ℕ → Type 0
+ChunksTake state plan file bytes = (e : Editing) → Stands state file e → Take plan.kind bytes (chunks_for (planned_by plan) e)
+
+-- .. and so it is said whether the head with these has no room for the data
+abbrev pub TellsFull : {D M : Type 0} {d : Ghosts D} {m : ModeGhosts M} → (D → State) → Plan → File D M d m → Bool → Type 0
+TellsFull state plan file full = (e : Editing) → Stands state file e → full ≡ is_full (planned_by plan) e
 
 -- what is known, over every disk, of a file that was begun once the chunks of a layout were put into it
 abbrev pub known_filled : Planned → Shape → Known → Known
 known_filled plan h k = record k { shape = shape_with plan.kind plan.params (outlines_for plan h) }
+
+abbrev pub IsFilled : {D E M N : Type 0} {d : Ghosts D} {t : Ghosts E} {m : ModeGhosts M} {n : ModeGhosts N} → Plan → File D M d m → File E N t n → File E N t n → Type 0
+IsFilled plan from old new = known_of new ≡ known_filled (planned_by plan) (known_of from).shape (known_of old)
 
 -- Where both disks tell what they hold, a file that was begun is then one that is being made with the chunks that go with the
 -- frames of the other; or with these frames, too.
@@ -48,33 +60,34 @@ MakesWith state state' plan numbers from old new =
     → (e' : Editing) × Stands state' new e' × IsMaking plan.kind plan.params (chunks_for plan r) (numbers r) e'
 
 abbrev pub TakesChunks : {D E M N : Type 0} {d : Ghosts D} {t : Ghosts E} {m : ModeGhosts M} {n : ModeGhosts N}
-    → (D → State) → (E → State) → Planned → File D M d m → File E N t n → File E N t n → Type 0
-TakesChunks state state' plan from old new = MakesWith state state' plan (λ r. []) from old new
+    → (D → State) → (E → State) → Plan → File D M d m → File E N t n → File E N t n → Type 0
+TakesChunks state state' plan from old new = MakesWith state state' (planned_by plan) (λ r. []) from old new
 
 abbrev pub Fills : {D E M N : Type 0} {d : Ghosts D} {t : Ghosts E} {m : ModeGhosts M} {n : ModeGhosts N}
-    → (D → State) → (E → State) → Planned → File D M d m → File E N t n → File E N t n → Type 0
-Fills state state' plan from old new = MakesWith state state' plan (numbers_for plan) from old new
+    → (D → State) → (E → State) → Plan → File D M d m → File E N t n → File E N t n → Type 0
+Fills state state' plan from old new = MakesWith state state' (planned_by plan) (numbers_for (planned_by plan)) from old new
 
 -- Where both disks tell what they hold, one becomes what is made of the file on the other. Or a file of a shelf does.
-abbrev pub Makes : {D M E : Type 0} {d : Ghosts D} {m : ModeGhosts M} → (D → State) → (E → State) → Planned → File D M d m → E → E → Type 0
-Makes state state' plan file old new = (b : List ℕ) (e : Editing) → Tells state' old b → Stands state file e → Tells state' new (file_made plan e)
+abbrev pub Makes : {D M E : Type 0} {d : Ghosts D} {m : ModeGhosts M} → (D → State) → (E → State) → Plan → File D M d m → E → E → Type 0
+Makes state state' plan file old new =
+    (b : List ℕ) (e : Editing) → Tells state' old b → Stands state file e → Tells state' new (file_made (planned_by plan) e)
 
-abbrev pub MakesUnder : {D M S : Type 0} {d : Ghosts D} {m : ModeGhosts M} → (D → State) → (S → ShelfState) → List ℕ → Planned → File D M d m → S → S → Type 0
-MakesUnder state shelf_state name plan file old new =
-    (files : Files) (e : Editing) → TellsFiles shelf_state old files → Stands state file e → HasFiles shelf_state new (put files name (Some (file_made plan e)))
+abbrev pub MakesUnder : {D M S T E : Type 0} {d : Ghosts D} {m : ModeGhosts M}
+    → (D → State) → (S → ShelfState) → List ℕ → Plan → File D M d m → S → S → Result T E → Type 0
+MakesUnder state shelf_state name plan file old new result =
+    OnOk result ((files : Files) (e : Editing) → TellsFiles shelf_state old files → Stands state file e
+    → HasFiles shelf_state new (put files name (Some (file_made (planned_by plan) e))))
 
--- what is answered is what is to be done with an open file by a plan, with an open file, or with a disk; and that is done
-abbrev pub ConvertsAs : {D M S E : Type 0} {d : Ghosts D} {m : ModeGhosts M} → (D → State) → (S → ShelfState) → Converting → Planned → File D M d m → S → S → Result Answer E → Type 0
-ConvertsAs state shelf_state c plan file old new result =
+-- what is answered is what is to be done with an open file by a plan, or in a file of a kind; and that is done
+abbrev pub DoesBy : {D M S E : Type 0} {d : Ghosts D} {m : ModeGhosts M}
+    → (D → State) → (S → ShelfState) → Conversion → Plan → File D M d m → S → S → Result Answer E → Type 0
+DoesBy state shelf_state conversion plan file old new result =
     IfOk result (λ answer. (files : Files) (e : Editing) → TellsFiles shelf_state old files → Stands state file e
-    → IsDone shelf_state new answer (made_of c plan e) files)
+    → IsDone shelf_state new answer (made_of (asked_of conversion) (planned_by plan) e) files)
 
-abbrev pub Converts : {D M S E : Type 0} {d : Ghosts D} {m : ModeGhosts M} → (D → State) → (S → ShelfState) → Converting → Kind → File D M d m → S → S → Result Answer E → Type 0
-Converts state shelf_state c kind file old new result =
+abbrev pub Converts : {D M S E : Type 0} {d : Ghosts D} {m : ModeGhosts M}
+    → (D → State) → (S → ShelfState) → Conversion → Kind → File D M d m → S → S → Result Answer E → Type 0
+Converts state shelf_state conversion kind file old new result =
+    let c = asked_of conversion in
     IfOk result (λ answer. (files : Files) (e : Editing) → TellsFiles shelf_state old files → Stands state file e
     → IsDone shelf_state new answer (done_by_plan c e (planned c kind e.shape.params)) files)
-
-abbrev pub ConvertsDisk : {D S E : Type 0} → (D → State) → (S → ShelfState) → Converting → Kind → D → S → S → Result Answer E → Type 0
-ConvertsDisk state shelf_state c kind disk old new result =
-    IfOk result (λ answer. (files : Files) (b : List ℕ) → TellsFiles shelf_state old files → Tells state disk b
-    → IsDone shelf_state new answer (done_with c kind (opening_of b)) files)

@@ -2,15 +2,15 @@
 
 ghost use Rattle.std.specs.Prelude.{◌≡◌, [], None, OnOk, false, is_none};
 ghost use Rattle.snd_container.specs.Sound.{fixed_of};
-ghost use Rattle.snd_disk.specs.Device.{GoesOnFrom, OnlyReadsOn};
+ghost use Rattle.snd_disk.specs.Device.{GoesOnFrom};
+ghost use Rattle.snd_inputs.specs.Copying.{CopiesInto, CountsFileAndDisk, OnlyReadsFile};
+ghost use Rattle.snd_inputs.specs.Opening.{IsUnread};
 ghost use Rattle.snd_layout.specs.Fit.{fit_refusal};
 ghost use Rattle.snd_layout.specs.Params.{AreParams};
-ghost use Rattle.snd_modes.specs.Handle.{IsFresh, channels_of, disk_of, known_of, loan_of};
-ghost use Rattle.snd_modes.specs.Outcomes.{TellsOn};
+ghost use Rattle.snd_modes.specs.Handle.{IsFresh, channels_of, known_of, loan_of};
 ghost use Rattle.snd_modes.specs.Relaid.{shape_with};
-ghost use Rattle.snd_output.specs.Ends.{BreaksByFault, CountsOneOf};
 ghost use Rattle.snd_patch.specs.Steps.{StillTells};
-ghost use Rattle.snd_convert.specs.Making.{Fills, IsUnread, Makes, is_full_by};
+ghost use Rattle.snd_convert.specs.Making.{Fills, Makes, is_full_by};
 ghost use Rattle.snd_convert.specs.Planning.{planned_by};
 
 use crate::chunks::carry;
@@ -37,14 +37,8 @@ fn fill<D: Disk, E: Disk>(
     requires room { is_full_by (planned_by plan.now) (known_of from.old).shape ≡ false }
     requires fresh { IsFresh (known_of to.old) }
     requires begun { (known_of to.old).shape ≡ shape_with plan.now.kind plan.now.params [] }
-    ensures loan { loan_of from.new ≡ loan_of from.old }
-    ensures to_loan { loan_of to.new ≡ loan_of to.old }
-    ensures fills { OnOk result (Fills D.state E.state (planned_by plan.now) from.old to.old to.new) }
-    ensures works { BreaksByFault (known_of to.new) result }
-    ensures faults { CountsOneOf (D.state (disk_of from.old)).faults (D.state (disk_of from.new)).faults (E.state (disk_of to.old)).faults (E.state (disk_of to.new)).faults result }
-    ensures reads { OnlyReadsOn D.state D.may_leave D.left_between (disk_of from.old) (disk_of from.new) }
-    ensures tells { TellsOn E.state to.old to.new }
-    ensures time { GoesOnFrom E.state E.left_between (disk_of to.old) (disk_of to.new) }
+    ensures fills { OnOk result (Fills D.state E.state plan.now from.old to.old to.new) }
+    ensures copies { CopiesInto D.Disk E.Disk from.old from.new to.old to.new result }
 {
     carry(alloc, plan, from, to)?;
     let mut block = [0; BLOCK];
@@ -64,9 +58,9 @@ pub(crate) fn make<D: Disk, E: Disk>(
     requires alike { plan.now.params.channels ≡ channels_of from.old }
     requires room { is_full_by (planned_by plan.now) (known_of from.old).shape ≡ false }
     ensures loan { loan_of from.new ≡ loan_of from.old }
-    ensures made { OnOk result (Makes D.state E.state (planned_by plan.now) from.old disk.old disk.new) }
-    ensures faults { CountsOneOf (D.state (disk_of from.old)).faults (D.state (disk_of from.new)).faults (E.state disk.old).faults (E.state disk.new).faults result }
-    ensures reads { OnlyReadsOn D.state D.may_leave D.left_between (disk_of from.old) (disk_of from.new) }
+    ensures made { OnOk result (Makes D.state E.state plan.now from.old disk.old disk.new) }
+    ensures faults { CountsFileAndDisk D.state E.state from.old from.new disk.old disk.new result }
+    ensures reads { OnlyReadsFile D.Disk from.old from.new }
     ensures tells { StillTells (E.state disk.old) (E.state disk.new) }
     ensures time { GoesOnFrom E.state E.left_between disk.old disk.new }
 {

@@ -1,46 +1,83 @@
-use Rattle.std.proofs.Common.{◌≡◌, ◌∙◌, ap, refl, false, Some, [], ℕ, List, Option, rules}
+use Rattle.std.proofs.Common.{◌≡◌, ◌∙◌, ap, false, Ok, Err, Some, rules, subst, sym}
+use Rattle.std.proofs.lemmas.Result.{IfOk-weaker}
 use Rattle.std.specs.Str.{bytes_eq}
+use Rattle.snd_inputs.proofs.Answering.{does_so, done_same, refused_as}
+use Rattle.snd_inputs.proofs.Held.{held_counts, held_done, held_one, still_in}
+use Rattle.snd_inputs.proofs.Reading.{reads_changes}
+use Rattle.snd_inputs.specs.Opening.{IsOpen, OpensInput}
+use Rattle.snd_lines.specs.declared.refusal.Refusal.{Refusal}
+use Rattle.snd_modes.specs.Editing.{first_editing}
+use Rattle.snd_tools.proofs.Names.{apart_back}
 use Rattle.snd_words.specs.Suffix.{kind_by_suffix}
-use Rattle.std.specs.Prelude.{unwrap_or}
-use Rattle.snd_modes.specs.Editing.{opening_of}
-use Rattle.snd_tools.proofs.Left.{held_changes, held_files, not_taken_changes}
-use Rattle.snd_convert.specs.Convert.{converted, done_with}
+use Rattle.snd_convert.specs.Convert.{converted, done_by_plan}
+use Rattle.snd_convert.specs.Plan.{planned}
 use Rattle.snd_convert.specs.Planning.{asked_of}
-use Rattle.snd_convert.proofs.Doing.{converted_is, does_so, done_same, makes_output}
-use Rattle.snd_convert.proofs.Steps.{if_ok}
+use Rattle.snd_convert.proofs.Doing.{converted_as, converted_refused, makes_by_plan}
 use Rattle.snd_convert.proofs.converting.convert.Goals as goal
 
-pub returns-in-Err-Failed-clause-changes : goal.returns-in-Err-Failed-clause-changes
-returns-in-Err-Failed-clause-changes g c =
-    not_taken_changes g.S.Shelf c.args.conversion.now.output.now c.args.conversion.now.input.now _ _ c.in-Err-Failed.ensures.stays c.in-Err-Failed.ensures.same_images c.take.ensures.others
+pub returns-in_err-input-clause-changes : goal.returns-in_err-input-clause-changes
+returns-in_err-input-clause-changes g c = reads_changes g.S.Shelf c.args.conversion.now.output.now _ _ c.in_err-input.ensures.opened.reads
 
-pub returns-in-Err-Memory-clause-changes : goal.returns-in-Err-Memory-clause-changes
-returns-in-Err-Memory-clause-changes g c =
-    not_taken_changes g.S.Shelf c.args.conversion.now.output.now c.args.conversion.now.input.now _ _ c.in-Err-Memory.ensures.stays c.in-Err-Memory.ensures.same_images c.take.ensures.others
+pub returns-in-Err-clause-done : goal.returns-in-Err-clause-done
+returns-in-Err-clause-done g c = λ files told.
+    let asked = asked_of c.args.conversion.now in
+    let apart : bytes_eq asked.input asked.output ≡ false = search rules in
+    let suffix : kind_by_suffix asked.output ≡ Some c.in-Some.kind = search rules in
+    let looks = subst (λ r. OpensInput g.S.Shelf g.S.Disk.Disk asked.input c.args.shelf.now c.open_input.new.shelf (Ok r)) c.in-Err.is c.in_ok-input.ensures.opened in
+    refused_as g.S.Shelf.state c.open_input.new.shelf files asked.input c.in-Err.why (converted asked files) (looks.0.reads.files files told)
+    (converted_refused asked files c.in-Some.kind c.in-Err.why apart suffix (looks.1 files told))
 
-pub returns-clause-changes : goal.returns-clause-changes
-returns-clause-changes g c =
-    let apart : bytes_eq c.args.conversion.now.input.now c.args.conversion.now.output.now ≡ false = search rules in
-    held_changes g.S.Shelf g.S.Disk.Disk c.args.shelf.now c.take.new.self c.convert_disk-answer.new.shelf c.give.new.self c.in-Ok.disk c.convert_disk-answer.new.disk
-    c.args.conversion.now.input.now c.args.conversion.now.output.now c.in-Ok.ensures.taken c.convert_disk-answer.ensures.reads.keeps.contents c.give.ensures.given apart
-    c.in-Ok.ensures.images c.give.ensures.images c.take.ensures.others c.give.ensures.others c.convert_disk-answer.ensures.reads.images c.convert_disk-answer.ensures.changes (c.requires.back c.args.conversion.now.input.now)
+pub returns-in-Err-clause-changes : goal.returns-in-Err-clause-changes
+returns-in-Err-clause-changes g c =
+    let looks = subst (λ r. OpensInput g.S.Shelf g.S.Disk.Disk c.args.conversion.now.input.now c.args.shelf.now c.open_input.new.shelf (Ok r)) c.in-Err.is c.in_ok-input.ensures.opened in
+    reads_changes g.S.Shelf c.args.conversion.now.output.now _ _ looks.0.reads
+
+pub convert_file-answer-requires-clause-is_in : goal.convert_file-answer-requires-clause-is_in
+convert_file-answer-requires-clause-is_in g c =
+    let input = c.args.conversion.now.input.now in
+    let output = c.args.conversion.now.output.now in
+    let apart : bytes_eq input output ≡ false = search rules in
+    let opens : IsOpen g.S.Shelf g.S.Disk.Disk input c.args.shelf.now c.open_input.new.shelf c.in-Ok.input =
+    subst (λ r. OpensInput g.S.Shelf g.S.Disk.Disk input c.args.shelf.now c.open_input.new.shelf (Ok r)) c.in-Ok.is c.in_ok-input.ensures.opened in
+    still_in g.S.Shelf g.S.Disk.Disk c.args.shelf.now c.open_input.new.shelf c.in-Ok.input input opens output (apart_back input output apart) (c.requires.back output)
 
 pub returns-clause-done : goal.returns-clause-done
 returns-clause-done g c =
-    let apart : bytes_eq c.args.conversion.now.input.now c.args.conversion.now.output.now ≡ false = search rules in
-    let suffix : kind_by_suffix c.args.conversion.now.output.now ≡ Some c.in-Some.kind = search rules in
-    does_so g.S.Shelf.state (converted (asked_of c.args.conversion.now)) c.args.shelf.now c.give.new.self c.convert_disk-answer.result
-    (if_ok c.convert_disk-answer.result _ _
-    (λ answer done files told.
     let asked = asked_of c.args.conversion.now in
-    let there = c.in-Ok.ensures.taken.there files told refl in
-    let bytes : (g.S.Disk.Disk.state c.in-Ok.disk).contents ≡ Some there.0 = c.in-Ok.ensures.taken.contents files told ∙ ap (λ (o : Option (List ℕ)). Some (unwrap_or o [])) there.1 in
-    let out = c.in-Ok.ensures.taken.files files told in
-    let d = done out.0 there.0 out.1 bytes in
-    done_same g.S.Shelf.state c.give.new.self asked files answer (done_with asked c.in-Some.kind (opening_of there.0)) (converted asked files) (converted_is asked files c.in-Some.kind there.0 apart suffix there.1) (
+    let kind = c.in-Some.kind in
+    let apart : bytes_eq asked.input asked.output ≡ false = search rules in
+    let suffix : kind_by_suffix asked.output ≡ Some kind = search rules in
+    let opens : IsOpen g.S.Shelf g.S.Disk.Disk asked.input c.args.shelf.now c.open_input.new.shelf c.in-Ok.input =
+    subst (λ r. OpensInput g.S.Shelf g.S.Disk.Disk asked.input c.args.shelf.now c.open_input.new.shelf (Ok r)) c.in-Ok.is c.in_ok-input.ensures.opened in
+    does_so g.S.Shelf.state (converted asked) c.args.shelf.now c.give.new.self c.convert_file-answer.result
+    (IfOk-weaker c.convert_file-answer.result _ _
+    (λ answer done files told.
+    let found = opens.opened files told in
+    let out = opens.out.takes.files files told in
+    let e = first_editing found.0 c.in-Ok.input.layout in
+    let todo = done_by_plan asked e (planned asked kind e.shape.params) in
+    let d = done out.0 e out.1 (c.open_laid-file.ensures.stands found.0 found.3.bytes) in
+    done_same g.S.Shelf.state c.give.new.self files answer todo (converted asked files) (converted_as asked files kind found.0 e apart suffix found.1 found.2) (
       d.0,
-      held_files g.S.Shelf g.S.Disk.Disk c.args.shelf.now c.take.new.self c.convert_disk-answer.new.shelf c.give.new.self c.in-Ok.disk c.convert_disk-answer.new.disk
-          c.args.conversion.now.input.now c.args.conversion.now.output.now c.in-Ok.ensures.taken c.convert_disk-answer.ensures.reads.keeps.contents c.give.ensures.given apart
-          (done_with asked c.in-Some.kind (opening_of there.0)) files told (makes_output asked c.in-Some.kind (opening_of there.0)) d.1,
+      held_done g.S.Shelf g.S.Disk.Disk c.args.shelf.now c.open_input.new.shelf c.convert_file-answer.new.shelf c.give.new.self c.in-Ok.input _ _ _ asked.input opens c.open_laid-file.ensures.same_disk (sym (search rules) ∙ c.close_read-back.ensures.same_disk) c.convert_file-answer.ensures.reads c.give.ensures.given asked.output apart
+          todo files told (makes_by_plan asked e (planned asked kind e.shape.params)) d.1,
     ))
-    c.convert_disk-answer.ensures.done)
+    c.convert_file-answer.ensures.done)
+
+pub returns-clause-changes : goal.returns-clause-changes
+returns-clause-changes g c =
+    let input = c.args.conversion.now.input.now in
+    let output = c.args.conversion.now.output.now in
+    let apart : bytes_eq input output ≡ false = search rules in
+    let opens : IsOpen g.S.Shelf g.S.Disk.Disk input c.args.shelf.now c.open_input.new.shelf c.in-Ok.input =
+    subst (λ r. OpensInput g.S.Shelf g.S.Disk.Disk input c.args.shelf.now c.open_input.new.shelf (Ok r)) c.in-Ok.is c.in_ok-input.ensures.opened in
+    held_one g.S.Shelf g.S.Disk.Disk c.args.shelf.now c.open_input.new.shelf c.convert_file-answer.new.shelf c.give.new.self c.in-Ok.input _ _ _ input opens c.open_laid-file.ensures.same_disk (sym (search rules) ∙ c.close_read-back.ensures.same_disk) c.convert_file-answer.ensures.reads c.give.ensures.given output apart
+    c.give.ensures.images c.give.ensures.others c.convert_file-answer.ensures.changes (c.requires.back input)
+
+pub returns-clause-faults : goal.returns-clause-faults
+returns-clause-faults g c =
+    let input = c.args.conversion.now.input.now in
+    let opens : IsOpen g.S.Shelf g.S.Disk.Disk input c.args.shelf.now c.open_input.new.shelf c.in-Ok.input =
+    subst (λ r. OpensInput g.S.Shelf g.S.Disk.Disk input c.args.shelf.now c.open_input.new.shelf (Ok r)) c.in-Ok.is c.in_ok-input.ensures.opened in
+    held_counts g.S.Shelf g.S.Disk.Disk c.args.shelf.now c.open_input.new.shelf c.convert_file-answer.new.shelf c.give.new.self c.in-Ok.input _ _ _ input opens c.open_laid-file.ensures.same_disk (sym (search rules) ∙ c.close_read-back.ensures.same_disk) c.convert_file-answer.ensures.reads c.give.ensures.given
+    c.convert_file-answer.result c.in_ok-input.ensures.faults c.convert_file-answer.ensures.faults

@@ -6,9 +6,9 @@ use Rattle.snd_output.specs.Appended.{left_in}
 use Rattle.snd_output.specs.Made.{IsMaking}
 use Rattle.snd_convert.specs.Convert.{chunks_for}
 use Rattle.snd_convert.specs.Planning.{planned_by}
-use Rattle.snd_convert.proofs.Filling.{still_works, then_appended}
+use Rattle.snd_inputs.proofs.Copying.{copies_then, counts_appended, still_works}
 use Rattle.snd_convert.proofs.Making.{begun_with, may_append, numbers_same}
-use Rattle.snd_convert.proofs.Steps.{on_ok}
+use Rattle.std.proofs.lemmas.Result.{on_ok_weaker}
 use Rattle.snd_convert.proofs.make.fill.Goals as goal
 
 pub append-requires-clause-may : goal.append-requires-clause-may
@@ -18,7 +18,7 @@ append-requires-clause-may g c =
 
 pub returns-clause-fills : goal.returns-clause-fills
 returns-clause-fills g c =
-    on_ok c.append.result _ _
+    on_ok_weaker c.append.result
     (λ lengthens r e stands made begun.
     let plan = planned_by c.args.plan.now in
     let carried = c.in_ok-carry.ensures.carried r e stands made begun in
@@ -30,11 +30,15 @@ returns-clause-fills g c =
     (longer.0, longer.1, subst (λ (l : List ℤ). IsMaking plan.kind plan.params (chunks_for plan r) l longer.0) numbers longer.2))
     c.append.ensures.lengthens
 
-pub returns-clause-works : goal.returns-clause-works
-returns-clause-works g c =
-    still_works c.append.result (left_in (known_of c.carry.new.from)) (known_of c.carry.new.from) (known_of c.append.new.from) (known_of c.carry.new.to) (known_of c.append.new.to) _ _ _ _ c.append.ensures.left c.append.ensures.faults
-    (ap (λ (k : Known). k.broken) c.in_ok-carry.ensures.known ∙ c.requires.fresh.broken)
-
-pub returns-clause-faults : goal.returns-clause-faults
-returns-clause-faults g c =
-    then_appended c.append.result _ _ _ _ _ _ c.in_ok-carry.ensures.faults.0 c.in_ok-carry.ensures.faults.1 c.append.ensures.faults
+pub returns-clause-copies : goal.returns-clause-copies
+returns-clause-copies g c =
+    copies_then g.D.Disk g.E.Disk c.args.from.now c.carry.new.from c.append.new.from c.args.to.now c.carry.new.to c.append.new.to tt c.append.result c.in_ok-carry.ensures.copies
+    (record {
+      loan = c.append.ensures.loan;
+      to_loan = c.append.ensures.to_loan;
+      works = still_works c.append.result (left_in (known_of c.carry.new.from)) (known_of c.carry.new.from) (known_of c.append.new.from) (known_of c.carry.new.to) (known_of c.append.new.to) _ _ _ _ c.append.ensures.left c.append.ensures.faults c.in_ok-carry.ensures.copies.works;
+      faults = counts_appended c.append.result _ _ _ _ c.append.ensures.faults;
+      reads = c.append.ensures.reads;
+      tells = c.append.ensures.tells;
+      time = c.append.ensures.time;
+    })

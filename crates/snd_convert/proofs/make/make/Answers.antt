@@ -1,13 +1,13 @@
 use Rattle.std.proofs.Common.{rules}
 use Rattle.snd_convert.specs.Convert.{chunks_for, file_made, numbers_for}
 use Rattle.snd_convert.specs.Planning.{planned_by}
-use Rattle.snd_convert.proofs.Making.{told_as}
-use Rattle.snd_convert.proofs.Steps.{on_ok}
+use Rattle.snd_inputs.proofs.Told.{told_as}
+use Rattle.std.proofs.lemmas.Result.{on_ok_weaker}
 use Rattle.snd_convert.proofs.make.make.Goals as goal
 
 pub returns-in-Ok-finish-clause-made : goal.returns-in-Ok-finish-clause-made
 returns-in-Ok-finish-clause-made g c =
-    on_ok c.fill-filled.result _ _
+    on_ok_weaker c.fill-filled.result
     (λ fills b r tells stands.
     let plan = planned_by c.args.plan.now in
     let begun = c.in-Ok.ensures.begun b tells in
