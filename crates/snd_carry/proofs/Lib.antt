@@ -1,3 +1,4 @@
+pub mod Apart
 pub mod Heads
 pub mod Steps
 pub mod Taken

@@ -1,7 +1,8 @@
 -- The pieces that are taken, one after the other.
 use Rattle.std.proofs.Common.{◌≡◌, ◌∙◌, ap, sym, refl, ℕ, ◌+◌, ◌*◌, ◌<◌, ◌≤◌, true, false, List, [], ◌∷◌, ◌++◌, All, Some, length, take, drop, arith, length-append}
-use Rattle.std.proofs.lemmas.List.{append-nil, length-replicate, places, same_lists, take_all, take_more}
+use Rattle.std.proofs.lemmas.List.{append-nil, length-replicate, places, same_lists, take-append-drop, take_all, take_more}
 use Rattle.std.proofs.lemmas.List.Elements.{All-append, All-cons, All-filter, All-head, All-nil, All-tail, All-take, filter-append}
+use Rattle.std.proofs.lemmas.List.Sums.{sum_by-take-le, sum_by_push}
 use Rattle.std.proofs.lemmas.Option.{get_or_from_slice_get, slice_get_within}
 use Rattle.std.proofs.lemmas.Bool.{and_parts, leb-true}
 use Rattle.std.specs.List.{filter}
@@ -15,7 +16,7 @@ use Rattle.snd_layout.specs.declared.piece.Piece.{Piece}
 use Rattle.snd_room.specs.Room.{chunk_size}
 use Rattle.snd_wave.specs.Written.{chunk_read}
 use Rattle.snd_modes.specs.Relaid.{outline}
-use Rattle.snd_carry.specs.Carried.{TakesBytes, carried_pieces, is_carried}
+use Rattle.snd_carry.specs.Carried.{TakesBytes, body_bytes, carried_pieces, is_carried}
 
 -- one more behind others that are fewer than n, and one behind n
 take_room : {A : Type 0} (n : ℕ) (xs : List A) (x : A) → length (take n xs) < n → take n (xs ++ x ∷ []) ≡ take n xs ++ x ∷ []
@@ -49,6 +50,20 @@ module _ (ps : List Piece) (i : ℕ) (p : Piece) (there : slice_get ps i ≡ Som
 
 pub all_taken : (ps : List Piece) (i : ℕ) → length ps ≤ i → carried_pieces (take i ps) ≡ carried_pieces ps
 all_taken ps i all = ap carried_pieces (take_all i ps all)
+
+-- the bodies of those up to a place are no more than all
+front_of : {A : Type 0} (n : ℕ) (xs ys : List A) → take n xs ≡ take (length (take n xs)) (take n (xs ++ ys))
+front_of n xs ys = same_lists _ _ (grind (arith, places)) (λ k d lt. grind (arith, places))
+
+fronts : (n : ℕ) (xs ys : List Piece) → body_bytes (take n xs) ≤ body_bytes (take n (xs ++ ys))
+fronts n xs ys =
+    let some : body_bytes (take (length (take n xs)) (take n (xs ++ ys))) ≤ body_bytes (take n (xs ++ ys)) = sum_by-take-le (λ (p : Piece). p.len) (take n (xs ++ ys)) (length (take n xs)) in
+    omega (arith, ap body_bytes (front_of n xs ys), some)
+
+pub bodies_so_far : (ps : List Piece) (i : ℕ) → body_bytes (carried_pieces (take i ps)) ≤ body_bytes (carried_pieces ps)
+bodies_so_far ps i =
+    let all : filter is_carried ps ≡ filter is_carried (take i ps) ++ filter is_carried (drop i ps) = ap (filter is_carried) (sym (take-append-drop i ps)) ∙ filter-append is_carried (take i ps) (drop i ps) in
+    omega (arith, fronts 240 (filter is_carried (take i ps)) (filter is_carried (drop i ps)), ap (λ (l : List Piece). body_bytes (take 240 l)) all)
 
 -- the bytes that they take
 abbrev pub sizes : List Piece → ℕ
@@ -151,3 +166,12 @@ all_asked a b m n all most few was =
 pub last_asked : (a b c m n all : ℕ) → m * 240 ≤ all → n < 240 → AtMost a (m * n) b → AtMost b m c → AtMost a all c
 last_asked a b c m n all most few was is =
     all_asked a c m (n + 1) all most (omega (arith, few)) (more_asked a b c m n (n + 1) refl was is)
+
+-- the body of one piece more is asked for; and no more than those of all
+pub body_asked : (a b c : ℕ) (xs ys : List Piece) (p : Piece) → ys ≡ xs ++ p ∷ [] → AtMost a (body_bytes xs) b → AtMost b p.len c → AtMost a (body_bytes ys) c
+body_asked a b c xs ys p more first second =
+    let one : body_bytes ys ≡ body_bytes xs + p.len = ap body_bytes more ∙ sum_by_push (λ (q : Piece). q.len) xs p in
+    record { later = omega (arith, first.later, second.later); most = omega (arith, first.most, second.most, one) }
+
+pub within_all : (a b m n : ℕ) → m ≤ n → AtMost a m b → AtMost a n b
+within_all a b m n le was = record { later = was.later; most = omega (arith, was.most, le) }

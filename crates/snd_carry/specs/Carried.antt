@@ -1,6 +1,6 @@
 -- Which further chunks of a file a copy of it carries. Their number and their size are this library's own limits.
 use Rattle.std.specs.Prelude.{◌≡◌, ℕ, Bool, not, ◌&&◌, List, All, length, map, nat_le, take}
-use Rattle.std.specs.List.{filter}
+use Rattle.std.specs.List.{filter, sum_by}
 use Rattle.snd_chunks.specs.Written.{NewChunk, chunks_bytes}
 use Rattle.snd_fields.specs.declared.field.Order.TheVariants.{Little}
 use Rattle.snd_layout.specs.Opened.{EndsIn}
@@ -15,6 +15,10 @@ is_carried piece = nat_le piece.len 65536 && not (is_wave_own piece.id.0)
 -- the pieces that are carried: the first 240 of these, in their order
 abbrev pub carried_pieces : List Piece → List Piece
 carried_pieces pieces = take 240 (filter is_carried pieces)
+
+-- the bytes of the bodies of pieces
+abbrev pub body_bytes : List Piece → ℕ
+body_bytes pieces = sum_by (λ piece. piece.len) pieces
 
 -- and the chunks, with the bodies that they have in a file
 abbrev pub carried : List ℕ → List Piece → List NewChunk

@@ -2,6 +2,7 @@
 use Rattle.std.specs.Prelude.{◌≡◌, List, [], ◌∷◌, ◌++◌, Ok, map}
 use Rattle.snd_container.specs.Made.{new_shape}
 use Rattle.snd_disk.specs.declared.disk.Disk.{Ghosts}
+use Rattle.snd_disk.specs.Device.{AsksAtMost}
 use Rattle.snd_disk.specs.State.{State}
 use Rattle.snd_layout.specs.Params.{Parameters}
 use Rattle.snd_layout.specs.Shape.{Shape}
@@ -12,12 +13,12 @@ use Rattle.snd_modes.specs.declared.handle.File.{File}
 use Rattle.snd_modes.specs.declared.mode.Mode.{Ghosts as ModeGhosts}
 use Rattle.snd_modes.specs.Chunks.{StandsAsOpened}
 use Rattle.snd_modes.specs.Editing.{Editing}
-use Rattle.snd_modes.specs.Handle.{Known, Stands}
+use Rattle.snd_modes.specs.Handle.{Known, Stands, disk_of}
 use Rattle.snd_modes.specs.Making.{making_of}
 use Rattle.snd_modes.specs.Pieces.{body_of}
 use Rattle.snd_modes.specs.Relaid.{added_to, outline, pieces_held, shape_with}
 use Rattle.snd_output.specs.Made.{AreChunks, IsChunk, made_with}
-use Rattle.snd_carry.specs.Carried.{carried}
+use Rattle.snd_carry.specs.Carried.{body_bytes, carried}
 
 -- a layout is that of a file as it is made, of some kind and parameters
 abbrev pub IsNewShape : Shape → Type 0
@@ -41,6 +42,10 @@ HoldsChunks state from = (e : Editing) → Stands state from e → AreChunks (ca
 -- It is a file that is opened to be updated in the state for which the handle stands, as it was when it was made.
 abbrev pub StaysAsOpened : {E N : Type 0} {others : Ghosts E} {making : ModeGhosts N} → (E → State) → File E N others making → File E N others making → Type 0
 StaysAsOpened state' old new = StandsAsOpened state' old → StandsAsOpened state' new
+
+-- for pieces no more than their bodies are asked of the disk
+abbrev pub AsksForBodies : {D M : Type 0} {ghosts : Ghosts D} {mode : ModeGhosts M} → (D → State) → List Piece → File D M ghosts mode → File D M ghosts mode → Type 0
+AsksForBodies state pieces old new = AsksAtMost state (body_bytes pieces) (disk_of old) (disk_of new)
 
 -- ---- one chunk
 

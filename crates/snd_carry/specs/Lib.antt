@@ -1,2 +1,3 @@
+pub mod Apart
 pub mod Carried
 pub mod Carrying

@@ -45,7 +45,7 @@ fn read_body<D: Disk>(
     ensures stands { StandsAfter D.state from.old from.new (λ e. e) }
     ensures faults { CountsStop (D.state (disk_of from.old)).faults (D.state (disk_of from.new)).faults result }
     ensures reads { OnlyReadsOn D.state D.may_leave D.left_between (disk_of from.old) (disk_of from.new) }
-    ensures asked { AsksAtMost D.state 65536 (disk_of from.old) (disk_of from.new) }
+    ensures asked { AsksAtMost D.state piece.len (disk_of from.old) (disk_of from.new) }
 {
     let mut body = vec![in alloc; 0u8; piece.len as usize]?;
     match from.piece_read(place, &mut body) {
@@ -126,7 +126,7 @@ pub fn carry_chunk<D: Disk, E: Disk>(
     ensures works { BreaksByFault (known_of to.new) result }
     ensures faults { CountsOneOf (D.state (disk_of from.old)).faults (D.state (disk_of from.new)).faults (E.state (disk_of to.old)).faults (E.state (disk_of to.new)).faults result }
     ensures reads { OnlyReadsOn D.state D.may_leave D.left_between (disk_of from.old) (disk_of from.new) }
-    ensures asked { AsksAtMost D.state 65536 (disk_of from.old) (disk_of from.new) }
+    ensures asked { AsksAtMost D.state piece.len (disk_of from.old) (disk_of from.new) }
     ensures tells { TellsOn E.state to.old to.new }
     ensures time { GoesOnFrom E.state E.left_between (disk_of to.old) (disk_of to.new) }
     ensures written { WritesAtMost E.state 16777216 (disk_of to.old) (disk_of to.new) }

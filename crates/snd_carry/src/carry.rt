@@ -1,13 +1,13 @@
 //! The chunks of a file are carried into one that was just made.
 
 ghost use Rattle.std.specs.Prelude.{◌≡◌, None, OnOk, true};
-ghost use Rattle.snd_disk.specs.Device.{AsksAtMost, GoesOnFrom, OnlyReadsOn, WritesAtMost};
+ghost use Rattle.snd_disk.specs.Device.{GoesOnFrom, OnlyReadsOn, WritesAtMost};
 ghost use Rattle.snd_modes.specs.Handle.{IsFresh, StandsAfter, disk_of, known_of, loan_of};
 ghost use Rattle.snd_modes.specs.Heads.{holds_meta};
 ghost use Rattle.snd_modes.specs.Outcomes.{AsksNothing, TellsOn};
 ghost use Rattle.snd_output.specs.Ends.{BreaksByFault, CountsOneOf};
 ghost use Rattle.snd_carry.specs.Carried.{carried_pieces};
-ghost use Rattle.snd_carry.specs.Carrying.{Carries, HoldsChunks, IsNewShape, StaysAsOpened, known_with};
+ghost use Rattle.snd_carry.specs.Carrying.{AsksForBodies, Carries, HoldsChunks, IsNewShape, StaysAsOpened, known_with};
 
 use crate::bodies::carry_chunk;
 use crate::choice::{MOST_PIECES, is_carried};
@@ -18,8 +18,8 @@ use std::alloc::Global;
 
 /// Carries the further chunks of a file into a WAVE or RF64 file that was just made: those with at most 65536
 /// bytes, the first 240 of them, in their order and with the bodies that they have in the file, also those that
-/// stand behind its sound. Their heads and pads are written anew. The first file is only read, at most 15728640
-/// bytes of it; at most 4026531840 bytes are written to the other, since its head is closed anew behind each.
+/// stand behind its sound. Their heads and pads are written anew. The first file is only read, no more
+/// of it than these bodies; at most 4026531840 bytes are written to the other, since its head is closed anew behind each.
 ///
 /// `Fault` exactly where a call of one of the two disks failed; `Memory` where there is none: then the new file
 /// has only some of the chunks, and can be finished.
@@ -43,7 +43,7 @@ pub fn carry_pieces<D: Disk, E: Disk>(
     ensures works { BreaksByFault (known_of to.new) result }
     ensures faults { CountsOneOf (D.state (disk_of from.old)).faults (D.state (disk_of from.new)).faults (E.state (disk_of to.old)).faults (E.state (disk_of to.new)).faults result }
     ensures reads { OnlyReadsOn D.state D.may_leave D.left_between (disk_of from.old) (disk_of from.new) }
-    ensures asked { AsksAtMost D.state 15728640 (disk_of from.old) (disk_of from.new) }
+    ensures asked { AsksForBodies D.state (carried_pieces (known_of from.old).shape.pieces) from.old from.new }
     ensures tells { TellsOn E.state to.old to.new }
     ensures time { GoesOnFrom E.state E.left_between (disk_of to.old) (disk_of to.new) }
     ensures written { WritesAtMost E.state 4026531840 (disk_of to.old) (disk_of to.new) }

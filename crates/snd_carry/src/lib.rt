@@ -4,9 +4,11 @@
 mod bodies;
 mod carry;
 mod choice;
+mod laws;
 #[cfg(test)]
 mod tests;
 
 pub use bodies::{carry_chunk, put_chunk};
 pub use carry::carry_pieces;
 pub use choice::{carried_size, is_carried};
+pub use laws::bodies_fit;

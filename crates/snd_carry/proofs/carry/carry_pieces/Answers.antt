@@ -1,7 +1,7 @@
 use Rattle.std.proofs.Common.{rules, ◌≡◌, ◌∙◌, ap, sym, subst, refl, ℕ, ◌+◌, ◌*◌, ◌<◌, ◌≤◌, true, false, List, [], ◌∷◌, ◌++◌, None, Some, length, take, arith, length-append}
 use Rattle.std.proofs.lemmas.Option.{slice_get-get_or}
 use Rattle.std.specs.Prelude.{slice_get}
-use Rattle.snd_disk.specs.Device.{AsksAtMost, WritesAtMost}
+use Rattle.snd_disk.specs.Device.{WritesAtMost}
 use Rattle.snd_disk.proofs.Chains.{goes_on_then, only_reads_then}
 use Rattle.snd_layout.specs.declared.piece.Piece.{Piece}
 use Rattle.snd_modes.specs.Handle.{Known, known_of}
@@ -9,10 +9,10 @@ use Rattle.snd_modes.specs.Heads.{holds_meta}
 use Rattle.snd_modes.specs.PieceCalls.{known_put}
 use Rattle.snd_modes.specs.Relaid.{outline}
 use Rattle.snd_carry.specs.Carried.{carried_pieces, is_carried}
-use Rattle.snd_carry.specs.Carrying.{known_with}
+use Rattle.snd_carry.specs.Carrying.{AsksForBodies, known_with}
 use Rattle.snd_carry.proofs.Heads.{known_more, meta_with}
 use Rattle.snd_carry.proofs.Steps.{ChunksSoFar, SoFar, all_carried, all_chunks, chunks_more, count_of, known_none, no_chunks, none_yet, one_more, read_at}
-use Rattle.snd_carry.proofs.Taken.{all_asked, all_taken, carried_full, carried_more, carried_other, few_carried, last_asked, more_asked, nowhere}
+use Rattle.snd_carry.proofs.Taken.{all_asked, all_taken, bodies_so_far, body_asked, carried_full, carried_more, carried_other, few_carried, last_asked, more_asked, nowhere, within_all}
 use Rattle.snd_carry.proofs.carry.carry_pieces.Goals as goal
 
 pub loop-place-init : goal.loop-place-init
@@ -67,7 +67,7 @@ loop-place-preserved-then-not-is_carried g c =
       to_calm = was.to_calm;
       reads = was.reads;
       tells = was.tells;
-      asked = subst (λ (l : List Piece). AsksAtMost g.D.Disk.state (65536 * length l) c.args.from.now.disk.now c.loop-place.from.disk.now) (sym same) was.asked;
+      asked = subst (λ (l : List Piece). AsksForBodies g.D.Disk.state l c.args.from.now c.loop-place.from) (sym same) was.asked;
       written = subst (λ (l : List Piece). WritesAtMost g.E.Disk.state (16777216 * length l) c.args.to.now.disk.now c.loop-place.to.disk.now) (sym same) was.written;
       unasked = was.unasked;
       time = was.time;
@@ -98,7 +98,7 @@ loop-place-preserved-then-len-eq-MOST_PIECES g c =
       to_calm = was.to_calm;
       reads = was.reads;
       tells = was.tells;
-      asked = subst (λ (l : List Piece). AsksAtMost g.D.Disk.state (65536 * length l) c.args.from.now.disk.now c.loop-place.from.disk.now) (sym same) was.asked;
+      asked = subst (λ (l : List Piece). AsksForBodies g.D.Disk.state l c.args.from.now c.loop-place.from) (sym same) was.asked;
       written = subst (λ (l : List Piece). WritesAtMost g.E.Disk.state (16777216 * length l) c.args.to.now.disk.now c.loop-place.to.disk.now) (sym same) was.written;
       unasked = was.unasked;
       time = was.time;
@@ -144,7 +144,7 @@ loop-place-preserved g c =
       to_calm = did.faults.1 ∙ was.to_calm;
       reads = only_reads_then _ _ _ _ _ _ _ _ _ was.reads did.reads;
       tells = record { told = did.tells.told ∙ was.tells.told; name = did.tells.name ∙ was.tells.name };
-      asked = more_asked _ _ _ 65536 _ _ (ap length more ∙ length-append xs (piece ∷ [])) was.asked did.asked;
+      asked = body_asked _ _ _ xs _ piece more was.asked did.asked;
       written = more_asked _ _ _ 16777216 _ _ (ap length more ∙ length-append xs (piece ∷ [])) was.written did.written;
       unasked = did.unasked ∙ was.unasked;
       time = goes_on_then _ _ _ _ _ _ was.time did.time;
@@ -167,10 +167,16 @@ pub returns-in_err-carry_chunk-clause-asked : goal.returns-in_err-carry_chunk-cl
 returns-in_err-carry_chunk-clause-asked g c =
     let ps : List Piece = (known_of c.args.from.now).shape.pieces in
     let k : Known = known_of c.args.to.now in
-    let xs : List Piece = carried_pieces (take c.loop-place.place ps) in
-    let many : c.len.result ≡ length xs = count_of k (known_of c.loop-place.to) xs c.pieces-in-loop-place-2.result.now c.len.result c.requires.meta c.loop-place.invariant.known c.pieces-in-loop-place-2.ensures c.len.ensures in
-    let few : length xs < 240 = omega (arith, many, few_carried (take c.loop-place.place ps), c.if-len-eq-MOST_PIECES.false) in
-    last_asked _ _ _ 65536 (length xs) 15728640 (omega arith) few c.loop-place.invariant.asked c.carry_chunk.ensures.asked
+    let place : ℕ = c.loop-place.place in
+    let piece : Piece = c.in-Some.piece in
+    let was = c.loop-place.invariant in
+    let xs : List Piece = carried_pieces (take place ps) in
+    let here : slice_get ps place ≡ Some piece = read_at (known_of c.args.from.now) (known_of c.loop-place.from) c.pieces-in-loop-place.result.now place c.get.result (Some piece) was.same c.pieces-in-loop-place.ensures c.get.ensures c.in-Some.is in
+    let is : is_carried piece ≡ true = sym c.is_carried.ensures.carried ∙ c.if-not-is_carried.false in
+    let many : c.len.result ≡ length xs = count_of k (known_of c.loop-place.to) xs c.pieces-in-loop-place-2.result.now c.len.result c.requires.meta was.known c.pieces-in-loop-place-2.ensures c.len.ensures in
+    let few : length xs < 240 = omega (arith, many, few_carried (take place ps), c.if-len-eq-MOST_PIECES.false) in
+    let more : carried_pieces (take (place + 1) ps) ≡ xs ++ piece ∷ [] = carried_more ps place piece here is few in
+    within_all _ _ _ _ (bodies_so_far ps (place + 1)) (body_asked _ _ _ xs _ piece more was.asked c.carry_chunk.ensures.asked)
 
 pub returns-in_err-carry_chunk-clause-written : goal.returns-in_err-carry_chunk-clause-written
 returns-in_err-carry_chunk-clause-written g c =
@@ -182,9 +188,7 @@ returns-in_err-carry_chunk-clause-written g c =
     last_asked _ _ _ 16777216 (length xs) 4026531840 (omega arith) few c.loop-place.invariant.written c.carry_chunk.ensures.written
 
 pub returns-clause-asked : goal.returns-clause-asked
-returns-clause-asked g c =
-    let before : List Piece = take c.loop-place.place (known_of c.args.from.now).shape.pieces in
-    all_asked _ _ 65536 (length (carried_pieces before)) 15728640 (omega arith) (few_carried before) c.loop-place.invariant.asked
+returns-clause-asked g c = within_all _ _ _ _ (bodies_so_far (known_of c.args.from.now).shape.pieces c.loop-place.place) c.loop-place.invariant.asked
 
 pub returns-clause-written : goal.returns-clause-written
 returns-clause-written g c =

@@ -1,9 +1,9 @@
 use Rattle.std.proofs.Common.{◌≡◌, ◌*◌, length, take}
-use Rattle.snd_disk.specs.Device.{AsksAtMost, GoesOnFrom, OnlyReadsOn, WritesAtMost}
+use Rattle.snd_disk.specs.Device.{GoesOnFrom, OnlyReadsOn, WritesAtMost}
 use Rattle.snd_modes.specs.Handle.{StandsAfter, disk_of, known_of, loan_of}
 use Rattle.snd_modes.specs.Outcomes.{AsksNothing, TellsOn}
 use Rattle.snd_carry.specs.Carried.{carried_pieces}
-use Rattle.snd_carry.specs.Carrying.{StaysAsOpened, known_with}
+use Rattle.snd_carry.specs.Carrying.{AsksForBodies, StaysAsOpened, known_with}
 use Rattle.snd_carry.proofs.Steps.{ChunksSoFar, SoFar}
 use Rattle.snd_carry.proofs.carry.carry_pieces.Given as goal
 
@@ -21,7 +21,7 @@ invariant-loop-place g l = record {
   to_calm : (g.E.Disk.state (disk_of l.to)).faults ≡ (g.E.Disk.state (disk_of l.fn.to)).faults;
   reads : OnlyReadsOn g.D.Disk.state g.D.Disk.may_leave g.D.Disk.left_between (disk_of l.fn.from) (disk_of l.from);
   tells : TellsOn g.E.Disk.state l.fn.to l.to;
-  asked : AsksAtMost g.D.Disk.state (65536 * length (carried_pieces (take l.place (known_of l.fn.from).shape.pieces))) (disk_of l.fn.from) (disk_of l.from);
+  asked : AsksForBodies g.D.Disk.state (carried_pieces (take l.place (known_of l.fn.from).shape.pieces)) l.fn.from l.from;
   written : WritesAtMost g.E.Disk.state (16777216 * length (carried_pieces (take l.place (known_of l.fn.from).shape.pieces))) (disk_of l.fn.to) (disk_of l.to);
   unasked : AsksNothing g.E.Disk.state l.fn.to l.to;
   time : GoesOnFrom g.E.Disk.state g.E.Disk.left_between (disk_of l.fn.to) (disk_of l.to);
