@@ -1,9 +1,10 @@
 -- A file that is made of an open one, as the code does it: what is asked of the two, and what comes of it.
 use Rattle.std.specs.Prelude.{◌≡◌, ℕ, ℤ, Bool, List, [], Some, Result, Ok, IfOk, OnOk, map, nat_lt, if◌then◌else◌}
-use Rattle.snd_carry.specs.Carried.{carried_pieces}
+use Rattle.snd_carry.specs.Carried.{body_bytes, carried_pieces}
+use Rattle.snd_inputs.specs.Copying.{AsksToCopy}
 use Rattle.snd_chunks.specs.Written.{NewChunk}
 use Rattle.snd_disk.specs.declared.disk.Disk.{Ghosts}
-use Rattle.snd_disk.specs.Device.{Tells}
+use Rattle.snd_disk.specs.Device.{AsksAtMost, Tells}
 use Rattle.snd_disk.specs.Shelf.{Files, ShelfState, put}
 use Rattle.snd_disk.specs.Shelves.{TellsFiles}
 use Rattle.snd_disk.specs.State.{State}
@@ -13,7 +14,8 @@ use Rattle.snd_layout.specs.declared.kind.Kind.{Kind}
 use Rattle.snd_modes.specs.declared.handle.File.{File}
 use Rattle.snd_modes.specs.declared.mode.Mode.{Ghosts as ModeGhosts}
 use Rattle.snd_modes.specs.Editing.{Editing}
-use Rattle.snd_modes.specs.Handle.{Known, Stands, known_of}
+use Rattle.snd_modes.specs.Handle.{Known, Stands, disk_of, known_of}
+use Rattle.snd_modes.specs.Heads.{holds_meta}
 use Rattle.snd_modes.specs.Making.{making_of}
 use Rattle.snd_modes.specs.Relaid.{outline, shape_with}
 use Rattle.snd_output.specs.Made.{IsMaking}
@@ -91,3 +93,14 @@ Converts state shelf_state conversion kind file old new result =
     let c = asked_of conversion in
     IfOk result (λ answer. (files : Files) (e : Editing) → TellsFiles shelf_state old files → Stands state file e
     → IsDone shelf_state new answer (done_by_plan c e (planned c kind e.shape.params)) files)
+
+-- the bodies of the chunks that may go with the frames of a file: none of a kind that has no such chunks
+abbrev pub bodies_in : Shape → ℕ
+bodies_in h = if holds_meta h.kind then body_bytes (carried_pieces h.pieces) else 0
+
+abbrev pub AsksToCarry : {D M : Type 0} {d : Ghosts D} {m : ModeGhosts M} → (D → State) → File D M d m → File D M d m → Type 0
+AsksToCarry state old new = AsksAtMost state (bodies_in (known_of old).shape) (disk_of old) (disk_of new)
+
+-- so many bytes are asked at most of a file that is converted, with its chunks
+abbrev pub AsksToConvert : {D M : Type 0} {d : Ghosts D} {m : ModeGhosts M} → (D → State) → File D M d m → File D M d m → Type 0
+AsksToConvert state old new = AsksToCopy state (bodies_in (known_of old).shape) old new

@@ -5,9 +5,10 @@ ghost use Rattle.snd_inputs.specs.Copying.{CopiesInto};
 ghost use Rattle.snd_layout.specs.Params.{AreParams};
 ghost use Rattle.snd_modes.specs.Handle.{IsFresh, StandsAfter, known_of};
 ghost use Rattle.snd_modes.specs.Heads.{holds_meta};
+ghost use Rattle.snd_modes.specs.Outcomes.{AsksNothing};
 ghost use Rattle.snd_modes.specs.Relaid.{shape_with};
 ghost use Rattle.snd_convert.specs.Convert.{carries};
-ghost use Rattle.snd_convert.specs.Making.{ChunksTake, IsFilled, OutlinesTake, TakesChunks};
+ghost use Rattle.snd_convert.specs.Making.{AsksToCarry, ChunksTake, IsFilled, OutlinesTake, TakesChunks};
 
 use crate::plan::Plan;
 use snd_carry::{carried_size, carry_pieces};
@@ -59,6 +60,8 @@ pub(crate) fn carry<D: Disk, E: Disk>(
     ensures stands { StandsAfter D.state from.old from.new (λ e. e) }
     ensures carried { OnOk result (TakesChunks D.state E.state plan.now from.old to.old to.new) }
     ensures copies { CopiesInto D.Disk E.Disk from.old from.new to.old to.new result }
+    ensures asked { AsksToCarry D.state from.old from.new }
+    ensures unasked { AsksNothing E.state to.old to.new }
 {
     let go = carries(plan.kind, from.kind());
     if !go {

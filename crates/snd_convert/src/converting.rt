@@ -1,7 +1,8 @@
 //! The tool that copies a file into another container or codec.
 
-ghost use Rattle.std.specs.Prelude.{◌≡◌, None, false, is_none};
+ghost use Rattle.std.specs.Prelude.{◌≡◌, ◌∷◌, [], None, false, is_none};
 ghost use Rattle.snd_container.specs.Sound.{fixed_of};
+ghost use Rattle.snd_inputs.specs.Asking.{AsksForFiles};
 ghost use Rattle.snd_inputs.specs.Copying.{CountsFileAndShelf, OnlyReadsFile};
 ghost use Rattle.snd_inputs.specs.Opening.{IsUnread};
 ghost use Rattle.snd_layout.specs.Fit.{fit_refusal};
@@ -9,7 +10,7 @@ ghost use Rattle.snd_modes.specs.Handle.{channels_of, known_of, loan_of};
 ghost use Rattle.snd_output.specs.Ends.{CountsStop};
 ghost use Rattle.snd_tools.specs.Shelves.{ChangesOne, Does, IsAllIn};
 ghost use Rattle.snd_convert.specs.Convert.{converted};
-ghost use Rattle.snd_convert.specs.Making.{Converts, DoesBy, MakesUnder, TellsFull, is_full_by};
+ghost use Rattle.snd_convert.specs.Making.{AsksToConvert, Converts, DoesBy, MakesUnder, TellsFull, is_full_by};
 ghost use Rattle.snd_convert.specs.Planning.{asked_of, planned_by};
 
 use crate::chunks::chunks_size;
@@ -45,6 +46,8 @@ fn make_under<S: Shelf, D: Disk>(
     ensures changes { ChangesOne S.Shelf name.now shelf.old shelf.new }
     ensures faults { CountsFileAndShelf D.state S.state file.old file.new shelf.old shelf.new result }
     ensures reads { OnlyReadsFile D.Disk file.old file.new }
+    ensures asked { AsksToConvert D.state file.old file.new }
+    ensures unasked { (S.state shelf.new).asked ≡ (S.state shelf.old).asked }
 {
     let mut disk = take_output(name, shelf)?;
     let made = make(alloc, file, &mut disk, plan);
@@ -83,6 +86,8 @@ fn convert_as<'a, S: Shelf, D: Disk>(
     ensures changes { ChangesOne S.Shelf conversion.now.output.now shelf.old shelf.new }
     ensures faults { CountsFileAndShelf D.state S.state file.old file.new shelf.old shelf.new result }
     ensures reads { OnlyReadsFile D.Disk file.old file.new }
+    ensures asked { AsksToConvert D.state file.old file.new }
+    ensures unasked { (S.state shelf.new).asked ≡ (S.state shelf.old).asked }
 {
     let frames = file.frames();
     if is_full(plan, file) {
@@ -109,6 +114,8 @@ fn convert_file<'a, S: Shelf, D: Disk>(
     ensures changes { ChangesOne S.Shelf conversion.now.output.now shelf.old shelf.new }
     ensures faults { CountsFileAndShelf D.state S.state file.old file.new shelf.old shelf.new result }
     ensures reads { OnlyReadsFile D.Disk file.old file.new }
+    ensures asked { AsksToConvert D.state file.old file.new }
+    ensures unasked { (S.state shelf.new).asked ≡ (S.state shelf.old).asked }
 {
     match plan_of(conversion, kind, file.params()) {
         Ok(plan) => convert_as(alloc, conversion, &plan, file, shelf),
@@ -129,7 +136,7 @@ fn convert_file<'a, S: Shelf, D: Disk>(
 /// chunks, has no room for the data.
 ///
 /// `Fault` where a call of the shelf or of a disk failed, and `Memory` where there is none: then the output
-/// may stand there in part.
+/// may stand there in part. No more bytes are asked than eight times the input has, and 262144.
 pub fn convert<'a, S: Shelf>(
     alloc: Global,
     conversion: &Conversion<'a>,
@@ -139,6 +146,7 @@ pub fn convert<'a, S: Shelf>(
     ensures done { Does S.state (converted (asked_of conversion.now)) shelf.old shelf.new result }
     ensures changes { ChangesOne S.Shelf conversion.now.output.now shelf.old shelf.new }
     ensures faults { CountsStop (S.state shelf.old).faults (S.state shelf.new).faults result }
+    ensures asked { AsksForFiles S.state (conversion.now.input.now ∷ []) shelf.old shelf.new }
 {
     if conversion.input == conversion.output {
         return Ok(Answer::Refused(conversion.output, Refusal::SameName));

@@ -7,10 +7,11 @@ ghost use Rattle.snd_inputs.specs.Copying.{CopiesInto, CountsFileAndDisk, OnlyRe
 ghost use Rattle.snd_inputs.specs.Opening.{IsUnread};
 ghost use Rattle.snd_layout.specs.Fit.{fit_refusal};
 ghost use Rattle.snd_layout.specs.Params.{AreParams};
-ghost use Rattle.snd_modes.specs.Handle.{IsFresh, channels_of, known_of, loan_of};
+ghost use Rattle.snd_modes.specs.Handle.{IsFresh, channels_of, codec_of, known_of, loan_of};
+ghost use Rattle.snd_modes.specs.Outcomes.{AsksNothing};
 ghost use Rattle.snd_modes.specs.Relaid.{shape_with};
 ghost use Rattle.snd_patch.specs.Steps.{StillTells};
-ghost use Rattle.snd_convert.specs.Making.{Fills, Makes, is_full_by};
+ghost use Rattle.snd_convert.specs.Making.{AsksToConvert, Fills, Makes, is_full_by};
 ghost use Rattle.snd_convert.specs.Planning.{planned_by};
 
 use crate::chunks::carry;
@@ -22,6 +23,15 @@ use std::alloc::Global;
 
 /// The numbers that are held at once.
 const BLOCK: usize = 16384;
+
+// What holds of the parameters of a file that is open.
+fn are_good<D: Disk>(file: &File<'_, D, Read>)
+    ensures linear { is_none (fixed_of (codec_of file.now)) ≡ false }
+    ensures params { AreParams (known_of file.now).shape.params }
+{
+    let params = file.params();
+    params.are_good();
+}
 
 // Puts the chunks that go with them, and all frames, into a file that was begun by a plan.
 fn fill<D: Disk, E: Disk>(
@@ -39,7 +49,10 @@ fn fill<D: Disk, E: Disk>(
     requires begun { (known_of to.old).shape ≡ shape_with plan.now.kind plan.now.params [] }
     ensures fills { OnOk result (Fills D.state E.state plan.now from.old to.old to.new) }
     ensures copies { CopiesInto D.Disk E.Disk from.old from.new to.old to.new result }
+    ensures asked { AsksToConvert D.state from.old from.new }
+    ensures unasked { AsksNothing E.state to.old to.new }
 {
+    are_good(from);
     carry(alloc, plan, from, to)?;
     let mut block = [0; BLOCK];
     append(from, to, &mut block)
@@ -63,6 +76,8 @@ pub(crate) fn make<D: Disk, E: Disk>(
     ensures reads { OnlyReadsFile D.Disk from.old from.new }
     ensures tells { StillTells (E.state disk.old) (E.state disk.new) }
     ensures time { GoesOnFrom E.state E.left_between disk.old disk.new }
+    ensures asked { AsksToConvert D.state from.old from.new }
+    ensures unasked { (E.state disk.new).asked ≡ (E.state disk.old).asked }
 {
     plan.params.are_good();
     let mut to = match begin(alloc, disk, plan.kind, plan.params) {

@@ -1,5 +1,6 @@
 pub mod Answering
 pub mod Between
+pub mod Asking
 pub mod Copying
 pub mod DataBytes
 pub mod Held

@@ -1,13 +1,14 @@
 -- What holds of two things of which one call reads the one and changes the other: files that are open, disks and shelves.
-use Rattle.std.specs.Prelude.{◌≡◌, ℕ, Result}
+use Rattle.std.specs.Prelude.{◌≡◌, ℕ, ◌+◌, ◌*◌, Result}
 use Rattle.snd_disk.specs.declared.disk.Disk.{Ghosts}
-use Rattle.snd_disk.specs.Device.{GoesOnFrom, OnlyReadsOn}
+use Rattle.snd_disk.specs.Device.{AsksAtMost, GoesOnFrom, OnlyReadsOn}
 use Rattle.snd_disk.specs.Shelf.{ShelfState}
 use Rattle.snd_disk.specs.State.{State}
 use Rattle.snd_modes.specs.declared.handle.File.{File}
 use Rattle.snd_modes.specs.declared.mode.Mode.{Ghosts as ModeGhosts}
 use Rattle.snd_modes.specs.Handle.{disk_of, known_of, loan_of}
 use Rattle.snd_modes.specs.Outcomes.{TellsOn}
+use Rattle.snd_modes.specs.Reading.{bytes_of_frames}
 use Rattle.snd_output.specs.declared.stop.Stop.{Stop}
 use Rattle.snd_output.specs.Ends.{BreaksByFault, CountsOneOf, CountsStop}
 
@@ -52,3 +53,10 @@ pub record CopiesInto {D E M N T : Type 0} {m : ModeGhosts M} {n : ModeGhosts N}
   pub reads : OnlyReadsFile d from from'
   pub tells : TellsOn t.state to to'
   pub time : GoesOnFrom t.state t.left_between (disk_of to) (disk_of to')
+
+-- Beside so many bytes of chunks this is asked of a file at most to copy its frames, in blocks of 16384 numbers, to which it comes
+-- that each read asks at most 16384 bytes more.
+abbrev pub AsksToCopy : {D M : Type 0} {d : Ghosts D} {m : ModeGhosts M} → (D → State) → ℕ → File D M d m → File D M d m → Type 0
+AsksToCopy state chunks old new =
+    let known = known_of old in
+    AsksAtMost state (chunks + 3 * bytes_of_frames known.shape.params known.shape.frames + 163840) (disk_of old) (disk_of new)

@@ -1,3 +1,4 @@
+pub mod Asking
 pub mod Copying
 pub mod Inputs
 pub mod Looking

@@ -2,10 +2,12 @@ use Rattle.std.proofs.Common.{◌≡◌, ◌∙◌, ap, sym, true, false}
 use Rattle.std.proofs.lemmas.Result.{on_ok_weaker}
 use Rattle.snd_carry.specs.Carried.{carried}
 use Rattle.snd_layout.specs.Shape.{Shape}
+use Rattle.snd_inputs.proofs.Asking.{asks_less}
 use Rattle.snd_modes.specs.Handle.{known_of}
 use Rattle.snd_output.specs.Made.{made_with}
 use Rattle.snd_convert.specs.Convert.{carries}
 use Rattle.snd_convert.specs.Planning.{planned_by}
+use Rattle.snd_convert.proofs.Asking.{bodies_from}
 use Rattle.snd_convert.proofs.Filling.{filled, filled_none, into_meta, making_with, making_without, new_shape_is, on_both}
 use Rattle.snd_convert.proofs.chunks.carry.Goals as goal
 
@@ -45,3 +47,9 @@ returns-clause-carried g c =
     (λ put chunks r e stands made begun.
     (made_with plan.kind plan.params (carried r.bytes r.shape.pieces), put r e plan.kind plan.params stands made begun, making_with plan h both r e c.requires.good made stands.shape (chunks r stands)))
     c.carry_pieces.ensures.carried c.carry_pieces.ensures.chunks
+
+pub returns-clause-asked : goal.returns-clause-asked
+returns-clause-asked g c =
+    let h : Shape = (known_of c.args.from.now).shape in
+    let both : carries c.args.plan.now.kind h.kind ≡ true = ap (carries c.args.plan.now.kind) (sym c.kind.ensures) ∙ sym c.carries-go.ensures ∙ c.if-not-go.false in
+    asks_less _ _ _ _ (bodies_from (planned_by c.args.plan.now) h both) c.carry_pieces.ensures.asked

@@ -1,17 +1,17 @@
-use Rattle.std.proofs.Common.{◌≡◌, ◌∙◌, ap, false, Ok, Err, Some, rules, subst, sym}
+use Rattle.std.proofs.Common.{◌≡◌, ◌∙◌, false, Ok, Some, rules, subst, sym}
 use Rattle.std.proofs.lemmas.Result.{IfOk-weaker}
 use Rattle.std.specs.Str.{bytes_eq}
 use Rattle.snd_inputs.proofs.Answering.{does_so, done_same, refused_as}
 use Rattle.snd_inputs.proofs.Held.{held_counts, held_done, held_one, still_in}
 use Rattle.snd_inputs.proofs.Reading.{reads_changes}
 use Rattle.snd_inputs.specs.Opening.{IsOpen, OpensInput}
-use Rattle.snd_lines.specs.declared.refusal.Refusal.{Refusal}
 use Rattle.snd_modes.specs.Editing.{first_editing}
 use Rattle.snd_tools.proofs.Names.{apart_back}
 use Rattle.snd_words.specs.Suffix.{kind_by_suffix}
 use Rattle.snd_convert.specs.Convert.{converted, done_by_plan}
 use Rattle.snd_convert.specs.Plan.{planned}
 use Rattle.snd_convert.specs.Planning.{asked_of}
+use Rattle.snd_convert.proofs.Asking.{asked_held}
 use Rattle.snd_convert.proofs.Doing.{converted_as, converted_refused, makes_by_plan}
 use Rattle.snd_convert.proofs.converting.convert.Goals as goal
 
@@ -81,3 +81,11 @@ returns-clause-faults g c =
     subst (λ r. OpensInput g.S.Shelf g.S.Disk.Disk input c.args.shelf.now c.open_input.new.shelf (Ok r)) c.in-Ok.is c.in_ok-input.ensures.opened in
     held_counts g.S.Shelf g.S.Disk.Disk c.args.shelf.now c.open_input.new.shelf c.convert_file-answer.new.shelf c.give.new.self c.in-Ok.input _ _ _ input opens c.open_laid-file.ensures.same_disk (sym (search rules) ∙ c.close_read-back.ensures.same_disk) c.convert_file-answer.ensures.reads c.give.ensures.given
     c.convert_file-answer.result c.in_ok-input.ensures.faults c.convert_file-answer.ensures.faults
+
+pub returns-clause-asked : goal.returns-clause-asked
+returns-clause-asked g c =
+    let input = c.args.conversion.now.input.now in
+    let opens : IsOpen g.S.Shelf g.S.Disk.Disk input c.args.shelf.now c.open_input.new.shelf c.in-Ok.input =
+    subst (λ r. OpensInput g.S.Shelf g.S.Disk.Disk input c.args.shelf.now c.open_input.new.shelf (Ok r)) c.in-Ok.is c.in_ok-input.ensures.opened in
+    asked_held g.S.Shelf g.S.Disk.Disk c.args.shelf.now c.open_input.new.shelf c.convert_file-answer.new.shelf c.give.new.self c.in-Ok.input _ _ _ input opens c.open_laid-file.ensures.same_disk (sym (search rules) ∙ c.close_read-back.ensures.same_disk) c.give.ensures.given
+    c.convert_file-answer.ensures.unasked _ c.open_laid-file.ensures.shape (g.met.S.Disk.Disk.size_told c.in-Ok.input.disk) c.convert_file-answer.ensures.asked
