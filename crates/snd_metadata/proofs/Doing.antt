@@ -1,16 +1,15 @@
 -- From what was found to what is done.
-use Rattle.std.proofs.Common.{◌≡◌, ℕ, List, [], ◌∷◌, Bool, true, false, cond, Option, None, Some, Result, Ok, Err, IfOk, refl, sym, ◌∙◌, ap, subst}
+use Rattle.std.proofs.Common.{◌≡◌, ℕ, List, [], ◌∷◌, Bool, true, false, cond, Option, None, Some, Result, Ok, Err, refl, sym, ◌∙◌, ap, subst}
 use Rattle.std.specs.Option.{unwrap_or}
-use Rattle.std.specs.Prelude.{is_some, option_map}
+use Rattle.std.specs.Prelude.{option_map}
 use Rattle.std.specs.Str.{bytes_eq}
 use Rattle.snd_disk.specs.declared.disk.Disk.{Ghosts}
 use Rattle.snd_disk.specs.Shelf.{Files, ShelfState, put}
-use Rattle.snd_disk.specs.Shelves.{TellsFiles}
 use Rattle.snd_disk.specs.State.{State}
 use Rattle.snd_layout.specs.Fit.{fit_refusal}
 use Rattle.snd_layout.specs.declared.refusal.OpenRefusal.{OpenRefusal}
 use Rattle.snd_lines.specs.declared.refusal.Refusal.{Refusal}
-use Rattle.snd_lines.specs.declared.refusal.Refusal.TheVariants.{Open, SameName}
+use Rattle.snd_lines.specs.declared.refusal.Refusal.TheVariants.{MissingFile, Open, SameName}
 use Rattle.snd_modes.specs.declared.handle.File.{File}
 use Rattle.snd_modes.specs.declared.mode.Mode.{Ghosts as ModeGhosts}
 use Rattle.snd_modes.specs.Editing.{Editing, opening_of}
@@ -18,12 +17,13 @@ use Rattle.snd_modes.specs.Handle.{Stands}
 use Rattle.snd_output.specs.Made.{made_file}
 use Rattle.snd_output.specs.Widths.{joined}
 use Rattle.snd_output.specs.declared.stop.Stop.{Stop}
-use Rattle.snd_patch.specs.Steps.{StillTells}
+use Rattle.snd_inputs.specs.Inputs.{input_as, input_in}
 use Rattle.snd_tools.proofs.Names.{MakesOnly}
 use Rattle.snd_tools.specs.Done.{Done, Said, files_after, said_of}
-use Rattle.snd_tools.specs.Shelves.{Does, HasFiles, IsDone}
+use Rattle.snd_tools.specs.Shelves.{HasFiles}
 use Rattle.snd_tools.specs.declared.answer.Answer.{Answer}
 use Rattle.snd_words.specs.Stated.{Stated}
+use Rattle.snd_words.specs.declared.metadata.MetadataChange.{MetadataChange}
 use Rattle.snd_metadata.specs.Making.{AnswersHalt, Plans, Retags, chunks_planned, file_planned}
 use Rattle.snd_metadata.specs.declared.halt.Halt.{Halt}
 use Rattle.snd_metadata.specs.declared.halt.Halt.TheVariants as halt
@@ -67,39 +67,30 @@ refusals_only settings input output e =
     more_only output _ _ (refused_only output _ _ _) (more_only output _ _ (refused_only output _ _ _) (more_only output _ _ (refused_only output _ _ _) (more_only output _ _ (refused_only output _ _ _)
     (more_only output _ _ (refused_only output _ _ _) (more_only output _ _ (refused_only output _ _ _) (more_only output _ _ (unfit_only output (fit_refusal e.shape.kind e.shape.params)) (more_only output _ _ (refused_only output _ _ _) (none_only output))))))))
 
-makes_file : (settings : List Stated) (input output : List ℕ) (e : Editing) → MakesOnly output (retagged_file settings input output e)
+pub makes_file : (settings : List Stated) (input output : List ℕ) (e : Editing) → MakesOnly output (retagged_file settings input output e)
 makes_file settings input output e = (refusals_only settings input output e).first (Done.makes output (bytes_made settings e) e.shape.frames) refl
 
-pub makes_output : (settings : List Stated) (input output : List ℕ) (r : Result Editing OpenRefusal) → MakesOnly output (retagged_with settings input output r)
-makes_output settings input output (Err why) = tt
-makes_output settings input output (Ok e) = makes_file settings input output e
+-- where the names differ, the input is opened, or is refused
+module _ (settings : List Stated) (input output : List ℕ) (files : Files) (apart : bytes_eq input output ≡ false) where
+  retagged_is : retagged settings input output files ≡ retagged_from settings input output (files input)
+  retagged_is = ap (λ (t : Bool). cond t (Done.refuses output SameName) (retagged_from settings input output (files input))) apart
 
--- where the names differ and the input is there
-pub retagged_is : (settings : List Stated) (input output : List ℕ) (files : Files) (b : List ℕ) → bytes_eq input output ≡ false → files input ≡ Some b → retagged settings input output files ≡ retagged_with settings input output (opening_of b)
-retagged_is settings input output files b apart there =
-    ap (λ (t : Bool). cond t (Done.refuses output SameName) (retagged_from settings input output (files input))) apart
-    ∙ ap (retagged_from settings input output) there
+  pub retagged_as : (b : List ℕ) (e : Editing) → files input ≡ Some b → opening_of b ≡ Ok e → retagged settings input output files ≡ retagged_file settings input output e
+  retagged_as b e there opens = retagged_is ∙ ap (retagged_from settings input output) there ∙ ap (retagged_with settings input output) opens
 
-pub does_so : {S : Type 0} (state : S → ShelfState) (todo : Files → Done) (old new : S) (r : Result Answer Stop) → IfOk r (λ answer. (files : Files) → TellsFiles state old files → IsDone state new answer (todo files) files)
-    → Does state todo old new r
-does_so state todo old new (Ok answer) is = is
-does_so state todo old new (Err stop) is = tt
+  refused_as : (why : Refusal) (r : Result Editing OpenRefusal) → input_as r ≡ Err why → retagged_with settings input output r ≡ Done.refuses input why
+  refused_as why (Ok e) refused = absurd (cc)
+  refused_as why (Err other) refused = let same : Open other ≡ why = cc in ap (Done.refuses input) same
 
-pub if_ok : {T E : Type 0} (r : Result T E) (P Q : T → Type 0) → ((x : T) → P x → Q x) → IfOk r P → IfOk r Q
-if_ok (Ok x) P Q f p = f x p
-if_ok (Err e) P Q f p = p
+  refused_from : (why : Refusal) (o : Option (List ℕ)) → input_in o ≡ Err why → retagged_from settings input output o ≡ Done.refuses input why
+  refused_from why None refused = let same : MissingFile ≡ why = cc in ap (Done.refuses input) same
+  refused_from why (Some b) refused = refused_as why (opening_of b) refused
+
+  pub retagged_refused : (why : Refusal) → input_in (files input) ≡ Err why → retagged settings input output files ≡ Done.refuses input why
+  retagged_refused why refused = retagged_is ∙ refused_from why (files input) refused
 
 module _ {S : Type 0} (state : S → ShelfState) (new : S) (files : Files) where
-  pub done_same : (answer : Answer) (todo todo' : Done) → todo' ≡ todo → IsDone state new answer todo files → IsDone state new answer todo' files
-  done_same answer todo todo' is done = subst (λ (d : Done). IsDone state new answer d files) (sym is) done
-
   module _ (settings : List Stated) (input output : List ℕ) where
-    -- the input was refused as it was opened
-    pub input_refused : (why : OpenRefusal) (r : Result Editing OpenRefusal) → r ≡ Err why → HasFiles state new files
-        → (Said.refused input (Open why) ≡ said_of (retagged_with settings input output r)) × HasFiles state new (files_after (retagged_with settings input output r) files)
-    input_refused why r is has =
-        subst (λ (x : Result Editing OpenRefusal). (Said.refused input (Open why) ≡ said_of (retagged_with settings input output x)) × HasFiles state new (files_after (retagged_with settings input output x) files)) (sym is) (refl, has)
-
     module _ (e : Editing) where
       -- one of the two was refused
       pub refused_so : (name : List ℕ) (why : Refusal) → first_of (refusals settings input output e) ≡ Some (Done.refuses name why) → HasFiles state new files
@@ -121,8 +112,17 @@ module _ {S : Type 0} (state : S → ShelfState) (new : S) (files : Files) where
 
 -- ---- nothing is made
 
-module _ {D M S : Type 0} {d : Ghosts D} {m : ModeGhosts M} (state : D → State) (shelf_state : S → ShelfState) (settings : List Stated) (input output : List ℕ) (file : File D M d m) (shelf : S) where
-  pub halted_so : (h : Halt) (r : Result Answer Stop) → AnswersHalt input output h r → ((e : Editing) → Stands state file e → (i o : List ℕ) → Plans settings i o e (Err h)) → Retags state shelf_state settings input output file shelf shelf r
+module _ {D M S : Type 0} {d : Ghosts D} {m : ModeGhosts M} (state : D → State) (shelf_state : S → ShelfState) (change : MetadataChange) (file : File D M d m) (shelf : S) where
+  abbrev settings : List Stated
+  settings = change.settings
+
+  abbrev input : List ℕ
+  input = change.input.now
+
+  abbrev output : List ℕ
+  output = change.output.now
+
+  pub halted_so : (h : Halt) (r : Result Answer Stop) → AnswersHalt input output h r → ((e : Editing) → Stands state file e → (i o : List ℕ) → Plans settings i o e (Err h)) → Retags state shelf_state change file shelf shelf r
   halted_so (halt.Input why) (Ok answer) said plans = λ files e told stands.
       let so = refused_so shelf_state shelf files settings input output e input why (plans e stands input output) (files, told, λ n. refl) in
       (said ∙ so.0, so.1)
@@ -133,12 +133,3 @@ module _ {D M S : Type 0} {d : Ghosts D} {m : ModeGhosts M} (state : D → State
   halted_so (halt.Stop stop) (Ok answer) said plans = absurd said
   halted_so (halt.Input why) (Err error) said plans = absurd said
   halted_so (halt.Output why) (Err error) said plans = absurd said
-
--- ---- a disk that told its bytes tells them
-
-some_too : (o o' : Option (List ℕ)) (b : List ℕ) → is_some o' ≡ is_some o → o ≡ Some b → (b' : List ℕ) × (o' ≡ Some b')
-some_too o (Some b') b same is = (b', refl)
-some_too o None b same is = absurd (let e : false ≡ true = same ∙ ap (λ (x : Option (List ℕ)). is_some x) is in cc)
-
-pub still_told : (old new : State) (b : List ℕ) → StillTells old new → old.contents ≡ Some b → (b' : List ℕ) × (new.contents ≡ Some b')
-still_told old new b still is = some_too old.contents new.contents b still.told is

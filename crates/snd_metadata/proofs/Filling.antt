@@ -9,7 +9,7 @@ use Rattle.snd_carry.proofs.Steps.{added_is}
 use Rattle.snd_carry.specs.Carrying.{CarriesOne, HoldsChunk, HoldsOne}
 use Rattle.snd_chunks.specs.Written.{NewChunk}
 use Rattle.snd_disk.specs.declared.disk.Disk.{Ghosts}
-use Rattle.snd_disk.specs.Device.{Tells}
+use Rattle.snd_inputs.specs.Opening.{IsUnread}
 use Rattle.snd_disk.specs.State.{State}
 use Rattle.snd_layout.specs.Params.{Parameters, data_bytes}
 use Rattle.snd_layout.specs.Shape.{Shape, room}
@@ -32,7 +32,7 @@ use Rattle.snd_output.specs.Widths.{change_numbers, joined, width_of}
 use Rattle.snd_pcm.specs.Width.{changed, floor_div}
 use Rattle.snd_wave.specs.Heads.{new_piece}
 use Rattle.snd_wave.specs.Written.{chunk_read}
-use Rattle.snd_metadata.specs.Making.{HasPut, IsUnread, PutsPlanned, known_filled}
+use Rattle.snd_metadata.specs.Making.{HasPut, PutsPlanned, known_filled}
 use Rattle.snd_metadata.specs.Planned.{IsReady, outline_planned}
 use Rattle.snd_metadata.specs.declared.chunks.PlannedChunk.{PlannedChunk}
 use Rattle.snd_metadata.specs.declared.chunks.PlannedChunk.TheVariants.{Kept}
@@ -131,6 +131,3 @@ pub numbers_same : (r : Editing) (from to codec : Codec) → from ≡ codec → 
 numbers_same r from to codec from_is to_is first =
     ap (λ (c : Codec). change_numbers c to (numbers_left r)) from_is ∙ ap (λ (c : Codec). change_numbers codec c (numbers_left r)) to_is
     ∙ all_unchanged (width_of codec) (numbers_left r) ∙ ap (λ (n : ℕ). joined (drop n r.frames)) first
-
-pub told_as : {E : Type 0} (state : E → State) (d d' : E) (b : List ℕ) → d ≡ d' → Tells state d b → Tells state d' b
-told_as {E = E} state d d' b same told = subst (λ (x : E). Tells state x b) same told

@@ -7,6 +7,7 @@ use Rattle.std.proofs.lemmas.List.Folds.{list_any_at, list_any_more}
 use Rattle.std.proofs.lemmas.Option.{get_or_from_slice_get, slice_get_within}
 use Rattle.std.specs.List.{filter, list_any, position_or_len}
 use Rattle.std.specs.Prelude.{map, not, set, slice_get, suc}
+use Rattle.snd_metadata.specs.Planned.{put_in}
 
 -- one more behind others that are fewer than n, and one behind n
 take_room : {A : Type 0} (n : ℕ) (xs : List A) (x : A) → length (take n xs) < n → take n (xs ++ x ∷ []) ≡ take n xs ++ x ∷ []
@@ -41,23 +42,21 @@ module _ {A : Type 0} (test : A → Bool) (n : ℕ) where
 pub few_in : {A : Type 0} (n : ℕ) (xs : List A) → length (take n xs) ≤ n
 few_in n xs = grind (arith, places)
 
--- a list with one in the place of another, or behind them all
-abbrev pub put : {A : Type 0} → ℕ → A → List A → List A
-put at x xs = take at xs ++ x ∷ drop (at + 1) xs
+-- ---- a list into which one is put
 
-pub map_put : {A B : Type 0} (f : A → B) (at : ℕ) (x : A) (xs : List A) → map f (put at x xs) ≡ put at (f x) (map f xs)
+pub map_put : {A B : Type 0} (f : A → B) (at : ℕ) (x : A) (xs : List A) → map f (put_in at x xs) ≡ put_in at (f x) (map f xs)
 map_put f at x xs =
     map-append f (take at xs) (x ∷ drop (at + 1) xs)
     ∙ ap (λ l. l ++ f x ∷ map f (drop (at + 1) xs)) (sym (take-map f at xs)) ∙ ap (λ l. take at (map f xs) ++ f x ∷ l) (sym (drop-map f (at + 1) xs))
 
 -- .. as a store gives it
-pub put_split : {A : Type 0} (at : ℕ) (x : A) (xs : List A) → at < length xs → set xs at x ≡ put at x xs
+pub put_split : {A : Type 0} (at : ℕ) (x : A) (xs : List A) → at < length xs → set xs at x ≡ put_in at x xs
 put_split at x xs within = let one : suc at ≡ at + 1 = omega arith in set_split xs at x within ∙ ap (λ n. take at xs ++ x ∷ drop n xs) one
 
-pub all_put : {A : Type 0} (P : A → Type 0) (at : ℕ) (x : A) (xs : List A) → All P xs → P x → All P (put at x xs)
+pub all_put : {A : Type 0} (P : A → Type 0) (at : ℕ) (x : A) (xs : List A) → All P xs → P x → All P (put_in at x xs)
 all_put P at x xs all is = All-append P (take at xs) (x ∷ drop (at + 1) xs) (All-take P at xs all) (All-cons P x (drop (at + 1) xs) is (All-drop P (at + 1) xs all))
 
-pub few_put : {A : Type 0} (at : ℕ) (x : A) (xs : List A) → at ≤ length xs → length (put at x xs) ≤ length xs + 1
+pub few_put : {A : Type 0} (at : ℕ) (x : A) (xs : List A) → at ≤ length xs → length (put_in at x xs) ≤ length xs + 1
 few_put at x xs within = grind (arith, places)
 
 -- the place of the first that passes does not hang on what the others are made of

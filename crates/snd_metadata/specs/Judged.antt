@@ -11,9 +11,16 @@ use Rattle.snd_words.specs.Stated.{Stated}
 use Rattle.snd_metadata.specs.declared.bodies.Bodies.{Bodies}
 use Rattle.snd_metadata.specs.declared.halt.Halt.{Halt}
 use Rattle.snd_metadata.specs.declared.halt.Halt.TheVariants as halt
-use Rattle.snd_metadata.specs.declared.bodies.Drafts.{Drafts}
+use Rattle.snd_metadata.specs.declared.settings.Drafts.{Drafts}
 use Rattle.snd_metadata.specs.Retagged.{are_too_large, is_full_with}
-use Rattle.snd_metadata.specs.Settings.{are_too_long, with_entries, with_fields}
+use Rattle.snd_metadata.specs.Settings.{are_too_long, with_entries, with_entry, with_field, with_fields}
+
+-- what one setting says was put into the draft of the chunk that it changes; and what all of them say
+abbrev pub PutsSetting : Stated → Drafts → Drafts → Type 0
+PutsSetting setting old new = (new.extension ≡ with_field setting old.extension) × (new.texts ≡ with_entry setting old.texts)
+
+abbrev pub PutsSettings : List Stated → Drafts → Drafts → Type 0
+PutsSettings settings old new = (new.extension ≡ with_fields settings old.extension) × (new.texts ≡ with_entries settings old.texts)
 
 -- the bodies of two drafts with all that is set, or why they are not put
 abbrev pub extension_of : List Stated → Drafts → List ℕ
@@ -21,6 +28,11 @@ extension_of settings drafts = bext_body (with_fields settings drafts.extension)
 
 abbrev pub texts_of : List Stated → Drafts → List ℕ
 texts_of settings drafts = info_body (with_entries settings drafts.texts)
+
+abbrev pub PutsBodies : List Stated → Drafts → Bodies → Type 0
+PutsBodies settings drafts bodies =
+    (bodies.extension.items ≡ extension_of settings drafts) × (bodies.texts.items ≡ texts_of settings drafts)
+    × All IsByte bodies.extension.items × All IsByte bodies.texts.items
 
 abbrev pub HasBodies : List Stated → Drafts → Result Bodies Halt → Type 0
 HasBodies settings drafts (Ok bodies) =

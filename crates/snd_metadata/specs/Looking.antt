@@ -19,7 +19,7 @@ use Rattle.snd_metadata.specs.declared.halt.Halt.{Halt}
 use Rattle.snd_metadata.specs.declared.halt.Halt.TheVariants as halt
 use Rattle.snd_metadata.specs.declared.halt.Unread.{Unread}
 use Rattle.snd_metadata.specs.declared.halt.Unread.TheVariants as unread
-use Rattle.snd_metadata.specs.declared.bodies.Drafts.{Drafts}
+use Rattle.snd_metadata.specs.declared.settings.Drafts.{Drafts}
 use Rattle.snd_metadata.specs.Retagged.{is_too_large, is_unreadable, judged, said_or}
 
 -- whether a call came to its end, whatever it found, or what stopped it
@@ -56,8 +56,11 @@ Reads new held (Err unread.TooLarge) = is_too_large held ≡ true
 Reads new held (Err unread.Bad) = (is_too_large held ≡ false) × (is_unreadable held ≡ true)
 Reads new held (Err (unread.Stop stop)) = Unit {0}
 
-abbrev pub ReadsFrom : {D M T : Type 0} {ghosts : Ghosts D} {mode : ModeGhosts M} → (D → State) → File D M ghosts mode → T → (Editing → Result T TagError) → Result T Unread → Type 0
-ReadsFrom state file new held result = (e : Editing) → Stands state file e → Reads new (held e) result
+abbrev pub ReadsExtension : {D M : Type 0} {ghosts : Ghosts D} {mode : ModeGhosts M} → (D → State) → Bool → File D M ghosts mode → Result Broadcast Unread → Type 0
+ReadsExtension state wanted file result = (e : Editing) → Stands state file e → Reads blank (judged wanted (broadcast_of e.bytes e.shape)) result
+
+abbrev pub ReadsTexts : {D M : Type 0} {ghosts : Ghosts D} {mode : ModeGhosts M} → (D → State) → Bool → File D M ghosts mode → Result (List Entry) Unread → Type 0
+ReadsTexts state wanted file result = (e : Editing) → Stands state file e → Reads [] (judged wanted (texts_of e.bytes e.shape)) result
 
 -- the two that are to be changed, by the first of the reasons against one of them
 abbrev pub Drafted : Result Broadcast TagError → Result (List Entry) TagError → Result Drafts Halt → Type 0

@@ -1,5 +1,5 @@
 -- How the output is made of an open file by a plan of its chunks, and what is answered.
-use Rattle.std.specs.Prelude.{◌≡◌, ℕ, ℤ, true, List, [], ◌∷◌, ◌++◌, None, Some, Result, Ok, Err, IfOk, Vec, map}
+use Rattle.std.specs.Prelude.{◌≡◌, ℕ, ℤ, Bool, true, List, [], ◌∷◌, ◌++◌, None, Some, Result, Ok, Err, IfOk, OnOk, Vec, length, map}
 use Rattle.std.specs.declared.alloc.Global.{Global}
 use Rattle.snd_chunks.specs.Written.{NewChunk}
 use Rattle.snd_disk.specs.declared.disk.Disk.{Ghosts}
@@ -12,10 +12,11 @@ use Rattle.snd_layout.specs.declared.kind.Kind.{Kind}
 use Rattle.snd_layout.specs.Shape.{Shape}
 use Rattle.snd_modes.specs.declared.handle.File.{File}
 use Rattle.snd_modes.specs.declared.mode.Mode.{Ghosts as ModeGhosts}
-use Rattle.snd_modes.specs.Editing.{Editing, opening_of}
+use Rattle.snd_modes.specs.Editing.{Editing}
 use Rattle.snd_modes.specs.Handle.{Known, Stands, known_of}
 use Rattle.snd_modes.specs.Heads.{holds_meta}
 use Rattle.snd_modes.specs.Making.{making_of}
+use Rattle.snd_modes.specs.PieceCalls.{known_put}
 use Rattle.snd_modes.specs.Relaid.{pieces_held, shape_with}
 use Rattle.snd_output.specs.Made.{IsChunk, IsMaking, made_file, made_with}
 use Rattle.snd_output.specs.Widths.{joined}
@@ -24,16 +25,13 @@ use Rattle.snd_tools.specs.Done.{Done, Said, said_by}
 use Rattle.snd_tools.specs.Shelves.{HasFiles, IsDone}
 use Rattle.snd_tools.specs.declared.answer.Answer.{Answer}
 use Rattle.snd_words.specs.Stated.{Stated}
+use Rattle.snd_words.specs.declared.metadata.MetadataChange.{MetadataChange}
 use Rattle.snd_metadata.specs.declared.chunks.PlannedChunk.{PlannedChunk}
 use Rattle.snd_metadata.specs.declared.halt.Halt.{Halt}
 use Rattle.snd_metadata.specs.declared.halt.Halt.TheVariants as halt
 use Rattle.snd_metadata.specs.Planned.{chunk_planned, outline_planned}
-use Rattle.snd_metadata.specs.Retagged.{chunks_made, first_of, refusals, retagged_file, retagged_with}
-
--- an open file may be read from its first frame on
-pub record IsUnread (k : Known) : Type 0 where
-  pub working : k.broken ≡ None
-  pub first : k.place ≡ 0
+use Rattle.snd_metadata.specs.Judged.{HasRoom}
+use Rattle.snd_metadata.specs.Retagged.{chunks_made, first_of, is_full_with, refusals, retagged_file}
 
 -- ---- the plan
 
@@ -53,6 +51,13 @@ abbrev pub PlansFrom : {D M : Type 0} {d : Ghosts D} {m : ModeGhosts M} → (D �
 PlansFrom state settings file result =
     (e : Editing) → Stands state file e → (input output : List ℕ) → Plans settings input output e result
 
+-- the head of the output has no room for the data of an open file with these, or whether it may be made
+abbrev pub TellsFull : {D M : Type 0} {d : Ghosts D} {m : ModeGhosts M} → (D → State) → List PlannedChunk → File D M d m → Bool → Type 0
+TellsFull state plan file full = (e : Editing) → Stands state file e → full ≡ is_full_with e.shape (chunks_planned e plan)
+
+abbrev pub TellsRoom : {D M T : Type 0} {d : Ghosts D} {m : ModeGhosts M} → (D → State) → List PlannedChunk → File D M d m → Result T Halt → Type 0
+TellsRoom state plan file result = (e : Editing) → Stands state file e → HasRoom e.shape (chunks_planned e plan) result
+
 -- ---- the file
 
 -- its bytes: the kind, the parameters and the frames are those of the input
@@ -62,6 +67,17 @@ file_planned e plan = made_file e.shape.kind e.shape.params (chunks_planned e pl
 -- what is known, over every disk, of a file that was begun with a kind and parameters once chunks of a plan were put into it
 abbrev pub known_filled : Shape → List PlannedChunk → Known → Known
 known_filled h plan k = record k { shape = shape_with h.kind h.params (map outline_planned plan) }
+
+abbrev pub IsFilled : {D E M N : Type 0} {d : Ghosts D} {t : Ghosts E} {m : ModeGhosts M} {n : ModeGhosts N}
+    → List PlannedChunk → File D M d m → File E N t n → File E N t n → Type 0
+IsFilled plan from old new = known_of new ≡ known_filled (known_of from).shape plan (known_of old)
+
+-- it was begun with the kind and the parameters of another; and of one with some chunks, once it has one more
+abbrev pub IsBegunLike : {D E M N : Type 0} {d : Ghosts D} {t : Ghosts E} {m : ModeGhosts M} {n : ModeGhosts N} → File D M d m → File E N t n → Type 0
+IsBegunLike from to = let h = (known_of from).shape in (known_of to).shape ≡ shape_with h.kind h.params []
+
+abbrev pub HasOneMore : {E N : Type 0} {t : Ghosts E} {n : ModeGhosts N} → PlannedChunk → File E N t n → File E N t n → Type 0
+HasOneMore chunk old new = known_of new ≡ known_put (length (known_of old).shape.pieces) (outline_planned chunk) (known_of old)
 
 -- Where both disks tell what they hold, a handle that stood for a file that was made with some chunks, and held them, stands for
 -- one with one more, which such a file may have.
@@ -96,9 +112,11 @@ Fills state state' plan from old new = MakesWith state state' plan (λ r. joined
 abbrev pub Makes : {D M E : Type 0} {d : Ghosts D} {m : ModeGhosts M} → (D → State) → (E → State) → List PlannedChunk → File D M d m → E → E → Type 0
 Makes state state' plan file old new = (b : List ℕ) (e : Editing) → Tells state' old b → Stands state file e → Tells state' new (file_planned e plan)
 
-abbrev pub MakesUnder : {D M S : Type 0} {d : Ghosts D} {m : ModeGhosts M} → (D → State) → (S → ShelfState) → List ℕ → List PlannedChunk → File D M d m → S → S → Type 0
-MakesUnder state shelf_state name plan file old new =
-    (files : Files) (e : Editing) → TellsFiles shelf_state old files → Stands state file e → HasFiles shelf_state new (put files name (Some (file_planned e plan)))
+abbrev pub MakesUnder : {D M S T E : Type 0} {d : Ghosts D} {m : ModeGhosts M}
+    → (D → State) → (S → ShelfState) → List ℕ → List PlannedChunk → File D M d m → S → S → Result T E → Type 0
+MakesUnder state shelf_state name plan file old new result =
+    OnOk result ((files : Files) (e : Editing) → TellsFiles shelf_state old files → Stands state file e
+    → HasFiles shelf_state new (put files name (Some (file_planned e plan))))
 
 -- the answer where nothing is made: one of the two was refused, or what stopped it
 abbrev pub AnswersHalt : List ℕ → List ℕ → Halt → Result Answer Stop → Type 0
@@ -107,13 +125,9 @@ AnswersHalt input output (halt.Output why) (Ok answer) = said_by answer ≡ Said
 AnswersHalt input output (halt.Stop stop) (Err error) = error ≡ stop
 AnswersHalt input output halt result = ⊥
 
--- what is answered is what is to be done with an open file, or with a disk; and that is done
-abbrev pub Retags : {D M S E : Type 0} {d : Ghosts D} {m : ModeGhosts M} → (D → State) → (S → ShelfState) → List Stated → List ℕ → List ℕ → File D M d m → S → S → Result Answer E → Type 0
-Retags state shelf_state settings input output file old new result =
+-- what is answered is what is to be done with an open file, and that is done
+abbrev pub Retags : {D M S E : Type 0} {d : Ghosts D} {m : ModeGhosts M}
+    → (D → State) → (S → ShelfState) → MetadataChange → File D M d m → S → S → Result Answer E → Type 0
+Retags state shelf_state change file old new result =
     IfOk result (λ answer. (files : Files) (e : Editing) → TellsFiles shelf_state old files → Stands state file e
-    → IsDone shelf_state new answer (retagged_file settings input output e) files)
-
-abbrev pub RetagsDisk : {D S E : Type 0} → (D → State) → (S → ShelfState) → List Stated → List ℕ → List ℕ → D → S → S → Result Answer E → Type 0
-RetagsDisk state shelf_state settings input output disk old new result =
-    IfOk result (λ answer. (files : Files) (b : List ℕ) → TellsFiles shelf_state old files → Tells state disk b
-    → IsDone shelf_state new answer (retagged_with settings input output (opening_of b)) files)
+    → IsDone shelf_state new answer (retagged_file change.settings change.input.now change.output.now e) files)

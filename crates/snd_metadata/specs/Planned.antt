@@ -1,5 +1,6 @@
 -- A list of chunks that are to be put, as the code has it.
-use Rattle.std.specs.Prelude.{◌≡◌, ℕ, ◌+◌, ◌≤◌, Bool, true, false, List, [], ◌∷◌, All, None, Some, codes, length, map, slice_get}
+use Rattle.std.specs.Prelude.{◌≡◌, ℕ, ◌+◌, ◌≤◌, Bool, true, false, List, [], ◌∷◌, ◌++◌, All, None, Some, Vec, codes, drop, length, map, slice_get, take}
+use Rattle.std.specs.declared.alloc.Global.{Global}
 use Rattle.std.specs.Str.{bytes_eq}
 use Rattle.snd_carry.specs.Carried.{is_carried}
 use Rattle.snd_chunks.specs.Written.{NewChunk}
@@ -14,6 +15,7 @@ use Rattle.snd_wave.specs.Heads.{new_piece}
 use Rattle.snd_wave.specs.Written.{chunk_read}
 use Rattle.snd_metadata.specs.declared.chunks.PlannedChunk.{PlannedChunk}
 use Rattle.snd_metadata.specs.declared.chunks.PlannedChunk.TheVariants.{Given, Kept}
+use Rattle.snd_metadata.specs.Chunks.{kept_chunks, with_extension}
 use Rattle.snd_metadata.specs.Retagged.{is_full_with}
 
 -- a chunk of the list, with the body that it has in a file
@@ -34,6 +36,24 @@ names_extension (Given id body) = bytes_eq id.0 (codes "bext")
 abbrev pub MayStand : List Piece → PlannedChunk → Type 0
 MayStand pieces (Kept place piece) = (slice_get pieces place ≡ Some piece) × (is_carried piece ≡ true) × (length piece.id.0 ≡ 4) × All IsByte piece.id.0
 MayStand pieces (Given id body) = (is_wave_own id.0 ≡ false) × (length id.0 ≡ 4) × (length body.items ≤ 65536) × All IsByte id.0 × All IsByte body.items
+
+-- ---- how it comes about
+
+-- it has the chunks of the input that are kept
+abbrev pub KeepsChunks : List Piece → Vec PlannedChunk Global → Type 0
+KeepsChunks pieces plan = (b : List ℕ) → map (chunk_planned b) plan.items ≡ kept_chunks b pieces
+
+-- a list with one in the place of another, or behind them all
+abbrev pub put_in : {A : Type 0} → ℕ → A → List A → List A
+put_in at x xs = take at xs ++ x ∷ drop (at + 1) xs
+
+-- a broadcast extension of this body was put among the chunks, where it is changed
+abbrev pub PutsExtension : Bool → List ℕ → List PlannedChunk → List PlannedChunk → Type 0
+PutsExtension changed body old new = (b : List ℕ) → map (chunk_planned b) new ≡ with_extension changed body (map (chunk_planned b) old)
+
+-- all may be put still
+abbrev pub StandStill : List PlannedChunk → List PlannedChunk → Type 0
+StandStill old new = (pieces : List Piece) → All (MayStand pieces) old → All (MayStand pieces) new
 
 -- all of them may be put
 pub record IsPlan (pieces : List Piece) (plan : List PlannedChunk) : Type 0 where

@@ -1,6 +1,6 @@
 -- What the settings of `metadata-set` make of a broadcast extension and of an INFO list. They are put one after the other, in the
 -- order of the words.
-use Rattle.std.specs.Prelude.{ℕ, Bool, true, false, List, [], ◌∷◌, length, nat_lt}
+use Rattle.std.specs.Prelude.{Bool, true, false, List, [], ◌∷◌, length, nat_lt}
 use Rattle.std.specs.List.{list_any}
 use Rattle.snd_meta.specs.Broadcast.{Broadcast, field_size, with_bext_text}
 use Rattle.snd_meta.specs.Info.{Entry, with_text}

@@ -8,12 +8,12 @@ ghost use Rattle.snd_output.specs.declared.stop.Stop.{Stop};
 ghost use Rattle.snd_output.specs.declared.stop.Stop.TheVariants as stop;
 ghost use Rattle.snd_words.specs.Stated.{IsStated};
 ghost use Rattle.snd_metadata.specs.declared.halt.Halt.TheVariants as halt;
-ghost use Rattle.snd_metadata.specs.Judged.{HasBodies, extension_of, texts_of};
+ghost use Rattle.snd_metadata.specs.Judged.{HasBodies, PutsBodies};
 ghost use Rattle.snd_metadata.specs.Retagged.{are_too_large};
 ghost use Rattle.snd_metadata.specs.Settings.{are_too_long};
 
 use crate::halt::Halt;
-use crate::settings::{put_entries, put_fields};
+use crate::settings::{Drafts, put_settings};
 use snd_lines::Refusal;
 use snd_meta::{Bext, InfoList};
 use snd_output::Stop;
@@ -22,13 +22,6 @@ use std::alloc::Global;
 
 /// The most bytes of the body of a chunk.
 const MOST_BYTES: usize = 65536;
-
-/// What the two chunks say that settings change; of one that they do not change, what a new one says.
-#[derive(Drop)]
-pub(crate) struct Drafts {
-    pub extension: Bext,
-    pub texts: InfoList,
-}
 
 /// The bodies of the broadcast extension and of the INFO list.
 #[derive(Drop)]
@@ -89,14 +82,11 @@ fn bodies_put(
 ) -> Result<Bodies, Stop>
     requires good { All IsStated settings.now }
     requires fit { are_too_long settings.now ≡ false }
-    ensures extension { IfOk result (λ bodies. bodies.extension.items ≡ extension_of settings.now drafts) }
-    ensures texts { IfOk result (λ bodies. bodies.texts.items ≡ texts_of settings.now drafts) }
-    ensures bytes { IfOk result (λ bodies. All IsByte bodies.extension.items × All IsByte bodies.texts.items) }
+    ensures bodies { IfOk result (PutsBodies settings.now drafts) }
     ensures only { IfErr result (λ e. e ≡ stop.Memory) }
 {
     let mut drafts = drafts;
-    put_fields(&mut drafts.extension, settings)?;
-    put_entries(&mut drafts.texts, settings)?;
+    put_settings(&mut drafts, settings)?;
     Ok(Bodies {
         extension: extension_body(alloc, &drafts.extension)?,
         texts: texts_body(alloc, &drafts.texts)?,

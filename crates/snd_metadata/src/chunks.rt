@@ -1,12 +1,10 @@
 //! The chunks of the file that is made, as a list: those that are kept, and those that are changed.
 
-ghost use Rattle.std.specs.Prelude.{◌≡◌, ◌+◌, ◌≤◌, ◌∷◌, ◌++◌, All, IfErr, IfOk, List, OnOk, drop, length, map, take, ℕ};
+ghost use Rattle.std.specs.Prelude.{◌≡◌, ◌+◌, ◌≤◌, All, IfErr, IfOk, OnOk, length};
 ghost use Rattle.std.specs.List.{position_or_len};
 ghost use Rattle.snd_fields.specs.Laws.{IsByte};
-ghost use Rattle.snd_layout.specs.declared.piece.Piece.{Piece};
 ghost use Rattle.snd_output.specs.declared.stop.Stop.TheVariants as stop;
-ghost use Rattle.snd_metadata.specs.Chunks.{is_extension, kept_chunks, with_extension};
-ghost use Rattle.snd_metadata.specs.Planned.{IsSmall, MayStand, chunk_planned, names_extension, outline_planned, sizes_planned};
+ghost use Rattle.snd_metadata.specs.Planned.{IsSmall, KeepsChunks, MayStand, PutsExtension, StandStill, names_extension, outline_planned, put_in, sizes_planned};
 
 use snd_carry::is_carried;
 use snd_fields::Id4;
@@ -31,7 +29,7 @@ pub(crate) enum PlannedChunk {
 
 /// The chunks of the input that are kept.
 pub(crate) fn kept_chunks(alloc: Global, pieces: &PieceList) -> Result<Vec<PlannedChunk>, Stop>
-    ensures kept { IfOk result (λ plan. (b : List ℕ) → map (chunk_planned b) plan.items ≡ kept_chunks b pieces.now) }
+    ensures kept { IfOk result (KeepsChunks pieces.now) }
     ensures each { IfOk result (λ plan. All (MayStand pieces.now) plan.items) }
     ensures few { IfOk result (λ plan. length plan.items ≤ 238) }
     ensures only { IfErr result (λ e. e ≡ stop.Memory) }
@@ -61,7 +59,7 @@ pub(crate) fn put_at(
     chunk: PlannedChunk,
 ) -> Result<(), Stop>
     requires { at ≤ length plan.old.items }
-    ensures put { OnOk result (plan.new.items ≡ take at plan.old.items ++ chunk ∷ drop (at + 1) plan.old.items) }
+    ensures put { OnOk result (plan.new.items ≡ put_in at chunk plan.old.items) }
     ensures only { IfErr result (λ e. e ≡ stop.Memory) }
 {
     if at < plan.len() {
@@ -104,8 +102,8 @@ pub(crate) fn put_extension(
 ) -> Result<(), Stop>
     requires small { length body.items ≤ 65536 }
     requires bytes { All IsByte body.items }
-    ensures put { OnOk result ((b : List ℕ) → map (chunk_planned b) plan.new.items ≡ with_extension changed body.items (map (chunk_planned b) plan.old.items)) }
-    ensures each { OnOk result ((pieces : List Piece) → All (MayStand pieces) plan.old.items → All (MayStand pieces) plan.new.items) }
+    ensures put { OnOk result (PutsExtension changed body.items plan.old.items plan.new.items) }
+    ensures each { OnOk result (StandStill plan.old.items plan.new.items) }
     ensures few { OnOk result (length plan.new.items ≤ length plan.old.items + 1) }
     ensures only { IfErr result (λ e. e ≡ stop.Memory) }
 {

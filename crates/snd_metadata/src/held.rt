@@ -1,15 +1,11 @@
 //! What the chunks that are to be changed say in the input.
 
-ghost use Rattle.std.specs.Prelude.{◌≡◌, [], None};
-ghost use Rattle.snd_meta.specs.Broadcast.{blank};
+ghost use Rattle.std.specs.Prelude.{◌≡◌, None};
 ghost use Rattle.snd_modes.specs.Handle.{known_of};
-ghost use Rattle.snd_tags.specs.Found.{broadcast_of, texts_of};
-ghost use Rattle.snd_metadata.specs.Looking.{DraftsFrom, Looks, ReadsFrom, halted_by, judging, reading};
-ghost use Rattle.snd_metadata.specs.Retagged.{judged};
+ghost use Rattle.snd_metadata.specs.Looking.{DraftsFrom, Looks, ReadsExtension, ReadsTexts, halted_by, judging, reading};
 
-use crate::bodies::Drafts;
 use crate::halt::{Halt, Unread};
-use crate::settings::Summary;
+use crate::settings::{Drafts, Summary};
 use snd_disk::Disk;
 use snd_lines::Refusal;
 use snd_meta::{Bext, InfoList};
@@ -25,7 +21,7 @@ fn extension_held<D: Disk>(
     file: &mut File<'_, D, Read>,
 ) -> Result<Bext, Unread>
     requires { (known_of file.old).broken ≡ None }
-    ensures read { ReadsFrom D.state file.old blank (λ e. judged wanted (broadcast_of e.bytes e.shape)) result }
+    ensures read { ReadsExtension D.state wanted file.old result }
     ensures looks { Looks D.Disk file.old file.new (reading result) }
 {
     if !wanted {
@@ -49,7 +45,7 @@ fn texts_held<D: Disk>(
     file: &mut File<'_, D, Read>,
 ) -> Result<InfoList, Unread>
     requires { (known_of file.old).broken ≡ None }
-    ensures read { ReadsFrom D.state file.old [] (λ e. judged wanted (texts_of e.bytes e.shape)) result }
+    ensures read { ReadsTexts D.state wanted file.old result }
     ensures looks { Looks D.Disk file.old file.new (reading result) }
 {
     if !wanted {

@@ -1,18 +1,17 @@
 //! The output, made of an open file by a plan of its chunks.
 
-ghost use Rattle.std.specs.Prelude.{◌≡◌, ◌<◌, [], None, OnOk, false, is_none, length, true};
+ghost use Rattle.std.specs.Prelude.{◌≡◌, ◌<◌, None, OnOk, false, is_none, length, true};
 ghost use Rattle.snd_container.specs.Sound.{fixed_of};
-ghost use Rattle.snd_disk.specs.Device.{GoesOnFrom, OnlyReadsOn};
-ghost use Rattle.snd_modes.specs.Handle.{IsFresh, StandsAfter, disk_of, known_of, loan_of};
+ghost use Rattle.snd_disk.specs.Device.{GoesOnFrom};
+ghost use Rattle.snd_inputs.specs.Copying.{CopiesInto, CountsFileAndDisk, OnlyReadsFile};
+ghost use Rattle.snd_inputs.specs.Opening.{IsUnread};
+ghost use Rattle.snd_modes.specs.Handle.{IsFresh, StandsAfter, known_of, loan_of};
 ghost use Rattle.snd_layout.specs.Params.{AreParams};
 ghost use Rattle.snd_modes.specs.Heads.{holds_meta};
-ghost use Rattle.snd_modes.specs.Outcomes.{TellsOn};
-ghost use Rattle.snd_modes.specs.PieceCalls.{IsUntouched, known_put};
-ghost use Rattle.snd_modes.specs.Relaid.{shape_with};
-ghost use Rattle.snd_output.specs.Ends.{BreaksByFault, CountsOneOf};
+ghost use Rattle.snd_modes.specs.PieceCalls.{IsUntouched};
 ghost use Rattle.snd_patch.specs.Steps.{StillTells};
-ghost use Rattle.snd_metadata.specs.Making.{Carries, Fills, IsUnread, Makes, PutsPlanned, known_filled};
-ghost use Rattle.snd_metadata.specs.Planned.{IsReady, MayStand, outline_planned};
+ghost use Rattle.snd_metadata.specs.Making.{Carries, Fills, HasOneMore, IsBegunLike, IsFilled, Makes, PutsPlanned};
+ghost use Rattle.snd_metadata.specs.Planned.{IsReady, MayStand};
 
 use crate::chunks::PlannedChunk;
 use snd_carry::{carry_chunk, put_chunk};
@@ -37,17 +36,11 @@ fn put_planned<D: Disk, E: Disk>(
     requires untouched { IsUntouched (known_of to.old) }
     requires meta { holds_meta (known_of to.old).shape.kind ≡ true }
     requires few { length (known_of to.old).shape.pieces < 240 }
-    ensures loan { loan_of from.new ≡ loan_of from.old }
-    ensures to_loan { loan_of to.new ≡ loan_of to.old }
     ensures same { OnOk result (known_of from.new ≡ known_of from.old) }
-    ensures known { OnOk result (known_of to.new ≡ known_put (length (known_of to.old).shape.pieces) (outline_planned chunk.now) (known_of to.old)) }
+    ensures known { OnOk result (HasOneMore chunk.now to.old to.new) }
     ensures stands { StandsAfter D.state from.old from.new (λ e. e) }
     ensures puts { OnOk result (PutsPlanned D.state E.state chunk.now from.old to.old to.new) }
-    ensures works { BreaksByFault (known_of to.new) result }
-    ensures faults { CountsOneOf (D.state (disk_of from.old)).faults (D.state (disk_of from.new)).faults (E.state (disk_of to.old)).faults (E.state (disk_of to.new)).faults result }
-    ensures reads { OnlyReadsOn D.state D.may_leave D.left_between (disk_of from.old) (disk_of from.new) }
-    ensures tells { TellsOn E.state to.old to.new }
-    ensures time { GoesOnFrom E.state E.left_between (disk_of to.old) (disk_of to.new) }
+    ensures copies { CopiesInto D.Disk E.Disk from.old from.new to.old to.new result }
 {
     match chunk {
         PlannedChunk::Kept(place, piece) => carry_chunk(alloc, from, to, *place, *piece),
@@ -66,18 +59,12 @@ fn carry<D: Disk, E: Disk>(
     requires ready { IsReady (known_of from.old).shape plan.now }
     requires good { AreParams (known_of from.old).shape.params }
     requires fresh { IsFresh (known_of to.old) }
-    requires begun { (known_of to.old).shape ≡ shape_with (known_of from.old).shape.kind (known_of from.old).shape.params [] }
-    ensures loan { loan_of from.new ≡ loan_of from.old }
-    ensures to_loan { loan_of to.new ≡ loan_of to.old }
+    requires begun { IsBegunLike from.old to.old }
     ensures same { OnOk result (known_of from.new ≡ known_of from.old) }
-    ensures known { OnOk result (known_of to.new ≡ known_filled (known_of from.old).shape plan.now (known_of to.old)) }
+    ensures known { OnOk result (IsFilled plan.now from.old to.old to.new) }
     ensures stands { StandsAfter D.state from.old from.new (λ e. e) }
     ensures carried { OnOk result (Carries D.state E.state plan.now from.old to.old to.new) }
-    ensures works { BreaksByFault (known_of to.new) result }
-    ensures faults { CountsOneOf (D.state (disk_of from.old)).faults (D.state (disk_of from.new)).faults (E.state (disk_of to.old)).faults (E.state (disk_of to.new)).faults result }
-    ensures reads { OnlyReadsOn D.state D.may_leave D.left_between (disk_of from.old) (disk_of from.new) }
-    ensures tells { TellsOn E.state to.old to.new }
-    ensures time { GoesOnFrom E.state E.left_between (disk_of to.old) (disk_of to.new) }
+    ensures copies { CopiesInto D.Disk E.Disk from.old from.new to.old to.new result }
 {
     for at in 0..plan.len() {
         put_planned(alloc, &plan[at], from, to)?;
@@ -96,15 +83,9 @@ fn fill<D: Disk, E: Disk>(
     requires ready { IsReady (known_of from.old).shape plan.now }
     requires good { AreParams (known_of from.old).shape.params }
     requires fresh { IsFresh (known_of to.old) }
-    requires begun { (known_of to.old).shape ≡ shape_with (known_of from.old).shape.kind (known_of from.old).shape.params [] }
-    ensures loan { loan_of from.new ≡ loan_of from.old }
-    ensures to_loan { loan_of to.new ≡ loan_of to.old }
+    requires begun { IsBegunLike from.old to.old }
     ensures fills { OnOk result (Fills D.state E.state plan.now from.old to.old to.new) }
-    ensures works { BreaksByFault (known_of to.new) result }
-    ensures faults { CountsOneOf (D.state (disk_of from.old)).faults (D.state (disk_of from.new)).faults (E.state (disk_of to.old)).faults (E.state (disk_of to.new)).faults result }
-    ensures reads { OnlyReadsOn D.state D.may_leave D.left_between (disk_of from.old) (disk_of from.new) }
-    ensures tells { TellsOn E.state to.old to.new }
-    ensures time { GoesOnFrom E.state E.left_between (disk_of to.old) (disk_of to.new) }
+    ensures copies { CopiesInto D.Disk E.Disk from.old from.new to.old to.new result }
 {
     carry(alloc, plan, from, to)?;
     let mut block = [0; BLOCK];
@@ -133,8 +114,8 @@ pub(crate) fn make<D: Disk, E: Disk>(
     requires ready { IsReady (known_of from.old).shape plan.now }
     ensures loan { loan_of from.new ≡ loan_of from.old }
     ensures made { OnOk result (Makes D.state E.state plan.now from.old disk.old disk.new) }
-    ensures faults { CountsOneOf (D.state (disk_of from.old)).faults (D.state (disk_of from.new)).faults (E.state disk.old).faults (E.state disk.new).faults result }
-    ensures reads { OnlyReadsOn D.state D.may_leave D.left_between (disk_of from.old) (disk_of from.new) }
+    ensures faults { CountsFileAndDisk D.state E.state from.old from.new disk.old disk.new result }
+    ensures reads { OnlyReadsFile D.Disk from.old from.new }
     ensures tells { StillTells (E.state disk.old) (E.state disk.new) }
     ensures time { GoesOnFrom E.state E.left_between disk.old disk.new }
 {

@@ -1,15 +1,12 @@
 //! Where the INFO list stands among the chunks, and the chunks with those that are changed.
 
-ghost use Rattle.std.specs.Prelude.{◌≡◌, ◌+◌, ◌<◌, ◌≤◌, All, IfOk, IfSome, None, OnOk, codes, false, length, map, slice_get};
-ghost use Rattle.std.specs.List.{position_or_len};
+ghost use Rattle.std.specs.Prelude.{◌≡◌, ◌+◌, ◌<◌, ◌≤◌, All, IfOk, None, OnOk, codes, false, length};
 ghost use Rattle.std.specs.Str.{bytes_eq};
 ghost use Rattle.snd_fields.specs.Laws.{IsByte};
-ghost use Rattle.snd_modes.specs.Editing.{Editing};
-ghost use Rattle.snd_modes.specs.Handle.{IfOkStanding, Stands, known_of};
-ghost use Rattle.snd_tags.specs.Bodies.{begins_info};
-ghost use Rattle.snd_metadata.specs.Chunks.{is_info_list, kept_chunks, with_extension, with_info_list};
+ghost use Rattle.snd_modes.specs.Handle.{IfOkStanding, known_of};
 ghost use Rattle.snd_metadata.specs.Looking.{Looks};
-ghost use Rattle.snd_metadata.specs.Planned.{IsPlan, MayStand, chunk_planned};
+ghost use Rattle.snd_metadata.specs.Places.{HasChunks, IsInfoPlace, PutsInfoList, SaysInfo, SaysInfoList};
+ghost use Rattle.snd_metadata.specs.Planned.{IsPlan, MayStand};
 ghost use Rattle.snd_metadata.specs.Retagged.{are_too_large};
 
 use crate::bodies::Bodies;
@@ -39,7 +36,7 @@ fn names_info(head: &[u8]) -> bool
 fn begins_info<D: Disk>(file: &mut File<'_, D, Read>, place: usize) -> Result<bool, Stop>
     requires working { (known_of file.old).broken ≡ None }
     requires there { place < length (known_of file.old).shape.pieces }
-    ensures says { IfOkStanding D.state file.old result (λ e says. IfSome (slice_get e.shape.pieces place) (λ piece. says ≡ begins_info e.bytes piece)) }
+    ensures says { IfOkStanding D.state file.old result (SaysInfo place) }
     ensures looks { Looks D.Disk file.old file.new result }
 {
     let mut head = [0u8; 4];
@@ -54,7 +51,7 @@ fn begins_info<D: Disk>(file: &mut File<'_, D, Read>, place: usize) -> Result<bo
 fn is_info_list<D: Disk>(file: &mut File<'_, D, Read>, chunk: &PlannedChunk) -> Result<bool, Stop>
     requires working { (known_of file.old).broken ≡ None }
     requires stands { MayStand (known_of file.old).shape.pieces chunk.now }
-    ensures says { IfOkStanding D.state file.old result (λ e says. says ≡ is_info_list (chunk_planned e.bytes chunk.now)) }
+    ensures says { IfOkStanding D.state file.old result (SaysInfoList chunk.now) }
     ensures looks { Looks D.Disk file.old file.new result }
 {
     match chunk {
@@ -76,7 +73,7 @@ fn is_info_list<D: Disk>(file: &mut File<'_, D, Read>, chunk: &PlannedChunk) -> 
 fn info_place<D: Disk>(file: &mut File<'_, D, Read>, plan: &[PlannedChunk]) -> Result<usize, Stop>
     requires working { (known_of file.old).broken ≡ None }
     requires stand { All (MayStand (known_of file.old).shape.pieces) plan.now }
-    ensures place { IfOkStanding D.state file.old result (λ e at. at ≡ position_or_len is_info_list (map (chunk_planned e.bytes) plan.now)) }
+    ensures place { IfOkStanding D.state file.old result (IsInfoPlace plan.now) }
     ensures within { IfOk result (λ at. at ≤ length plan.now) }
     ensures looks { Looks D.Disk file.old file.new result }
 {
@@ -99,7 +96,7 @@ fn put_info_list<D: Disk>(
     requires stand { All (MayStand (known_of file.old).shape.pieces) plan.old.items }
     requires small { length body.items ≤ 65536 }
     requires bytes { All IsByte body.items }
-    ensures put { OnOk result ((e : Editing) → Stands D.state file.old e → map (chunk_planned e.bytes) plan.new.items ≡ with_info_list changed body.items (map (chunk_planned e.bytes) plan.old.items)) }
+    ensures put { OnOk result (PutsInfoList D.state file.old changed body.items plan.old plan.new) }
     ensures stand { OnOk result (All (MayStand (known_of file.old).shape.pieces) plan.new.items) }
     ensures few { OnOk result (length plan.new.items ≤ length plan.old.items + 1) }
     ensures looks { Looks D.Disk file.old file.new result }
@@ -121,7 +118,7 @@ pub(crate) fn chunks_of<D: Disk>(
     requires working { (known_of file.old).broken ≡ None }
     requires small { are_too_large bodies.extension.items bodies.texts.items ≡ false }
     requires bytes { All IsByte bodies.extension.items × All IsByte bodies.texts.items }
-    ensures chunks { IfOkStanding D.state file.old result (λ e plan. map (chunk_planned e.bytes) plan.items ≡ with_info_list summary.texts bodies.texts.items (with_extension summary.fields bodies.extension.items (kept_chunks e.bytes e.shape.pieces))) }
+    ensures chunks { IfOkStanding D.state file.old result (HasChunks summary bodies) }
     ensures plan { IfOk result (λ plan. IsPlan (known_of file.old).shape.pieces plan.items) }
     ensures looks { Looks D.Disk file.old file.new result }
 {

@@ -2,13 +2,12 @@
 
 ghost use Rattle.std.specs.Prelude.{◌≡◌, All, IfOk, None, false, map, true};
 ghost use Rattle.snd_layout.specs.Fit.{fit_refusal};
-ghost use Rattle.snd_modes.specs.Editing.{Editing};
-ghost use Rattle.snd_modes.specs.Handle.{Stands, known_of};
+ghost use Rattle.snd_modes.specs.Handle.{known_of};
 ghost use Rattle.snd_modes.specs.Heads.{holds_meta};
 ghost use Rattle.snd_words.specs.Stated.{IsStated};
 ghost use Rattle.snd_metadata.specs.Judged.{HasRoom};
 ghost use Rattle.snd_metadata.specs.Looking.{Looks, judging};
-ghost use Rattle.snd_metadata.specs.Making.{PlansFrom, chunks_planned};
+ghost use Rattle.snd_metadata.specs.Making.{PlansFrom, TellsFull, TellsRoom};
 ghost use Rattle.snd_metadata.specs.Planned.{IsPlan, IsReady, outline_planned};
 ghost use Rattle.snd_metadata.specs.Retagged.{is_full_with};
 
@@ -40,7 +39,7 @@ fn is_full<D: Disk>(plan: &[PlannedChunk], file: &File<'_, D, Read>) -> bool
     requires fits { fit_refusal (known_of file.now).shape.kind (known_of file.now).shape.params ≡ None }
     requires plan { IsPlan (known_of file.now).shape.pieces plan.now }
     ensures outlines { result ≡ is_full_with (known_of file.now).shape (map outline_planned plan.now) }
-    ensures told { (e : Editing) → Stands D.state file.now e → result ≡ is_full_with e.shape (chunks_planned e plan.now) }
+    ensures told { TellsFull D.state plan.now file.now result }
 {
     let params = file.params();
     let bytes = u128::from(file.frames()) * u128::from(params.block_align());
@@ -54,7 +53,7 @@ fn judge_room<D: Disk>(plan: &[PlannedChunk], file: &File<'_, D, Read>) -> Resul
     requires meta { holds_meta (known_of file.now).shape.kind ≡ true }
     requires plan { IsPlan (known_of file.now).shape.pieces plan.now }
     ensures outlines { HasRoom (known_of file.now).shape (map outline_planned plan.now) result }
-    ensures told { (e : Editing) → Stands D.state file.now e → HasRoom e.shape (chunks_planned e plan.now) result }
+    ensures told { TellsRoom D.state plan.now file.now result }
 {
     if let Err(why) = fit(file.kind(), file.params()) {
         return Err(Halt::Output(Refusal::Open(why)));

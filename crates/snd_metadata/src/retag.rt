@@ -1,12 +1,13 @@
 //! The tool that copies a file with changed texts.
 
-ghost use Rattle.std.specs.Prelude.{◌≡◌, All, OnOk, false};
-ghost use Rattle.snd_disk.specs.Device.{OnlyReadsOn};
-ghost use Rattle.snd_modes.specs.Handle.{disk_of, known_of, loan_of};
-ghost use Rattle.snd_output.specs.Ends.{CountsOneOf, CountsStop};
+ghost use Rattle.std.specs.Prelude.{◌≡◌, All, false};
+ghost use Rattle.snd_inputs.specs.Copying.{CountsFileAndShelf, OnlyReadsFile};
+ghost use Rattle.snd_inputs.specs.Opening.{IsUnread};
+ghost use Rattle.snd_modes.specs.Handle.{known_of, loan_of};
+ghost use Rattle.snd_output.specs.Ends.{CountsStop};
 ghost use Rattle.snd_tools.specs.Shelves.{ChangesOne, Does, IsAllIn};
 ghost use Rattle.snd_words.specs.Stated.{IsStated};
-ghost use Rattle.snd_metadata.specs.Making.{AnswersHalt, IsUnread, MakesUnder, Retags, RetagsDisk};
+ghost use Rattle.snd_metadata.specs.Making.{AnswersHalt, MakesUnder, Retags};
 ghost use Rattle.snd_metadata.specs.Planned.{IsReady};
 ghost use Rattle.snd_metadata.specs.Retagged.{retagged};
 
@@ -14,10 +15,10 @@ use crate::chunks::PlannedChunk;
 use crate::halt::Halt;
 use crate::make::make;
 use crate::planning::plan_of;
-use snd_disk::{Disk, Shelf, ShelfFault};
-use snd_layout::OpenError;
+use snd_disk::{Disk, Shelf};
+use snd_inputs::{Input, close_read, open_input, take_output};
 use snd_lines::Refusal;
-use snd_modes::{File, Read, open_read};
+use snd_modes::{File, Read, open_laid};
 use snd_output::Stop;
 use snd_tools::Answer;
 use snd_words::MetadataChange;
@@ -35,17 +36,12 @@ fn make_under<S: Shelf, D: Disk>(
     requires unread { IsUnread (known_of file.old) }
     requires ready { IsReady (known_of file.old).shape plan.now }
     ensures loan { loan_of file.new ≡ loan_of file.old }
-    ensures made { OnOk result (MakesUnder D.state S.state name.now plan.now file.old shelf.old shelf.new) }
+    ensures made { MakesUnder D.state S.state name.now plan.now file.old shelf.old shelf.new result }
     ensures changes { ChangesOne S.Shelf name.now shelf.old shelf.new }
-    ensures faults { CountsOneOf (D.state (disk_of file.old)).faults (D.state (disk_of file.new)).faults (S.state shelf.old).faults (S.state shelf.new).faults result }
-    ensures reads { OnlyReadsOn D.state D.may_leave D.left_between (disk_of file.old) (disk_of file.new) }
+    ensures faults { CountsFileAndShelf D.state S.state file.old file.new shelf.old shelf.new result }
+    ensures reads { OnlyReadsFile D.Disk file.old file.new }
 {
-    let mut disk = match shelf.take(name, true) {
-        Ok(disk) => disk,
-        Err(ShelfFault::Failed) => return Err(Stop::Fault),
-        Err(ShelfFault::Memory) => return Err(Stop::Memory),
-        Err(ShelfFault::Missing) => unreachable!(),
-    };
+    let mut disk = take_output(name, shelf)?;
     let made = make(alloc, file, &mut disk, plan);
     shelf.give(name, disk);
     made
@@ -73,10 +69,10 @@ fn retag_file<'a, S: Shelf, D: Disk>(
     requires good { All IsStated change.now.settings }
     requires unread { IsUnread (known_of file.old) }
     ensures loan { loan_of file.new ≡ loan_of file.old }
-    ensures done { Retags D.state S.state change.now.settings change.now.input.now change.now.output.now file.old shelf.old shelf.new result }
+    ensures done { Retags D.state S.state change.now file.old shelf.old shelf.new result }
     ensures changes { ChangesOne S.Shelf change.now.output.now shelf.old shelf.new }
-    ensures faults { CountsOneOf (D.state (disk_of file.old)).faults (D.state (disk_of file.new)).faults (S.state shelf.old).faults (S.state shelf.new).faults result }
-    ensures reads { OnlyReadsOn D.state D.may_leave D.left_between (disk_of file.old) (disk_of file.new) }
+    ensures faults { CountsFileAndShelf D.state S.state file.old file.new shelf.old shelf.new result }
+    ensures reads { OnlyReadsFile D.Disk file.old file.new }
 {
     let frames = file.frames();
     let plan = match plan_of(alloc, &change.settings, file) {
@@ -87,56 +83,6 @@ fn retag_file<'a, S: Shelf, D: Disk>(
         Ok(()) => Ok(Answer::Made(frames)),
         Err(stop) => Err(stop),
     }
-}
-
-// Gives the disk back of a file that was read.
-fn disk_back<'d, D: Disk>(file: File<'d, D, Read>) -> &'d mut D
-    ensures lends { result.ghost_name ≡ loan_of file.entry }
-    ensures same_disk { result.now ≡ disk_of file.entry }
-{
-    match file.close() {
-        Ok(disk) => disk,
-        Err((_, disk)) => disk,
-    }
-}
-
-// Makes the output of the file that stands on a disk.
-fn retag_disk<'a, S: Shelf, D: Disk>(
-    alloc: Global,
-    change: &MetadataChange<'a>,
-    disk: &mut D,
-    shelf: &mut S,
-) -> Result<Answer<'a>, Stop>
-    requires is_in { (S.state shelf.old).out change.now.output.now ≡ false }
-    requires good { All IsStated change.now.settings }
-    ensures done { RetagsDisk D.state S.state change.now.settings change.now.input.now change.now.output.now disk.old shelf.old shelf.new result }
-    ensures changes { ChangesOne S.Shelf change.now.output.now shelf.old shelf.new }
-    ensures faults { CountsOneOf (D.state disk.old).faults (D.state disk.new).faults (S.state shelf.old).faults (S.state shelf.new).faults result }
-    ensures reads { OnlyReadsOn D.state D.may_leave D.left_between disk.old disk.new }
-{
-    let mut file = match open_read(alloc, disk) {
-        Ok(file) => file,
-        Err((OpenError::Refused(why), back)) => {
-            let _ = back;
-            return Ok(Answer::Refused(change.input, Refusal::Open(why)));
-        }
-        Err((OpenError::DiskFault(_), back)) => {
-            let _ = back;
-            return Err(Stop::Fault);
-        }
-        Err((OpenError::Memory, back)) => {
-            let _ = back;
-            return Err(Stop::Memory);
-        }
-        Err((OpenError::AdpcmUpdate | OpenError::UnknownLength, back)) => {
-            let _ = back;
-            unreachable!()
-        }
-    };
-    let answer = retag_file(alloc, change, &mut file, shelf);
-    let back = disk_back(file);
-    let _ = back;
-    answer
 }
 
 /// Copies a WAVE or RF64 file with changed texts: the output has the kind, the parameters and the frames of
@@ -169,15 +115,15 @@ pub fn set_metadata<'a, S: Shelf>(
     if change.input == change.output {
         return Ok(Answer::Refused(change.output, Refusal::SameName));
     }
-    let mut disk = match shelf.take(change.input, false) {
-        Ok(disk) => disk,
-        Err(ShelfFault::Missing) => {
-            return Ok(Answer::Refused(change.input, Refusal::MissingFile));
-        }
-        Err(ShelfFault::Failed) => return Err(Stop::Fault),
-        Err(ShelfFault::Memory) => return Err(Stop::Memory),
+    let input = match open_input(alloc, change.input, shelf)? {
+        Ok(input) => input,
+        Err(why) => return Ok(Answer::Refused(change.input, why)),
     };
-    let answer = retag_disk(alloc, change, &mut disk, shelf);
+    let Input { mut disk, layout } = input;
+    let mut file = open_laid(&mut disk, layout);
+    let answer = retag_file(alloc, change, &mut file, shelf);
+    let back = close_read(file);
+    let _ = back;
     shelf.give(change.input, disk);
     answer
 }

@@ -4,7 +4,8 @@ ghost use Rattle.std.specs.Prelude.{◌≡◌, ◌||◌, All, IfErr, OnOk, false
 ghost use Rattle.snd_output.specs.declared.stop.Stop.TheVariants as stop;
 ghost use Rattle.snd_words.specs.Setting.{stated};
 ghost use Rattle.snd_words.specs.Stated.{IsStated};
-ghost use Rattle.snd_metadata.specs.Settings.{are_too_long, is_too_long, set_fields, set_texts, sets_field, sets_text, with_entries, with_entry, with_field, with_fields};
+ghost use Rattle.snd_metadata.specs.Judged.{PutsSetting, PutsSettings};
+ghost use Rattle.snd_metadata.specs.Settings.{are_too_long, is_too_long, set_fields, set_texts, sets_field, sets_text};
 
 use snd_meta::{Bext, InfoList};
 use snd_output::Stop;
@@ -19,6 +20,13 @@ pub(crate) struct Summary {
     pub fields: bool,
     pub texts: bool,
     pub too_long: bool,
+}
+
+/// What the two chunks say that settings change; of one that they do not change, what a new one says.
+#[derive(Drop)]
+pub(crate) struct Drafts {
+    pub extension: Bext,
+    pub texts: InfoList,
 }
 
 fn sets_text(setting: &MetadataSetting<'_>) -> bool
@@ -71,70 +79,41 @@ pub(crate) fn summary_of(settings: &MetadataSettings<'_>) -> Summary
     summary
 }
 
-// Puts what one setting says into a broadcast extension.
-fn put_field(draft: &mut Bext, setting: &MetadataSetting<'_>) -> Result<(), Stop>
+// Puts what one setting says into the chunk that it changes.
+fn put_setting(drafts: &mut Drafts, setting: &MetadataSetting<'_>) -> Result<(), Stop>
     requires good { IsStated (stated setting.now) }
     requires fits { is_too_long (stated setting.now) ≡ false }
-    ensures put { OnOk result (draft.new ≡ with_field (stated setting.now) draft.old) }
+    ensures put { OnOk result (PutsSetting (stated setting.now) drafts.old drafts.new) }
     ensures only { IfErr result (λ e. e ≡ stop.Memory) }
 {
     match setting {
-        MetadataSetting::Text(_, _) => Ok(()),
+        MetadataSetting::Text(key, text) => match drafts.texts.set(*key, text.as_bytes()) {
+            Ok(()) => Ok(()),
+            Err(_) => Err(Stop::Memory),
+        },
+        MetadataSetting::Field(key, text) => match drafts.extension.set(*key, text.as_bytes()) {
+            Ok(()) => Ok(()),
+            Err(_) => Err(Stop::Memory),
+        },
         MetadataSetting::Time(time) => {
-            draft.set_time(*time);
+            drafts.extension.set_time(*time);
             Ok(())
         }
-        MetadataSetting::Field(key, text) => match draft.set(*key, text.as_bytes()) {
-            Ok(()) => Ok(()),
-            Err(_) => Err(Stop::Memory),
-        },
     }
 }
 
-/// Puts all fields of the broadcast extension that are set, one after the other.
-pub(crate) fn put_fields(draft: &mut Bext, settings: &MetadataSettings<'_>) -> Result<(), Stop>
+/// Puts all that is set into the chunks, one setting after the other.
+pub(crate) fn put_settings(drafts: &mut Drafts, settings: &MetadataSettings<'_>) -> Result<(), Stop>
     requires good { All IsStated settings.now }
     requires fit { are_too_long settings.now ≡ false }
-    ensures put { OnOk result (draft.new ≡ with_fields settings.now draft.old) }
+    ensures put { OnOk result (PutsSettings settings.now drafts.old drafts.new) }
     ensures only { IfErr result (λ e. e ≡ stop.Memory) }
 {
     for at in 0..settings.len() {
         let Some(setting) = settings.get(at) else {
             unreachable!()
         };
-        put_field(draft, &setting)?;
-    }
-    Ok(())
-}
-
-// Puts what one setting says into an INFO list.
-fn put_entry(draft: &mut InfoList, setting: &MetadataSetting<'_>) -> Result<(), Stop>
-    requires good { IsStated (stated setting.now) }
-    requires fits { is_too_long (stated setting.now) ≡ false }
-    ensures put { OnOk result (draft.new ≡ with_entry (stated setting.now) draft.old) }
-    ensures only { IfErr result (λ e. e ≡ stop.Memory) }
-{
-    match setting {
-        MetadataSetting::Field(_, _) | MetadataSetting::Time(_) => Ok(()),
-        MetadataSetting::Text(key, text) => match draft.set(*key, text.as_bytes()) {
-            Ok(()) => Ok(()),
-            Err(_) => Err(Stop::Memory),
-        },
-    }
-}
-
-/// Puts all texts of the INFO list that are set, one after the other.
-pub(crate) fn put_entries(draft: &mut InfoList, settings: &MetadataSettings<'_>) -> Result<(), Stop>
-    requires good { All IsStated settings.now }
-    requires fit { are_too_long settings.now ≡ false }
-    ensures put { OnOk result (draft.new ≡ with_entries settings.now draft.old) }
-    ensures only { IfErr result (λ e. e ≡ stop.Memory) }
-{
-    for at in 0..settings.len() {
-        let Some(setting) = settings.get(at) else {
-            unreachable!()
-        };
-        put_entry(draft, &setting)?;
+        put_setting(drafts, &setting)?;
     }
     Ok(())
 }

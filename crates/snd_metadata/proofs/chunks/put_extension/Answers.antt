@@ -6,9 +6,9 @@ use Rattle.snd_chunks.specs.Written.{NewChunk}
 use Rattle.snd_wave.proofs.ByteValues.{from_test}
 use Rattle.snd_wave.specs.Heads.{new_piece}
 use Rattle.snd_metadata.specs.Chunks.{is_extension, put_among}
-use Rattle.snd_metadata.specs.Planned.{MayStand, chunk_planned, names_extension}
+use Rattle.snd_metadata.specs.Planned.{MayStand, chunk_planned, names_extension, put_in}
 use Rattle.snd_metadata.specs.declared.chunks.PlannedChunk.{PlannedChunk}
-use Rattle.snd_metadata.proofs.Lists.{all_put, map_put, place_in_map, put}
+use Rattle.snd_metadata.proofs.Lists.{all_put, map_put, place_in_map}
 use Rattle.snd_metadata.proofs.Named.{named_so}
 use Rattle.snd_metadata.proofs.chunks.put_extension.Goals as goal
 
@@ -21,7 +21,7 @@ returns-clause-put c =
     let chunk : NewChunk = new_piece (codes "bext") c.args.body.items in
     let at : c.extension_place-at.result ≡ position_or_len is_extension (map f old) =
     c.extension_place-at.ensures.place ∙ ap (λ (l : List PlannedChunk). position_or_len names_extension l) c.deref.ensures.value ∙ sym (place_in_map f is_extension names_extension old (named_so b)) in
-    ap (λ (l : List PlannedChunk). map f l) is ∙ map_put f c.extension_place-at.result _ old ∙ ap (λ (n : ℕ). put n chunk (map f old)) at
+    ap (λ (l : List PlannedChunk). map f l) is ∙ map_put f c.extension_place-at.result _ old ∙ ap (λ (n : ℕ). put_in n chunk (map f old)) at
     ∙ sym (ap (λ (t : Bool). cond t (put_among is_extension chunk (map f old)) (map f old)) c.if-not-changed.false))
     c.put_at.ensures.put
 

@@ -1,10 +1,11 @@
-use Rattle.std.proofs.Common.{rules, ◌≡◌, ◌∙◌, ap, refl, subst, sym, ℕ, ◌+◌, List, [], ◌∷◌, ◌++◌, All, length, map, take, arith}
+use Rattle.std.proofs.Common.{rules, ◌≡◌, ◌∙◌, ap, refl, subst, sym, ℕ, ◌+◌, List, [], ◌∷◌, ◌++◌, All, Ok, Result, length, map, take, arith}
 use Rattle.std.proofs.lemmas.List.{length-map, length-take, map-append, take_all, take_more}
 use Rattle.std.proofs.lemmas.List.Elements.{All-append, All-cons, All-nil}
 use Rattle.snd_carry.proofs.Heads.{as_many}
 use Rattle.snd_carry.proofs.Steps.{made_none}
 use Rattle.snd_chunks.specs.Written.{NewChunk}
-use Rattle.snd_disk.proofs.Chains.{goes_on_then, only_reads_then}
+use Rattle.snd_inputs.proofs.Copying.{copies_none, copies_then}
+use Rattle.snd_inputs.specs.Copying.{CopiesInto}
 use Rattle.snd_layout.specs.Shape.{Shape}
 use Rattle.snd_layout.specs.declared.piece.Piece.{Piece}
 use Rattle.snd_modes.specs.Handle.{Known, Stands, known_of}
@@ -12,6 +13,7 @@ use Rattle.snd_modes.specs.Heads.{holds_meta}
 use Rattle.snd_modes.specs.PieceCalls.{IsUntouched, known_put}
 use Rattle.snd_output.proofs.Carried.{carried_is_making, says_of}
 use Rattle.snd_output.specs.Made.{IsChunk, made_with}
+use Rattle.snd_output.specs.declared.stop.Stop.{Stop}
 use Rattle.snd_metadata.specs.Making.{HasPut, chunks_planned, known_filled}
 use Rattle.snd_metadata.specs.Planned.{MayStand, chunk_planned, outline_planned}
 use Rattle.snd_metadata.specs.declared.chunks.PlannedChunk.{PlannedChunk}
@@ -22,8 +24,7 @@ pub loop-at-init : goal.loop-at-init
 loop-at-init g c =
     let h : Shape = (known_of c.args.from.now).shape in
     record {
-      from_loan = refl;
-      to_loan = refl;
+      copies = copies_none g.D.Disk g.E.Disk c.args.from.now c.args.to.now c.requires.fresh.broken;
       same = refl;
       known = begun_known h (known_of c.args.to.now) c.requires.begun;
       so_far = λ r e s made stands. (
@@ -34,11 +35,6 @@ loop-at-init g c =
         All-nil IsChunk,
       );
       stands = λ e s. s;
-      from_calm = refl;
-      to_calm = refl;
-      reads = search rules;
-      tells = search rules;
-      time = search rules;
     }
 
 pub put_planned-requires-clause-stands : goal.put_planned-requires-clause-stands
@@ -78,8 +74,7 @@ loop-at-preserved g c =
     let was = c.loop-at.invariant in
     let did = c.in_ok-put_planned.ensures in
     record {
-      from_loan = did.loan ∙ was.from_loan;
-      to_loan = did.to_loan ∙ was.to_loan;
+      copies = copies_then g.D.Disk g.E.Disk c.args.from.now c.loop-at.from c.put_planned.new.from c.args.to.now c.loop-at.to c.put_planned.new.to tt (Ok tt) was.copies did.copies;
       same = did.same ∙ was.same;
       known = did.known ∙ ap (λ (k : Known). known_put (length k.shape.pieces) (outline_planned x) k) was.known ∙ known_more h xs x k c.requires.ready.meta ∙ ap (λ (l : List PlannedChunk). known_filled h l k) (sym more);
       so_far = λ r e s made stands.
@@ -91,12 +86,15 @@ loop-at-preserved g c =
             subst (All IsChunk) joined (All-append IsChunk (chunks_planned r xs) (f x ∷ []) before.1 (All-cons IsChunk (f x) [] next.1 (All-nil IsChunk))),
           );
       stands = λ e s. did.stands e (was.stands e s);
-      from_calm = did.faults.0 ∙ was.from_calm;
-      to_calm = did.faults.1 ∙ was.to_calm;
-      reads = only_reads_then _ _ _ _ _ _ _ _ _ was.reads did.reads;
-      tells = record { told = did.tells.told ∙ was.tells.told; name = did.tells.name ∙ was.tells.name };
-      time = goes_on_then _ _ _ _ _ _ was.time did.time;
     }
+
+pub returns-in_err-put_planned-clause-copies : goal.returns-in_err-put_planned-clause-copies
+returns-in_err-put_planned-clause-copies g c =
+    subst (λ (r : Result (Unit {0}) Stop). CopiesInto g.D.Disk g.E.Disk c.args.from.now c.put_planned.new.from c.args.to.now c.put_planned.new.to r) (search rules)
+    (copies_then g.D.Disk g.E.Disk c.args.from.now c.loop-at.from c.put_planned.new.from c.args.to.now c.loop-at.to c.put_planned.new.to tt _ c.loop-at.invariant.copies c.in_err-put_planned.ensures.copies)
+
+pub returns-clause-copies : goal.returns-clause-copies
+returns-clause-copies g c = c.loop-at.invariant.copies
 
 pub returns-clause-known : goal.returns-clause-known
 returns-clause-known g c =

@@ -1,25 +1,18 @@
 use Rattle.std.proofs.Common.{◌≡◌, All, Ok, take}
-use Rattle.snd_disk.specs.Device.{GoesOnFrom, OnlyReadsOn}
+use Rattle.snd_inputs.specs.Copying.{CopiesInto}
 use Rattle.snd_modes.specs.Editing.{Editing}
-use Rattle.snd_modes.specs.Handle.{Stands, StandsAfter, disk_of, known_of, loan_of}
+use Rattle.snd_modes.specs.Handle.{Stands, StandsAfter, known_of}
 use Rattle.snd_modes.specs.Making.{making_of}
-use Rattle.snd_modes.specs.Outcomes.{TellsOn}
 use Rattle.snd_output.specs.Made.{IsChunk}
 use Rattle.snd_metadata.specs.Making.{HasPut, chunks_planned, known_filled}
 use Rattle.snd_metadata.proofs.make.carry.Given as goal
 
 abbrev pub invariant-loop-at : goal.invariant-loop-at
 invariant-loop-at g l = record {
-  from_loan : loan_of l.from ≡ loan_of l.fn.from;
-  to_loan : loan_of l.to ≡ loan_of l.fn.to;
+  copies : CopiesInto {T = Unit {0}} g.D.Disk g.E.Disk l.fn.from l.from l.fn.to l.to (Ok tt);
   same : known_of l.from ≡ known_of l.fn.from;
   known : known_of l.to ≡ known_filled (known_of l.fn.from).shape (take l.at l.plan) (known_of l.fn.to);
   so_far : (r e : Editing) → Stands g.D.Disk.state l.fn.from r → making_of (known_of l.fn.from).shape.kind (known_of l.fn.from).shape.params ≡ Ok e → Stands g.E.Disk.state l.fn.to e
       → HasPut g.E.Disk.state (known_of l.fn.from).shape.kind (known_of l.fn.from).shape.params (chunks_planned r (take l.at l.plan)) l.to × All IsChunk (chunks_planned r (take l.at l.plan));
   stands : StandsAfter g.D.Disk.state l.fn.from l.from (λ e. e);
-  from_calm : (g.D.Disk.state (disk_of l.from)).faults ≡ (g.D.Disk.state (disk_of l.fn.from)).faults;
-  to_calm : (g.E.Disk.state (disk_of l.to)).faults ≡ (g.E.Disk.state (disk_of l.fn.to)).faults;
-  reads : OnlyReadsOn g.D.Disk.state g.D.Disk.may_leave g.D.Disk.left_between (disk_of l.fn.from) (disk_of l.from);
-  tells : TellsOn g.E.Disk.state l.fn.to l.to;
-  time : GoesOnFrom g.E.Disk.state g.E.Disk.left_between (disk_of l.fn.to) (disk_of l.to);
 }

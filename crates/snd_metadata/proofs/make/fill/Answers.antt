@@ -1,8 +1,10 @@
 use Rattle.std.proofs.Common.{◌≡◌, ◌∙◌, ap, refl, subst, sym, [], ℤ, List}
 use Rattle.std.proofs.lemmas.Result.{on_ok_weaker}
+use Rattle.snd_inputs.proofs.Copying.{copies_then, counts_appended, still_works}
 use Rattle.snd_layout.specs.Params.{Parameters}
 use Rattle.snd_layout.specs.Shape.{Shape}
 use Rattle.snd_modes.specs.Handle.{codec_of, known_of}
+use Rattle.snd_output.specs.Appended.{left_in}
 use Rattle.snd_output.specs.Made.{IsMaking}
 use Rattle.snd_metadata.specs.Making.{chunks_planned}
 use Rattle.snd_metadata.specs.declared.chunks.PlannedChunk.{PlannedChunk}
@@ -30,3 +32,16 @@ returns-clause-fills g c =
     let numbers = numbers_same r (codec_of c.carry.new.from) (codec_of c.carry.new.to) r.shape.params.codec from_codec to_codec (sym stands.place ∙ c.requires.unread.first) in
     (longer.0, longer.1, subst (λ (l : List ℤ). IsMaking h.kind h.params (chunks_planned r plan) l longer.0) numbers longer.2))
     c.append.ensures.lengthens
+
+pub returns-clause-copies : goal.returns-clause-copies
+returns-clause-copies g c =
+    copies_then g.D.Disk g.E.Disk c.args.from.now c.carry.new.from c.append.new.from c.args.to.now c.carry.new.to c.append.new.to tt c.append.result c.in_ok-carry.ensures.copies
+    (record {
+      loan = c.append.ensures.loan;
+      to_loan = c.append.ensures.to_loan;
+      works = still_works c.append.result (left_in (known_of c.carry.new.from)) (known_of c.carry.new.from) (known_of c.append.new.from) (known_of c.carry.new.to) (known_of c.append.new.to) _ _ _ _ c.append.ensures.left c.append.ensures.faults c.in_ok-carry.ensures.copies.works;
+      faults = counts_appended c.append.result _ _ _ _ c.append.ensures.faults;
+      reads = c.append.ensures.reads;
+      tells = c.append.ensures.tells;
+      time = c.append.ensures.time;
+    })

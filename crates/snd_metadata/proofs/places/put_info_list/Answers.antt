@@ -7,9 +7,9 @@ use Rattle.snd_modes.specs.Handle.{known_of}
 use Rattle.snd_wave.proofs.ByteValues.{from_test}
 use Rattle.snd_wave.specs.Heads.{new_piece}
 use Rattle.snd_metadata.specs.Chunks.{is_info_list, put_among}
-use Rattle.snd_metadata.specs.Planned.{MayStand, chunk_planned}
+use Rattle.snd_metadata.specs.Planned.{MayStand, chunk_planned, put_in}
 use Rattle.snd_metadata.specs.declared.chunks.PlannedChunk.{PlannedChunk}
-use Rattle.snd_metadata.proofs.Lists.{all_put, map_put, put}
+use Rattle.snd_metadata.proofs.Lists.{all_put, map_put}
 use Rattle.snd_metadata.proofs.places.put_info_list.Goals as goal
 
 pub returns-clause-put : goal.returns-clause-put
@@ -20,7 +20,7 @@ returns-clause-put g c =
     let f : PlannedChunk → NewChunk = chunk_planned e.bytes in
     let chunk : NewChunk = new_piece (codes "LIST") c.args.body.items in
     let at : c.in_ok-at.at ≡ position_or_len is_info_list (map f old) = c.in_ok-at.ensures.place e stands ∙ ap (λ (l : List PlannedChunk). position_or_len is_info_list (map f l)) c.deref.ensures.value in
-    ap (λ (l : List PlannedChunk). map f l) is ∙ map_put f c.in_ok-at.at _ old ∙ ap (λ (n : ℕ). put n chunk (map f old)) at
+    ap (λ (l : List PlannedChunk). map f l) is ∙ map_put f c.in_ok-at.at _ old ∙ ap (λ (n : ℕ). put_in n chunk (map f old)) at
     ∙ sym (ap (λ (t : Bool). cond t (put_among is_info_list chunk (map f old)) (map f old)) c.if-not-changed.false))
     c.put_at.ensures.put
 

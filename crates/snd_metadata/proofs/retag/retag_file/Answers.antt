@@ -8,7 +8,7 @@ use Rattle.snd_metadata.proofs.retag.retag_file.Goals as goal
 
 pub returns-in-Err-clause-done : goal.returns-in-Err-clause-done
 returns-in-Err-clause-done g c =
-    halted_so g.D.Disk.state g.S.Shelf.state c.args.change.now.settings c.args.change.now.input.now c.args.change.now.output.now c.args.file.now c.args.shelf.now c.in-Err.halt c.answer_of.result c.answer_of.ensures c.in-Err.ensures.plans
+    halted_so g.D.Disk.state g.S.Shelf.state c.args.change.now c.args.file.now c.args.shelf.now c.in-Err.halt c.answer_of.result c.answer_of.ensures c.in-Err.ensures.plans
 
 pub returns-in-Ok-make_under-clause-done : goal.returns-in-Ok-make_under-clause-done
 returns-in-Ok-make_under-clause-done g c = λ files e told stands.

@@ -1,44 +1,80 @@
-use Rattle.std.proofs.Common.{◌≡◌, ◌∙◌, ap, refl, false, Some, [], ℕ, List, Option, rules}
+use Rattle.std.proofs.Common.{◌≡◌, ◌∙◌, false, Ok, rules, subst, sym}
+use Rattle.std.proofs.lemmas.Result.{IfOk-weaker}
 use Rattle.std.specs.Str.{bytes_eq}
-use Rattle.std.specs.Prelude.{unwrap_or}
-use Rattle.snd_modes.specs.Editing.{opening_of}
-use Rattle.snd_tools.proofs.Left.{held_changes, held_files, not_taken_changes}
-use Rattle.snd_metadata.specs.Retagged.{retagged, retagged_with}
-use Rattle.snd_metadata.proofs.Doing.{does_so, done_same, if_ok, makes_output, retagged_is}
+use Rattle.snd_inputs.proofs.Answering.{does_so, done_same, refused_as}
+use Rattle.snd_inputs.proofs.Held.{held_counts, held_done, held_one, still_in}
+use Rattle.snd_inputs.proofs.Reading.{reads_changes}
+use Rattle.snd_inputs.specs.Opening.{IsOpen, OpensInput}
+use Rattle.snd_modes.specs.Editing.{first_editing}
+use Rattle.snd_tools.proofs.Names.{apart_back}
+use Rattle.snd_metadata.specs.Retagged.{retagged, retagged_file}
+use Rattle.snd_metadata.proofs.Doing.{makes_file, retagged_as, retagged_refused}
 use Rattle.snd_metadata.proofs.retag.set_metadata.Goals as goal
 
-pub returns-in-Err-Failed-clause-changes : goal.returns-in-Err-Failed-clause-changes
-returns-in-Err-Failed-clause-changes g c =
-    not_taken_changes g.S.Shelf c.args.change.now.output.now c.args.change.now.input.now _ _ c.in-Err-Failed.ensures.stays c.in-Err-Failed.ensures.same_images c.take.ensures.others
+pub returns-in_err-input-clause-changes : goal.returns-in_err-input-clause-changes
+returns-in_err-input-clause-changes g c = reads_changes g.S.Shelf c.args.change.now.output.now _ _ c.in_err-input.ensures.opened.reads
 
-pub returns-in-Err-Memory-clause-changes : goal.returns-in-Err-Memory-clause-changes
-returns-in-Err-Memory-clause-changes g c =
-    not_taken_changes g.S.Shelf c.args.change.now.output.now c.args.change.now.input.now _ _ c.in-Err-Memory.ensures.stays c.in-Err-Memory.ensures.same_images c.take.ensures.others
+pub returns-in-Err-clause-done : goal.returns-in-Err-clause-done
+returns-in-Err-clause-done g c = λ files told.
+    let settings = c.args.change.now.settings in
+    let input = c.args.change.now.input.now in
+    let output = c.args.change.now.output.now in
+    let apart : bytes_eq input output ≡ false = search rules in
+    let looks = subst (λ r. OpensInput g.S.Shelf g.S.Disk.Disk input c.args.shelf.now c.open_input.new.shelf (Ok r)) c.in-Err.is c.in_ok-input.ensures.opened in
+    refused_as g.S.Shelf.state c.open_input.new.shelf files input c.in-Err.why (retagged settings input output files) (looks.0.reads.files files told)
+    (retagged_refused settings input output files apart c.in-Err.why (looks.1 files told))
 
-pub returns-clause-changes : goal.returns-clause-changes
-returns-clause-changes g c =
-    let apart : bytes_eq c.args.change.now.input.now c.args.change.now.output.now ≡ false = search rules in
-    held_changes g.S.Shelf g.S.Disk.Disk c.args.shelf.now c.take.new.self c.retag_disk-answer.new.shelf c.give.new.self c.in-Ok.disk c.retag_disk-answer.new.disk
-    c.args.change.now.input.now c.args.change.now.output.now c.in-Ok.ensures.taken c.retag_disk-answer.ensures.reads.keeps.contents c.give.ensures.given apart
-    c.in-Ok.ensures.images c.give.ensures.images c.take.ensures.others c.give.ensures.others c.retag_disk-answer.ensures.reads.images c.retag_disk-answer.ensures.changes (c.requires.back c.args.change.now.input.now)
+pub returns-in-Err-clause-changes : goal.returns-in-Err-clause-changes
+returns-in-Err-clause-changes g c =
+    let looks = subst (λ r. OpensInput g.S.Shelf g.S.Disk.Disk c.args.change.now.input.now c.args.shelf.now c.open_input.new.shelf (Ok r)) c.in-Err.is c.in_ok-input.ensures.opened in
+    reads_changes g.S.Shelf c.args.change.now.output.now _ _ looks.0.reads
+
+pub retag_file-answer-requires-clause-is_in : goal.retag_file-answer-requires-clause-is_in
+retag_file-answer-requires-clause-is_in g c =
+    let input = c.args.change.now.input.now in
+    let output = c.args.change.now.output.now in
+    let apart : bytes_eq input output ≡ false = search rules in
+    let opens : IsOpen g.S.Shelf g.S.Disk.Disk input c.args.shelf.now c.open_input.new.shelf c.in-Ok.input =
+    subst (λ r. OpensInput g.S.Shelf g.S.Disk.Disk input c.args.shelf.now c.open_input.new.shelf (Ok r)) c.in-Ok.is c.in_ok-input.ensures.opened in
+    still_in g.S.Shelf g.S.Disk.Disk c.args.shelf.now c.open_input.new.shelf c.in-Ok.input input opens output (apart_back input output apart) (c.requires.back output)
 
 pub returns-clause-done : goal.returns-clause-done
 returns-clause-done g c =
     let settings = c.args.change.now.settings in
-    let input : List ℕ = c.args.change.now.input.now in
-    let output : List ℕ = c.args.change.now.output.now in
+    let input = c.args.change.now.input.now in
+    let output = c.args.change.now.output.now in
     let apart : bytes_eq input output ≡ false = search rules in
-    does_so g.S.Shelf.state (retagged settings input output) c.args.shelf.now c.give.new.self c.retag_disk-answer.result
-    (if_ok c.retag_disk-answer.result _ _
+    let opens : IsOpen g.S.Shelf g.S.Disk.Disk input c.args.shelf.now c.open_input.new.shelf c.in-Ok.input =
+    subst (λ r. OpensInput g.S.Shelf g.S.Disk.Disk input c.args.shelf.now c.open_input.new.shelf (Ok r)) c.in-Ok.is c.in_ok-input.ensures.opened in
+    does_so g.S.Shelf.state (retagged settings input output) c.args.shelf.now c.give.new.self c.retag_file-answer.result
+    (IfOk-weaker c.retag_file-answer.result _ _
     (λ answer done files told.
-    let there = c.in-Ok.ensures.taken.there files told refl in
-    let bytes : (g.S.Disk.Disk.state c.in-Ok.disk).contents ≡ Some there.0 = c.in-Ok.ensures.taken.contents files told ∙ ap (λ (o : Option (List ℕ)). Some (unwrap_or o [])) there.1 in
-    let out = c.in-Ok.ensures.taken.files files told in
-    let d = done out.0 there.0 out.1 bytes in
-    done_same g.S.Shelf.state c.give.new.self files answer (retagged_with settings input output (opening_of there.0)) (retagged settings input output files) (retagged_is settings input output files there.0 apart there.1) (
+    let found = opens.opened files told in
+    let out = opens.out.takes.files files told in
+    let e = first_editing found.0 c.in-Ok.input.layout in
+    let todo = retagged_file settings input output e in
+    let d = done out.0 e out.1 (c.open_laid-file.ensures.stands found.0 found.3.bytes) in
+    done_same g.S.Shelf.state c.give.new.self files answer todo (retagged settings input output files) (retagged_as settings input output files apart found.0 e found.1 found.2) (
       d.0,
-      held_files g.S.Shelf g.S.Disk.Disk c.args.shelf.now c.take.new.self c.retag_disk-answer.new.shelf c.give.new.self c.in-Ok.disk c.retag_disk-answer.new.disk
-          input output c.in-Ok.ensures.taken c.retag_disk-answer.ensures.reads.keeps.contents c.give.ensures.given apart
-          (retagged_with settings input output (opening_of there.0)) files told (makes_output settings input output (opening_of there.0)) d.1,
+      held_done g.S.Shelf g.S.Disk.Disk c.args.shelf.now c.open_input.new.shelf c.retag_file-answer.new.shelf c.give.new.self c.in-Ok.input _ _ _ input opens c.open_laid-file.ensures.same_disk (sym (search rules) ∙ c.close_read-back.ensures.same_disk) c.retag_file-answer.ensures.reads c.give.ensures.given output apart
+          todo files told (makes_file settings input output e) d.1,
     ))
-    c.retag_disk-answer.ensures.done)
+    c.retag_file-answer.ensures.done)
+
+pub returns-clause-changes : goal.returns-clause-changes
+returns-clause-changes g c =
+    let input = c.args.change.now.input.now in
+    let output = c.args.change.now.output.now in
+    let apart : bytes_eq input output ≡ false = search rules in
+    let opens : IsOpen g.S.Shelf g.S.Disk.Disk input c.args.shelf.now c.open_input.new.shelf c.in-Ok.input =
+    subst (λ r. OpensInput g.S.Shelf g.S.Disk.Disk input c.args.shelf.now c.open_input.new.shelf (Ok r)) c.in-Ok.is c.in_ok-input.ensures.opened in
+    held_one g.S.Shelf g.S.Disk.Disk c.args.shelf.now c.open_input.new.shelf c.retag_file-answer.new.shelf c.give.new.self c.in-Ok.input _ _ _ input opens c.open_laid-file.ensures.same_disk (sym (search rules) ∙ c.close_read-back.ensures.same_disk) c.retag_file-answer.ensures.reads c.give.ensures.given output apart
+    c.give.ensures.images c.give.ensures.others c.retag_file-answer.ensures.changes (c.requires.back input)
+
+pub returns-clause-faults : goal.returns-clause-faults
+returns-clause-faults g c =
+    let input = c.args.change.now.input.now in
+    let opens : IsOpen g.S.Shelf g.S.Disk.Disk input c.args.shelf.now c.open_input.new.shelf c.in-Ok.input =
+    subst (λ r. OpensInput g.S.Shelf g.S.Disk.Disk input c.args.shelf.now c.open_input.new.shelf (Ok r)) c.in-Ok.is c.in_ok-input.ensures.opened in
+    held_counts g.S.Shelf g.S.Disk.Disk c.args.shelf.now c.open_input.new.shelf c.retag_file-answer.new.shelf c.give.new.self c.in-Ok.input _ _ _ input opens c.open_laid-file.ensures.same_disk (sym (search rules) ∙ c.close_read-back.ensures.same_disk) c.retag_file-answer.ensures.reads c.give.ensures.given
+    c.retag_file-answer.result c.in_ok-input.ensures.faults c.retag_file-answer.ensures.faults
