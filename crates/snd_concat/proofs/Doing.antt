@@ -1,42 +1,24 @@
 -- From what was looked at to what is done.
-use Rattle.std.proofs.Common.{◌≡◌, ℕ, ◌<◌, List, [], ◌∷◌, ◌++◌, All, Bool, true, false, cond, not, Option, None, Some, Result, Ok, Err, IfOk, IsOk, length, slice_get, get_or, position, refl, sym, ◌∙◌, ap, subst, inl, inr, arith}
+use Rattle.std.proofs.Common.{◌≡◌, ℕ, ◌<◌, List, [], ◌∷◌, ◌++◌, All, Bool, true, false, cond, not, Option, None, Some, Result, Ok, Err, IsOk, length, slice_get, get_or, position, refl, sym, ◌∙◌, ap, inl, inr, arith}
 use Rattle.std.proofs.lemmas.Bool.{cases_lt, lt-ltb}
 use Rattle.std.proofs.lemmas.List.{get_or_append_left}
 use Rattle.std.proofs.lemmas.List.Quantifiers.{position-Some}
 use Rattle.std.proofs.lemmas.List.Sums.{fails_before_first}
 use Rattle.std.specs.List.{position_or_len}
 use Rattle.snd_disk.specs.Shelf.{Files, ShelfState}
-use Rattle.snd_disk.specs.Shelves.{TellsFiles}
-use Rattle.snd_inputs.specs.Inputs.{input_as}
 use Rattle.snd_inputs.specs.Looking.{all_seen}
 use Rattle.snd_layout.specs.Shape.{Shape}
-use Rattle.snd_layout.specs.declared.refusal.OpenRefusal.{OpenRefusal}
 use Rattle.snd_lines.specs.declared.refusal.Refusal.{Refusal}
 use Rattle.snd_lines.specs.declared.refusal.Refusal.TheVariants.{MissingFile}
 use Rattle.snd_modes.specs.Editing.{Editing}
-use Rattle.snd_output.specs.declared.stop.Stop.{Stop}
 use Rattle.snd_tools.proofs.Names.{after_same}
 use Rattle.snd_tools.specs.Done.{Done}
-use Rattle.snd_tools.specs.Shelves.{Does, IsDone}
+use Rattle.snd_tools.specs.Shelves.{IsDone}
 use Rattle.snd_tools.specs.declared.answer.Answer.{Answer}
 use Rattle.snd_concat.specs.Concat.{done_if_alike, done_like, first_mixed, is_alike, shapes_of}
 
--- what holds of an answer, told otherwise
-pub if_ok : {T E : Type 0} (r : Result T E) (P Q : T → Type 0) → ((x : T) → P x → Q x) → IfOk r P → IfOk r Q
-if_ok (Ok x) P Q f p = f x p
-if_ok (Err e) P Q f p = p
-
-pub does_so : {S : Type 0} (state : S → ShelfState) (todo : Files → Done) (old new : S) (r : Result Answer Stop) → IfOk r (λ answer. (files : Files) → TellsFiles state old files → IsDone state new answer (todo files) files)
-    → Does state todo old new r
-does_so state todo old new (Ok answer) is = is
-does_so state todo old new (Err stop) is = tt
-
 module _ {S : Type 0} (state : S → ShelfState) (new : S) where
-  -- nothing that is known in two ways is done otherwise
-  pub done_same : (answer : Answer) (todo todo' : Done) (files : Files) → todo' ≡ todo → IsDone state new answer todo files → IsDone state new answer todo' files
-  done_same answer todo todo' files is done = subst (λ (d : Done). IsDone state new answer d files) (sym is) done
-
-  -- .. over files that are the same
+  -- what is done over some files is done over others that are the same
   pub done_over : (answer : Answer) (todo : Done) (files files' : Files) → ((n : List ℕ) → files' n ≡ files n) → IsDone state new answer todo files' → IsDone state new answer todo files
   done_over answer todo files files' same done = (done.0, (done.1.0, done.1.1, λ n. done.1.2 n ∙ after_same todo files files' n (same n)))
 
@@ -67,10 +49,6 @@ not_not true is = refl
 not_not false is = absurd (cc)
 
 -- ---- what was seen
-
-pub input_opened : (r : Result Editing OpenRefusal) (e : Editing) → input_as r ≡ Ok e → r ≡ Ok e
-input_opened (Ok other) e is = let same : other ≡ e = cc in ap (λ (x : Editing). Ok x) same
-input_opened (Err why) e is = absurd (cc)
 
 pub refused_not_ok : {T E : Type 0} (r : Result T E) (why : E) → r ≡ Err why → IsOk r → ⊥
 refused_not_ok (Ok x) why is ok = absurd (cc)

@@ -1,6 +1,6 @@
 -- A file that was begun like one with a layout, and what it becomes.
-use Rattle.std.proofs.Common.{◌≡◌, ℕ, ◌+◌, List, [], ◌++◌, All, Option, None, Some, true, false, refl, sym, ◌∙◌, ap, subst, arith}
-use Rattle.std.specs.Prelude.{is_some, nat_lt}
+use Rattle.std.proofs.Common.{◌≡◌, ℕ, ◌+◌, List, [], ◌++◌, All, None, Some, true, false, sym, ◌∙◌, ap, subst, arith}
+use Rattle.std.specs.Prelude.{nat_lt}
 use Rattle.snd_container.proofs.EveryKind.{made}
 use Rattle.snd_container.specs.Made.{new_shape}
 use Rattle.snd_disk.specs.Device.{Tells}
@@ -12,7 +12,6 @@ use Rattle.snd_modes.specs.Editing.{Editing}
 use Rattle.snd_modes.specs.Handle.{IsFresh, Known}
 use Rattle.snd_modes.specs.Relaid.{shape_with}
 use Rattle.snd_output.proofs.Begun.{new_says}
-use Rattle.snd_patch.specs.Steps.{StillTells}
 use Rattle.snd_output.specs.Appended.{IsAtEnd}
 use Rattle.snd_output.specs.Made.{made_file}
 use Rattle.snd_concat.specs.Appending.{AllFollow}
@@ -52,11 +51,3 @@ module _ (h : Shape) (k : Known) (good : AreParams h.params) (fits : fit_refusal
 -- where it is then
 pub told_as : {E : Type 0} (state : E → State) (d d' : E) (b b' : List ℕ) → d ≡ d' → b ≡ b' → Tells state d b → Tells state d' b'
 told_as state d d' b b' same bytes told = subst (λ (x : _). Tells state x b') same (told ∙ ap (λ (l : List ℕ). Some l) bytes)
-
-some_too : (o o' : Option (List ℕ)) (b : List ℕ) → is_some o' ≡ is_some o → o ≡ Some b → (b' : List ℕ) × (o' ≡ Some b')
-some_too o (Some b') b same is = (b', refl)
-some_too o None b same is = absurd (let e : false ≡ true = same ∙ ap (λ (x : Option (List ℕ)). is_some x) is in cc)
-
--- a disk that told its bytes tells them
-pub still_told : (old new : State) (b : List ℕ) → StillTells old new → old.contents ≡ Some b → (b' : List ℕ) × (new.contents ≡ Some b')
-still_told old new b still is = some_too old.contents new.contents b still.told is

@@ -1,8 +1,7 @@
 -- How the frames of files are put behind those of one that is being made. It is said for the proofs alone.
-use Rattle.std.specs.Prelude.{◌≡◌, ℕ, ℤ, ◌+◌, List, ◌++◌, All, None, Result, Ok, Err, IfOk, IsOk, false, nat_lt, true}
+use Rattle.std.specs.Prelude.{◌≡◌, ℕ, ℤ, ◌+◌, List, ◌++◌, All, Result, Ok, Err, IfOk, IsOk, false, nat_lt, true}
 use Rattle.snd_chunks.specs.Written.{NewChunk}
 use Rattle.snd_disk.specs.declared.disk.Disk.{Ghosts}
-use Rattle.snd_disk.specs.Device.{Tells}
 use Rattle.snd_disk.specs.Shelf.{Files, ShelfState}
 use Rattle.snd_disk.specs.Shelves.{TellsFiles}
 use Rattle.snd_disk.specs.State.{State}
@@ -13,7 +12,7 @@ use Rattle.snd_layout.specs.declared.kind.Kind.{Kind}
 use Rattle.snd_lines.specs.declared.refusal.Refusal.{Refusal}
 use Rattle.snd_modes.specs.declared.handle.File.{File}
 use Rattle.snd_modes.specs.declared.mode.Mode.{Ghosts as ModeGhosts}
-use Rattle.snd_modes.specs.Editing.{Editing, opening_of}
+use Rattle.snd_modes.specs.Editing.{Editing}
 use Rattle.snd_modes.specs.Handle.{Known, Stands, codec_of, known_of}
 use Rattle.snd_output.specs.declared.stop.Stop.{Stop}
 use Rattle.snd_output.specs.declared.stop.Stop.TheVariants.{Fault, Memory}
@@ -22,10 +21,6 @@ use Rattle.snd_output.specs.Made.{IsMaking}
 use Rattle.snd_tools.specs.Done.{Said, said_by}
 use Rattle.snd_tools.specs.declared.answer.Answer.{Answer}
 use Rattle.snd_concat.specs.Concat.{all_frames, all_numbers, is_alike, numbers_for, shapes_of}
-
--- an open file may be read from its first frame on
-abbrev pub IsUnread : Known → Type 0
-IsUnread k = (k.place ≡ 0) × (k.broken ≡ None)
 
 -- the frames of a file with this layout may stand behind those of another
 pub record Follows (h to : Shape) : Type 0 where
@@ -52,17 +47,12 @@ Gains state numbers to to' =
     (kind : Kind) (p : Parameters) (pieces : List NewChunk) (xs : List ℤ) (e : Editing) → Stands state to e → IsMaking kind p pieces xs e
     → (e' : Editing) × Stands state to' e' × IsMaking kind p pieces (xs ++ numbers) e'
 
--- The frames of an open file, of the file on a disk, or under a name, were put there. Where these tell what they hold, and the
+-- The frames of an open file, or of one under a name, were put there. Where the disk, or the shelf, tells what it holds, and the
 -- frames may follow, nothing is refused.
 abbrev pub AppendsFile : {D M E N T R : Type 0} {d : Ghosts D} {m : ModeGhosts M} {t : Ghosts E} {n : ModeGhosts N}
     → (D → State) → (E → State) → File D M d m → File E N t n → File E N t n → Result (Result T Refusal) R → Type 0
 AppendsFile state state' from to to' result =
     IfOk result (λ done. (e : Editing) → Stands state from e → e.place ≡ 0 → Follows e.shape (known_of to).shape
-    → IsOk done × ((known_of to').shape.frames ≡ (known_of to).shape.frames + e.shape.frames) × Gains state' (numbers_for (codec_of to) e) to to')
-
-abbrev pub AppendsDisk : {D E N T R : Type 0} {t : Ghosts E} {n : ModeGhosts N} → (D → State) → (E → State) → D → File E N t n → File E N t n → Result (Result T Refusal) R → Type 0
-AppendsDisk state state' disk to to' result =
-    IfOk result (λ done. (b : List ℕ) (e : Editing) → Tells state disk b → opening_of b ≡ Ok e → Follows e.shape (known_of to).shape
     → IsOk done × ((known_of to').shape.frames ≡ (known_of to).shape.frames + e.shape.frames) × Gains state' (numbers_for (codec_of to) e) to to')
 
 abbrev pub AppendsInput : {S E N T R : Type 0} {t : Ghosts E} {n : ModeGhosts N} → (S → ShelfState) → (E → State) → List ℕ → S → File E N t n → File E N t n → Result (Result T Refusal) R → Type 0

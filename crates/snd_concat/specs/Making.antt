@@ -1,5 +1,5 @@
 -- How the output is made, and how what was looked at is judged. It is said for the proofs alone.
-use Rattle.std.specs.Prelude.{◌≡◌, ℕ, List, [], All, Some, Result, Ok, IfOk, true, false}
+use Rattle.std.specs.Prelude.{◌≡◌, ℕ, ◌≤◌, List, [], ◌∷◌, ◌++◌, All, Some, Result, Ok, IfOk, true, false, length, slice_index_or}
 use Rattle.std.specs.Str.{bytes_eq}
 use Rattle.snd_disk.specs.Device.{Tells}
 use Rattle.snd_disk.specs.Shelf.{Files, ShelfState, put}
@@ -12,6 +12,7 @@ use Rattle.snd_output.specs.Made.{made_file}
 use Rattle.snd_tools.specs.Done.{Said, said_by}
 use Rattle.snd_tools.specs.Shelves.{HasFiles, IsDone}
 use Rattle.snd_tools.specs.declared.answer.Answer.{Answer}
+use Rattle.snd_words.specs.declared.concat.Concatenation.{Concatenation}
 use Rattle.snd_concat.specs.Concat.{all_frames, all_numbers, done_like, is_alike, is_full, shapes_of}
 
 -- no name is the given one
@@ -39,7 +40,13 @@ MakesUnder state names output h old new result =
     → (said_by answer ≡ Said.made (all_frames (shapes_of es))) × HasFiles state new (put files output (Some (bytes_made h es))))
 
 -- what is to be done with files of these layouts is done
-abbrev pub DoesLike : {S R : Type 0} → (S → ShelfState) → List (List ℕ) → List ℕ → List Shape → S → S → Result Answer R → Type 0
-DoesLike state names output hs old new result =
+abbrev pub DoesLike : {S R : Type 0} → (S → ShelfState) → Concatenation → List Shape → S → S → Result Answer R → Type 0
+DoesLike state concatenation hs old new result =
+    let names = concatenation.inputs in
     IfOk result (λ answer. (files : Files) (es : List Editing) → TellsFiles state old files → inputs_in files names ≡ Ok es → shapes_of es ≡ hs
-    → IsDone state new answer (done_like names output es) files)
+    → IsDone state new answer (done_like names concatenation.output.now es) files)
+
+-- the name at a place among the inputs, with the output behind them
+abbrev pub IsNamedAt : Concatenation → ℕ → List ℕ → Type 0
+IsNamedAt concatenation at name =
+    at ≤ length concatenation.inputs → name ≡ slice_index_or (concatenation.inputs ++ concatenation.output.now ∷ []) at []

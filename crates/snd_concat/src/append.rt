@@ -1,21 +1,21 @@
 //! The frames of files, behind those of one that is being made.
 
 ghost use Rattle.std.specs.Prelude.{◌≡◌, ◌≤◌, All, IsOk, OnOk, false, length};
-ghost use Rattle.snd_disk.specs.Device.{GoesOnFrom, OnlyReadsOn};
+ghost use Rattle.snd_disk.specs.Device.{GoesOnFrom};
+ghost use Rattle.snd_inputs.specs.Copying.{CountsFileAndShelf, CountsFiles, OnlyReadsFile};
 ghost use Rattle.snd_inputs.specs.Looking.{ReadsFiles};
+ghost use Rattle.snd_inputs.specs.Opening.{IsUnread};
 ghost use Rattle.snd_layout.specs.Shape.{room as shape_room};
 ghost use Rattle.snd_modes.specs.Handle.{disk_of, known_of, loan_of};
 ghost use Rattle.snd_modes.specs.Outcomes.{TellsOn};
 ghost use Rattle.snd_output.specs.Appended.{IsAtEnd};
-ghost use Rattle.snd_tools.specs.Shelves.{CountsOneOf};
-ghost use Rattle.snd_concat.specs.Appending.{AppendsAll, AppendsDisk, AppendsFile, AppendsInput, Follows, IsUnread, MadeUnlessFault};
+ghost use Rattle.snd_concat.specs.Appending.{AppendsAll, AppendsFile, AppendsInput, Follows, MadeUnlessFault};
 
 use crate::judge::is_alike;
-use snd_disk::{Disk, Shelf, ShelfFault};
-use snd_inputs::exceeds_room;
-use snd_layout::OpenError;
+use snd_disk::{Disk, Shelf};
+use snd_inputs::{Input, close_read, exceeds_room, open_input};
 use snd_lines::Refusal;
-use snd_modes::{File, Read, Write, open_read};
+use snd_modes::{File, Read, Write, open_laid};
 use snd_output::{Stop, append};
 use snd_tools::Answer;
 use snd_words::Names;
@@ -57,8 +57,8 @@ fn append_file<D: Disk, E: Disk>(
     ensures to_loan { loan_of to.new ≡ loan_of to.old }
     ensures left { MadeUnlessFault (known_of to.old) (known_of to.new) result }
     ensures appended { AppendsFile D.state E.state from.old to.old to.new result }
-    ensures faults { CountsOneOf (D.state (disk_of from.old)).faults (D.state (disk_of from.new)).faults (E.state (disk_of to.old)).faults (E.state (disk_of to.new)).faults result }
-    ensures reads { OnlyReadsOn D.state D.may_leave D.left_between (disk_of from.old) (disk_of from.new) }
+    ensures faults { CountsFiles D.state E.state from.old from.new to.old to.new result }
+    ensures reads { OnlyReadsFile D.Disk from.old from.new }
     ensures tells { TellsOn E.state to.old to.new }
     ensures time { GoesOnFrom E.state E.left_between (disk_of to.old) (disk_of to.new) }
 {
@@ -68,61 +68,6 @@ fn append_file<D: Disk, E: Disk>(
     from.params().are_good();
     append(from, to, block)?;
     Ok(Ok(()))
-}
-
-// Gives the disk back of a file that was read.
-fn disk_back<'d, D: Disk>(file: File<'d, D, Read>) -> &'d mut D
-    ensures lends { result.ghost_name ≡ loan_of file.entry }
-    ensures same_disk { result.now ≡ disk_of file.entry }
-{
-    match file.close() {
-        Ok(disk) => disk,
-        Err((_, disk)) => disk,
-    }
-}
-
-// .. those of the file on a disk.
-fn append_disk<D: Disk, E: Disk>(
-    alloc: Global,
-    disk: &mut D,
-    to: &mut File<'_, E, Write>,
-    room: u64,
-    block: &mut [i32],
-) -> Result<Result<(), Refusal>, Stop>
-    requires at_end { IsAtEnd (known_of to.old) }
-    requires room { room ≡ shape_room (known_of to.old).shape }
-    requires places { 256 ≤ length block.old }
-    ensures to_loan { loan_of to.new ≡ loan_of to.old }
-    ensures left { MadeUnlessFault (known_of to.old) (known_of to.new) result }
-    ensures appended { AppendsDisk D.state E.state disk.old to.old to.new result }
-    ensures faults { CountsOneOf (D.state disk.old).faults (D.state disk.new).faults (E.state (disk_of to.old)).faults (E.state (disk_of to.new)).faults result }
-    ensures reads { OnlyReadsOn D.state D.may_leave D.left_between disk.old disk.new }
-    ensures tells { TellsOn E.state to.old to.new }
-    ensures time { GoesOnFrom E.state E.left_between (disk_of to.old) (disk_of to.new) }
-{
-    let mut from = match open_read(alloc, disk) {
-        Ok(file) => file,
-        Err((OpenError::Refused(why), back)) => {
-            let _ = back;
-            return Ok(Err(Refusal::Open(why)));
-        }
-        Err((OpenError::DiskFault(_), back)) => {
-            let _ = back;
-            return Err(Stop::Fault);
-        }
-        Err((OpenError::Memory, back)) => {
-            let _ = back;
-            return Err(Stop::Memory);
-        }
-        Err((OpenError::AdpcmUpdate | OpenError::UnknownLength, back)) => {
-            let _ = back;
-            unreachable!()
-        }
-    };
-    let appended = append_file(&mut from, to, room, block);
-    let back = disk_back(from);
-    let _ = back;
-    appended
 }
 
 // .. those of the file of a name.
@@ -141,18 +86,20 @@ fn append_input<S: Shelf, E: Disk>(
     ensures to_loan { loan_of to.new ≡ loan_of to.old }
     ensures left { MadeUnlessFault (known_of to.old) (known_of to.new) result }
     ensures appended { AppendsInput S.state E.state name.now shelf.old to.old to.new result }
-    ensures faults { CountsOneOf (E.state (disk_of to.old)).faults (E.state (disk_of to.new)).faults (S.state shelf.old).faults (S.state shelf.new).faults result }
+    ensures faults { CountsFileAndShelf E.state S.state to.old to.new shelf.old shelf.new result }
     ensures reads { ReadsFiles S.Shelf shelf.old shelf.new }
     ensures tells { TellsOn E.state to.old to.new }
     ensures time { GoesOnFrom E.state E.left_between (disk_of to.old) (disk_of to.new) }
 {
-    let mut disk = match shelf.take(name, false) {
-        Ok(disk) => disk,
-        Err(ShelfFault::Missing) => return Ok(Err(Refusal::MissingFile)),
-        Err(ShelfFault::Failed) => return Err(Stop::Fault),
-        Err(ShelfFault::Memory) => return Err(Stop::Memory),
+    let input = match open_input(alloc, name, shelf)? {
+        Ok(input) => input,
+        Err(why) => return Ok(Err(why)),
     };
-    let appended = append_disk(alloc, &mut disk, to, room, block);
+    let Input { mut disk, layout } = input;
+    let mut from = open_laid(&mut disk, layout);
+    let appended = append_file(&mut from, to, room, block);
+    let back = close_read(from);
+    let _ = back;
     shelf.give(name, disk);
     appended
 }
@@ -175,7 +122,7 @@ pub(crate) fn append_all<'a, S: Shelf, E: Disk>(
     ensures to_loan { loan_of to.new ≡ loan_of to.old }
     ensures left { MadeUnlessFault (known_of to.old) (known_of to.new) result }
     ensures appended { AppendsAll S.state E.state names.now shelf.old to.old to.new result }
-    ensures faults { CountsOneOf (E.state (disk_of to.old)).faults (E.state (disk_of to.new)).faults (S.state shelf.old).faults (S.state shelf.new).faults result }
+    ensures faults { CountsFileAndShelf E.state S.state to.old to.new shelf.old shelf.new result }
     ensures reads { ReadsFiles S.Shelf shelf.old shelf.new }
     ensures tells { TellsOn E.state to.old to.new }
     ensures time { GoesOnFrom E.state E.left_between (disk_of to.old) (disk_of to.new) }

@@ -1,11 +1,11 @@
 //! The tool that puts sound files behind each other.
 
-ghost use Rattle.std.specs.Prelude.{◌≡◌, ◌≤◌, ◌∷◌, [], ◌++◌, All, length, slice_index_or};
+ghost use Rattle.std.specs.Prelude.{◌≡◌, All};
 ghost use Rattle.snd_inputs.specs.Looking.{IsReadable};
 ghost use Rattle.snd_output.specs.Ends.{CountsStop};
 ghost use Rattle.snd_tools.specs.Shelves.{ChangesOne, Does, IsAllIn};
 ghost use Rattle.snd_concat.specs.Concat.{all_frames, concatenated, is_full};
-ghost use Rattle.snd_concat.specs.Making.{AllApart, DoesLike};
+ghost use Rattle.snd_concat.specs.Making.{AllApart, DoesLike, IsNamedAt};
 
 use crate::judge::{all_frames, first_mixed};
 use crate::make::make_under;
@@ -20,7 +20,7 @@ use std::alloc::Global;
 
 // The name at a place among the inputs, with the output behind them.
 fn name_at<'a>(concatenation: &Concatenation<'a>, at: usize) -> &'a str
-    ensures { at ≤ length concatenation.now.inputs → result.now ≡ slice_index_or (concatenation.now.inputs ++ concatenation.now.output.now ∷ []) at [] }
+    ensures { IsNamedAt concatenation.now at result.now }
 {
     match concatenation.inputs.get(at) {
         Some(name) => name,
@@ -51,7 +51,7 @@ fn concat_laid<'a, S: Shelf>(
     requires back { IsAllIn (S.state shelf.old) }
     requires apart { AllApart concatenation.now.output.now concatenation.now.inputs }
     requires readable { All IsReadable layouts.now }
-    ensures done { DoesLike S.state concatenation.now.inputs concatenation.now.output.now layouts.now shelf.old shelf.new result }
+    ensures done { DoesLike S.state concatenation.now layouts.now shelf.old shelf.new result }
     ensures changes { ChangesOne S.Shelf concatenation.now.output.now shelf.old shelf.new }
     ensures faults { CountsStop (S.state shelf.old).faults (S.state shelf.new).faults result }
 {

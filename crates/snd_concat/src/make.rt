@@ -2,15 +2,16 @@
 
 ghost use Rattle.std.specs.Prelude.{◌≡◌, All, false};
 ghost use Rattle.snd_disk.specs.Device.{GoesOnFrom};
+ghost use Rattle.snd_inputs.specs.Copying.{CountsDiskAndShelf};
 ghost use Rattle.snd_inputs.specs.Looking.{IsReadable, ReadsFiles};
 ghost use Rattle.snd_output.specs.Ends.{CountsStop};
 ghost use Rattle.snd_patch.specs.Steps.{StillTells};
-ghost use Rattle.snd_tools.specs.Shelves.{ChangesOne, CountsOneOf, IsAllIn};
+ghost use Rattle.snd_tools.specs.Shelves.{ChangesOne, IsAllIn};
 ghost use Rattle.snd_concat.specs.Making.{AllApart, Makes, MakesUnder};
 
 use crate::append::append_all;
-use snd_disk::{Disk, Shelf, ShelfFault};
-use snd_inputs::{bare_room, look};
+use snd_disk::{Disk, Shelf};
+use snd_inputs::{bare_room, look, take_output};
 use snd_layout::Layout;
 use snd_output::{Stop, begin, finish};
 use snd_tools::Answer;
@@ -31,7 +32,7 @@ fn make<'a, S: Shelf, E: Disk>(
     requires are_in { All (λ n. (S.state shelf.old).out n ≡ false) names.now }
     requires readable { IsReadable like.now }
     ensures made { Makes S.state E.state names.now like.now shelf.old disk.old disk.new result }
-    ensures faults { CountsOneOf (E.state disk.old).faults (E.state disk.new).faults (S.state shelf.old).faults (S.state shelf.new).faults result }
+    ensures faults { CountsDiskAndShelf E.state S.state disk.old disk.new shelf.old shelf.new result }
     ensures reads { ReadsFiles S.Shelf shelf.old shelf.new }
     ensures tells { StillTells (E.state disk.old) (E.state disk.new) }
     ensures time { GoesOnFrom E.state E.left_between disk.old disk.new }
@@ -87,7 +88,7 @@ fn make_apart<'a, S: Shelf, E: Disk>(
     requires are_in { All (λ n. (S.state shelf.old).out n ≡ false) names.now }
     requires readable { IsReadable like.now }
     ensures made { Makes S.state E.state names.now like.now shelf.old disk.old disk.new result }
-    ensures faults { CountsOneOf (E.state disk.old).faults (E.state disk.new).faults (S.state shelf.old).faults (S.state shelf.new).faults result }
+    ensures faults { CountsDiskAndShelf E.state S.state disk.old disk.new shelf.old shelf.new result }
     ensures reads { ReadsFiles S.Shelf shelf.old shelf.new }
     ensures tells { StillTells (E.state disk.old) (E.state disk.new) }
     ensures time { GoesOnFrom E.state E.left_between disk.old disk.new }
@@ -111,12 +112,7 @@ pub(crate) fn make_under<'a, S: Shelf>(
     ensures changes { ChangesOne S.Shelf output.now shelf.old shelf.new }
     ensures faults { CountsStop (S.state shelf.old).faults (S.state shelf.new).faults result }
 {
-    let mut disk = match shelf.take(output, true) {
-        Ok(disk) => disk,
-        Err(ShelfFault::Failed) => return Err(Stop::Fault),
-        Err(ShelfFault::Memory) => return Err(Stop::Memory),
-        Err(ShelfFault::Missing) => unreachable!(),
-    };
+    let mut disk = take_output(output, shelf)?;
     let made = make_apart(alloc, names, like, shelf, &mut disk);
     shelf.give(output, disk);
     made

@@ -8,4 +8,4 @@ pub returns-clause-appended : goal.returns-clause-appended
 returns-clause-appended g c = λ e stands first follows.
     let counted : c.append.new.to.layout.frames ≡ c.args.to.now.layout.frames + (c.args.from.now.layout.frames - c.args.from.now.read_place) = ap (λ (k : Known). k.shape.frames) c.in_ok-append.ensures.left.1 in
     let same : c.args.from.now.layout.frames ≡ e.shape.frames = ap (λ (h : Shape). h.frames) stands.shape in
-    (refl, omega (arith, counted, same, c.requires.unread.0), gains_file g.E.Disk.state g.D.Disk.state c.args.from.now c.args.to.now c.append.new.to e stands first c.in_ok-append.ensures.lengthens)
+    (refl, omega (arith, counted, same, c.requires.unread.first), gains_file g.E.Disk.state g.D.Disk.state c.args.from.now c.args.to.now c.append.new.to e stands first c.in_ok-append.ensures.lengthens)

@@ -1,27 +1,52 @@
-use Rattle.std.proofs.Common.{◌≡◌, ◌∙◌, ℕ, List, Option, Ok, ap, sym}
-use Rattle.snd_inputs.proofs.Reading.{handed_back, not_handed}
-use Rattle.snd_inputs.proofs.Seen.{bytes_there}
-use Rattle.snd_inputs.specs.Inputs.{input_in}
-use Rattle.snd_modes.specs.Editing.{opening_of}
-use Rattle.snd_concat.proofs.Doing.{if_ok, input_opened}
+use Rattle.std.proofs.Common.{rules, ◌≡◌, ◌∙◌, Result, Ok, Err, ap, subst, sym}
+use Rattle.std.proofs.lemmas.Result.{IfOk-weaker}
+use Rattle.snd_inputs.proofs.Held.{held_beside, only_read}
+use Rattle.snd_inputs.proofs.Lists.{opened_same}
+use Rattle.snd_inputs.specs.Inputs.{input_as, input_in}
+use Rattle.snd_inputs.specs.Opening.{IsOpen, OpensInput}
+use Rattle.snd_lines.specs.declared.refusal.Refusal.{Refusal}
+use Rattle.snd_modes.specs.Editing.{Editing, first_editing}
+use Rattle.snd_modes.specs.Handle.{Stands}
 use Rattle.snd_concat.proofs.append.append_input.Goals as goal
 
-pub returns-in-Err-Failed-clause-reads : goal.returns-in-Err-Failed-clause-reads
-returns-in-Err-Failed-clause-reads g c = not_handed g.S.Shelf c.args.name.now _ _ c.in-Err-Failed.ensures.stays c.in-Err-Failed.ensures.same_images c.take.ensures.others c.take.ensures.bytes
+pub returns-in_err-input-clause-reads : goal.returns-in_err-input-clause-reads
+returns-in_err-input-clause-reads g c = c.in_err-input.ensures.opened.reads
 
-pub returns-in-Err-Memory-clause-reads : goal.returns-in-Err-Memory-clause-reads
-returns-in-Err-Memory-clause-reads g c = not_handed g.S.Shelf c.args.name.now _ _ c.in-Err-Memory.ensures.stays c.in-Err-Memory.ensures.same_images c.take.ensures.others c.take.ensures.bytes
+pub returns-in-Err-clause-appended : goal.returns-in-Err-clause-appended
+returns-in-Err-clause-appended g c = λ files e told is follows.
+    absurd (
+    let looks = subst (λ r. OpensInput g.S.Shelf g.S.Disk.Disk c.args.name.now c.args.shelf.now c.open_input.new.shelf (Ok r)) c.in-Err.is c.in_ok-input.ensures.opened in
+    let no : ◌≡◌ {A = Result Editing Refusal} (Err c.in-Err.why) (Ok e) = sym (looks.1 files told) ∙ is in
+    cc)
+
+pub returns-in-Err-clause-reads : goal.returns-in-Err-clause-reads
+returns-in-Err-clause-reads g c =
+    let looks = subst (λ r. OpensInput g.S.Shelf g.S.Disk.Disk c.args.name.now c.args.shelf.now c.open_input.new.shelf (Ok r)) c.in-Err.is c.in_ok-input.ensures.opened in
+    looks.0.reads
 
 pub returns-clause-appended : goal.returns-clause-appended
 returns-clause-appended g c =
-    if_ok c.append_disk-appended.result _ _
+    let opens : IsOpen g.S.Shelf g.S.Disk.Disk c.args.name.now c.args.shelf.now c.open_input.new.shelf c.in-Ok.input =
+    subst (λ r. OpensInput g.S.Shelf g.S.Disk.Disk c.args.name.now c.args.shelf.now c.open_input.new.shelf (Ok r)) c.in-Ok.is c.in_ok-input.ensures.opened in
+    IfOk-weaker c.append_file-appended.result _ _
     (λ done appended files e told is follows.
-    let there = bytes_there _ _ files c.args.name.now _ c.in-Ok.ensures.taken told in
-    let opened : opening_of there.0 ≡ Ok e = input_opened (opening_of there.0) e (sym (ap (λ (o : Option (List ℕ)). input_in o) there.1) ∙ is) in
-    appended there.0 e there.2 opened follows)
-    c.append_disk-appended.ensures.appended
+    let found = opens.opened files told in
+    let same : first_editing found.0 c.in-Ok.input.layout ≡ e =
+    opened_same (input_in (files c.args.name.now)) (first_editing found.0 c.in-Ok.input.layout) e (ap input_in found.1 ∙ ap input_as found.2) is in
+    let stands : Stands g.S.Disk.Disk.state c.open_laid-from.result e = subst (λ (x : Editing). Stands g.S.Disk.Disk.state c.open_laid-from.result x) same (c.open_laid-from.ensures.stands found.0 found.3.bytes) in
+    appended e stands (sym stands.place ∙ c.open_laid-from.ensures.fresh.place) follows)
+    c.append_file-appended.ensures.appended
+
+pub returns-clause-faults : goal.returns-clause-faults
+returns-clause-faults g c =
+    let opens : IsOpen g.S.Shelf g.S.Disk.Disk c.args.name.now c.args.shelf.now c.open_input.new.shelf c.in-Ok.input =
+    subst (λ r. OpensInput g.S.Shelf g.S.Disk.Disk c.args.name.now c.args.shelf.now c.open_input.new.shelf (Ok r)) c.in-Ok.is c.in_ok-input.ensures.opened in
+    held_beside g.S.Shelf g.S.Disk.Disk c.args.shelf.now c.open_input.new.shelf c.give.new.self c.in-Ok.input _ _ _ c.args.name.now opens c.open_laid-from.ensures.same_disk (sym (search rules) ∙ c.close_read-back.ensures.same_disk) c.append_file-appended.ensures.reads c.give.ensures.given
+    c.append_file-appended.result _ _ c.in_ok-input.ensures.faults c.append_file-appended.ensures.faults
 
 pub returns-clause-reads : goal.returns-clause-reads
 returns-clause-reads g c =
-    handed_back g.S.Shelf g.S.Disk.Disk c.args.name.now c.args.shelf.now c.take.new.self c.give.new.self c.in-Ok.disk c.append_disk-appended.new.disk c.in-Ok.ensures.taken c.give.ensures.given c.append_disk-appended.ensures.reads
-    c.in-Ok.ensures.images c.give.ensures.images c.take.ensures.others c.give.ensures.others c.take.ensures.bytes c.requires.is_in
+    let opens : IsOpen g.S.Shelf g.S.Disk.Disk c.args.name.now c.args.shelf.now c.open_input.new.shelf c.in-Ok.input =
+    subst (λ r. OpensInput g.S.Shelf g.S.Disk.Disk c.args.name.now c.args.shelf.now c.open_input.new.shelf (Ok r)) c.in-Ok.is c.in_ok-input.ensures.opened in
+    only_read g.S.Shelf g.S.Disk.Disk c.args.shelf.now c.open_input.new.shelf c.give.new.self c.in-Ok.input _ _ _ c.args.name.now opens c.open_laid-from.ensures.same_disk (sym (search rules) ∙ c.close_read-back.ensures.same_disk) c.append_file-appended.ensures.reads c.give.ensures.given
+    c.give.ensures.images c.give.ensures.others c.requires.is_in

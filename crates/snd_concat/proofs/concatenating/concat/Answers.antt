@@ -9,7 +9,9 @@ use Rattle.snd_tools.specs.Done.{Done, Said, files_after, said_of}
 use Rattle.snd_tools.specs.Shelves.{HasFiles}
 use Rattle.snd_words.specs.Repeats.{first_repeated}
 use Rattle.snd_concat.specs.Concat.{concatenated, done_if_apart, done_like, done_with}
-use Rattle.snd_concat.proofs.Doing.{does_so, done_over, done_same, if_ok, seen_sound}
+use Rattle.std.proofs.lemmas.Result.{IfOk-weaker}
+use Rattle.snd_inputs.proofs.Answering.{does_so, done_same}
+use Rattle.snd_concat.proofs.Doing.{done_over, seen_sound}
 use Rattle.snd_concat.proofs.Repeats.{apart_from, repeated_within}
 use Rattle.snd_concat.proofs.concatenating.concat.Goals as goal
 
@@ -36,14 +38,14 @@ returns-in-Ok-Sound-clause-done g c =
     let none : first_repeated (inputs ++ output ∷ []) ≡ None = search rules in
     let items : c.in-Ok-Sound.layouts.items ≡ c.deref.result.now = search rules in
     does_so g.S.Shelf.state (concatenated inputs output) c.args.shelf.now c.concat_laid.new.shelf c.concat_laid.result
-    (if_ok c.concat_laid.result _ _
+    (IfOk-weaker c.concat_laid.result _ _
     (λ answer done files told.
     let read = c.look_all.ensures.reads.files files told in
     let shown : seen_by c.in-Ok-Sound.field-0 ≡ Ok c.in-Ok-Sound.layouts.items = search rules in
     let seen = seen_sound (inputs_in files inputs) c.in-Ok-Sound.layouts.items (sym shown ∙ c.in-Ok-Sound.ensures.seen files told) in
     let opened : inputs_in read.0 inputs ≡ Ok seen.0 = same_inputs files read.0 inputs (λ k d lt. read.2 (get_or inputs k d)) ∙ seen.1 in
     let todo : concatenated inputs output files ≡ done_like inputs output seen.0 = ap (done_if_apart inputs output files) none ∙ ap (done_with inputs output) seen.1 in
-    done_same g.S.Shelf.state c.concat_laid.new.shelf answer (done_like inputs output seen.0) (concatenated inputs output files) files todo
+    done_same g.S.Shelf.state c.concat_laid.new.shelf files answer (done_like inputs output seen.0) (concatenated inputs output files) todo
     (done_over g.S.Shelf.state c.concat_laid.new.shelf answer (done_like inputs output seen.0) files read.0 read.2 (done read.0 seen.0 read.1 opened (seen.2 ∙ items))))
     c.concat_laid.ensures.done)
 

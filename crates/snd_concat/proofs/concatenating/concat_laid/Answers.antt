@@ -8,7 +8,9 @@ use Rattle.snd_tools.specs.Done.{Done, Said, files_after, said_of}
 use Rattle.snd_tools.specs.Shelves.{HasFiles}
 use Rattle.snd_concat.specs.Concat.{all_frames, done_if_alike, done_like, first_mixed, is_alike, is_full, shapes_of}
 use Rattle.snd_concat.specs.Making.{MayJoin, bytes_made}
-use Rattle.snd_concat.proofs.Doing.{done_same, if_ok, like_done, mixed_within, named, none_mixed}
+use Rattle.std.proofs.lemmas.Result.{IfOk-weaker}
+use Rattle.snd_inputs.proofs.Answering.{done_same}
+use Rattle.snd_concat.proofs.Doing.{like_done, mixed_within, named, none_mixed}
 use Rattle.snd_concat.proofs.concatenating.concat_laid.Goals as goal
 
 pub returns-in-Some-first_mixed-clause-done : goal.returns-in-Some-first_mixed-clause-done
@@ -28,7 +30,7 @@ returns-in-Some-first_mixed-clause-done g c = λ files es told all seen.
 
 pub returns-clause-done : goal.returns-clause-done
 returns-clause-done g c =
-    if_ok c.make_under.result _ _
+    IfOk-weaker c.make_under.result _ _
     (λ answer made files es told all seen.
     let inputs = c.args.concatenation.now.inputs in
     let output = c.args.concatenation.now.output.now in
@@ -46,5 +48,5 @@ returns-clause-done g c =
       alike = subst (λ (l : List Shape). All (λ (x : Shape). is_alike h.params x.params ≡ true) l) (sym seen) (none_mixed h hs none);
       in_room = room;
     } in
-    done_same g.S.Shelf.state c.make_under.new.shelf answer (Done.makes output (bytes_made h es) n) (done_like inputs output es) files todo (made files es told all may))
+    done_same g.S.Shelf.state c.make_under.new.shelf files answer (Done.makes output (bytes_made h es) n) (done_like inputs output es) todo (made files es told all may))
     c.make_under.ensures.made

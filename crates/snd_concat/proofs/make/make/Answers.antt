@@ -7,7 +7,7 @@ use Rattle.snd_output.specs.Made.{IsMaking}
 use Rattle.snd_tools.specs.Done.{Said}
 use Rattle.snd_concat.specs.Concat.{all_frames, all_numbers, shapes_of}
 use Rattle.snd_concat.specs.Making.{bytes_made}
-use Rattle.snd_concat.proofs.Doing.{if_ok}
+use Rattle.std.proofs.lemmas.Result.{IfOk-weaker}
 use Rattle.snd_concat.proofs.Making.{all_follow, at_end, frames, same_bytes, told_as}
 use Rattle.snd_concat.proofs.make.make.Goals as goal
 
@@ -20,7 +20,7 @@ append_all-appended-requires-clause-at_end g c =
 
 pub returns-in-Ok-finish-clause-made : goal.returns-in-Ok-finish-clause-made
 returns-in-Ok-finish-clause-made g c =
-    if_ok c.append_all-appended.result _ _
+    IfOk-weaker c.append_all-appended.result _ _
     (λ answer appended files es b told tells all may.
     let h = c.args.like.now in
     let k = known_of c.in-Ok.to in

@@ -2,7 +2,7 @@ use Rattle.std.proofs.Common.{◌≡◌, ◌∙◌, Ok, get_or}
 use Rattle.snd_inputs.proofs.Lists.{same_inputs}
 use Rattle.snd_inputs.proofs.Reading.{reads_then}
 use Rattle.snd_inputs.specs.Inputs.{inputs_in}
-use Rattle.snd_concat.proofs.Doing.{if_ok}
+use Rattle.std.proofs.lemmas.Result.{IfOk-weaker}
 use Rattle.snd_concat.proofs.make.make_apart.Goals as goal
 
 pub make-requires-clause-are_in : goal.make-requires-clause-are_in
@@ -10,7 +10,7 @@ make-requires-clause-are_in g c = λ k d lt. c.see_apart.ensures.reads.back (get
 
 pub returns-clause-made : goal.returns-clause-made
 returns-clause-made g c =
-    if_ok c.make.result _ _
+    IfOk-weaker c.make.result _ _
     (λ answer made files es b told tells all may.
     let names = c.args.names.now in
     let seen = c.see_apart.ensures.reads.files files told in

@@ -2,36 +2,29 @@ use Rattle.std.proofs.Common.{◌≡◌, ◌∙◌, true, None, Ok, get_or}
 use Rattle.snd_inputs.proofs.Between.{between_changes, between_files}
 use Rattle.snd_inputs.proofs.Lists.{same_inputs}
 use Rattle.snd_inputs.specs.Inputs.{inputs_in}
-use Rattle.snd_tools.proofs.Left.{stayed_changes}
 use Rattle.snd_tools.proofs.Names.{put_beside}
 use Rattle.snd_concat.specs.Making.{bytes_made}
-use Rattle.snd_concat.proofs.Doing.{if_ok}
-use Rattle.snd_concat.proofs.Making.{still_told}
+use Rattle.std.proofs.lemmas.Result.{IfOk-weaker}
+use Rattle.snd_inputs.proofs.Told.{still_told}
 use Rattle.snd_concat.proofs.make.make_under.Goals as goal
-
-pub returns-in-Err-Failed-clause-changes : goal.returns-in-Err-Failed-clause-changes
-returns-in-Err-Failed-clause-changes g c = stayed_changes g.S.Shelf c.args.output.now true _ _ c.in-Err-Failed.ensures.stays c.in-Err-Failed.ensures.same_images c.take.ensures.others
-
-pub returns-in-Err-Memory-clause-changes : goal.returns-in-Err-Memory-clause-changes
-returns-in-Err-Memory-clause-changes g c = stayed_changes g.S.Shelf c.args.output.now true _ _ c.in-Err-Memory.ensures.stays c.in-Err-Memory.ensures.same_images c.take.ensures.others
 
 pub returns-clause-made : goal.returns-clause-made
 returns-clause-made g c =
-    if_ok c.make_apart-made.result _ _
+    IfOk-weaker c.make_apart-made.result _ _
     (λ answer made files es told all may.
     let names = c.args.names.now in
     let output = c.args.output.now in
-    let out = c.in-Ok.ensures.taken.files files told in
+    let out = c.in_ok-disk.ensures.out.takes.files files told in
     let opened : inputs_in out.0 names ≡ Ok es =
     same_inputs files out.0 names (λ k d lt. out.2 (get_or names k d) ∙ put_beside files output (get_or names k d) None (c.requires.apart k d lt)) ∙ all in
-    let done = made out.0 es _ out.1 (c.in-Ok.ensures.taken.contents files told) opened may in (
+    let done = made out.0 es _ out.1 (c.in_ok-disk.ensures.out.takes.contents files told) opened may in (
       done.0,
-      between_files g.S.Shelf g.S.Disk.Disk c.args.shelf.now c.take.new.self c.make_apart-made.new.shelf c.give.new.self c.in-Ok.disk c.make_apart-made.new.disk output true c.in-Ok.ensures.taken c.make_apart-made.ensures.reads c.give.ensures.given
+      between_files g.S.Shelf g.S.Disk.Disk c.args.shelf.now c.take_output.new.shelf c.make_apart-made.new.shelf c.give.new.self c.in_ok-disk.disk c.make_apart-made.new.disk output true c.in_ok-disk.ensures.out.takes c.make_apart-made.ensures.reads c.give.ensures.given
           files (bytes_made c.args.like.now es) told done.1,
     ))
     c.make_apart-made.ensures.made
 
 pub returns-clause-changes : goal.returns-clause-changes
 returns-clause-changes g c =
-    between_changes g.S.Shelf g.S.Disk.Disk c.args.shelf.now c.take.new.self c.make_apart-made.new.shelf c.give.new.self c.in-Ok.disk c.make_apart-made.new.disk c.args.output.now true c.in-Ok.ensures.taken c.make_apart-made.ensures.reads
-    c.give.ensures.given c.in-Ok.ensures.images c.give.ensures.images c.take.ensures.others c.give.ensures.others (c.requires.back c.args.output.now) (λ b told. still_told _ _ b c.make_apart-made.ensures.tells told) c.make_apart-made.ensures.time
+    between_changes g.S.Shelf g.S.Disk.Disk c.args.shelf.now c.take_output.new.shelf c.make_apart-made.new.shelf c.give.new.self c.in_ok-disk.disk c.make_apart-made.new.disk c.args.output.now true c.in_ok-disk.ensures.out.takes c.make_apart-made.ensures.reads
+    c.give.ensures.given c.in_ok-disk.ensures.out.images c.give.ensures.images c.in_ok-disk.ensures.out.others c.give.ensures.others (c.requires.back c.args.output.now) (λ b told. still_told _ _ b c.make_apart-made.ensures.tells told) c.make_apart-made.ensures.time
