@@ -1,19 +1,20 @@
 //! The frames of files, behind those of one that is being made.
 
-ghost use Rattle.std.specs.Prelude.{◌≡◌, ◌≤◌, All, IsOk, OnOk, false, length};
+ghost use Rattle.std.specs.Prelude.{◌≡◌, ◌∷◌, [], All, IsOk, OnOk, false, length};
 ghost use Rattle.snd_disk.specs.Device.{GoesOnFrom};
-ghost use Rattle.snd_inputs.specs.Copying.{CountsFileAndShelf, CountsFiles, OnlyReadsFile};
+ghost use Rattle.snd_inputs.specs.Asking.{AsksForEach};
+ghost use Rattle.snd_inputs.specs.Copying.{AsksToCopy, CountsFileAndShelf, CountsFiles, OnlyReadsFile};
 ghost use Rattle.snd_inputs.specs.Looking.{ReadsFiles};
 ghost use Rattle.snd_inputs.specs.Opening.{IsUnread};
 ghost use Rattle.snd_layout.specs.Shape.{room as shape_room};
 ghost use Rattle.snd_modes.specs.Handle.{disk_of, known_of, loan_of};
-ghost use Rattle.snd_modes.specs.Outcomes.{TellsOn};
+ghost use Rattle.snd_modes.specs.Outcomes.{AsksNothing, TellsOn};
 ghost use Rattle.snd_output.specs.Appended.{IsAtEnd};
 ghost use Rattle.snd_concat.specs.Appending.{AppendsAll, AppendsFile, AppendsInput, Follows, MadeUnlessFault};
 
 use crate::judge::is_alike;
 use snd_disk::{Disk, Shelf};
-use snd_inputs::{Input, close_read, exceeds_room, open_input};
+use snd_inputs::{Input, close_read, exceeds_room, open_input, params_of};
 use snd_lines::Refusal;
 use snd_modes::{File, Read, Write, open_laid};
 use snd_output::{Stop, append};
@@ -52,7 +53,7 @@ fn append_file<D: Disk, E: Disk>(
     requires unread { IsUnread (known_of from.old) }
     requires at_end { IsAtEnd (known_of to.old) }
     requires room { room ≡ shape_room (known_of to.old).shape }
-    requires places { 256 ≤ length block.old }
+    requires places { length block.old ≡ 16384 }
     ensures loan { loan_of from.new ≡ loan_of from.old }
     ensures to_loan { loan_of to.new ≡ loan_of to.old }
     ensures left { MadeUnlessFault (known_of to.old) (known_of to.new) result }
@@ -61,11 +62,13 @@ fn append_file<D: Disk, E: Disk>(
     ensures reads { OnlyReadsFile D.Disk from.old from.new }
     ensures tells { TellsOn E.state to.old to.new }
     ensures time { GoesOnFrom E.state E.left_between (disk_of to.old) (disk_of to.new) }
+    ensures asked { AsksToCopy D.state 0 from.old from.new }
+    ensures unasked { AsksNothing E.state to.old to.new }
 {
     if let Err(why) = judge(from, to, room) {
         return Ok(Err(why));
     }
-    from.params().are_good();
+    params_of(from);
     append(from, to, block)?;
     Ok(Ok(()))
 }
@@ -82,7 +85,7 @@ fn append_input<S: Shelf, E: Disk>(
     requires is_in { (S.state shelf.old).out name.now ≡ false }
     requires at_end { IsAtEnd (known_of to.old) }
     requires room { room ≡ shape_room (known_of to.old).shape }
-    requires places { 256 ≤ length block.old }
+    requires places { length block.old ≡ 16384 }
     ensures to_loan { loan_of to.new ≡ loan_of to.old }
     ensures left { MadeUnlessFault (known_of to.old) (known_of to.new) result }
     ensures appended { AppendsInput S.state E.state name.now shelf.old to.old to.new result }
@@ -90,6 +93,8 @@ fn append_input<S: Shelf, E: Disk>(
     ensures reads { ReadsFiles S.Shelf shelf.old shelf.new }
     ensures tells { TellsOn E.state to.old to.new }
     ensures time { GoesOnFrom E.state E.left_between (disk_of to.old) (disk_of to.new) }
+    ensures asked { AsksForEach 3 180224 S.state (name.now ∷ []) shelf.old shelf.new }
+    ensures unasked { AsksNothing E.state to.old to.new }
 {
     let input = match open_input(alloc, name, shelf)? {
         Ok(input) => input,
@@ -118,7 +123,7 @@ pub(crate) fn append_all<'a, S: Shelf, E: Disk>(
     requires are_in { All (λ n. (S.state shelf.old).out n ≡ false) names.now }
     requires at_end { IsAtEnd (known_of to.old) }
     requires room { room ≡ shape_room (known_of to.old).shape }
-    requires places { 256 ≤ length block.old }
+    requires places { length block.old ≡ 16384 }
     ensures to_loan { loan_of to.new ≡ loan_of to.old }
     ensures left { MadeUnlessFault (known_of to.old) (known_of to.new) result }
     ensures appended { AppendsAll S.state E.state names.now shelf.old to.old to.new result }
@@ -126,6 +131,8 @@ pub(crate) fn append_all<'a, S: Shelf, E: Disk>(
     ensures reads { ReadsFiles S.Shelf shelf.old shelf.new }
     ensures tells { TellsOn E.state to.old to.new }
     ensures time { GoesOnFrom E.state E.left_between (disk_of to.old) (disk_of to.new) }
+    ensures asked { AsksForEach 3 180224 S.state names.now shelf.old shelf.new }
+    ensures unasked { AsksNothing E.state to.old to.new }
 {
     for at in 0..names.len() {
         let Some(name) = names.get(at) else {

@@ -1,6 +1,7 @@
 //! The tool that puts sound files behind each other.
 
 ghost use Rattle.std.specs.Prelude.{◌≡◌, All};
+ghost use Rattle.snd_inputs.specs.Asking.{AsksForEach, AsksForFiles};
 ghost use Rattle.snd_inputs.specs.Looking.{IsReadable};
 ghost use Rattle.snd_output.specs.Ends.{CountsStop};
 ghost use Rattle.snd_tools.specs.Shelves.{ChangesOne, Does, IsAllIn};
@@ -54,6 +55,7 @@ fn concat_laid<'a, S: Shelf>(
     ensures done { DoesLike S.state concatenation.now layouts.now shelf.old shelf.new result }
     ensures changes { ChangesOne S.Shelf concatenation.now.output.now shelf.old shelf.new }
     ensures faults { CountsStop (S.state shelf.old).faults (S.state shelf.new).faults result }
+    ensures asked { AsksForEach 3 196608 S.state concatenation.now.inputs shelf.old shelf.new }
 {
     let Some(like) = layouts.first() else {
         return Ok(Answer::Refused(concatenation.output, Refusal::MissingFile));
@@ -84,7 +86,7 @@ fn concat_laid<'a, S: Shelf>(
 /// refused by what it is when its frames are put, and the output holds those before.
 ///
 /// `Fault` where a call of the shelf or of a disk failed, and `Memory` where there is none: then the output
-/// may stand there in part.
+/// may stand there in part. No more bytes are asked than eight times the inputs have, and 262144 for each.
 pub fn concat<'a, S: Shelf>(
     alloc: Global,
     concatenation: &Concatenation<'a>,
@@ -94,6 +96,7 @@ pub fn concat<'a, S: Shelf>(
     ensures done { Does S.state (concatenated concatenation.now.inputs concatenation.now.output.now) shelf.old shelf.new result }
     ensures changes { ChangesOne S.Shelf concatenation.now.output.now shelf.old shelf.new }
     ensures faults { CountsStop (S.state shelf.old).faults (S.state shelf.new).faults result }
+    ensures asked { AsksForFiles S.state concatenation.now.inputs shelf.old shelf.new }
 {
     if let Some(at) = first_repeated(&concatenation.inputs, concatenation.output) {
         return Ok(Answer::Refused(name_at(concatenation, at), Refusal::SameName));

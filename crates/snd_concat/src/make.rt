@@ -1,9 +1,10 @@
 //! A file that is made of others.
 
-ghost use Rattle.std.specs.Prelude.{◌≡◌, All, false};
+ghost use Rattle.std.specs.Prelude.{◌≡◌, All, false, length};
 ghost use Rattle.snd_disk.specs.Device.{GoesOnFrom};
+ghost use Rattle.snd_inputs.specs.Asking.{AsksForEach};
 ghost use Rattle.snd_inputs.specs.Copying.{CountsDiskAndShelf};
-ghost use Rattle.snd_inputs.specs.Looking.{IsReadable, ReadsFiles};
+ghost use Rattle.snd_inputs.specs.Looking.{AsksToLook, IsReadable, ReadsFiles};
 ghost use Rattle.snd_output.specs.Ends.{CountsStop};
 ghost use Rattle.snd_patch.specs.Steps.{StillTells};
 ghost use Rattle.snd_tools.specs.Shelves.{ChangesOne, IsAllIn};
@@ -36,6 +37,8 @@ fn make<'a, S: Shelf, E: Disk>(
     ensures reads { ReadsFiles S.Shelf shelf.old shelf.new }
     ensures tells { StillTells (E.state disk.old) (E.state disk.new) }
     ensures time { GoesOnFrom E.state E.left_between disk.old disk.new }
+    ensures asked { AsksForEach 3 180224 S.state names.now shelf.old shelf.new }
+    ensures unasked { (E.state disk.new).asked ≡ (E.state disk.old).asked }
 {
     like.keeps_rule();
     like.params.are_good();
@@ -66,6 +69,7 @@ fn see_apart<S: Shelf>(alloc: Global, names: &Names<'_>, shelf: &mut S) -> Resul
     requires are_in { All (λ n. (S.state shelf.old).out n ≡ false) names.now }
     ensures faults { CountsStop (S.state shelf.old).faults (S.state shelf.new).faults result }
     ensures reads { ReadsFiles S.Shelf shelf.old shelf.new }
+    ensures asked { AsksToLook (length names.now) (S.state shelf.old) (S.state shelf.new) }
 {
     for at in 0..names.len() {
         let Some(name) = names.get(at) else {
@@ -92,6 +96,8 @@ fn make_apart<'a, S: Shelf, E: Disk>(
     ensures reads { ReadsFiles S.Shelf shelf.old shelf.new }
     ensures tells { StillTells (E.state disk.old) (E.state disk.new) }
     ensures time { GoesOnFrom E.state E.left_between disk.old disk.new }
+    ensures asked { AsksForEach 3 196608 S.state names.now shelf.old shelf.new }
+    ensures unasked { (E.state disk.new).asked ≡ (E.state disk.old).asked }
 {
     see_apart(alloc, names, shelf)?;
     make(alloc, names, like, shelf, disk)
@@ -111,6 +117,7 @@ pub(crate) fn make_under<'a, S: Shelf>(
     ensures made { MakesUnder S.state names.now output.now like.now shelf.old shelf.new result }
     ensures changes { ChangesOne S.Shelf output.now shelf.old shelf.new }
     ensures faults { CountsStop (S.state shelf.old).faults (S.state shelf.new).faults result }
+    ensures asked { AsksForEach 3 196608 S.state names.now shelf.old shelf.new }
 {
     let mut disk = take_output(output, shelf)?;
     let made = make_apart(alloc, names, like, shelf, &mut disk);

@@ -13,7 +13,11 @@ abbrev pub sizes_of : Files → List (List ℕ) → ℕ
 sizes_of files [] = 0
 sizes_of files (name ∷ names) = size_of (files name) + sizes_of files names
 
--- Where the shelf tells its files, no more is asked than eight times the bytes of those of some names, and 262144 for each.
+-- Where the shelf tells its files, no more is asked than m times the bytes of those of some names, and n for each.
+abbrev pub AsksForEach : {S : Type 0} → ℕ → ℕ → (S → ShelfState) → List (List ℕ) → S → S → Type 0
+AsksForEach m n state names old new =
+    (files : Files) → TellsFiles state old files → AtMost (state old).asked (m * sizes_of files names + n * length names) (state new).asked
+
+-- .. as a tool may that reads them whole
 abbrev pub AsksForFiles : {S : Type 0} → (S → ShelfState) → List (List ℕ) → S → S → Type 0
-AsksForFiles state names old new =
-    (files : Files) → TellsFiles state old files → AtMost (state old).asked (8 * sizes_of files names + 262144 * length names) (state new).asked
+AsksForFiles state names old new = AsksForEach 8 262144 state names old new

@@ -10,6 +10,6 @@ mod room;
 
 pub use input::Input;
 pub use looking::{Inputs, look, look_all};
-pub use opening::{close_read, open_input};
+pub use opening::{close_read, open_input, params_of};
 pub use output::take_output;
 pub use room::{bare_room, exceeds_room};

@@ -1,8 +1,10 @@
 //! How a file is opened to be read, and closed.
 
-ghost use Rattle.std.specs.Prelude.{◌≡◌, false};
+ghost use Rattle.std.specs.Prelude.{◌≡◌, false, is_none};
+ghost use Rattle.snd_container.specs.Sound.{fixed_of};
 ghost use Rattle.snd_disk.specs.Device.{AsksAtMost, OnlyReadsOn};
-ghost use Rattle.snd_modes.specs.Handle.{disk_of, loan_of};
+ghost use Rattle.snd_layout.specs.Params.{AreParams};
+ghost use Rattle.snd_modes.specs.Handle.{disk_of, known_of, loan_of};
 ghost use Rattle.snd_output.specs.Ends.{CountsStop};
 ghost use Rattle.snd_inputs.specs.Looking.{SeenReadable};
 ghost use Rattle.snd_inputs.specs.Opening.{OpensInput};
@@ -11,9 +13,9 @@ ghost use Rattle.snd_inputs.specs.Seeing.{SeesDisk, SeesWithin};
 use crate::input::Input;
 use snd_container::{fixed_form, open_layout};
 use snd_disk::{Disk, Shelf, ShelfFault};
-use snd_layout::{Layout, OpenError, OpenRefusal};
+use snd_layout::{Layout, OpenError, OpenRefusal, Params};
 use snd_lines::Refusal;
-use snd_modes::{File, Read};
+use snd_modes::{File, Mode, Read};
 use snd_output::Stop;
 use std::alloc::Global;
 
@@ -70,6 +72,17 @@ pub fn open_input<S: Shelf>(
             Err(stop)
         }
     }
+}
+
+/// The parameters of a file that is open, whose codec is not ADPCM.
+pub fn params_of<D: Disk, M: Mode>(file: &File<'_, D, M>) -> Params
+    ensures params { result ≡ (known_of file.now).shape.params }
+    ensures good { AreParams result }
+    ensures linear { is_none (fixed_of result.codec) ≡ false }
+{
+    let params = file.params();
+    params.are_good();
+    params
 }
 
 /// Gives the disk back of a file that was read.

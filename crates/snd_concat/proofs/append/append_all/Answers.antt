@@ -1,7 +1,9 @@
-use Rattle.std.proofs.Common.{◌≡◌, ◌∙◌, ◌+◌, ◌≤◌, ℕ, List, Some, length, slice_get, get_or, take, false, rules, arith, ap, sym, subst}
+use Rattle.std.proofs.Common.{◌≡◌, ◌∙◌, ◌+◌, ◌≤◌, ℕ, List, [], ◌∷◌, Some, length, slice_get, get_or, take, false, rules, arith, ap, sym, subst}
 use Rattle.std.proofs.lemmas.List.{take_all}
 use Rattle.std.proofs.lemmas.Option.{get_or_from_slice_get, slice_get_within}
 use Rattle.snd_disk.proofs.Chains.{goes_on_then}
+use Rattle.snd_inputs.proofs.Asking.{asks_next, each_front, each_then, one_more}
+use Rattle.snd_inputs.specs.Asking.{AsksForEach}
 use Rattle.snd_inputs.proofs.Lists.{length-inputs}
 use Rattle.snd_inputs.proofs.Reading.{reads_then}
 use Rattle.snd_layout.specs.Shape.{Shape, room}
@@ -57,6 +59,9 @@ loop-at-preserved g c =
       reads = reads_then g.S.Shelf _ _ _ inv.reads c.append_input.ensures.reads;
       calm = c.in_ok-append_input.ensures.faults.1 ∙ inv.calm;
       to_calm = c.in_ok-append_input.ensures.faults.0 ∙ inv.to_calm;
+      asked = subst (λ (l : List (List ℕ)). AsksForEach 3 180224 g.S.Shelf.state l c.args.shelf.now c.append_input.new.shelf) (sym (one_more c.args.names.now c.loop-at.at name there))
+          (each_then g.S.Shelf.state 3 180224 (take c.loop-at.at c.args.names.now) (name ∷ []) c.args.shelf.now c.loop-at.shelf c.append_input.new.shelf inv.reads.files inv.asked c.append_input.ensures.asked);
+      unasked = c.append_input.ensures.unasked ∙ inv.unasked;
       tells = record { told = c.append_input.ensures.tells.told ∙ inv.tells.told; name = c.append_input.ensures.tells.name ∙ inv.tells.name };
       time = goes_on_then (g.E.Disk.state (disk_of old)).clock (g.E.Disk.state (disk_of now)).clock (g.E.Disk.state (disk_of new)).clock (g.E.Disk.left_between (disk_of old)) (g.E.Disk.left_between (disk_of now)) (g.E.Disk.left_between (disk_of new))
           inv.time c.append_input.ensures.time;
@@ -83,3 +88,16 @@ returns-clause-appended g c = λ files es told all follow.
     let counted : c.frames.result ≡ old.layout.frames + all_frames (shapes_of es) =
     c.frames.ensures ∙ before.0 ∙ ap (λ (l : List Editing). old.layout.frames + all_frames (shapes_of l)) whole in
     (ap Said.made counted, gains_same g.E.Disk.state (all_numbers (codec_of old) (take c.loop-at.at es)) (all_numbers (codec_of old) es) old now (ap (all_numbers (codec_of old)) whole) before.1)
+
+pub returns-in_err-append_input-clause-asked : goal.returns-in_err-append_input-clause-asked
+returns-in_err-append_input-clause-asked g c =
+    let there : slice_get c.args.names.now c.loop-at.at ≡ Some c.in-Some.name.now = search rules in
+    asks_next g.S.Shelf.state 3 180224 c.args.names.now c.loop-at.at c.in-Some.name.now there c.args.shelf.now c.loop-at.shelf c.append_input.new.shelf c.loop-at.invariant.reads.files c.loop-at.invariant.asked c.append_input.ensures.asked
+
+pub returns-in-Err-clause-asked : goal.returns-in-Err-clause-asked
+returns-in-Err-clause-asked g c =
+    let there : slice_get c.args.names.now c.loop-at.at ≡ Some c.in-Some.name.now = search rules in
+    asks_next g.S.Shelf.state 3 180224 c.args.names.now c.loop-at.at c.in-Some.name.now there c.args.shelf.now c.loop-at.shelf c.append_input.new.shelf c.loop-at.invariant.reads.files c.loop-at.invariant.asked c.append_input.ensures.asked
+
+pub returns-clause-asked : goal.returns-clause-asked
+returns-clause-asked g c = each_front g.S.Shelf.state 3 180224 c.args.names.now c.loop-at.at c.args.shelf.now c.loop-at.shelf c.loop-at.invariant.asked

@@ -1,5 +1,6 @@
 use Rattle.std.proofs.Common.{rules, ◌≡◌, ◌∙◌, Result, Ok, Err, ap, subst, sym}
 use Rattle.std.proofs.lemmas.Result.{IfOk-weaker}
+use Rattle.snd_inputs.proofs.Asking.{asks_whole}
 use Rattle.snd_inputs.proofs.Held.{held_beside, only_read}
 use Rattle.snd_inputs.proofs.Lists.{opened_same}
 use Rattle.snd_inputs.specs.Inputs.{input_as, input_in}
@@ -50,3 +51,10 @@ returns-clause-reads g c =
     subst (λ r. OpensInput g.S.Shelf g.S.Disk.Disk c.args.name.now c.args.shelf.now c.open_input.new.shelf (Ok r)) c.in-Ok.is c.in_ok-input.ensures.opened in
     only_read g.S.Shelf g.S.Disk.Disk c.args.shelf.now c.open_input.new.shelf c.give.new.self c.in-Ok.input _ _ _ c.args.name.now opens c.open_laid-from.ensures.same_disk (sym (search rules) ∙ c.close_read-back.ensures.same_disk) c.append_file-appended.ensures.reads c.give.ensures.given
     c.give.ensures.images c.give.ensures.others c.requires.is_in
+
+pub returns-clause-asked : goal.returns-clause-asked
+returns-clause-asked g c =
+    let opens : IsOpen g.S.Shelf g.S.Disk.Disk c.args.name.now c.args.shelf.now c.open_input.new.shelf c.in-Ok.input =
+    subst (λ r. OpensInput g.S.Shelf g.S.Disk.Disk c.args.name.now c.args.shelf.now c.open_input.new.shelf (Ok r)) c.in-Ok.is c.in_ok-input.ensures.opened in
+    asks_whole g.S.Shelf g.S.Disk.Disk c.args.shelf.now c.open_input.new.shelf c.give.new.self c.in-Ok.input _ _ _ c.args.name.now opens c.open_laid-from.ensures.same_disk (sym (search rules) ∙ c.close_read-back.ensures.same_disk) c.give.ensures.given
+    _ c.open_laid-from.ensures.shape (g.met.S.Disk.Disk.size_told c.in-Ok.input.disk) c.append_file-appended.ensures.asked

@@ -1,4 +1,5 @@
-use Rattle.std.proofs.Common.{◌≡◌, ◌∙◌, ◌++◌, ◌∷◌, [], ℕ, List, None, Some, Ok, get_or, rules, ap, refl, subst, sym}
+use Rattle.std.proofs.Common.{◌≡◌, ◌∙◌, ◌++◌, ◌∷◌, [], ℕ, List, None, Some, Ok, arith, get_or, rules, ap, refl, subst, sym}
+use Rattle.snd_inputs.proofs.Asking.{asks_looks, both_then, each_less}
 use Rattle.snd_inputs.proofs.Between.{changes_after}
 use Rattle.snd_inputs.proofs.Lists.{same_inputs}
 use Rattle.snd_inputs.proofs.Reading.{reads_changes}
@@ -57,3 +58,10 @@ returns-in-Ok-Refused-clause-changes g c = reads_changes g.S.Shelf c.args.concat
 
 pub returns-in-Err-clause-changes : goal.returns-in-Err-clause-changes
 returns-in-Err-clause-changes g c = reads_changes g.S.Shelf c.args.concatenation.now.output.now _ _ c.look_all.ensures.reads
+
+pub returns-in-Ok-Sound-clause-asked : goal.returns-in-Ok-Sound-clause-asked
+returns-in-Ok-Sound-clause-asked g c =
+    let inputs = c.args.concatenation.now.inputs in
+    each_less g.S.Shelf.state 3 212992 8 262144 inputs c.args.shelf.now c.concat_laid.new.shelf (omega arith) (omega arith)
+    (both_then g.S.Shelf.state 0 16384 3 196608 inputs c.args.shelf.now c.look_all.new.shelf c.concat_laid.new.shelf c.look_all.ensures.reads.files
+    (asks_looks g.S.Shelf.state 0 16384 inputs c.args.shelf.now c.look_all.new.shelf (omega arith) c.look_all.ensures.asked) c.concat_laid.ensures.asked)

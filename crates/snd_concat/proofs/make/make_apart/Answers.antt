@@ -1,4 +1,5 @@
-use Rattle.std.proofs.Common.{◌≡◌, ◌∙◌, Ok, get_or}
+use Rattle.std.proofs.Common.{◌≡◌, ◌∙◌, Ok, arith, get_or}
+use Rattle.snd_inputs.proofs.Asking.{asks_looks, both_then}
 use Rattle.snd_inputs.proofs.Lists.{same_inputs}
 use Rattle.snd_inputs.proofs.Reading.{reads_then}
 use Rattle.snd_inputs.specs.Inputs.{inputs_in}
@@ -20,3 +21,8 @@ returns-clause-made g c =
 
 pub returns-clause-reads : goal.returns-clause-reads
 returns-clause-reads g c = reads_then g.S.Shelf _ _ _ c.see_apart.ensures.reads c.make.ensures.reads
+
+pub returns-clause-asked : goal.returns-clause-asked
+returns-clause-asked g c =
+    both_then g.S.Shelf.state 0 16384 3 180224 c.args.names.now c.args.shelf.now c.see_apart.new.shelf c.make.new.shelf c.see_apart.ensures.reads.files
+    (asks_looks g.S.Shelf.state 0 16384 c.args.names.now c.args.shelf.now c.see_apart.new.shelf (omega arith) c.see_apart.ensures.asked) c.make.ensures.asked

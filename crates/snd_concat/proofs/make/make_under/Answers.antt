@@ -1,4 +1,5 @@
 use Rattle.std.proofs.Common.{◌≡◌, ◌∙◌, true, None, Ok, get_or}
+use Rattle.snd_inputs.proofs.Asking.{asks_beside}
 use Rattle.snd_inputs.proofs.Between.{between_changes, between_files}
 use Rattle.snd_inputs.proofs.Lists.{same_inputs}
 use Rattle.snd_inputs.specs.Inputs.{inputs_in}
@@ -28,3 +29,9 @@ pub returns-clause-changes : goal.returns-clause-changes
 returns-clause-changes g c =
     between_changes g.S.Shelf g.S.Disk.Disk c.args.shelf.now c.take_output.new.shelf c.make_apart-made.new.shelf c.give.new.self c.in_ok-disk.disk c.make_apart-made.new.disk c.args.output.now true c.in_ok-disk.ensures.out.takes c.make_apart-made.ensures.reads
     c.give.ensures.given c.in_ok-disk.ensures.out.images c.give.ensures.images c.in_ok-disk.ensures.out.others c.give.ensures.others (c.requires.back c.args.output.now) (λ b told. still_told _ _ b c.make_apart-made.ensures.tells told) c.make_apart-made.ensures.time
+
+pub returns-clause-asked : goal.returns-clause-asked
+returns-clause-asked g c =
+    let out = c.in_ok-disk.ensures.out in
+    asks_beside g.S.Shelf.state 3 196608 c.args.names.now c.args.output.now c.args.shelf.now c.take_output.new.shelf c.make_apart-made.new.shelf c.give.new.self _ out.takes.files out.bytes.asked c.make_apart-made.ensures.asked
+    (c.make_apart-made.ensures.unasked ∙ out.takes.fresh.2) c.give.ensures.given.asked
