@@ -120,8 +120,8 @@ stopped_as stop longer longer' all d m m' stands is stops = subst (λ (b : Bool)
 
 pub served_on_then : {T : Type 0} (r : Result T Stop) (longer longer' : Bool) (all mid : List Edited) (d d' : Desk) (m m' m'' : Moment) (stands : (List ℕ → Bool) → Desk → Type 0)
     → longer ≡ longer' → Serves all mid d d' m m' → IsServedOn r longer mid d' m' m'' stands → IsServedOn r longer' all d m m'' stands
-served_on_then (Ok x) longer longer' all mid d d' m m' m'' stands is first (files, s, left, serves, here, long) =
-    (files, s, left, serves_then all mid _ d d' _ m m' m'' first serves, here, long ∙ is)
+served_on_then (Ok x) longer longer' all mid d d' m m' m'' stands is first (store, s, left, serves, here, long) =
+    (store, s, left, serves_then all mid _ d d' _ m m' m'' first serves, here, long ∙ is)
 served_on_then (Err stop) longer longer' all mid d d' m m' m'' stands is first stops =
     stopped_as stop longer longer' all d m m'' stands is (stopped_then stop longer all mid d d' m m' m'' stands first stops)
 

@@ -1,6 +1,6 @@
 -- What a call on chunks leaves decides which reply comes.
-use Rattle.std.proofs.Common.{◌≡◌, ◌⊎◌, inl, inr, ℕ, ◌<◌, ◌≤◌, List, Vec, Bool, true, false, Option, None, Some, Result, Ok, Err, IfOk, refl, sym, ap, ◌∙◌, subst, arith}
-use Rattle.std.specs.Prelude.{IfSome, codes, is_none, nat_lt}
+use Rattle.std.proofs.Common.{◌≡◌, ◌⊎◌, inl, inr, ℕ, List, Vec, Bool, true, Option, None, Some, Result, Ok, Err, IfOk, refl, sym, ap, ◌∙◌, subst, arith}
+use Rattle.std.specs.Prelude.{IfSome, codes, is_none}
 use Rattle.std.proofs.lemmas.Bool.{lt-ltb, le-ltb}
 use Rattle.std.specs.declared.alloc.Global.{Global}
 use Rattle.snd_disk.specs.Device.{AsksAtMost}
@@ -11,12 +11,11 @@ use Rattle.snd_layout.specs.Shape.{Shape}
 use Rattle.snd_layout.specs.declared.piece.Piece.{Piece}
 use Rattle.snd_modes.specs.declared.error.GetError.{GetError}
 use Rattle.snd_modes.specs.declared.error.GetError.TheVariants as get
-use Rattle.snd_modes.specs.Editing.{Editing}
-use Rattle.snd_modes.specs.Handle.{Known, Stands, IfOkStanding, known_of}
+use Rattle.snd_modes.specs.Handle.{Known, IfOkStanding, known_of}
 use Rattle.snd_modes.specs.Pieces.{GetLeaves, GivesBody, IsGetRefusal, MayGive, body_of, first_piece}
 use Rattle.snd_modes.specs.declared.handle.File.{File}
 use Rattle.snd_modes.specs.declared.mode.Mode.{Ghosts as ModeGhosts}
-use Rattle.snd_tags.specs.Found.{Answers, FindsInfo, IsAnswer, body_given, read_as}
+use Rattle.snd_tags.specs.Found.{Answers, FindsInfo, body_given, read_as}
 use Rattle.snd_tags.specs.declared.error.TagError.{TagError}
 use Rattle.snd_tags.specs.declared.error.TagError.TheVariants.{Get, BadBody}
 use Rattle.snd_script.specs.Answered.{IsWhole, SaysNothing, Sends, SendsText, gathered}

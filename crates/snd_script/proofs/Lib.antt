@@ -26,6 +26,7 @@ pub mod ShelfSteps
 pub mod StaysOpen
 pub mod Stepping
 pub mod Tails
+pub mod FedTaps
 pub mod TrailRuns
 pub mod Trails
 pub mod Uses

@@ -5,6 +5,7 @@ use Rattle.snd_command.specs.Said.{Said}
 use Rattle.snd_disk.specs.State.{AtMost}
 use Rattle.snd_meta.specs.declared.bext.BextKey.{BextKey}
 use Rattle.snd_meta.specs.declared.bext.BextKey.TheVariants.{Description, Originator, OrigRef, OrigDate, OrigTime, TimeRef, CodingHist}
+use Rattle.snd_meters.specs.Gauge.{Gauge}
 use Rattle.snd_script.specs.Desk.{Mode, is_pinned, makes, pinned, reading, reads, updating, writes, writing}
 use Rattle.snd_script.specs.Rules.{Rule, auto_rule, built_rule, in_mode, is_built, is_held, is_set, most_on, read_rule, refused_rule, rule_of, seek_read_rule, seek_rule, seek_write_rule, set_bext_rule, set_chunk_rule, set_cue_rule, set_string_rule, trim_rule, truncate_rule, unless_pinned, update_rule, write_rule}
 use Rattle.snd_script.specs.Script.{asked_by, most_in, written_by}
@@ -54,38 +55,38 @@ up_bext OrigTime text = record { asks = omega arith; writes = omega arith }
 up_bext TimeRef text = record { asks = omega arith; writes = omega arith }
 up_bext CodingHist text = record { asks = omega arith; writes = omega arith }
 
-up_built : (mode : Mode) (said : Said) → UsesUpTo (most_on mode asked_by said) (most_on mode written_by said) (built_rule mode said)
-up_built mode (Said.open_read n) = record { asks = omega arith; writes = omega arith }
-up_built mode (Said.open_update n) = record { asks = omega arith; writes = omega arith }
-up_built mode (Said.create kind codec channels rate n) = record { asks = omega arith; writes = omega arith }
-up_built mode Said.info = record { asks = omega arith; writes = omega arith }
-up_built mode Said.close = record { asks = omega arith; writes = omega arith }
-up_built mode (Said.seek_read n) = up_in (reads mode) _ _ (seek_read_rule n) (record { asks = omega arith; writes = omega arith })
-up_built mode (Said.seek_write n) = up_in (writes mode) _ _ (seek_write_rule n) (record { asks = omega arith; writes = omega arith })
-up_built mode (Said.seek_both n) = up_seek mode n
-up_built mode (Said.read n) = up_in (reads mode) _ _ (read_rule n) (record { asks = omega arith; writes = omega arith })
-up_built mode (Said.write xs) = up_in (writes mode) _ _ (write_rule xs) (record { asks = omega arith; writes = omega arith })
-up_built mode (Said.truncate n) = up_in (writes mode) _ _ (truncate_rule n) (record { asks = omega arith; writes = omega arith })
-up_built mode Said.trim = up_in (writes mode) _ _ trim_rule (record { asks = omega arith; writes = omega arith })
-up_built mode Said.update = up_in (writes mode) _ _ update_rule (record { asks = omega arith; writes = omega arith })
-up_built mode (Said.auto on) = up_in (writes mode) _ _ (auto_rule on) (record { asks = omega arith; writes = omega arith })
-up_built mode (Said.set_chunk id hex) = up_set (makes mode) _ _ (set_chunk_rule id hex) (record { asks = omega arith; writes = omega arith })
-up_built mode (Said.set_string key text) = up_set (makes mode) _ _ (set_string_rule key text) (record { asks = omega arith; writes = omega arith })
-up_built mode (Said.set_bext key text) = up_set (makes mode) _ _ (set_bext_rule key text) (up_bext key text)
-up_built mode (Said.set_cue places) = up_set (makes mode) _ _ (set_cue_rule places) (record { asks = omega arith; writes = omega arith })
-up_built mode (Said.get_chunk id) = record { asks = omega arith; writes = omega arith }
-up_built mode Said.get_chunks = record { asks = omega arith; writes = omega arith }
-up_built mode Said.get_strings = record { asks = omega arith; writes = omega arith }
-up_built mode Said.get_bext = record { asks = omega arith; writes = omega arith }
-up_built mode Said.get_cues = record { asks = omega arith; writes = omega arith }
-up_built mode (Said.tap kind) = record { asks = omega arith; writes = omega arith }
-up_built mode (Said.untap kind) = record { asks = omega arith; writes = omega arith }
+up_built : (mode : Mode) (taps : List Gauge) (said : Said) → UsesUpTo (most_on mode asked_by said) (most_on mode written_by said) (built_rule mode taps said)
+up_built mode taps (Said.open_read n) = record { asks = omega arith; writes = omega arith }
+up_built mode taps (Said.open_update n) = record { asks = omega arith; writes = omega arith }
+up_built mode taps (Said.create kind codec channels rate n) = record { asks = omega arith; writes = omega arith }
+up_built mode taps Said.info = record { asks = omega arith; writes = omega arith }
+up_built mode taps Said.close = record { asks = omega arith; writes = omega arith }
+up_built mode taps (Said.seek_read n) = up_in (reads mode) _ _ (seek_read_rule n) (record { asks = omega arith; writes = omega arith })
+up_built mode taps (Said.seek_write n) = up_in (writes mode) _ _ (seek_write_rule n) (record { asks = omega arith; writes = omega arith })
+up_built mode taps (Said.seek_both n) = up_seek mode n
+up_built mode taps (Said.read n) = up_in (reads mode) _ _ (read_rule n) (record { asks = omega arith; writes = omega arith })
+up_built mode taps (Said.write xs) = up_in (writes mode) _ _ (write_rule xs) (record { asks = omega arith; writes = omega arith })
+up_built mode taps (Said.truncate n) = up_in (writes mode) _ _ (truncate_rule n) (record { asks = omega arith; writes = omega arith })
+up_built mode taps Said.trim = up_in (writes mode) _ _ trim_rule (record { asks = omega arith; writes = omega arith })
+up_built mode taps Said.update = up_in (writes mode) _ _ update_rule (record { asks = omega arith; writes = omega arith })
+up_built mode taps (Said.auto on) = up_in (writes mode) _ _ (auto_rule on) (record { asks = omega arith; writes = omega arith })
+up_built mode taps (Said.set_chunk id hex) = up_set (makes mode) _ _ (set_chunk_rule id hex) (record { asks = omega arith; writes = omega arith })
+up_built mode taps (Said.set_string key text) = up_set (makes mode) _ _ (set_string_rule key text) (record { asks = omega arith; writes = omega arith })
+up_built mode taps (Said.set_bext key text) = up_set (makes mode) _ _ (set_bext_rule key text) (up_bext key text)
+up_built mode taps (Said.set_cue places) = up_set (makes mode) _ _ (set_cue_rule places) (record { asks = omega arith; writes = omega arith })
+up_built mode taps (Said.get_chunk id) = record { asks = omega arith; writes = omega arith }
+up_built mode taps Said.get_chunks = record { asks = omega arith; writes = omega arith }
+up_built mode taps Said.get_strings = record { asks = omega arith; writes = omega arith }
+up_built mode taps Said.get_bext = record { asks = omega arith; writes = omega arith }
+up_built mode taps Said.get_cues = record { asks = omega arith; writes = omega arith }
+up_built mode taps (Said.tap kind) = record { asks = omega arith; writes = omega arith }
+up_built mode taps (Said.untap kind) = record { asks = omega arith; writes = omega arith }
 
 pub more : (old n m new : ℕ) → n ≤ m → AtMost old n new → AtMost old m new
 more old n m new le uses = record { later = uses.later; most = omega (arith, le, uses.most) }
 
-pub uses_most : (mode : Mode) (said : Said) → UsesUpTo (most_on mode asked_by said) (most_on mode written_by said) (rule_of mode said)
-uses_most mode said = up_if (is_built said) _ _ _ (up_held (is_held said) mode _ _ (built_rule mode said) (up_built mode said))
+pub uses_most : (mode : Mode) (taps : List Gauge) (said : Said) → UsesUpTo (most_on mode asked_by said) (most_on mode written_by said) (rule_of mode taps said)
+uses_most mode taps said = up_if (is_built said) _ _ _ (up_held (is_held said) mode _ _ (built_rule mode taps said) (up_built mode taps said))
 
 -- .. which is no more than in a run with a file that stays open, or without one
 some_most : (set makes : Bool) (n : ℕ) → (if set && not makes then 0 else n) ≤ n

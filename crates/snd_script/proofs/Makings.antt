@@ -32,8 +32,8 @@ kind_is_made kind channels rate codec p linear is fits = (
 )
 
 misfit : (kind : Kind) (asked : Result Parameters OpenRefusal) (p : Parameters) (refusal : OpenRefusal) → asked ≡ Ok p → fit_refusal kind p ≡ Some refusal → MakesOf kind asked (Err refusal)
-misfit kind asked p refusal is fits files name =
-    ap (make_edit files name kind) is ∙ ap (λ (r : Result Editing OpenRefusal). open_edit_of files name (Opening.for_making kind p) (as_opened r)) (making_refused kind p refusal fits)
+misfit kind asked p refusal is fits store name =
+    ap (make_edit store name kind) is ∙ ap (λ (r : Result Editing OpenRefusal). open_edit_of store name (Opening.for_making kind p) (as_opened r)) (making_refused kind p refusal fits)
 
 pub misfit_is_refused : (kind : Kind) (asked : Result Parameters OpenRefusal) (p : Parameters) (refusal : OpenRefusal) (r : Result Params OpenRefusal) → r ≡ Err refusal → asked ≡ Ok p → fit_refusal kind p ≡ Some refusal
     → MakesOf kind asked r

@@ -9,8 +9,11 @@ use Rattle.snd_layout.specs.declared.refusal.OpenRefusal.{OpenRefusal}
 use Rattle.snd_layout.specs.declared.refusal.OpenRefusal.TheVariants as chunk
 use Rattle.snd_layout.specs.Names.{codec_name, kind_name, refusal_name as open_name}
 use Rattle.snd_lines.specs.declared.refusal.Refusal.{Refusal}
-use Rattle.snd_lines.specs.declared.refusal.Refusal.TheVariants.{Open, AdpcmUpdate, UnknownLength, PartFrame, SampleRange, SeekRange, TrailingData, ContainerFull, Straddle, FramesWritten, ReservedChunk, NoChunks, ChunkTooLarge, AutoOn, NoSuchChunk, BadCommand, LineTooLong, NotOpen, AlreadyOpen, WrongMode, SameName, MixedParams, NotMono, UnknownSuffix, MissingFile, BadInfo, BadCue, BadBext, TextTooLong, Pinned, NotBuilt}
+use Rattle.snd_lines.specs.declared.refusal.Refusal.TheVariants.{Open, AdpcmUpdate, UnknownLength, PartFrame, SampleRange, SeekRange, TrailingData, ContainerFull, Straddle, FramesWritten, ReservedChunk, NoChunks, ChunkTooLarge, AutoOn, NoSuchChunk, BadCommand, LineTooLong, NotOpen, AlreadyOpen, WrongMode, SameName, MixedParams, NotMono, UnknownSuffix, MissingFile, BadInfo, BadCue, BadBext, TextTooLong, Pinned, NotBuilt, NoSuchTap, TapOn}
 use Rattle.snd_lines.specs.Refusals.{refusal_name}
+use Rattle.snd_taps.specs.Names.{tap_name}
+use Rattle.snd_taps.specs.declared.tap.TapKind.{TapKind}
+use Rattle.snd_taps.specs.declared.tap.TapKind.TheVariants.{Peak, Clips, Energy}
 
 pub short_kind : (kind : Kind) → length (kind_name kind) ≤ 16
 short_kind Wave = lit≤ tt
@@ -89,3 +92,10 @@ short_refusal BadBext = lit≤ tt
 short_refusal TextTooLong = lit≤ tt
 short_refusal Pinned = lit≤ tt
 short_refusal NotBuilt = lit≤ tt
+short_refusal NoSuchTap = lit≤ tt
+short_refusal TapOn = lit≤ tt
+
+pub short_tap : (kind : TapKind) → length (tap_name kind) ≤ 6
+short_tap Peak = lit≤ tt
+short_tap Clips = lit≤ tt
+short_tap Energy = lit≤ tt

@@ -1,36 +1,40 @@
 -- Commands that need an open file are refused where there is none.
 use Rattle.std.proofs.Common.{◌≡◌, ◌⊎◌, inl, inr, ℕ, ℤ, List, Bool, ap, ◌∙◌}
 use Rattle.std.specs.Borrow.{Bor}
-use Rattle.snd_disk.specs.Shelf.{Files}
+use Rattle.snd_script.specs.Desk.{Store}
 use Rattle.snd_script.specs.Edit.{Edited}
 use Rattle.snd_script.specs.Work.{work_closed}
 use Rattle.snd_lines.specs.declared.refusal.Refusal.TheVariants as refusal
 use Rattle.snd_script.specs.declared.work.Asking.{Asking}
 use Rattle.snd_script.specs.declared.work.Setting.{Setting}
 use Rattle.snd_script.specs.declared.work.Work.{Work}
-use Rattle.snd_script.specs.declared.work.Work.TheVariants.{Close, Tell, SeekRead, SeekWrite, SeekBoth, Read, Write, Truncate, Trim, BringUp, Auto, Set, Ask}
+use Rattle.snd_script.specs.declared.work.Work.TheVariants.{Close, Tell, SeekRead, SeekWrite, SeekBoth, Read, Write, Truncate, Trim, BringUp, Auto, Set, Ask, Tap, Untap}
 use Rattle.snd_script.specs.Replies.{refuses}
+use Rattle.snd_taps.specs.declared.tap.TapKind.{TapKind}
 use Rattle.snd_script.proofs.ShelfSteps.{replied}
 
 abbrev pub NeedsOpen : Work → Type 0
 NeedsOpen w =
     (w ≡ Close) ⊎ ((w ≡ Tell) ⊎ (((n : ℕ) × (w ≡ SeekRead n)) ⊎ (((n : ℕ) × (w ≡ SeekWrite n)) ⊎ (((n : ℕ) × (w ≡ SeekBoth n)) ⊎ (((n : ℕ) × (w ≡ Read n)) ⊎ (((xs : Bor (List ℤ)) × (w ≡ Write xs))
-    ⊎ (((n : ℕ) × (w ≡ Truncate n)) ⊎ ((w ≡ Trim) ⊎ ((w ≡ BringUp) ⊎ (((on : Bool) × (w ≡ Auto on)) ⊎ (((setting : Setting) × (w ≡ Set setting)) ⊎ ((asking : Asking) × (w ≡ Ask asking)))))))))))))
+    ⊎ (((n : ℕ) × (w ≡ Truncate n)) ⊎ ((w ≡ Trim) ⊎ ((w ≡ BringUp) ⊎ (((on : Bool) × (w ≡ Auto on)) ⊎ (((setting : Setting) × (w ≡ Set setting)) ⊎ (((asking : Asking) × (w ≡ Ask asking))
+    ⊎ (((kind : TapKind) × (w ≡ Tap kind)) ⊎ ((kind : TapKind) × (w ≡ Untap kind)))))))))))))))
 
-not_open : (w : Work) → NeedsOpen w → (files : Files) → work_closed w files ≡ replied (refuses refusal.NotOpen) files
-not_open w (inl is) files = ap (λ (x : Work). work_closed x files) is
-not_open w (inr (inl is)) files = ap (λ (x : Work). work_closed x files) is
-not_open w (inr (inr (inl is))) files = ap (λ (x : Work). work_closed x files) is.1
-not_open w (inr (inr (inr (inl is)))) files = ap (λ (x : Work). work_closed x files) is.1
-not_open w (inr (inr (inr (inr (inl is))))) files = ap (λ (x : Work). work_closed x files) is.1
-not_open w (inr (inr (inr (inr (inr (inl is)))))) files = ap (λ (x : Work). work_closed x files) is.1
-not_open w (inr (inr (inr (inr (inr (inr (inl is))))))) files = ap (λ (x : Work). work_closed x files) is.1
-not_open w (inr (inr (inr (inr (inr (inr (inr (inl is)))))))) files = ap (λ (x : Work). work_closed x files) is.1
-not_open w (inr (inr (inr (inr (inr (inr (inr (inr (inl is))))))))) files = ap (λ (x : Work). work_closed x files) is
-not_open w (inr (inr (inr (inr (inr (inr (inr (inr (inr (inl is)))))))))) files = ap (λ (x : Work). work_closed x files) is
-not_open w (inr (inr (inr (inr (inr (inr (inr (inr (inr (inr (inl is))))))))))) files = ap (λ (x : Work). work_closed x files) is.1
-not_open w (inr (inr (inr (inr (inr (inr (inr (inr (inr (inr (inr (inl is)))))))))))) files = ap (λ (x : Work). work_closed x files) is.1
-not_open w (inr (inr (inr (inr (inr (inr (inr (inr (inr (inr (inr (inr is)))))))))))) files = ap (λ (x : Work). work_closed x files) is.1
+not_open : (w : Work) → NeedsOpen w → (store : Store) → work_closed w store ≡ replied (refuses refusal.NotOpen) store
+not_open w (inl is) store = ap (λ (x : Work). work_closed x store) is
+not_open w (inr (inl is)) store = ap (λ (x : Work). work_closed x store) is
+not_open w (inr (inr (inl is))) store = ap (λ (x : Work). work_closed x store) is.1
+not_open w (inr (inr (inr (inl is)))) store = ap (λ (x : Work). work_closed x store) is.1
+not_open w (inr (inr (inr (inr (inl is))))) store = ap (λ (x : Work). work_closed x store) is.1
+not_open w (inr (inr (inr (inr (inr (inl is)))))) store = ap (λ (x : Work). work_closed x store) is.1
+not_open w (inr (inr (inr (inr (inr (inr (inl is))))))) store = ap (λ (x : Work). work_closed x store) is.1
+not_open w (inr (inr (inr (inr (inr (inr (inr (inl is)))))))) store = ap (λ (x : Work). work_closed x store) is.1
+not_open w (inr (inr (inr (inr (inr (inr (inr (inr (inl is))))))))) store = ap (λ (x : Work). work_closed x store) is
+not_open w (inr (inr (inr (inr (inr (inr (inr (inr (inr (inl is)))))))))) store = ap (λ (x : Work). work_closed x store) is
+not_open w (inr (inr (inr (inr (inr (inr (inr (inr (inr (inr (inl is))))))))))) store = ap (λ (x : Work). work_closed x store) is.1
+not_open w (inr (inr (inr (inr (inr (inr (inr (inr (inr (inr (inr (inl is)))))))))))) store = ap (λ (x : Work). work_closed x store) is.1
+not_open w (inr (inr (inr (inr (inr (inr (inr (inr (inr (inr (inr (inr (inl is))))))))))))) store = ap (λ (x : Work). work_closed x store) is.1
+not_open w (inr (inr (inr (inr (inr (inr (inr (inr (inr (inr (inr (inr (inr (inl is)))))))))))))) store = ap (λ (x : Work). work_closed x store) is.1
+not_open w (inr (inr (inr (inr (inr (inr (inr (inr (inr (inr (inr (inr (inr (inr is)))))))))))))) store = ap (λ (x : Work). work_closed x store) is.1
 
-pub needs_open : (w : Work) (files : Files) (edited : Edited) → NeedsOpen w → edited ≡ work_closed w files → edited ≡ replied (refuses refusal.NotOpen) files
-needs_open w files edited needs is = is ∙ not_open w needs files
+pub needs_open : (w : Work) (store : Store) (edited : Edited) → NeedsOpen w → edited ≡ work_closed w store → edited ≡ replied (refuses refusal.NotOpen) store
+needs_open w store edited needs is = is ∙ not_open w needs store

@@ -1,8 +1,7 @@
 -- The lines of a script while a file is open.
 use Rattle.std.proofs.Common.{◌≡◌, ℕ, List, ◌++◌, Bool, ◌||◌, Option, Some, Ok, Err, sym, ◌∙◌, ap, subst}
 use Rattle.snd_command.specs.Said.{Said}
-use Rattle.snd_disk.specs.Shelf.{Files}
-use Rattle.snd_script.specs.Desk.{Desk, OpenFile, open_desk}
+use Rattle.snd_script.specs.Desk.{Desk, OpenFile, Store, open_desk}
 use Rattle.snd_script.specs.Edit.{Edited, edit_line, edit_open, refused}
 use Rattle.snd_script.specs.Lines.{Reading}
 use Rattle.snd_script.specs.Replies.{is_refusal, refuses, text_of}
@@ -15,12 +14,12 @@ use Rattle.snd_script.specs.declared.stop.Stop.TheVariants.{Ended, TooLong, Scri
 use Rattle.snd_script.proofs.Chains.{brought_then, line_stops, serves_none, serves_one, serves_then, stopped_then}
 
 -- what is said is answered so
-module _ (files : Files) (file : OpenFile) (said : Said) (edited : Edited) (r r' : Bool) (before after : Option (List ℕ)) (stands : (List ℕ → Bool) → Desk → Type 0) (is : edit_open files file said ≡ edited) where
-  pub step_served : (x : Unit {0}) → IsStepAnswered (Ok x) edited (open_desk files file) r r' before after stands → IsLineServed (Ok next.Open) (edit_open files file said) files file r r' before after stands
-  step_served x answered = subst (λ (d : Edited). IsLineServed (Ok next.Open) d files file r r' before after stands) (sym is) answered
+module _ (store : Store) (file : OpenFile) (said : Said) (edited : Edited) (r r' : Bool) (before after : Option (List ℕ)) (stands : (List ℕ → Bool) → Desk → Type 0) (is : edit_open store file said ≡ edited) where
+  pub step_served : (x : Unit {0}) → IsStepAnswered (Ok x) edited (open_desk store file) r r' before after stands → IsLineServed (Ok next.Open) (edit_open store file said) store file r r' before after stands
+  step_served x answered = subst (λ (d : Edited). IsLineServed (Ok next.Open) d store file r r' before after stands) (sym is) answered
 
-  pub step_stops : (stop : Stop) → StopsLine stop edited (open_desk files file) before after stands → StopsLine stop (edit_open files file said) (open_desk files file) before after stands
-  step_stops stop stops = subst (λ (d : Edited). StopsLine stop d (open_desk files file) before after stands) (sym is) stops
+  pub step_stops : (stop : Stop) → StopsLine stop edited (open_desk store file) before after stands → StopsLine stop (edit_open store file said) (open_desk store file) before after stands
+  step_stops stop stops = subst (λ (d : Edited). StopsLine stop d (open_desk store file) before after stands) (sym is) stops
 
 -- a refusal that does not get out
 pub refused_stops : (stop : Stop) (edited : Edited) (refusal : Refusal) (d : Desk) (r r' : Bool) (before after : Option (List ℕ)) (stands : (List ℕ → Bool) → Desk → Type 0)

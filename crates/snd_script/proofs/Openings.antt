@@ -1,21 +1,23 @@
 -- What is known of a run once a file was opened, or was not, and once it was closed.
-use Rattle.std.proofs.Common.{◌≡◌, inl, inr, ℕ, List, [], ◌++◌, Bool, true, false, Option, Some, Result, Ok, Err, refl, sym, ◌∙◌, ap, subst, cond}
+use Rattle.std.proofs.Common.{◌≡◌, ℤ, inl, inr, ℕ, List, [], ◌++◌, Bool, true, false, Option, Some, Result, Ok, Err, refl, sym, ◌∙◌, ap, subst, cond}
 use Rattle.std.specs.Prelude.{unwrap_or}
 use Rattle.std.specs.Str.{bytes_eq}
 use Rattle.std.specs.Borrow.{MutBor}
 use Rattle.snd_disk.proofs.Names.{same_bytes}
 use Rattle.snd_disk.specs.Device.{Tells}
-use Rattle.snd_disk.specs.Shelf.{Files}
 use Rattle.snd_disk.specs.State.{Rises, State}
 use Rattle.snd_disk.specs.declared.disk.Disk.{Ghosts}
 use Rattle.snd_layout.specs.Shape.{Shape}
 use Rattle.snd_modes.specs.Editing.{Editing}
-use Rattle.snd_script.specs.Desk.{Desk, OpenFile, closed_as, closed_bytes, closed_desk, files_closed, open_desk, writes}
+use Rattle.snd_meters.specs.Gauge.{Gauge}
+use Rattle.snd_meters.specs.Gauges.{after_rest}
+use Rattle.snd_script.specs.Desk.{Desk, OpenFile, Store, closed_as, closed_bytes, closed_desk, files_closed, open_desk, store_closed, taps_closed, writes}
 use Rattle.snd_script.specs.Edit.{Edited, close_edit, opened_edit}
 use Rattle.snd_script.specs.Handled.{FinishesAs, HandleStands, handle_disk, handle_known, mode_of, open_as}
 use Rattle.snd_script.specs.Lines.{Reading}
 use Rattle.snd_script.specs.Replies.{Answer, file_line, ok_line, says}
 use Rattle.snd_script.specs.Script.{ending}
+use Rattle.snd_script.specs.Rules.{Rule}
 use Rattle.snd_script.specs.Served.{FaultCounts, SameCounts, lost_at, none_lost}
 use Rattle.snd_script.specs.Serving.{CountsAt, DiskStands, IsAnswered, IsCounted, IsServedOn, IsServedOpen, IsStopped, Moment, OpenStands, Serves, ServesPart, StopsLine, is_longer, moment, steps_from, steps_left}
 use Rattle.snd_script.specs.declared.handle.Handle.{Handle}
@@ -38,11 +40,11 @@ answer_stops Memory edited answer d r r' before after stands is said here = absu
 
 -- ---- a file was opened
 
-pub served_open_then : {T : Type 0} (r : Result T Stop) (longer longer' : Bool) (all mid : List Edited) (files : Files) (d d' : Desk) (m m' m'' : Moment) (stands : (List ℕ → Bool) → Desk → Type 0)
-    → longer ≡ longer' → Serves all mid d d' m m' → IsServedOpen r longer mid files d' m' m'' stands → IsServedOpen r longer' all files d m m'' stands
-served_open_then (Ok x) longer longer' all mid files d d' m m' m'' stands is first (file, s, left, serves, here, long) =
+pub served_open_then : {T : Type 0} (r : Result T Stop) (longer longer' : Bool) (all mid : List Edited) (store : Store) (d d' : Desk) (m m' m'' : Moment) (stands : (List ℕ → Bool) → Desk → Type 0)
+    → longer ≡ longer' → Serves all mid d d' m m' → IsServedOpen r longer mid store d' m' m'' stands → IsServedOpen r longer' all store d m m'' stands
+served_open_then (Ok x) longer longer' all mid store d d' m m' m'' stands is first (file, s, left, serves, here, long) =
     (file, s, left, serves_then all mid _ d d' _ m m' m'' first serves, here, long ∙ is)
-served_open_then (Err stop) longer longer' all mid files d d' m m' m'' stands is first stops =
+served_open_then (Err stop) longer longer' all mid store d d' m m' m'' stands is first stops =
     stopped_as stop longer longer' all d m m'' stands is (stopped_then stop longer all mid d d' m m' m'' stands first stops)
 
 pub shape_stands : {D : Type 0} {ghosts : Ghosts D} (state : D → State) (handle : Handle D ghosts) (e : Editing) → HandleStands state handle e → (handle_known handle).shape ≡ e.shape
@@ -53,6 +55,14 @@ shape_stands state (U file) e stands = stands.shape
 pub frames_stand : {D : Type 0} {ghosts : Ghosts D} (state : D → State) (handle : Handle D ghosts) (e : Editing) → HandleStands state handle e → (handle_known handle).shape.frames ≡ e.shape.frames
 frames_stand state handle e stands = ap (λ (h : Shape). h.frames) (shape_stands state handle e stands)
 
+-- the taps behind a command, where the disk tells the file
+pub taps_come : {D : Type 0} {ghosts : Ghosts D} (state : D → State) (handle : Handle D ghosts) (rule : Rule) (e : Editing) (taps taps' : List Gauge) → HandleStands state handle e
+    → ((frames : List (List ℤ)) × ((g : Editing) → HandleStands state handle g → frames ≡ rule.feeds g) × (taps' ≡ rule.taps (handle_known handle).shape.params.codec frames taps))
+    → taps' ≡ rule.taps e.shape.params.codec (rule.feeds e) taps
+taps_come state handle rule e taps taps' stands (frames, are, is) =
+    is ∙ ap (λ f. rule.taps (handle_known handle).shape.params.codec f taps) (are e stands)
+    ∙ ap (λ (h : Shape). rule.taps h.params.codec (rule.feeds e) taps) (shape_stands state handle e stands)
+
 bytes_stand : {D : Type 0} {ghosts : Ghosts D} (state : D → State) (handle : Handle D ghosts) (e : Editing) → HandleStands state handle e → Tells state (handle_disk handle) e.bytes
 bytes_stand state (R file) e stands = stands.bytes
 bytes_stand state (W file) e stands = stands.bytes
@@ -62,49 +72,56 @@ pub said_of_shape : (h h' : Shape) → h ≡ h' → says (file_line h) ≡ says 
 said_of_shape h h' is = ap (λ (x : Shape). says (file_line x)) is
 
 -- its line was said
-pub file_said : (left : Option (List ℕ)) (reading : Reading) (r : Bool) (t t' : Option (List ℕ)) (s : List ℕ) (files : Files) (file : OpenFile) (shape : Shape) → shape ≡ file.editing.shape
+pub file_said : (left : Option (List ℕ)) (reading : Reading) (r : Bool) (t t' : Option (List ℕ)) (s : List ℕ) (store : Store) (file : OpenFile) (shape : Shape) → shape ≡ file.editing.shape
     → IsAnswered {T = Unit {0}} (Ok tt) (says (file_line shape)) false false t t'
-    → Serves (steps_from (opened_edit files file) (moment reading left r t) s) (steps_left (open_desk files file) (moment reading left r t') s) (closed_desk files) (open_desk files file) (moment reading left r t) (moment reading left r t')
-file_said left reading r t t' s files file shape is said =
-    answered_one left reading reading r r t t' s refl (opened_edit files file) (closed_desk files) (sym (or_none r)) (subst (λ (h : Shape). (x : List ℕ) → t ≡ Some x → t' ≡ Some (x ++ file_line h)) is said.1)
+    → Serves (steps_from (opened_edit store file) (moment reading left r t) s) (steps_left (open_desk store file) (moment reading left r t') s) (closed_desk store) (open_desk store file) (moment reading left r t) (moment reading left r t')
+file_said left reading r t t' s store file shape is said =
+    answered_one left reading reading r r t t' s refl (opened_edit store file) (closed_desk store) (sym (or_none r)) (subst (λ (h : Shape). (x : List ℕ) → t ≡ Some x → t' ≡ Some (x ++ file_line h)) is said.1)
 
 -- ---- it is closed
 
-module _ {D : Type 0} {ghosts : Ghosts D} (state : D → State) (files : Files) (name : List ℕ) (stays : Bool) (handle : Handle D ghosts) (disk : D) where
-  others : (editing : Editing) (desk : Desk) → desk ≡ held_desk files name stays handle editing → (n : List ℕ) → bytes_eq n name ≡ false → files_closed desk n ≡ files n
-  others editing desk is n other = ap (λ d. files_closed d n) is ∙ ap (λ b. cond b (Some (closed_bytes (record { name = name; mode = open_as stays (mode_of handle); editing = editing }))) (files n)) other
+module _ {D : Type 0} {ghosts : Ghosts D} (state : D → State) (store : Store) (name : List ℕ) (stays : Bool) (taps : List Gauge) (handle : Handle D ghosts) (disk : D) where
+  others : (editing : Editing) (desk : Desk) → desk ≡ held_desk store name stays taps handle editing → (n : List ℕ) → bytes_eq n name ≡ false → files_closed desk n ≡ store.files n
+  others editing desk is n other = ap (λ d. files_closed d n) is ∙ ap (λ b. cond b (Some (closed_bytes (record { name = name; mode = open_as stays (mode_of handle); editing = editing; taps = taps }))) (store.files n)) other
 
-  own : (editing : Editing) (desk : Desk) → desk ≡ held_desk files name stays handle editing → files_closed desk name ≡ Some (closed_as (writes (open_as stays (mode_of handle))) editing).bytes
-  own editing desk is = ap (λ d. files_closed d name) is ∙ ap (λ b. cond b (Some (closed_as (writes (open_as stays (mode_of handle))) editing).bytes) (files name)) (same_bytes name)
+  own : (editing : Editing) (desk : Desk) → desk ≡ held_desk store name stays taps handle editing → files_closed desk name ≡ Some (closed_as (writes (open_as stays (mode_of handle))) editing).bytes
+  own editing desk is = ap (λ d. files_closed d name) is ∙ ap (λ b. cond b (Some (closed_as (writes (open_as stays (mode_of handle))) editing).bytes) (store.files name)) (same_bytes name)
+
+  resting : (taps' : List Gauge) → taps' ≡ after_rest taps → (editing : Editing) (desk : Desk) → desk ≡ held_desk store name stays taps handle editing → taps_closed desk ≡ taps'
+  resting taps' rests editing desk is = ap (λ d. taps_closed d) is ∙ sym rests
 
   -- the disk that came back holds the file
-  pub disk_stands : (lost : List ℕ → Bool) (desk : Desk) → ((e : Editing) → HandleStands state handle e → Tells state disk (closed_as (writes (open_as stays (mode_of handle))) e).bytes)
-      → OpenStands state files name stays handle lost desk → DiskStands state files name disk lost desk
-  disk_stands lost desk closes here = record {
+  pub disk_stands : (taps' : List Gauge) → taps' ≡ after_rest taps → (lost : List ℕ → Bool) (desk : Desk) → ((e : Editing) → HandleStands state handle e → Tells state disk (closed_as (writes (open_as stays (mode_of handle))) e).bytes)
+      → OpenStands state store name stays taps handle lost desk → DiskStands state store name taps' disk lost desk
+  disk_stands taps' rests lost desk closes here = record {
     others = others here.editing desk here.is;
+    are = resting taps' rests here.editing desk here.is;
     holds = λ kept. ((closed_as (writes (open_as stays (mode_of handle))) here.editing).bytes, closes here.editing (here.stands kept), own here.editing desk here.is);
   }
 
   -- .. or it failed
-  pub disk_lost : (lost : List ℕ → Bool) (left : List Edited) (desk : Desk) → OpenStands state files name stays handle lost desk → DiskStands state files name disk (lost_at desk left) desk
-  disk_lost lost left desk here = record {
+  pub disk_lost : (taps' : List Gauge) → taps' ≡ after_rest taps → (lost : List ℕ → Bool) (left : List Edited) (desk : Desk) → OpenStands state store name stays taps handle lost desk
+      → DiskStands state store name taps' disk (lost_at desk left) desk
+  disk_lost taps' rests lost left desk here = record {
     others = others here.editing desk here.is;
+    are = resting taps' rests here.editing desk here.is;
     holds = λ kept. absurd (lost_not name _ (sym (ap (λ d. lost_at d left name) here.is) ∙ kept));
   }
 
-  -- once the file is closed
-  pub desk_closed : (lost : List ℕ → Bool) (desk : Desk) → DiskStands state files name disk lost desk → DiskStands state files name disk lost (closed_desk (files_closed desk))
-  desk_closed lost desk here = record { others = here.others; holds = here.holds }
+-- once the file is closed
+pub desk_closed : {D : Type 0} (state : D → State) (store : Store) (name : List ℕ) (taps : List Gauge) (disk : D) (lost : List ℕ → Bool) (desk : Desk) → DiskStands state store name taps disk lost desk
+    → DiskStands state store name taps disk lost (closed_desk (store_closed desk))
+desk_closed state store name taps disk lost desk here = record { others = here.others; holds = here.holds; are = here.are }
 
-  pub finished_tells : (writing : Bool) (may_leave : D → List ℕ → Type 0) (r : ℕ × MutBor D) → FinishesAs writing state may_leave handle (Ok r) → r.1.now ≡ disk
-      → (e : Editing) → HandleStands state handle e → Tells state disk (closed_as writing e).bytes
-  finished_tells true may_leave r back is e stands = subst (λ (d : D). Tells state d (closed_as true e).bytes) is (back.0 e stands)
-  finished_tells false may_leave r back is e stands = subst (λ (d : D). Tells state d e.bytes) (sym back ∙ is) (bytes_stand state handle e stands)
+pub finished_tells : {D : Type 0} {ghosts : Ghosts D} (state : D → State) (handle : Handle D ghosts) (disk : D) (writing : Bool) (may_leave : D → List ℕ → Type 0) (r : ℕ × MutBor D)
+    → FinishesAs writing state may_leave handle (Ok r) → r.1.now ≡ disk → (e : Editing) → HandleStands state handle e → Tells state disk (closed_as writing e).bytes
+finished_tells {D = D} state handle disk true may_leave r back is e stands = subst (λ (d : D). Tells state d (closed_as true e).bytes) is (back.0 e stands)
+finished_tells {D = D} state handle disk false may_leave r back is e stands = subst (λ (d : D). Tells state d e.bytes) (sym back ∙ is) (bytes_stand state handle e stands)
 
 -- its frames are those that the handle counts
-pub frames_open : {D : Type 0} {ghosts : Ghosts D} (state : D → State) (files : Files) (name : List ℕ) (handle : Handle D ghosts) (file : OpenFile) → OpenStands state files name false handle none_lost (open_desk files file)
+pub frames_open : {D : Type 0} {ghosts : Ghosts D} (state : D → State) (store : Store) (name : List ℕ) (taps : List Gauge) (handle : Handle D ghosts) (file : OpenFile) → OpenStands state store name false taps handle none_lost (open_desk store file)
     → (handle_known handle).shape.frames ≡ file.editing.shape.frames
-frames_open state files name handle file here =
+frames_open state store name taps handle file here =
     frames_stand state handle here.editing (here.stands refl) ∙ sym (ap (λ (d : Desk). (unwrap_or d.open_file file).editing.shape.frames) here.is)
 
 -- what stands at a desk, as another predicate says it
@@ -135,27 +152,27 @@ module _ (longer : Bool) (all : List Edited) (d : Desk) (m m' : Moment) (stands 
   stopped_failed File (inr stops) = inr (stops.0, stops.1, stops.2, stops.3, to (lost_at stops.0.desk stops.1) stops.1 stops.0.desk stops.4)
   stopped_failed Memory stops = inl (stops.0, stops.1, part_of_part all _ _ d _ m m' stops.2, to _ stops.0 stops.1 stops.3)
 
-  pub open_failed : {T : Type 0} (x : T) (files : Files) → IsServedOpen (Ok x) longer all files d m m' stands → IsStopped File longer all d m m' stands'
-  open_failed x files (file, s, left, serves, here, long) = inl (steps_from (close_edit files file) m' s, open_desk files file, part_of_serves all _ _ d _ m m' serves, to none_lost (steps_from (close_edit files file) m' s) (open_desk files file) here)
+  pub open_failed : {T : Type 0} (x : T) (store : Store) → IsServedOpen (Ok x) longer all store d m m' stands → IsStopped File longer all d m m' stands'
+  open_failed x store (file, s, left, serves, here, long) = inl (steps_from (close_edit store file) m' s, open_desk store file, part_of_serves all _ _ d _ m m' serves, to none_lost (steps_from (close_edit store file) m' s) (open_desk store file) here)
 
 -- the reply to closing
-pub closed_then : (r : Result (Unit {0}) Stop) (files : Files) (longer : Bool) (all : List Edited) (d : Desk) (m : Moment) (reading : Reading) (left : Option (List ℕ)) (refused : Bool) (t t' : Option (List ℕ)) (s : List ℕ) (file : OpenFile) (n : ℕ) (stands : (List ℕ → Bool) → Desk → Type 0)
+pub closed_then : (r : Result (Unit {0}) Stop) (store : Store) (longer : Bool) (all : List Edited) (d : Desk) (m : Moment) (reading : Reading) (left : Option (List ℕ)) (refused : Bool) (t t' : Option (List ℕ)) (s : List ℕ) (file : OpenFile) (n : ℕ) (stands : (List ℕ → Bool) → Desk → Type 0)
     → n ≡ file.editing.shape.frames → IsAnswered r (says (ok_line n)) false false t t' → left ≡ Some s
-    → Serves all (steps_from (close_edit files file) (moment reading left refused t) s) d (open_desk files file) m (moment reading left refused t) → is_longer (moment reading left refused t) s ≡ longer
-    → stands none_lost (closed_desk (files_closed (open_desk files file))) → IsServedOn r longer all d m (moment reading left refused t') stands
-closed_then (Ok x) files longer all d m reading left refused t t' s file n stands count said here serves long stand = (
-  files_closed (open_desk files file),
+    → Serves all (steps_from (close_edit store file) (moment reading left refused t) s) d (open_desk store file) m (moment reading left refused t) → is_longer (moment reading left refused t) s ≡ longer
+    → stands none_lost (closed_desk (store_closed (open_desk store file))) → IsServedOn r longer all d m (moment reading left refused t') stands
+closed_then (Ok x) store longer all d m reading left refused t t' s file n stands count said here serves long stand = (
+  store_closed (open_desk store file),
   s,
   here,
-  serves_then all (steps_from (close_edit files file) (moment reading left refused t) s) _ d (open_desk files file) _ m (moment reading left refused t) (moment reading left refused t') serves
-      (answered_one left reading reading refused refused t t' s refl (close_edit files file) (open_desk files file) (sym (or_none refused)) (subst (λ (k : ℕ). (x : List ℕ) → t ≡ Some x → t' ≡ Some (x ++ ok_line k)) count said.1)),
+  serves_then all (steps_from (close_edit store file) (moment reading left refused t) s) _ d (open_desk store file) _ m (moment reading left refused t) (moment reading left refused t') serves
+      (answered_one left reading reading refused refused t t' s refl (close_edit store file) (open_desk store file) (sym (or_none refused)) (subst (λ (k : ℕ). (x : List ℕ) → t ≡ Some x → t' ≡ Some (x ++ ok_line k)) count said.1)),
   stand,
   long,
 )
-closed_then (Err stop) files longer all d m reading left refused t t' s file n stands count said here serves long stand =
-    stopped_then stop longer all (steps_from (close_edit files file) (moment reading left refused t) s) d (open_desk files file) m (moment reading left refused t) (moment reading left refused t') stands serves
-    (line_stops stop longer (close_edit files file) (steps_left (close_edit files file).desk (moment reading left refused t) s) (open_desk files file) (moment reading left refused t) (moment reading left refused t') stands
-    (answer_stops stop (close_edit files file) (says (ok_line n)) (open_desk files file) false false t t' stands (ap (λ k. says (ok_line k)) count) said stand))
+closed_then (Err stop) store longer all d m reading left refused t t' s file n stands count said here serves long stand =
+    stopped_then stop longer all (steps_from (close_edit store file) (moment reading left refused t) s) d (open_desk store file) m (moment reading left refused t) (moment reading left refused t') stands serves
+    (line_stops stop longer (close_edit store file) (steps_left (close_edit store file).desk (moment reading left refused t) s) (open_desk store file) (moment reading left refused t) (moment reading left refused t') stands
+    (answer_stops stop (close_edit store file) (says (ok_line n)) (open_desk store file) false false t t' stands (ap (λ k. says (ok_line k)) count) said stand))
 
 -- ---- counts
 

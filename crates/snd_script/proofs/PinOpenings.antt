@@ -2,16 +2,17 @@
 use Rattle.std.proofs.Common.{◌≡◌, ℕ, ◌≤◌, List, [], ◌++◌, Bool, Option, Some, Result, Ok, Err, All, reverse, sym, ◌∙◌, ap, subst, arith}
 use Rattle.snd_disk.proofs.RunsOfCalls.{same_some}
 use Rattle.snd_disk.specs.Device.{IsStable, OnlyReadsOn, Tells}
-use Rattle.snd_disk.specs.Shelf.{Files}
 use Rattle.snd_disk.specs.declared.disk.Disk.{Ghosts}
 use Rattle.snd_fields.specs.Laws.{IsByte}
 use Rattle.snd_layout.specs.declared.error.OpenError.{OpenError}
 use Rattle.snd_layout.specs.declared.error.OpenError.TheVariants as cause
+use Rattle.snd_meters.specs.Gauge.{Gauge}
 use Rattle.snd_modes.specs.Editing.{Editing}
 use Rattle.snd_modes.specs.Safe.{IsFit, IsSafe}
 use Rattle.snd_modes.specs.Updating.{updating_of}
 use Rattle.snd_modes.proofs.EditedFiles.{updated_is_edited, updating_begins}
 use Rattle.snd_modes.proofs.SafeImages.{at_rest, wider}
+use Rattle.snd_script.specs.Desk.{Store}
 use Rattle.snd_script.specs.Edit.{Edited, Opening, open_edit, open_edit_of}
 use Rattle.snd_script.specs.Lines.{Reading}
 use Rattle.snd_script.specs.Opened.{RefusesOpen}
@@ -78,9 +79,9 @@ trail_came_back {D = D} d t0 t0' disk last states begun same trail =
     (subst (λ (x : D). Trail IsSafe (d.left_between x) t0 (d.state x).clock states) (sym same) trail)
 
 -- the steps of a whole script, with the file opened
-pub auto_steps_are : (files : Files) (name b text : List ℕ) (e : Editing) (r : Reading) → files name ≡ Some b → updating_of b ≡ Ok e → r ≡ record { rest = []; room = most_bytes }
-    → pinned_steps (opened_pinned files name e) (lines_within r.room (r.rest ++ text)) ≡ auto_steps files name text
+pub auto_steps_are : (store : Store) (taps : List Gauge) (name b text : List ℕ) (e : Editing) (r : Reading) → taps ≡ store.taps → store.files name ≡ Some b → updating_of b ≡ Ok e → r ≡ record { rest = []; room = most_bytes }
+    → pinned_steps (opened_pinned store name taps e) (lines_within r.room (r.rest ++ text)) ≡ auto_steps store name text
 unfolding auto_steps
-auto_steps_are files name b text e r there is first =
-    let opens : pinned_opening files name ≡ opened_pinned files name e = ap (open_edit files name Opening.for_pinning) there ∙ ap (open_edit_of files name Opening.for_pinning) is in
-    ap (λ (x : Reading). pinned_steps (opened_pinned files name e) (lines_within x.room (x.rest ++ text))) first ∙ ap (λ (o : Edited). pinned_steps o (lines_within most_bytes text)) (sym opens)
+auto_steps_are store taps name b text e r are there is first =
+    let opens : pinned_opening store name ≡ opened_pinned store name taps e = ap (open_edit store name Opening.for_pinning) there ∙ ap (open_edit_of store name Opening.for_pinning) is ∙ ap (λ t. opened_pinned store name t e) (sym are) in
+    ap (λ (x : Reading). pinned_steps (opened_pinned store name taps e) (lines_within x.room (x.rest ++ text))) first ∙ ap (λ (o : Edited). pinned_steps o (lines_within most_bytes text)) (sym opens)

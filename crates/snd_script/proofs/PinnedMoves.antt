@@ -6,8 +6,9 @@ use Rattle.std.proofs.lemmas.List.{length-append}
 use Rattle.snd_command.specs.Said.{Said}
 use Rattle.snd_command.specs.declared.refusal.ScriptRefusal.{ScriptRefusal}
 use Rattle.snd_command.specs.declared.refusal.ScriptRefusal.TheVariants as no_command
-use Rattle.snd_disk.specs.Shelf.{Files}
 use Rattle.snd_disk.specs.declared.disk.Disk.{Ghosts}
+use Rattle.snd_meters.specs.Gauge.{Gauge}
+use Rattle.snd_meters.specs.Gauges.{stop_answer}
 use Rattle.snd_modes.specs.Editing.{Editing, frames_left, frames_read}
 use Rattle.snd_modes.specs.Edits.{cut_to, sealed_to}
 use Rattle.snd_modes.specs.Safe.{IsSafe}
@@ -17,12 +18,15 @@ use Rattle.snd_tags.specs.declared.error.TagError.{TagError}
 use Rattle.snd_tags.specs.declared.error.TagError.TheVariants.{Get, BadBody}
 use Rattle.snd_modes.proofs.LeftSafe.{unchanged}
 use Rattle.snd_patch.specs.Images.{LeavesEach}
-use Rattle.snd_script.specs.Desk.{Mode, OpenFile, open_desk, pinned, updating}
+use Rattle.snd_taps.specs.Names.{tap_name}
+use Rattle.snd_taps.specs.declared.tap.TapKind.{TapKind}
+use Rattle.snd_taps.specs.declared.tap.TapState.{TapState}
+use Rattle.snd_script.specs.Desk.{Mode, OpenFile, Store, open_desk, pinned, updating}
 use Rattle.snd_script.specs.Edit.{Edited, close_edit, edit_by, edit_file, edit_open, edit_unless, keep_open, line_edit}
 use Rattle.snd_script.specs.Handled.{HandleAtRest, HandleStands, handle_disk, handle_known}
-use Rattle.snd_script.specs.Replies.{bext_text, body_text, error_line, ok_line, frame_line, frames_text, points_text, says, text_of, texts_text}
+use Rattle.snd_script.specs.Replies.{bext_text, body_text, done_line, error_line, ok_line, frame_line, frames_text, points_text, says, text_of, texts_text}
 use Rattle.snd_lines.specs.Refusals.{refusal_name, refusal_number}
-use Rattle.snd_script.specs.Rules.{FileEdited, Rule, chunk_of, found_answer, get_bext_rule, get_chunk_rule, get_chunks_rule, get_cues_rule, get_strings_rule, grounds_of, is_built, is_close, is_held, read_rule, refused_rule, rule_of, seek_both_rule, seek_read_rule, seek_write_rule, tell_rule, trim_rule, truncate_rule, update_rule, write_rule}
+use Rattle.snd_script.specs.Rules.{FileEdited, Rule, chunk_of, found_answer, get_bext_rule, get_chunk_rule, get_chunks_rule, get_cues_rule, get_strings_rule, grounds_of, is_built, is_close, is_held, read_rule, refused_rule, report_of, rule_of, seek_both_rule, seek_read_rule, seek_write_rule, tap_rule, tell_rule, trim_rule, truncate_rule, untap_rule, update_rule, write_rule}
 use Rattle.snd_script.specs.Trail.{MovesSafely, RestsAt, pinned_file, state_behind}
 use Rattle.snd_script.proofs.StaysOpen.{carried}
 use Rattle.snd_script.specs.declared.handle.Handle.{Handle}
@@ -94,74 +98,91 @@ found_speaks bad text (Err (Get (get.Broken step))) some = error_speaks NoSuchCh
 found_speaks bad text (Err (Get (get.DiskFault step))) some = error_speaks NoSuchChunk
 found_speaks bad text (Err (Get get.Memory)) some = error_speaks NoSuchChunk
 
+-- a tap begins, or reports
+ok_speaks_alone : 0 < length done_line
+ok_speaks_alone = omega arith
+
+report_speaks : (kind : TapKind) (answer : Result TapState Refusal) → 0 < length (text_of (report_of kind answer))
+report_speaks kind (Ok state) = ok_speaks (tap_name kind ++ 32 ∷ decimal state.frames ++ 32 ∷ decimal state.value ++ 10 ∷ [])
+report_speaks kind (Err refusal) = error_speaks refusal
+
 -- a pinned file's rules
-answers : (said : Said) → IsAnswering (rule_of pinned said)
-answers (Said.open_read name) = refusing Pinned
-answers (Said.open_update name) = refusing Pinned
-answers (Said.create kind codec channels rate name) = making (is_built (Said.create kind codec channels rate name))
-answers Said.info = answering tell_rule (λ e. ok_speaks _) (λ e. refl)
-answers Said.close = refusing Pinned
-answers (Said.seek_read n) = answering (seek_read_rule n) (λ e. ok_speaks _) (λ e. refl)
-answers (Said.seek_write n) = answering (seek_write_rule n) (λ e. ok_speaks _) (λ e. refl)
-answers (Said.seek_both n) = answering (seek_both_rule n) (λ e. ok_speaks _) (λ e. refl)
-answers (Said.read n) = answering (read_rule n) (λ e. frames_speak (frames_read e (frames_left e n))) (λ e. refl)
-answers (Said.write xs) = answering (write_rule xs) (λ e. ok_speaks _) (λ e. refl)
-answers (Said.truncate n) = answering (truncate_rule n) (λ e. ok_speaks _) (λ e. cutting_on (nat_lt n e.shape.frames) n e)
-answers Said.trim = answering trim_rule (λ e. ok_speaks _) (λ e. refl)
-answers Said.update = answering update_rule (λ e. ok_speaks _) (λ e. refl)
-answers (Said.auto on) = refusing Pinned
-answers (Said.set_chunk id hex) = refusing WrongMode
-answers (Said.set_string key text) = refusing WrongMode
-answers (Said.set_bext key text) = refusing WrongMode
-answers (Said.set_cue places) = refusing WrongMode
-answers (Said.get_chunk id) = answering (get_chunk_rule id) (λ e. found_speaks NoSuchChunk body_text (chunk_of id e.bytes e.shape) body_speaks) (λ e. refl)
-answers Said.get_chunks = answering get_chunks_rule (λ e. ok_speaks _) (λ e. refl)
-answers Said.get_strings = answering get_strings_rule (λ e. found_speaks BadInfo texts_text (texts_of e.bytes e.shape) (λ es. ok_speaks _)) (λ e. refl)
-answers Said.get_bext = answering get_bext_rule (λ e. found_speaks BadBext bext_text (broadcast_of e.bytes e.shape) (λ b. ok_speaks _)) (λ e. refl)
-answers Said.get_cues = answering get_cues_rule (λ e. found_speaks BadCue points_text (points_of e.bytes e.shape) (λ ps. ok_speaks _)) (λ e. refl)
-answers (Said.tap kind) = refusing NotBuilt
-answers (Said.untap kind) = refusing NotBuilt
+answers : (taps : List Gauge) (said : Said) → IsAnswering (rule_of pinned taps said)
+answers taps (Said.open_read name) = refusing Pinned
+answers taps (Said.open_update name) = refusing Pinned
+answers taps (Said.create kind codec channels rate name) = making (is_built (Said.create kind codec channels rate name))
+answers taps Said.info = answering tell_rule (λ e. ok_speaks _) (λ e. refl)
+answers taps Said.close = refusing Pinned
+answers taps (Said.seek_read n) = answering (seek_read_rule n) (λ e. ok_speaks _) (λ e. refl)
+answers taps (Said.seek_write n) = answering (seek_write_rule n) (λ e. ok_speaks _) (λ e. refl)
+answers taps (Said.seek_both n) = answering (seek_both_rule n) (λ e. ok_speaks _) (λ e. refl)
+answers taps (Said.read n) = answering (read_rule n) (λ e. frames_speak (frames_read e (frames_left e n))) (λ e. refl)
+answers taps (Said.write xs) = answering (write_rule xs) (λ e. ok_speaks _) (λ e. refl)
+answers taps (Said.truncate n) = answering (truncate_rule n) (λ e. ok_speaks _) (λ e. cutting_on (nat_lt n e.shape.frames) n e)
+answers taps Said.trim = answering trim_rule (λ e. ok_speaks _) (λ e. refl)
+answers taps Said.update = answering update_rule (λ e. ok_speaks _) (λ e. refl)
+answers taps (Said.auto on) = refusing Pinned
+answers taps (Said.set_chunk id hex) = refusing WrongMode
+answers taps (Said.set_string key text) = refusing WrongMode
+answers taps (Said.set_bext key text) = refusing WrongMode
+answers taps (Said.set_cue places) = refusing WrongMode
+answers taps (Said.get_chunk id) = answering (get_chunk_rule id) (λ e. found_speaks NoSuchChunk body_text (chunk_of id e.bytes e.shape) body_speaks) (λ e. refl)
+answers taps Said.get_chunks = answering get_chunks_rule (λ e. ok_speaks _) (λ e. refl)
+answers taps Said.get_strings = answering get_strings_rule (λ e. found_speaks BadInfo texts_text (texts_of e.bytes e.shape) (λ es. ok_speaks _)) (λ e. refl)
+answers taps Said.get_bext = answering get_bext_rule (λ e. found_speaks BadBext bext_text (broadcast_of e.bytes e.shape) (λ b. ok_speaks _)) (λ e. refl)
+answers taps Said.get_cues = answering get_cues_rule (λ e. found_speaks BadCue points_text (points_of e.bytes e.shape) (λ ps. ok_speaks _)) (λ e. refl)
+answers taps (Said.tap kind) = answering (tap_rule taps kind) (λ e. ok_speaks_alone) (λ e. refl)
+answers taps (Said.untap kind) = answering (untap_rule taps kind) (λ e. report_speaks kind (stop_answer kind taps)) (λ e. refl)
 
 -- ---- lines
 
-module _ (files : Files) (name : List ℕ) (e : Editing) where
-  abbrev file : OpenFile
-  file = pinned_file name e
+-- the taps of the open file behind a step
+abbrev pub taps_in : List Gauge → Option OpenFile → List Gauge
+taps_in taps None = taps
+taps_in taps (Some file) = file.taps
 
-  said_edit : (said : Said) → edit_open files file said ≡ keep_open files file (edit_file pinned said e)
+abbrev pub taps_behind : List Gauge → Edited → List Gauge
+taps_behind taps step = taps_in taps step.desk.open_file
+
+module _ (store : Store) (name : List ℕ) (taps : List Gauge) (e : Editing) where
+  abbrev file : OpenFile
+  file = pinned_file name taps e
+
+  said_edit : (said : Said) → edit_open store file said ≡ keep_open store file (rule_of pinned taps said)
   said_edit said = as_none (is_close said)
     where
-      as_none : (closes : Bool) → (if closes && not true then close_edit files file else keep_open files file (edit_file pinned said e)) ≡ keep_open files file (edit_file pinned said e)
+      as_none : (closes : Bool) → (if closes && not true then close_edit store file else keep_open store file (rule_of pinned taps said)) ≡ keep_open store file (rule_of pinned taps said)
       as_none true = refl
       as_none false = refl
 
-  pub said_behind : (said : Said) → state_behind e (edit_open files file said) ≡ (edit_file pinned said e).editing
+  pub said_behind : (said : Said) → state_behind e (edit_open store file said) ≡ (edit_file pinned taps said e).editing
   said_behind said = ap (state_behind e) (said_edit said)
 
   -- it says something, unless it is no command at all
-  pub command_speaks : (command : Result (Option Said) ScriptRefusal) → (command ≡ Ok None) ⊎ (0 < length (text_of (line_edit (open_desk files file) command).answer))
+  pub command_speaks : (command : Result (Option Said) ScriptRefusal) → (command ≡ Ok None) ⊎ (0 < length (text_of (line_edit (open_desk store file) command).answer))
   command_speaks (Ok None) = inl refl
-  command_speaks (Ok (Some said)) = inr (subst (λ (x : Edited). 0 < length (text_of x.answer)) (sym (said_edit said)) ((answers said).speaks e))
+  command_speaks (Ok (Some said)) = inr (subst (λ (x : Edited). 0 < length (text_of x.answer)) (sym (said_edit said)) ((answers taps said).speaks e))
   command_speaks (Err no_command.LineTooLong) = inr (error_speaks LineTooLong)
   command_speaks (Err no_command.BadCommand) = inr (error_speaks BadCommand)
 
-  pub command_automatic : (command : Result (Option Said) ScriptRefusal) → (state_behind e (line_edit (open_desk files file) command)).automatic ≡ e.automatic
+  pub command_automatic : (command : Result (Option Said) ScriptRefusal) → (state_behind e (line_edit (open_desk store file) command)).automatic ≡ e.automatic
   command_automatic (Ok None) = refl
-  command_automatic (Ok (Some said)) = ap (λ (g : Editing). g.automatic) (said_behind said) ∙ (answers said).automatic e
+  command_automatic (Ok (Some said)) = ap (λ (g : Editing). g.automatic) (said_behind said) ∙ (answers taps said).automatic e
   command_automatic (Err no_command.LineTooLong) = refl
   command_automatic (Err no_command.BadCommand) = refl
 
   -- the file stays open
   pub desk_behind : (command : Result (Option Said) ScriptRefusal)
-      → (line_edit (open_desk files file) command).desk ≡ open_desk files (pinned_file name (state_behind e (line_edit (open_desk files file) command)))
+      → (line_edit (open_desk store file) command).desk
+      ≡ open_desk store (pinned_file name (taps_behind taps (line_edit (open_desk store file) command)) (state_behind e (line_edit (open_desk store file) command)))
   desk_behind (Ok None) = refl
-  desk_behind (Ok (Some said)) = subst (λ (x : Edited). x.desk ≡ open_desk files (pinned_file name (state_behind e x))) (sym (said_edit said)) refl
+  desk_behind (Ok (Some said)) = subst (λ (x : Edited). x.desk ≡ open_desk store (pinned_file name (taps_behind taps x) (state_behind e x))) (sym (said_edit said)) refl
   desk_behind (Err no_command.LineTooLong) = refl
   desk_behind (Err no_command.BadCommand) = refl
 
 -- a command that is not refused is carried out as on a file that is updated
-pub carried_behind : (mode : Mode) (said : Said) (e : Editing) → mode ≡ updating → is_held said ≡ false → (edit_file mode said e).editing ≡ (edit_file pinned said e).editing
-carried_behind mode said e is other = ap (λ (rule : Rule). (edit_by rule e).editing) (ap (λ (m : Mode). rule_of m said) is ∙ sym (carried said other).rule)
+pub carried_behind : (mode : Mode) (taps : List Gauge) (said : Said) (e : Editing) → mode ≡ updating → is_held said ≡ false → (edit_file mode taps said e).editing ≡ (edit_file pinned taps said e).editing
+carried_behind mode taps said e is other = ap (λ (rule : Rule). (edit_by rule e).editing) (ap (λ (m : Mode). rule_of m taps said) is ∙ sym ((carried said other).rule taps))
 
 -- ---- a handle at rest
 
@@ -195,8 +216,8 @@ module _ {D T : Type 0} (d : Ghosts D) (only_now : (disk : D) (s t : ℕ) (x : L
   moves_none handle rest = record { leaves = leaves_still handle rest; rests = rests_still d opened r e handle rest }
 
   -- .. as what is said is refused
-  pub moves_refused : (said : Said) (refusal : Refusal) (handle : Handle D d) → rule_of pinned said ≡ refused_rule refusal → HandleAtRest d opened handle e → MovesSafely d opened r e (edit_file pinned said e).editing handle handle
-  moves_refused said refusal handle is rest = subst (λ (rule : Rule). MovesSafely d opened r e (edit_by rule e).editing handle handle) (sym is) (moves_none handle rest)
+  pub moves_refused : (taps : List Gauge) (said : Said) (refusal : Refusal) (handle : Handle D d) → rule_of pinned taps said ≡ refused_rule refusal → HandleAtRest d opened handle e → MovesSafely d opened r e (edit_file pinned taps said e).editing handle handle
+  moves_refused taps said refusal handle is rest = subst (λ (rule : Rule). MovesSafely d opened r e (edit_by rule e).editing handle handle) (sym is) (moves_none handle rest)
 
 -- it moves to the same state, by other words
 pub moves_as : {D T : Type 0} (d : Ghosts D) (opened : List ℕ) (r : Result T Stop) (e e' e'' : Editing) (old new : Handle D d) → e' ≡ e'' → MovesSafely d opened r e e' old new → MovesSafely d opened r e e'' old new

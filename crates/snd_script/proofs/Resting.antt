@@ -21,6 +21,7 @@ use Rattle.snd_modes.proofs.LeftSafe.{left_at_rest}
 use Rattle.snd_modes.proofs.SafeImages.{same_file}
 use Rattle.snd_patch.proofs.Moments.{leaves_weaker}
 use Rattle.snd_patch.specs.Images.{LeavesEach}
+use Rattle.snd_meters.specs.Gauge.{Gauge}
 use Rattle.snd_script.specs.Desk.{Mode, is_pinned, makes, pinned, reading, reads, updating, writes, writing}
 use Rattle.snd_script.specs.Edit.{edit_by, edit_unless}
 use Rattle.snd_script.specs.Rules.{FileEdited, Grounds, Rule, answered, auto_rule, grounds_of, in_mode, read_rule, refused_if, refused_rule, seek_both_rule, seek_read_rule, seek_rule, seek_write_rule, set_bext_rule, set_chunk_rule, set_cue_rule, set_string_rule, trim_rule, truncate_rule, unless_pinned, update_rule, write_rule}
@@ -36,9 +37,9 @@ use Rattle.snd_script.specs.declared.work.Asking.TheVariants as asking
 use Rattle.snd_script.specs.declared.work.Setting.{Setting}
 use Rattle.snd_script.specs.declared.work.Setting.TheVariants as setting
 use Rattle.snd_script.specs.declared.work.Work.{Work}
-use Rattle.snd_script.specs.Replies.{Answer}
+use Rattle.snd_script.specs.Replies.{Answer, done_line, says}
 use Rattle.snd_script.proofs.Followed.{same_grounds}
-use Rattle.snd_script.specs.declared.work.Work.TheVariants.{Open, Update, Make, Close, Tell, SeekRead, SeekWrite, SeekBoth, Read, Write, Truncate, Trim, BringUp, Auto, Set, Ask, NotBuilt}
+use Rattle.snd_script.specs.declared.work.Work.TheVariants.{Open, Update, Make, Close, Tell, SeekRead, SeekWrite, SeekBoth, Read, Write, Truncate, Trim, BringUp, Auto, Set, Ask, Tap, Untap, NotBuilt}
 
 -- ---- commands that change no file move at most its places
 
@@ -145,24 +146,26 @@ module _ (e : Editing) (holds : HoldsFrames e) where
   set_moves mode (setting.Points places) is = by_refusal (makes mode) (set_cue_rule places.now.items) refl is
 
   -- whatever is done
-  moves : (mode : Mode) (work : Work) → ((work_rule mode work).changes && is_none ((work_rule mode work).refusal (grounds_of e))) ≡ false → IsMoved e (edit_by (work_rule mode work) e).editing
-  moves mode Tell is = stays
-  moves mode (SeekRead n) is = by_mode (reads mode) (seek_read_rule n) (sought_read n)
-  moves mode (SeekWrite n) is = by_mode (writes mode) (seek_write_rule n) (sought_write n)
-  moves mode (SeekBoth n) is = sought_by_mode mode n
-  moves mode (Read n) is = by_mode (reads mode) (read_rule n) (read_on n)
-  moves mode (Write xs) is = by_refusal (writes mode) (write_rule xs.now) refl is
-  moves mode (Truncate n) is = by_refusal (writes mode) (truncate_rule n) refl is
-  moves mode Trim is = by_refusal (writes mode) trim_rule refl is
-  moves mode BringUp is = by_refusal (writes mode) update_rule refl is
-  moves mode (Auto on) is = by_held (is_pinned mode) (in_mode (writes mode) (auto_rule on)) (λ is. by_refusal (writes mode) (auto_rule on) refl is) is
-  moves mode (Set setting) is = set_moves mode setting is
-  moves mode (Ask asking) is = asked_stays asking
-  moves mode NotBuilt is = stays
-  moves mode (Open name) is = already_open mode
-  moves mode (Update name) is = already_open mode
-  moves mode (Make kind codec channels rate name) is = already_open mode
-  moves mode Close is = already_open mode
+  moves : (mode : Mode) (taps : List Gauge) (work : Work) → ((work_rule mode taps work).changes && is_none ((work_rule mode taps work).refusal (grounds_of e))) ≡ false → IsMoved e (edit_by (work_rule mode taps work) e).editing
+  moves mode taps Tell is = stays
+  moves mode taps (SeekRead n) is = by_mode (reads mode) (seek_read_rule n) (sought_read n)
+  moves mode taps (SeekWrite n) is = by_mode (writes mode) (seek_write_rule n) (sought_write n)
+  moves mode taps (SeekBoth n) is = sought_by_mode mode n
+  moves mode taps (Read n) is = by_mode (reads mode) (read_rule n) (read_on n)
+  moves mode taps (Write xs) is = by_refusal (writes mode) (write_rule xs.now) refl is
+  moves mode taps (Truncate n) is = by_refusal (writes mode) (truncate_rule n) refl is
+  moves mode taps Trim is = by_refusal (writes mode) trim_rule refl is
+  moves mode taps BringUp is = by_refusal (writes mode) update_rule refl is
+  moves mode taps (Auto on) is = by_held (is_pinned mode) (in_mode (writes mode) (auto_rule on)) (λ is. by_refusal (writes mode) (auto_rule on) refl is) is
+  moves mode taps (Set setting) is = set_moves mode setting is
+  moves mode taps (Ask asking) is = asked_stays asking
+  moves mode taps (Tap kind) is = told_stays _ (says done_line)
+  moves mode taps (Untap kind) is = told_stays _ _
+  moves mode taps NotBuilt is = stays
+  moves mode taps (Open name) is = already_open mode
+  moves mode taps (Update name) is = already_open mode
+  moves mode taps (Make kind codec channels rate name) is = already_open mode
+  moves mode taps Close is = already_open mode
 
 -- ---- a disk that is only read
 
@@ -194,11 +197,11 @@ Safely d rule old new = IsAutomatic rule (known_of old) → (opened : List ℕ) 
 abbrev pub ToRest : {D M : Type 0} {mode : ModeGhosts M} (d : Ghosts D) → Rule → Result Reply StepFault → File D M d mode → File D M d mode → Type 0
 ToRest d rule result old new = IsAutomatic rule (known_of old) → (opened : List ℕ) (e : Editing) → IsAtRest d opened old e → LeavesFile result (edit_by rule e) e (IsAtRest d opened new)
 
-module _ {D M O : Type 0} {mode : ModeGhosts M} (d : Ghosts D) (o : SinkMeaning O) (how : Mode) (work : Work) (r : Result Reply StepFault) (old : File D M d mode) (out : O) (new : File D M d mode) (out' : O)
+module _ {D M O : Type 0} {mode : ModeGhosts M} (d : Ghosts D) (o : SinkMeaning O) (how : Mode) (taps : List Gauge) (work : Work) (r : Result Reply StepFault) (old : File D M d mode) (out : O) (new : File D M d mode) (out' : O)
     (only_now : (disk : D) (s t : ℕ) (x : List ℕ) → (d.state disk).clock ≤ s → d.left_between disk s t x → d.may_leave disk x)
-    (follows : Follows d o (work_rule how work) r old out new out') where
+    (follows : Follows d o (work_rule how taps work) r old out new out') where
   abbrev rule : Rule
-  rule = work_rule how work
+  rule = work_rule how taps work
 
   pub works_safely : Safely d rule old new
   works_safely on opened e rest = elim (cases_Bool (changes_by rule (known_of old))) [
@@ -211,8 +214,8 @@ module _ {D M O : Type 0} {mode : ModeGhosts M} (d : Ghosts D) (o : SinkMeaning 
     same_refusal = ap (λ (g : Grounds). rule.changes && is_none (rule.refusal g)) (sym (same_grounds d.state old e rest.stands)) ∙ none
 
     pub still_rests : (r : Result Reply StepFault) → LeavesFile r (edit_by rule e) e (Stands d.state new) → LeavesFile r (edit_by rule e) e (IsAtRest d opened new)
-    still_rests (Ok reply) stands = reading_rests d opened old e rest new (follows.reads none) _ (moves e rest.edited.holds how work same_refusal) stands
-    still_rests (Err Out) stands = reading_rests d opened old e rest new (follows.reads none) _ (moves e rest.edited.holds how work same_refusal) stands
+    still_rests (Ok reply) stands = reading_rests d opened old e rest new (follows.reads none) _ (moves e rest.edited.holds how taps work same_refusal) stands
+    still_rests (Err Out) stands = reading_rests d opened old e rest new (follows.reads none) _ (moves e rest.edited.holds how taps work same_refusal) stands
     still_rests (Err Memory) stands = reading_rests d opened old e rest new (follows.reads none) e (stays e rest.edited.holds) stands
     still_rests (Err Disk) stands = tt
 

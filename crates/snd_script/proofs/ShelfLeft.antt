@@ -9,9 +9,10 @@ use Rattle.snd_disk.proofs.Returned.{gone_on, stayed_images}
 use Rattle.snd_disk.specs.Shelf.{Files, Gives, SameFiles, ShelfState, Stays, Takes, put}
 use Rattle.snd_disk.specs.Shelves.{ChangesOnly, HandsOut, HandsOutNone, KeepsOthers, TakesBack, TellsFiles}
 use Rattle.snd_disk.specs.State.{GoesOn, State}
+use Rattle.snd_meters.specs.Gauge.{Gauge}
 use Rattle.snd_patch.specs.Steps.{StillTells}
-use Rattle.snd_script.specs.Desk.{Desk, closed_desk, files_closed}
-use Rattle.snd_script.specs.Served.{HasFiles, LeavesShelf, none_lost}
+use Rattle.snd_script.specs.Desk.{Desk, Store, closed_desk, files_closed}
+use Rattle.snd_script.specs.Served.{HasStore, LeavesShelf, none_lost}
 use Rattle.snd_script.specs.Serving.{DiskStands, ShelfStands}
 
 -- a file that is there has its bytes
@@ -130,8 +131,8 @@ module _ {S : Type 0} (state : S → ShelfState) (may_leave : S → List ℕ →
     }
 
     -- what stands with the disk taken out stands on the shelf
-    pub stands_on_shelf : (files : Files) → HasFiles state old files → (lost : List ℕ → Bool) (desk : Desk) → DiskStands disk_state files name given lost desk → ShelfStands state new lost desk
-    stands_on_shelf files (f, told, same) lost desk stands =
+    pub stands_on_shelf : (store : Store) (taps taps' : List Gauge) → HasStore state old taps store → (lost : List ℕ → Bool) (desk : Desk) → DiskStands disk_state store name taps' given lost desk → ShelfStands state new taps' lost desk
+    stands_on_shelf store taps taps' (f, told, same, are) lost desk stands =
         let is = given_files f told in (
           is.0,
           is.2,
@@ -143,27 +144,29 @@ module _ {S : Type 0} (state : S → ShelfState) (may_leave : S → List ℕ →
                 is.4 n ∙ ap (λ (t : Bool). cond t (Some is.1) (f n)) named ∙ ap Some bytes ∙ sym here.2 ∙ ap (files_closed desk) (sym at)
             | inr other ↦ is.4 n ∙ ap (λ (t : Bool). cond t (Some is.1) (f n)) other ∙ same n ∙ sym (stands.others n other)
           ],
+          stands.are,
         )
       where
         some_same : (o : Option (List ℕ)) (b c : List ℕ) → o ≡ Some b → o ≡ Some c → b ≡ c
         some_same o b c is is' = cc
 
   -- a shelf that handed nothing out: only a name that is lost may have changed
-  pub stayed_stands : (name : List ℕ) (make : Bool) (old new : S) → Stays (state old) (state new) name make → (files : Files) → HasFiles state old files → (lost : List ℕ → Bool)
-      → (make ≡ true → (n : List ℕ) → lost n ≡ false → bytes_eq n name ≡ false) → ShelfStands state new lost (closed_desk files)
-  stayed_stands name make old new stays files (f, told, same) lost meant =
+  pub stayed_stands : (name : List ℕ) (make : Bool) (old new : S) → Stays (state old) (state new) name make → (store : Store) (taps taps' : List Gauge) → taps' ≡ taps → HasStore state old taps store → (lost : List ℕ → Bool)
+      → (make ≡ true → (n : List ℕ) → lost n ≡ false → bytes_eq n name ≡ false) → ShelfStands state new taps' lost (closed_desk store)
+  stayed_stands name make old new stays store taps taps' still (f, told, same, are) lost meant =
       let is = stays.files f told in (
         is.0,
         is.1,
         λ n kept. ⊎_elim
             (λ same'. same' n ∙ same n)
             (λ made. made.2 n ∙ ap (λ (t : Bool). cond t (Some []) (f n)) (meant made.0 n kept) ∙ same n) is.2,
+        are ∙ sym still,
       )
 
 -- .. or that nothing was asked of
-pub still_stands : {S : Type 0} (state : S → ShelfState) (shelf : S) (files : Files) → HasFiles state shelf files → ShelfStands state shelf none_lost (closed_desk files)
-still_stands state shelf files (f, told, same) = (f, told, λ n kept. same n)
+pub still_stands : {S : Type 0} (state : S → ShelfState) (shelf : S) (store : Store) (taps taps' : List Gauge) → taps' ≡ taps → HasStore state shelf taps store → ShelfStands state shelf taps' none_lost (closed_desk store)
+still_stands state shelf store taps taps' kept (f, told, same, are) = (f, told, λ n found. same n, are ∙ sym kept)
 
--- where none is open and no name is lost, the shelf has the files
-pub has_files : {S : Type 0} (state : S → ShelfState) (shelf : S) (files : Files) → ShelfStands state shelf none_lost (closed_desk files) → HasFiles state shelf files
-has_files state shelf files (f, told, same) = (f, told, λ n. same n refl)
+-- where none is open and no name is lost, the shelf has the files, and the run its taps
+pub has_store : {S : Type 0} (state : S → ShelfState) (shelf : S) (store : Store) (taps : List Gauge) → ShelfStands state shelf taps none_lost (closed_desk store) → HasStore state shelf taps store
+has_store state shelf store taps (f, told, same, are) = (f, told, λ n. same n refl, are)

@@ -4,7 +4,7 @@ use Rattle.std.specs.Str.{bytes_eq}
 use Rattle.snd_disk.specs.Shelf.{Files, SameFiles}
 use Rattle.snd_layout.specs.declared.refusal.OpenRefusal.{OpenRefusal}
 use Rattle.snd_modes.specs.Editing.{Editing}
-use Rattle.snd_script.specs.Desk.{Desk, closed_desk, makes_name}
+use Rattle.snd_script.specs.Desk.{Desk, Store, closed_desk, makes_name}
 use Rattle.snd_script.specs.Edit.{Edited, Opening, as_opened, open_edit, open_edit_of, opened_as}
 use Rattle.snd_script.specs.Lines.{Reading}
 use Rattle.snd_script.specs.Opened.{IsMakeable, is_making, opening_by, opens_edit}
@@ -20,84 +20,84 @@ use Rattle.snd_script.proofs.Chains.{appends_none, line_stops, or_none, serves_o
 
 -- ---- a line that leaves no file open and the files as they are
 
-abbrev pub replied : Answer → Files → Edited
-replied answer files = record { answer = answer; desk = closed_desk files }
+abbrev pub replied : Answer → Store → Edited
+replied answer store = record { answer = answer; desk = closed_desk store }
 
-refusal_stops : (T : Type 0) (stop : Stop) (longer : Bool) (files : Files) (answer : Answer) (left : List Edited) (m m' : Moment) (stands : (List ℕ → Bool) → Desk → Type 0)
-    → IsAnswered {T = T} (Err stop) answer m.refused m'.refused m.told m'.told → stands none_lost (closed_desk files) → IsStopped stop longer (replied answer files ∷ left) (closed_desk files) m m' stands
-refusal_stops T Sink longer files answer left m m' stands said here = line_stops Sink longer (replied answer files) left (closed_desk files) m m' stands (said, here)
-refusal_stops T Ended longer files answer left m m' stands said here = absurd said
-refusal_stops T TooLong longer files answer left m m' stands said here = absurd said
-refusal_stops T Script longer files answer left m m' stands said here = absurd said
-refusal_stops T File longer files answer left m m' stands said here = absurd said
-refusal_stops T Memory longer files answer left m m' stands said here = absurd said
+refusal_stops : (T : Type 0) (stop : Stop) (longer : Bool) (store : Store) (answer : Answer) (left : List Edited) (m m' : Moment) (stands : (List ℕ → Bool) → Desk → Type 0)
+    → IsAnswered {T = T} (Err stop) answer m.refused m'.refused m.told m'.told → stands none_lost (closed_desk store) → IsStopped stop longer (replied answer store ∷ left) (closed_desk store) m m' stands
+refusal_stops T Sink longer store answer left m m' stands said here = line_stops Sink longer (replied answer store) left (closed_desk store) m m' stands (said, here)
+refusal_stops T Ended longer store answer left m m' stands said here = absurd said
+refusal_stops T TooLong longer store answer left m m' stands said here = absurd said
+refusal_stops T Script longer store answer left m m' stands said here = absurd said
+refusal_stops T File longer store answer left m m' stands said here = absurd said
+refusal_stops T Memory longer store answer left m m' stands said here = absurd said
 
-replied_at : {T : Type 0} (r : Result T Stop) (files : Files) (left : Option (List ℕ)) (reading : Reading) (refused refused' : Bool) (t t' : Option (List ℕ)) (s : List ℕ) (answer : Answer) (stands : (List ℕ → Bool) → Desk → Type 0)
-    → left ≡ Some s → IsAnswered r answer refused refused' t t' → stands none_lost (closed_desk files)
-    → IsServedOn r (is_longer (moment reading left refused t) s) (steps_from (replied answer files) (moment reading left refused t) s) (closed_desk files) (moment reading left refused t) (moment reading left refused' t') stands
-replied_at (Ok x) files left reading refused refused' t t' s answer stands here said stand = (
-  files,
+replied_at : {T : Type 0} (r : Result T Stop) (store : Store) (left : Option (List ℕ)) (reading : Reading) (refused refused' : Bool) (t t' : Option (List ℕ)) (s : List ℕ) (answer : Answer) (stands : (List ℕ → Bool) → Desk → Type 0)
+    → left ≡ Some s → IsAnswered r answer refused refused' t t' → stands none_lost (closed_desk store)
+    → IsServedOn r (is_longer (moment reading left refused t) s) (steps_from (replied answer store) (moment reading left refused t) s) (closed_desk store) (moment reading left refused t) (moment reading left refused' t') stands
+replied_at (Ok x) store left reading refused refused' t t' s answer stands here said stand = (
+  store,
   s,
   here,
-  serves_one (replied answer files) (steps_left (closed_desk files) (moment reading left refused t) s) (closed_desk files) (moment reading left refused t) (moment reading left refused' t') said.0 said.1,
+  serves_one (replied answer store) (steps_left (closed_desk store) (moment reading left refused t) s) (closed_desk store) (moment reading left refused t) (moment reading left refused' t') said.0 said.1,
   stand,
   refl,
 )
-replied_at {T = T} (Err stop) files left reading refused refused' t t' s answer stands here said stand =
-    refusal_stops T stop (is_longer (moment reading left refused t) s) files answer (steps_left (closed_desk files) (moment reading left refused t) s) (moment reading left refused t) (moment reading left refused' t') stands said stand
+replied_at {T = T} (Err stop) store left reading refused refused' t t' s answer stands here said stand =
+    refusal_stops T stop (is_longer (moment reading left refused t) s) store answer (steps_left (closed_desk store) (moment reading left refused t) s) (moment reading left refused t) (moment reading left refused' t') stands said stand
 
-pub replied_closed : {T : Type 0} (r : Result T Stop) (files : Files) (left : Option (List ℕ)) (reading reading' : Reading) (refused refused' : Bool) (t t' : Option (List ℕ)) (s : List ℕ) (edited : Edited) (answer : Answer)
-    (stands : (List ℕ → Bool) → Desk → Type 0) → edited ≡ replied answer files → reading' ≡ reading → left ≡ Some s → IsAnswered r answer refused refused' t t' → stands none_lost (closed_desk files)
-    → IsServedOn r (is_longer (moment reading left refused t) s) (steps_from edited (moment reading left refused t) s) (closed_desk files) (moment reading left refused t) (moment reading' left refused' t') stands
-replied_closed r files left reading reading' refused refused' t t' s edited answer stands is same here said stand =
-    subst (λ (d : Edited). IsServedOn r (is_longer (moment reading left refused t) s) (steps_from d (moment reading left refused t) s) (closed_desk files) (moment reading left refused t) (moment reading' left refused' t') stands) (sym is)
-    (subst (λ (x : Reading). IsServedOn r (is_longer (moment reading left refused t) s) (steps_from (replied answer files) (moment reading left refused t) s) (closed_desk files) (moment reading left refused t) (moment x left refused' t') stands) (sym same)
-    (replied_at r files left reading refused refused' t t' s answer stands here said stand))
+pub replied_closed : {T : Type 0} (r : Result T Stop) (store : Store) (left : Option (List ℕ)) (reading reading' : Reading) (refused refused' : Bool) (t t' : Option (List ℕ)) (s : List ℕ) (edited : Edited) (answer : Answer)
+    (stands : (List ℕ → Bool) → Desk → Type 0) → edited ≡ replied answer store → reading' ≡ reading → left ≡ Some s → IsAnswered r answer refused refused' t t' → stands none_lost (closed_desk store)
+    → IsServedOn r (is_longer (moment reading left refused t) s) (steps_from edited (moment reading left refused t) s) (closed_desk store) (moment reading left refused t) (moment reading' left refused' t') stands
+replied_closed r store left reading reading' refused refused' t t' s edited answer stands is same here said stand =
+    subst (λ (d : Edited). IsServedOn r (is_longer (moment reading left refused t) s) (steps_from d (moment reading left refused t) s) (closed_desk store) (moment reading left refused t) (moment reading' left refused' t') stands) (sym is)
+    (subst (λ (x : Reading). IsServedOn r (is_longer (moment reading left refused t) s) (steps_from (replied answer store) (moment reading left refused t) s) (closed_desk store) (moment reading left refused t) (moment x left refused' t') stands) (sym same)
+    (replied_at r store left reading refused refused' t t' s answer stands here said stand))
 
 -- .. and says nothing
-pub nothing_said : (files : Files) (left : Option (List ℕ)) (reading : Reading) (refused : Bool) (t : Option (List ℕ)) (s : List ℕ) (edited : Edited) (stands : (List ℕ → Bool) → Desk → Type 0)
-    → edited ≡ replied nothing files → left ≡ Some s → stands none_lost (closed_desk files)
-    → IsServedOn {T = ℕ} (Ok 0) (is_longer (moment reading left refused t) s) (steps_from edited (moment reading left refused t) s) (closed_desk files) (moment reading left refused t) (moment reading left refused t) stands
-nothing_said files left reading refused t s edited stands is here stand =
-    replied_closed {T = ℕ} (Ok 0) files left reading reading refused refused t t s edited nothing stands is refl here (sym (or_none refused), appends_none t t refl) stand
+pub nothing_said : (store : Store) (left : Option (List ℕ)) (reading : Reading) (refused : Bool) (t : Option (List ℕ)) (s : List ℕ) (edited : Edited) (stands : (List ℕ → Bool) → Desk → Type 0)
+    → edited ≡ replied nothing store → left ≡ Some s → stands none_lost (closed_desk store)
+    → IsServedOn {T = ℕ} (Ok 0) (is_longer (moment reading left refused t) s) (steps_from edited (moment reading left refused t) s) (closed_desk store) (moment reading left refused t) (moment reading left refused t) stands
+nothing_said store left reading refused t s edited stands is here stand =
+    replied_closed {T = ℕ} (Ok 0) store left reading reading refused refused t t s edited nothing stands is refl here (sym (or_none refused), appends_none t t refl) stand
 
 -- ---- the shelf did not hand the file out
 
 -- there is none
-opens_none : (files : Files) (name : List ℕ) (how : OpenAs) → is_making how ≡ false → files name ≡ None → opens_edit files name how ≡ replied (refuses MissingFile) files
-opens_none files name Read make none = ap (open_edit files name Opening.for_reading) none
-opens_none files name Update make none = ap (open_edit files name Opening.for_updating) none
-opens_none files name (Make kind p) make none = absurd (cc)
+opens_none : (store : Store) (name : List ℕ) (how : OpenAs) → is_making how ≡ false → store.files name ≡ None → opens_edit store name how ≡ replied (refuses MissingFile) store
+opens_none store name Read make none = ap (open_edit store name Opening.for_reading) none
+opens_none store name Update make none = ap (open_edit store name Opening.for_updating) none
+opens_none store name (Make kind p) make none = absurd (cc)
 
 pub made_not : (b : Bool) → b ≡ true → b ≡ false → ⊥
 made_not b is not = cc
 
-pub opens_missing : (files : Files) (text name : List ℕ) (how : OpenAs) (make : Bool) (f : Files) → text ≡ name → make ≡ is_making how → make ≡ false → SameFiles files f → f text ≡ None
-    → opens_edit files name how ≡ replied (refuses MissingFile) files
-opens_missing files text name how make f same making not_made has none = opens_none files name how (sym making ∙ not_made) (ap files (sym same) ∙ sym (has text) ∙ none)
+pub opens_missing : (store : Store) (text name : List ℕ) (how : OpenAs) (make : Bool) (f : Files) → text ≡ name → make ≡ is_making how → make ≡ false → SameFiles store.files f → f text ≡ None
+    → opens_edit store name how ≡ replied (refuses MissingFile) store
+opens_missing store text name how make f same making not_made has none = opens_none store name how (sym making ∙ not_made) (ap store.files (sym same) ∙ sym (has text) ∙ none)
 
 -- the name of a file that is made
-made_is_name : (files : Files) (name : List ℕ) (how : OpenAs) → IsMakeable how → is_making how ≡ true → (n : List ℕ) → makes_name (opens_edit files name how).desk.open_file n ≡ bytes_eq n name
-made_is_name files name Read able make n = absurd (cc)
-made_is_name files name Update able make n = absurd (cc)
-made_is_name files name (Make kind p) able make n =
-    ap (λ (r : Result Editing OpenRefusal). makes_name (open_edit_of files name (Opening.for_making kind p) (as_opened r)).desk.open_file n) able.1
+made_is_name : (store : Store) (name : List ℕ) (how : OpenAs) → IsMakeable how → is_making how ≡ true → (n : List ℕ) → makes_name (opens_edit store name how).desk.open_file n ≡ bytes_eq n name
+made_is_name store name Read able make n = absurd (cc)
+made_is_name store name Update able make n = absurd (cc)
+made_is_name store name (Make kind p) able make n =
+    ap (λ (r : Result Editing OpenRefusal). makes_name (open_edit_of store name (Opening.for_making kind p) (as_opened r)).desk.open_file n) able.1
 
 -- the file of the name may stand there, empty, where it was to be made
-module _ (files : Files) (text name : List ℕ) (how : OpenAs) (make : Bool) (m : Moment) (s : List ℕ) (stands : (List ℕ → Bool) → Desk → Type 0) (same : text ≡ name) (making : make ≡ is_making how) (able : IsMakeable how)
-    (here : (lost : List ℕ → Bool) → (make ≡ true → (n : List ℕ) → lost n ≡ false → bytes_eq n text ≡ false) → stands lost (closed_desk files)) where
-  not_lost : make ≡ true → (n : List ℕ) → makes_name (opens_edit files name how).desk.open_file n ≡ false → bytes_eq n text ≡ false
-  not_lost is n kept = ap (bytes_eq n) same ∙ sym (made_is_name files name how able (sym making ∙ is) n) ∙ kept
+module _ (store : Store) (text name : List ℕ) (how : OpenAs) (make : Bool) (m : Moment) (s : List ℕ) (stands : (List ℕ → Bool) → Desk → Type 0) (same : text ≡ name) (making : make ≡ is_making how) (able : IsMakeable how)
+    (here : (lost : List ℕ → Bool) → (make ≡ true → (n : List ℕ) → lost n ≡ false → bytes_eq n text ≡ false) → stands lost (closed_desk store)) where
+  not_lost : make ≡ true → (n : List ℕ) → makes_name (opens_edit store name how).desk.open_file n ≡ false → bytes_eq n text ≡ false
+  not_lost is n kept = ap (bytes_eq n) same ∙ sym (made_is_name store name how able (sym making ∙ is) n) ∙ kept
 
-  pub take_failed : IsStopped File (is_longer m s) (steps_from (opens_edit files name how) m s) (closed_desk files) m m stands
+  pub take_failed : IsStopped File (is_longer m s) (steps_from (opens_edit store name how) m s) (closed_desk store) m m stands
   take_failed =
-      line_stops File (is_longer m s) (opens_edit files name how) (steps_left (opens_edit files name how).desk m s) (closed_desk files) m m stands
-      (refl, here (lost_at (closed_desk files) (opens_edit files name how ∷ [])) not_lost)
+      line_stops File (is_longer m s) (opens_edit store name how) (steps_left (opens_edit store name how).desk m s) (closed_desk store) m m stands
+      (refl, here (lost_at (closed_desk store) (opens_edit store name how ∷ [])) not_lost)
 
-  pub take_lacks_memory : IsStopped Memory (is_longer m s) (steps_from (opens_edit files name how) m s) (closed_desk files) m m stands
+  pub take_lacks_memory : IsStopped Memory (is_longer m s) (steps_from (opens_edit store name how) m s) (closed_desk store) m m stands
   take_lacks_memory =
-      line_stops Memory (is_longer m s) (opens_edit files name how) (steps_left (opens_edit files name how).desk m s) (closed_desk files) m m stands
-      (refl, here (made_next (closed_desk files) (opens_edit files name how ∷ [])) not_lost)
+      line_stops Memory (is_longer m s) (opens_edit store name how) (steps_left (opens_edit store name how).desk m s) (closed_desk store) m m stands
+      (refl, here (made_next (closed_desk store) (opens_edit store name how ∷ [])) not_lost)
 
 -- ---- the file was handed out, served, and came back
 
@@ -113,21 +113,21 @@ stopped_with Memory longer all d m m' stands stands' each (left, at, part, here)
 
 served_with : {T : Type 0} (r : Result T Stop) (longer : Bool) (all : List Edited) (d : Desk) (m m' : Moment) (stands stands' : (List ℕ → Bool) → Desk → Type 0) → ((lost : List ℕ → Bool) (at : Desk) → stands lost at → stands' lost at)
     → IsServedOn r longer all d m m' stands → IsServedOn r longer all d m m' stands'
-served_with (Ok x) longer all d m m' stands stands' each (files, s, left, serves, here, long) = (files, s, left, serves, each none_lost (closed_desk files) here, long)
+served_with (Ok x) longer all d m m' stands stands' each (store, s, left, serves, here, long) = (store, s, left, serves, each none_lost (closed_desk store) here, long)
 served_with (Err stop) longer all d m m' stands stands' each stops = stopped_with stop longer all d m m' stands stands' each stops
 
-opens_as : (files : Files) (name b : List ℕ) (how : OpenAs) → (is_making how ≡ false → files name ≡ Some b) → open_edit_of files name (opening_by how) (opened_as (opening_by how) b) ≡ opens_edit files name how
-opens_as files name b Read there = sym (ap (open_edit files name Opening.for_reading) (there refl))
-opens_as files name b Update there = sym (ap (open_edit files name Opening.for_updating) (there refl))
-opens_as files name b (Make kind p) there = refl
+opens_as : (store : Store) (name b : List ℕ) (how : OpenAs) → (is_making how ≡ false → store.files name ≡ Some b) → open_edit_of store name (opening_by how) (opened_as (opening_by how) b) ≡ opens_edit store name how
+opens_as store name b Read there = sym (ap (open_edit store name Opening.for_reading) (there refl))
+opens_as store name b Update there = sym (ap (open_edit store name Opening.for_updating) (there refl))
+opens_as store name b (Make kind p) there = refl
 
-pub opened_on_shelf : {T : Type 0} (r : Result T Stop) (longer : Bool) (files : Files) (text name b s : List ℕ) (how : OpenAs) (make : Bool) (m m' : Moment) (stands stands' : (List ℕ → Bool) → Desk → Type 0)
-    → text ≡ name → make ≡ is_making how → (make ≡ false → files text ≡ Some b) → ((lost : List ℕ → Bool) (at : Desk) → stands lost at → stands' lost at)
-    → ((is_making how ≡ false → files text ≡ Some b) → IsServedOn r longer (steps_from (open_edit_of files text (opening_by how) (opened_as (opening_by how) b)) m s) (closed_desk files) m m' stands)
-    → IsServedOn r longer (steps_from (opens_edit files name how) m s) (closed_desk files) m m' stands'
-opened_on_shelf r longer files text name b s how make m m' stands stands' same making there each served =
-    served_with r longer (steps_from (opens_edit files name how) m s) (closed_desk files) m m' stands stands' each
-    (subst (λ (d : Edited). IsServedOn r longer (steps_from d m s) (closed_desk files) m m' stands) (opens_as files text b how is_there ∙ ap (λ n. opens_edit files n how) same) (served is_there))
+pub opened_on_shelf : {T : Type 0} (r : Result T Stop) (longer : Bool) (store : Store) (text name b s : List ℕ) (how : OpenAs) (make : Bool) (m m' : Moment) (stands stands' : (List ℕ → Bool) → Desk → Type 0)
+    → text ≡ name → make ≡ is_making how → (make ≡ false → store.files text ≡ Some b) → ((lost : List ℕ → Bool) (at : Desk) → stands lost at → stands' lost at)
+    → ((is_making how ≡ false → store.files text ≡ Some b) → IsServedOn r longer (steps_from (open_edit_of store text (opening_by how) (opened_as (opening_by how) b)) m s) (closed_desk store) m m' stands)
+    → IsServedOn r longer (steps_from (opens_edit store name how) m s) (closed_desk store) m m' stands'
+opened_on_shelf r longer store text name b s how make m m' stands stands' same making there each served =
+    served_with r longer (steps_from (opens_edit store name how) m s) (closed_desk store) m m' stands stands' each
+    (subst (λ (d : Edited). IsServedOn r longer (steps_from d m s) (closed_desk store) m m' stands) (opens_as store text b how is_there ∙ ap (λ n. opens_edit store n how) same) (served is_there))
   where
-    is_there : is_making how ≡ false → files text ≡ Some b
+    is_there : is_making how ≡ false → store.files text ≡ Some b
     is_there is = there (making ∙ is)

@@ -3,11 +3,11 @@ use Rattle.std.proofs.Common.{◌≡◌, ℕ, List, Bool, true, false, ◌||◌,
 use Rattle.std.specs.Str.{bytes_eq}
 use Rattle.snd_disk.proofs.Chains.{goes_on_then, only_reads_then}
 use Rattle.snd_disk.proofs.Names.{same_bytes}
-use Rattle.snd_disk.specs.Shelf.{Files}
 use Rattle.snd_disk.specs.State.{State}
 use Rattle.snd_disk.specs.declared.disk.Disk.{Ghosts}
+use Rattle.snd_meters.specs.Gauge.{Gauge}
 use Rattle.snd_modes.specs.Editing.{Editing}
-use Rattle.snd_script.specs.Desk.{Desk, open_desk, writes}
+use Rattle.snd_script.specs.Desk.{Desk, Store, open_desk, writes}
 use Rattle.snd_script.specs.Edit.{Edited}
 use Rattle.snd_script.specs.Handled.{HandleStands, LeavesHandle, handle_disk, mode_of, open_as}
 use Rattle.snd_script.specs.Replies.{Answer, nothing, says, refuses, is_refusal}
@@ -35,25 +35,27 @@ pub lost_not : (name : List ℕ) (b : Bool) → (bytes_eq name name || b) ≡ fa
 lost_not name b kept = let is : (true || b) ≡ false = ap (λ x. x || b) (sym (same_bytes name)) ∙ kept in cc
 
 -- the desk with the file of a handle open
-abbrev pub held_desk : {D : Type 0} {ghosts : Ghosts D} → Files → List ℕ → Bool → Handle D ghosts → Editing → Desk
-held_desk files name stays handle e = open_desk files (record { name = name; mode = open_as stays (mode_of handle); editing = e })
+abbrev pub held_desk : {D : Type 0} {ghosts : Ghosts D} → Store → List ℕ → Bool → List Gauge → Handle D ghosts → Editing → Desk
+held_desk store name stays taps handle e = open_desk store (record { name = name; mode = open_as stays (mode_of handle); editing = e; taps = taps })
 
-module _ {D : Type 0} {ghosts : Ghosts D} (state : D → State) (files : Files) (name : List ℕ) (stays : Bool) where
+module _ {D : Type 0} {ghosts : Ghosts D} (state : D → State) (store : Store) (name : List ℕ) (stays : Bool) where
   -- the handle stands for a file, in the mode that it had
-  pub stands_open : (old new : Handle D ghosts) (e : Editing) (lost : List ℕ → Bool) → mode_of new ≡ mode_of old → HandleStands state new e
-      → OpenStands state files name stays new lost (held_desk files name stays old e)
-  stands_open old new e lost mode here = record {
+  pub stands_open : (taps taps' : List Gauge) (old new : Handle D ghosts) (e : Editing) (lost : List ℕ → Bool) → mode_of new ≡ mode_of old → taps' ≡ taps → HandleStands state new e
+      → OpenStands state store name stays taps' new lost (held_desk store name stays taps old e)
+  stands_open taps taps' old new e lost mode are here = record {
     editing = e;
-    is = ap (λ m. open_desk files (record { name = name; mode = open_as stays m; editing = e })) (sym mode);
+    is = ap (λ m. open_desk store (record { name = name; mode = open_as stays m; editing = e; taps = taps })) (sym mode)
+        ∙ ap (λ t. open_desk store (record { name = name; mode = open_as stays (mode_of new); editing = e; taps = t })) (sym are);
     stands = λ kept. here;
   }
 
   -- .. or its file failed
-  pub stands_lost : (old new : Handle D ghosts) (e : Editing) (left : List Edited) → mode_of new ≡ mode_of old
-      → OpenStands state files name stays new (lost_at (held_desk files name stays old e) left) (held_desk files name stays old e)
-  stands_lost old new e left mode = record {
+  pub stands_lost : (taps taps' : List Gauge) (old new : Handle D ghosts) (e : Editing) (left : List Edited) → mode_of new ≡ mode_of old → taps' ≡ taps
+      → OpenStands state store name stays taps' new (lost_at (held_desk store name stays taps old e) left) (held_desk store name stays taps old e)
+  stands_lost taps taps' old new e left mode are = record {
     editing = e;
-    is = ap (λ m. open_desk files (record { name = name; mode = open_as stays m; editing = e })) (sym mode);
+    is = ap (λ m. open_desk store (record { name = name; mode = open_as stays m; editing = e; taps = taps })) (sym mode)
+        ∙ ap (λ t. open_desk store (record { name = name; mode = open_as stays (mode_of new); editing = e; taps = t })) (sym are);
     stands = λ kept. absurd (lost_not name _ kept);
   }
 

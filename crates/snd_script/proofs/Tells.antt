@@ -1,6 +1,5 @@
 -- What chunks say is told, by how the call on them ended.
-use Rattle.std.proofs.Common.{◌≡◌, ◌⊎◌, inl, inr, ⊎_elim, ℕ, List, Bool, true, false, Option, None, Some, Result, Ok, Err, refl, sym, ap, ◌∙◌, subst, arith, rules}
-use Rattle.std.specs.Prelude.{IfErr, IsErrOf}
+use Rattle.std.proofs.Common.{◌≡◌, ◌⊎◌, inl, inr, ⊎_elim, ℕ, List, Bool, true, Option, None, Some, Result, Ok, Err, refl, sym, ap, ◌∙◌, subst, rules}
 use Rattle.snd_disk.specs.Device.{AsksAtMost, OnlyReadsOn}
 use Rattle.snd_disk.specs.declared.disk.Disk.{Ghosts}
 use Rattle.snd_disk.specs.declared.disk.Step.{Step}
@@ -11,15 +10,14 @@ use Rattle.snd_modes.specs.Editing.{Editing}
 use Rattle.snd_modes.specs.Handle.{Known, Stands, StandsAfter, disk_of, known_of, loan_of}
 use Rattle.snd_modes.specs.declared.handle.File.{File}
 use Rattle.snd_modes.specs.declared.mode.Mode.{Ghosts as ModeGhosts}
-use Rattle.snd_tags.specs.Found.{Answers, CountsFinding, IsAnswer}
+use Rattle.snd_tags.specs.Found.{Answers, CountsFinding}
 use Rattle.snd_tags.specs.declared.error.TagError.{TagError}
 use Rattle.snd_tags.specs.declared.error.TagError.TheVariants.{Get, BadBody}
 use Rattle.snd_script.specs.Answered.{Lacks, SaysNothing, Sends}
 use Rattle.snd_script.specs.Edit.{edit_by, edit_unless}
 use Rattle.snd_script.specs.Replies.{Answer, refuses, says}
-use Rattle.snd_lines.specs.Refusals.{refusal_number}
 use Rattle.snd_script.specs.Rules.{FileEdited, Grounds, Rule, answered, found_answer, grounds_of, known_grounds, telling_of}
-use Rattle.snd_script.specs.Stepped.{IsSaid, IsSilent, IsStepCause, Knows, LeavesFile, RepliesBy, RepliesUnless, Rose, reply_of}
+use Rattle.snd_script.specs.Stepped.{IsSaid, LeavesFile, RepliesBy, RepliesUnless, Rose, reply_of}
 use Rattle.snd_script.specs.Work.{Follows}
 use Rattle.snd_script.specs.declared.handle.Reply.{Reply}
 use Rattle.snd_script.specs.declared.handle.Reply.TheVariants as reply

@@ -6,6 +6,7 @@ use Rattle.snd_disk.specs.declared.disk.Step.{Step}
 use Rattle.snd_meta.specs.declared.bext.BextKey.{BextKey}
 use Rattle.snd_meta.specs.declared.bext.BextKey.TheVariants.{Description, Originator, OrigRef, OrigDate, OrigTime, TimeRef, CodingHist}
 use Rattle.snd_modes.specs.Handle.{Known}
+use Rattle.snd_meters.specs.Gauge.{Gauge}
 use Rattle.snd_script.specs.Desk.{Mode, is_pinned, makes, pinned, reading, reads, updating, writes, writing}
 use Rattle.snd_script.specs.Rules.{Rule, auto_rule, built_rule, in_mode, is_built, is_held, read_rule, refused_rule, rule_of, seek_read_rule, seek_rule, seek_write_rule, set_bext_rule, set_chunk_rule, set_cue_rule, set_string_rule, trim_rule, truncate_rule, unless_pinned, update_rule, write_rule}
 use Rattle.snd_script.specs.Stepped.{IsBrokenAt, IsKnown, RepliesBy, RepliesUnless}
@@ -35,32 +36,32 @@ keeps_bext OrigTime text = record { same = λ k. refl }
 keeps_bext TimeRef text = record { same = λ k. refl }
 keeps_bext CodingHist text = record { same = λ k. refl }
 
-keeps_built : (mode : Mode) (said : Said) → KeepsBroken (built_rule mode said)
-keeps_built mode (Said.open_read name) = record { same = λ k. refl }
-keeps_built mode (Said.open_update name) = record { same = λ k. refl }
-keeps_built mode (Said.create kind codec channels rate name) = record { same = λ k. refl }
-keeps_built mode Said.info = record { same = λ k. refl }
-keeps_built mode Said.close = record { same = λ k. refl }
-keeps_built mode (Said.seek_read n) = keeps_in (reads mode) (seek_read_rule n) (record { same = λ k. refl })
-keeps_built mode (Said.seek_write n) = keeps_in (writes mode) (seek_write_rule n) (record { same = λ k. refl })
-keeps_built mode (Said.seek_both n) = keeps_seek mode n
-keeps_built mode (Said.read n) = keeps_in (reads mode) (read_rule n) (record { same = λ k. refl })
-keeps_built mode (Said.write xs) = keeps_in (writes mode) (write_rule xs) (record { same = λ k. refl })
-keeps_built mode (Said.truncate n) = keeps_in (writes mode) (truncate_rule n) (record { same = λ k. refl })
-keeps_built mode Said.trim = keeps_in (writes mode) trim_rule (record { same = λ k. refl })
-keeps_built mode Said.update = keeps_in (writes mode) update_rule (record { same = λ k. refl })
-keeps_built mode (Said.auto on) = keeps_in (writes mode) (auto_rule on) (record { same = λ k. refl })
-keeps_built mode (Said.set_chunk id hex) = keeps_in (makes mode) (set_chunk_rule id hex) (record { same = λ k. refl })
-keeps_built mode (Said.set_string key text) = keeps_in (makes mode) (set_string_rule key text) (record { same = λ k. refl })
-keeps_built mode (Said.set_bext key text) = keeps_in (makes mode) (set_bext_rule key text) (keeps_bext key text)
-keeps_built mode (Said.set_cue places) = keeps_in (makes mode) (set_cue_rule places) (record { same = λ k. refl })
-keeps_built mode (Said.get_chunk id) = record { same = λ k. refl }
-keeps_built mode Said.get_chunks = record { same = λ k. refl }
-keeps_built mode Said.get_strings = record { same = λ k. refl }
-keeps_built mode Said.get_bext = record { same = λ k. refl }
-keeps_built mode Said.get_cues = record { same = λ k. refl }
-keeps_built mode (Said.tap kind) = record { same = λ k. refl }
-keeps_built mode (Said.untap kind) = record { same = λ k. refl }
+keeps_built : (mode : Mode) (taps : List Gauge) (said : Said) → KeepsBroken (built_rule mode taps said)
+keeps_built mode taps (Said.open_read name) = record { same = λ k. refl }
+keeps_built mode taps (Said.open_update name) = record { same = λ k. refl }
+keeps_built mode taps (Said.create kind codec channels rate name) = record { same = λ k. refl }
+keeps_built mode taps Said.info = record { same = λ k. refl }
+keeps_built mode taps Said.close = record { same = λ k. refl }
+keeps_built mode taps (Said.seek_read n) = keeps_in (reads mode) (seek_read_rule n) (record { same = λ k. refl })
+keeps_built mode taps (Said.seek_write n) = keeps_in (writes mode) (seek_write_rule n) (record { same = λ k. refl })
+keeps_built mode taps (Said.seek_both n) = keeps_seek mode n
+keeps_built mode taps (Said.read n) = keeps_in (reads mode) (read_rule n) (record { same = λ k. refl })
+keeps_built mode taps (Said.write xs) = keeps_in (writes mode) (write_rule xs) (record { same = λ k. refl })
+keeps_built mode taps (Said.truncate n) = keeps_in (writes mode) (truncate_rule n) (record { same = λ k. refl })
+keeps_built mode taps Said.trim = keeps_in (writes mode) trim_rule (record { same = λ k. refl })
+keeps_built mode taps Said.update = keeps_in (writes mode) update_rule (record { same = λ k. refl })
+keeps_built mode taps (Said.auto on) = keeps_in (writes mode) (auto_rule on) (record { same = λ k. refl })
+keeps_built mode taps (Said.set_chunk id hex) = keeps_in (makes mode) (set_chunk_rule id hex) (record { same = λ k. refl })
+keeps_built mode taps (Said.set_string key text) = keeps_in (makes mode) (set_string_rule key text) (record { same = λ k. refl })
+keeps_built mode taps (Said.set_bext key text) = keeps_in (makes mode) (set_bext_rule key text) (keeps_bext key text)
+keeps_built mode taps (Said.set_cue places) = keeps_in (makes mode) (set_cue_rule places) (record { same = λ k. refl })
+keeps_built mode taps (Said.get_chunk id) = record { same = λ k. refl }
+keeps_built mode taps Said.get_chunks = record { same = λ k. refl }
+keeps_built mode taps Said.get_strings = record { same = λ k. refl }
+keeps_built mode taps Said.get_bext = record { same = λ k. refl }
+keeps_built mode taps Said.get_cues = record { same = λ k. refl }
+keeps_built mode taps (Said.tap kind) = record { same = λ k. refl }
+keeps_built mode taps (Said.untap kind) = record { same = λ k. refl }
 
 keeps_if : (built : Bool) (rule : Rule) → KeepsBroken rule → KeepsBroken (if built then rule else refused_rule NotBuilt)
 keeps_if true rule keeps = keeps
@@ -83,9 +84,9 @@ keeps_unless (Some refusal) rule k k' reply keeps replies = ap (λ (x : Known). 
 keeps_unless None rule k k' reply keeps replies =
     ⊎_elim (λ done. keeps_known rule.puts (rule.known k) k k' (keeps.same k) done.1) (λ found. ap (λ (x : Known). x.broken) found.3) replies
 
-pub whole_after : (mode : Mode) (said : Said) (k k' : Known) (reply : Reply) → k.broken ≡ None → RepliesBy (rule_of mode said) k k' reply → k'.broken ≡ None
-whole_after mode said k k' reply whole replies =
-    keeps_unless _ (rule_of mode said) k k' reply (keeps_if (is_built said) _ (keeps_held (is_held said) mode (built_rule mode said) (keeps_built mode said))) replies ∙ whole
+pub whole_after : (mode : Mode) (taps : List Gauge) (said : Said) (k k' : Known) (reply : Reply) → k.broken ≡ None → RepliesBy (rule_of mode taps said) k k' reply → k'.broken ≡ None
+whole_after mode taps said k k' reply whole replies =
+    keeps_unless _ (rule_of mode taps said) k k' reply (keeps_if (is_built said) _ (keeps_held (is_held said) mode (built_rule mode taps said) (keeps_built mode taps said))) replies ∙ whole
 
 -- .. and a fault of its disk breaks it
 pub broken_after : (first : Bool) (step : Step) (k k' : Known) → IsBrokenAt first step k k' → is_none k'.broken ≡ false

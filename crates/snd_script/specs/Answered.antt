@@ -15,7 +15,7 @@ use Rattle.snd_script.specs.Stepped.{Says}
 use Rattle.snd_script.specs.Work.{IsSent}
 use Rattle.snd_script.specs.declared.handle.Reply.{Reply}
 use Rattle.snd_script.specs.declared.handle.StepFault.{StepFault}
-use Rattle.snd_script.specs.declared.handle.StepFault.TheVariants.{Disk, Out, Memory}
+use Rattle.snd_script.specs.declared.handle.StepFault.TheVariants.{Disk, Memory}
 use Rattle.snd_lines.specs.declared.refusal.Refusal.{Refusal}
 use Rattle.snd_lines.specs.declared.refusal.Refusal.TheVariants.{AutoOn, ChunkTooLarge, FramesWritten, NoChunks, NoSuchChunk, Open, ReservedChunk, TextTooLong}
 

@@ -1,9 +1,12 @@
--- The state of a run over a script: the files, and at most one that is open.
-use Rattle.std.specs.Prelude.{ℕ, Bool, true, false, ◌&&◌, List, Option, None, Some}
+-- The state of a run over a script: the files, the taps, and at most one file that is open.
+use Rattle.std.specs.Prelude.{ℕ, Bool, true, false, ◌&&◌, List, map, Option, None, Some}
 use Rattle.std.specs.Str.{bytes_eq}
 use Rattle.snd_disk.specs.Shelf.{Files, put}
+use Rattle.snd_meters.specs.Gauge.{Gauge, waiting}
+use Rattle.snd_meters.specs.Gauges.{after_rest}
 use Rattle.snd_modes.specs.Editing.{Editing}
 use Rattle.snd_modes.specs.Edits.{sealed_to}
+use Rattle.snd_taps.specs.declared.tap.TapKind.{TapKind}
 
 -- how a file was opened
 pub data Mode : Type 0 where
@@ -40,17 +43,29 @@ pub record OpenFile : Type 0 where
   pub name : List ℕ
   pub mode : Mode
   pub editing : Editing
+  -- the taps, as they are while it is open
+  pub taps : List Gauge
+
+-- what there is while no file is open
+pub record Store : Type 0 where
+  -- what an open file holds comes under its name when it is closed
+  pub files : Files
+  -- those of a run, in their order
+  pub taps : List Gauge
 
 pub record Desk : Type 0 where
-  -- the files as they are while none is open; what an open one holds comes under its name when it is closed
-  pub files : Files
+  pub store : Store
   pub open_file : Option OpenFile
 
-abbrev pub closed_desk : Files → Desk
-closed_desk files = record { files = files; open_file = None }
+abbrev pub closed_desk : Store → Desk
+closed_desk store = record { store = store; open_file = None }
 
-abbrev pub open_desk : Files → OpenFile → Desk
-open_desk files file = record { files = files; open_file = Some file }
+abbrev pub open_desk : Store → OpenFile → Desk
+open_desk store file = record { store = store; open_file = Some file }
+
+-- these files, and a tap of each of these kinds, which waits
+abbrev pub stored : Files → List TapKind → Store
+stored files kinds = record { files = files; taps = map waiting kinds }
 
 -- what a file holds once it is closed: it is sealed in a mode that writes
 abbrev pub closed_as : Bool → Editing → Editing
@@ -66,7 +81,18 @@ files_with files None = files
 files_with files (Some file) = put files file.name (Some (closed_bytes file))
 
 abbrev pub files_closed : Desk → Files
-files_closed desk = files_with desk.files desk.open_file
+files_closed desk = files_with desk.store.files desk.open_file
+
+-- the taps then: those that are on wait again
+abbrev pub taps_with : List Gauge → Option OpenFile → List Gauge
+taps_with taps None = taps
+taps_with taps (Some file) = after_rest file.taps
+
+abbrev pub taps_closed : Desk → List Gauge
+taps_closed desk = taps_with desk.store.taps desk.open_file
+
+abbrev pub store_closed : Desk → Store
+store_closed desk = record { files = files_closed desk; taps = taps_closed desk }
 
 -- whether the open file has this name
 abbrev pub has_name : Option OpenFile → List ℕ → Bool

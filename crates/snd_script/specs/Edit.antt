@@ -4,17 +4,17 @@ use Rattle.snd_command.specs.Line.{command_of}
 use Rattle.snd_command.specs.Said.{Said}
 use Rattle.snd_command.specs.declared.refusal.ScriptRefusal.{ScriptRefusal}
 use Rattle.snd_command.specs.declared.refusal.ScriptRefusal.TheVariants as line
-use Rattle.snd_disk.specs.Shelf.{Files}
 use Rattle.snd_layout.specs.Params.{Parameters, params_of}
 use Rattle.snd_layout.specs.declared.codec.Codec.{Codec}
 use Rattle.snd_layout.specs.declared.error.OpenError.{OpenError}
 use Rattle.snd_layout.specs.declared.error.OpenError.TheVariants as error
 use Rattle.snd_layout.specs.declared.kind.Kind.{Kind}
 use Rattle.snd_layout.specs.declared.refusal.OpenRefusal.{OpenRefusal}
+use Rattle.snd_meters.specs.Gauge.{Gauge}
 use Rattle.snd_modes.specs.Editing.{Editing, opening_of}
 use Rattle.snd_modes.specs.Making.{making_of}
 use Rattle.snd_modes.specs.Updating.{updating_of}
-use Rattle.snd_script.specs.Desk.{Desk, Mode, OpenFile, is_pinned, pinned, reading, updating, writing, closed_desk, files_closed, open_desk}
+use Rattle.snd_script.specs.Desk.{Desk, Mode, OpenFile, Store, is_pinned, pinned, reading, updating, writing, closed_desk, open_desk, store_closed}
 use Rattle.snd_script.specs.Rules.{FileEdited, Rule, fixed_word, grounds_of, is_built, is_close, rule_of}
 use Rattle.snd_script.specs.Replies.{Answer, nothing, says, refuses, file_line, ok_line}
 use Rattle.snd_lines.specs.declared.refusal.Refusal.{Refusal}
@@ -61,40 +61,40 @@ open_refusal error.AdpcmUpdate = AdpcmUpdate
 open_refusal error.UnknownLength = UnknownLength
 open_refusal other = NotBuilt
 
-abbrev pub file_opened : List ℕ → Opening → Editing → OpenFile
-file_opened name opening e = record { name = name; mode = mode_for opening; editing = e }
+abbrev pub file_opened : List ℕ → Opening → Editing → List Gauge → OpenFile
+file_opened name opening e taps = record { name = name; mode = mode_for opening; editing = e; taps = taps }
 
 -- it is open, and its line is said
-abbrev pub opened_edit : Files → OpenFile → Edited
-opened_edit files file = record { answer = says (file_line file.editing.shape); desk = open_desk files file }
+abbrev pub opened_edit : Store → OpenFile → Edited
+opened_edit store file = record { answer = says (file_line file.editing.shape); desk = open_desk store file }
 
-abbrev pub open_edit_of : Files → List ℕ → Opening → Result Editing OpenError → Edited
-open_edit_of files name opening (Err why) = refused (open_refusal why) (closed_desk files)
-open_edit_of files name opening (Ok e) = opened_edit files (file_opened name opening e)
+abbrev pub open_edit_of : Store → List ℕ → Opening → Result Editing OpenError → Edited
+open_edit_of store name opening (Err why) = refused (open_refusal why) (closed_desk store)
+open_edit_of store name opening (Ok e) = opened_edit store (file_opened name opening e store.taps)
 
 -- a file that is there, or that is made whatever was there
-abbrev pub open_edit : Files → List ℕ → Opening → Option (List ℕ) → Edited
-open_edit files name opening None = refused MissingFile (closed_desk files)
-open_edit files name opening (Some b) = open_edit_of files name opening (opened_as opening b)
+abbrev pub open_edit : Store → List ℕ → Opening → Option (List ℕ) → Edited
+open_edit store name opening None = refused MissingFile (closed_desk store)
+open_edit store name opening (Some b) = open_edit_of store name opening (opened_as opening b)
 
-abbrev pub make_edit : Files → List ℕ → Kind → Result Parameters OpenRefusal → Edited
-make_edit files name kind (Err refusal) = refused (Open refusal) (closed_desk files)
-make_edit files name kind (Ok p) = open_edit_of files name (Opening.for_making kind p) (as_opened (making_of kind p))
+abbrev pub make_edit : Store → List ℕ → Kind → Result Parameters OpenRefusal → Edited
+make_edit store name kind (Err refusal) = refused (Open refusal) (closed_desk store)
+make_edit store name kind (Ok p) = open_edit_of store name (Opening.for_making kind p) (as_opened (making_of kind p))
 
-abbrev pub make_edit_of : Files → List ℕ → Kind → ℕ → ℕ → Option Codec → Edited
-make_edit_of files name kind channels rate None = refused NotBuilt (closed_desk files)
-make_edit_of files name kind channels rate (Some codec) = make_edit files name kind (params_of channels rate codec)
+abbrev pub make_edit_of : Store → List ℕ → Kind → ℕ → ℕ → Option Codec → Edited
+make_edit_of store name kind channels rate None = refused NotBuilt (closed_desk store)
+make_edit_of store name kind channels rate (Some codec) = make_edit store name kind (params_of channels rate codec)
 
 -- ---- with no file open
 
-abbrev pub edit_first : Files → Said → Edited
-edit_first files (Said.open_read name) = open_edit files name Opening.for_reading (files name)
-edit_first files (Said.open_update name) = open_edit files name Opening.for_updating (files name)
-edit_first files (Said.create kind codec channels rate name) = make_edit_of files name kind channels rate (fixed_word codec)
-edit_first files said = refused NotOpen (closed_desk files)
+abbrev pub edit_first : Store → Said → Edited
+edit_first store (Said.open_read name) = open_edit store name Opening.for_reading (store.files name)
+edit_first store (Said.open_update name) = open_edit store name Opening.for_updating (store.files name)
+edit_first store (Said.create kind codec channels rate name) = make_edit_of store name kind channels rate (fixed_word codec)
+edit_first store said = refused NotOpen (closed_desk store)
 
-abbrev pub edit_closed : Files → Said → Edited
-edit_closed files said = if is_built said then edit_first files said else refused NotBuilt (closed_desk files)
+abbrev pub edit_closed : Store → Said → Edited
+edit_closed store said = if is_built said then edit_first store said else refused NotBuilt (closed_desk store)
 
 -- ---- with a file open
 
@@ -106,29 +106,36 @@ abbrev pub edit_by : Rule → Editing → FileEdited
 edit_by rule e = edit_unless (rule.refusal (grounds_of e)) (rule.done e) e
 
 -- any command but one that closes it
-abbrev pub edit_file : Mode → Said → Editing → FileEdited
-edit_file mode said e = edit_by (rule_of mode said) e
+abbrev pub edit_file : Mode → List Gauge → Said → Editing → FileEdited
+edit_file mode taps said e = edit_by (rule_of mode taps said) e
 
-abbrev pub keep_open : Files → OpenFile → FileEdited → Edited
-keep_open files file edited = record { answer = edited.answer; desk = open_desk files (record file { editing = edited.editing }) }
+-- what a rule makes of the taps of a file
+abbrev pub taps_by : Rule → OpenFile → List Gauge
+taps_by rule file = rule.taps file.editing.shape.params.codec (rule.feeds file.editing) file.taps
+
+abbrev pub file_by : Rule → OpenFile → OpenFile
+file_by rule file = record file { editing = (edit_by rule file.editing).editing; taps = taps_by rule file }
+
+abbrev pub keep_open : Store → OpenFile → Rule → Edited
+keep_open store file rule = record { answer = (edit_by rule file.editing).answer; desk = open_desk store (file_by rule file) }
 
 -- closing says how many frames there are
-abbrev pub close_edit : Files → OpenFile → Edited
-close_edit files file = record { answer = says (ok_line file.editing.shape.frames); desk = closed_desk (files_closed (open_desk files file)) }
+abbrev pub close_edit : Store → OpenFile → Edited
+close_edit store file = record { answer = says (ok_line file.editing.shape.frames); desk = closed_desk (store_closed (open_desk store file)) }
 
 -- a file that is pinned is not closed
-abbrev pub edit_open : Files → OpenFile → Said → Edited
-edit_open files file said =
-    if is_close said && not (is_pinned file.mode) then close_edit files file else keep_open files file (edit_file file.mode said file.editing)
+abbrev pub edit_open : Store → OpenFile → Said → Edited
+edit_open store file said =
+    if is_close said && not (is_pinned file.mode) then close_edit store file else keep_open store file (rule_of file.mode file.taps said)
 
 -- ---- any command
 
-abbrev pub edit_on : Files → Option OpenFile → Said → Edited
-edit_on files None said = edit_closed files said
-edit_on files (Some file) said = edit_open files file said
+abbrev pub edit_on : Store → Option OpenFile → Said → Edited
+edit_on store None said = edit_closed store said
+edit_on store (Some file) said = edit_open store file said
 
 abbrev pub edit : Desk → Said → Edited
-edit desk said = edit_on desk.files desk.open_file said
+edit desk said = edit_on desk.store desk.open_file said
 
 -- a whole line, which may say nothing or no command
 abbrev pub line_edit : Desk → Result (Option Said) ScriptRefusal → Edited

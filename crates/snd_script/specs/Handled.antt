@@ -7,6 +7,7 @@ use Rattle.snd_disk.specs.declared.disk.Disk.{Ghosts}
 use Rattle.snd_disk.specs.declared.disk.Step.{Step}
 use Rattle.snd_disk.specs.declared.streams.Sink.{Ghosts as SinkMeaning}
 use Rattle.snd_disk.specs.State.{State}
+use Rattle.snd_meters.specs.Gauge.{Gauge}
 use Rattle.snd_modes.specs.Editing.{Editing}
 use Rattle.snd_modes.specs.Handle.{Known, Stands, disk_of, known_of, loan_of}
 use Rattle.snd_modes.specs.Rest.{IsAtRest}
@@ -16,7 +17,7 @@ use Rattle.snd_patch.specs.Steps.{StillTells}
 use Rattle.snd_script.specs.Desk.{Mode, closed_as, pinned, reading, updating, writes, writing}
 use Rattle.snd_script.specs.Edit.{edit_file}
 use Rattle.snd_script.specs.Rules.{Rule, rule_of}
-use Rattle.snd_script.specs.Stepped.{IsAutomatic, IsSaid, IsSilent, IsStepCause, Knows, LeavesFile, Rose, changes_by}
+use Rattle.snd_script.specs.Stepped.{IsAutomatic, IsSaid, IsSilent, IsStepCause, Knows, LeavesFile, LeavesTaps, Rose, changes_by}
 use Rattle.snd_script.specs.declared.handle.Handle.{Handle}
 use Rattle.snd_script.specs.declared.handle.Handle.TheVariants.{R, W, U}
 use Rattle.snd_script.specs.declared.handle.Reply.{Reply}
@@ -33,9 +34,9 @@ abbrev pub open_as : Bool → Mode → Mode
 open_as true mode = pinned
 open_as false mode = mode
 
--- the rule of a command on it
-abbrev pub rule_for : {D : Type 0} {ghosts : Ghosts D} → Handle D ghosts → Said → Rule
-rule_for handle said = rule_of (mode_of handle) said
+-- the rule of a command on it, with these taps
+abbrev pub rule_for : {D : Type 0} {ghosts : Ghosts D} → List Gauge → Handle D ghosts → Said → Rule
+rule_for taps handle said = rule_of (mode_of handle) taps said
 
 -- the disk that it holds, and the loan by which it holds it
 abbrev pub handle_disk : {D : Type 0} {ghosts : Ghosts D} → Handle D ghosts → D
@@ -76,9 +77,9 @@ pub record LeavesHandle {D : Type 0} {ghosts : Ghosts D} (state : D → State) (
   pub reads : writes (mode_of old) ≡ false → OnlyReadsOn state may_leave left_between (handle_disk old) (handle_disk new)
 
 -- a command that changes no file only reads the disk
-abbrev pub OnlyChanges : {D : Type 0} (d : Ghosts D) → Said → Handle D d → Handle D d → Type 0
-OnlyChanges d said old new =
-    changes_by (rule_for old said) (handle_known old) ≡ false → OnlyReadsOn d.state d.may_leave d.left_between (handle_disk old) (handle_disk new)
+abbrev pub OnlyChanges : {D : Type 0} (d : Ghosts D) → List Gauge → Said → Handle D d → Handle D d → Type 0
+OnlyChanges d taps said old new =
+    changes_by (rule_for taps old said) (handle_known old) ≡ false → OnlyReadsOn d.state d.may_leave d.left_between (handle_disk old) (handle_disk new)
 
 -- at most so many bytes are asked of its disk, and written
 abbrev pub HandleAsks : {D : Type 0} {ghosts : Ghosts D} → (D → State) → ℕ → Handle D ghosts → Handle D ghosts → Type 0
@@ -88,28 +89,28 @@ abbrev pub HandleWrites : {D : Type 0} {ghosts : Ghosts D} → (D → State) →
 HandleWrites state n old new = WritesAtMost state n (handle_disk old) (handle_disk new)
 
 -- .. as many as the rule of a command says
-abbrev pub AsksByRule : {D : Type 0} (d : Ghosts D) → Said → Handle D d → Handle D d → Type 0
-AsksByRule d said old new = HandleAsks d.state (rule_for old said).asked old new
+abbrev pub AsksByRule : {D : Type 0} (d : Ghosts D) → List Gauge → Said → Handle D d → Handle D d → Type 0
+AsksByRule d taps said old new = HandleAsks d.state (rule_for taps old said).asked old new
 
-abbrev pub WritesByRule : {D : Type 0} (d : Ghosts D) → Said → Handle D d → Handle D d → Type 0
-WritesByRule d said old new = HandleWrites d.state (rule_for old said).written old new
+abbrev pub WritesByRule : {D : Type 0} (d : Ghosts D) → List Gauge → Said → Handle D d → Handle D d → Type 0
+WritesByRule d taps said old new = HandleWrites d.state (rule_for taps old said).written old new
 
 -- there is no memory only for a command that takes some
-abbrev pub LacksMemory : {D : Type 0} {ghosts : Ghosts D} → Result Reply StepFault → Said → Handle D ghosts → Type 0
-LacksMemory result said handle = IsErrOf result Memory → (rule_for handle said).takes_memory ≡ true
+abbrev pub LacksMemory : {D : Type 0} {ghosts : Ghosts D} → List Gauge → Result Reply StepFault → Said → Handle D ghosts → Type 0
+LacksMemory taps result said handle = IsErrOf result Memory → (rule_for taps handle said).takes_memory ≡ true
 
 -- One command on it: the reply and what it knows afterwards, over every disk
-abbrev pub KnowsAfter : {D : Type 0} {ghosts : Ghosts D} → Result Reply StepFault → Said → Handle D ghosts → Handle D ghosts → Type 0
-KnowsAfter result said old new = Knows result (rule_for old said) (handle_known old) (handle_known new)
+abbrev pub KnowsAfter : {D : Type 0} {ghosts : Ghosts D} → List Gauge → Result Reply StepFault → Said → Handle D ghosts → Handle D ghosts → Type 0
+KnowsAfter taps result said old new = Knows result (rule_for taps old said) (handle_known old) (handle_known new)
 
 -- .. the file that it stands for, and what is appended, where the disk tells the file
-abbrev pub LeavesOpen : {D : Type 0} {ghosts : Ghosts D} → (D → State) → Result Reply StepFault → Said → Handle D ghosts → Handle D ghosts → Type 0
-LeavesOpen state result said old new =
-    (e : Editing) → HandleStands state old e → LeavesFile result (edit_file (mode_of old) said e) e (HandleStands state new)
+abbrev pub LeavesOpen : {D : Type 0} {ghosts : Ghosts D} → (D → State) → List Gauge → Result Reply StepFault → Said → Handle D ghosts → Handle D ghosts → Type 0
+LeavesOpen state taps result said old new =
+    (e : Editing) → HandleStands state old e → LeavesFile result (edit_file (mode_of old) taps said e) e (HandleStands state new)
 
-abbrev pub SaysReply : {D O : Type 0} {ghosts : Ghosts D} → (D → State) → (O → Option (List ℕ)) → Result Reply StepFault → Said → Handle D ghosts → O → O → Type 0
-SaysReply state told result said handle out out' =
-    (e : Editing) → HandleStands state handle e → IsSaid result (edit_file (mode_of handle) said e).answer (told out) (told out')
+abbrev pub SaysReply : {D O : Type 0} {ghosts : Ghosts D} → (D → State) → (O → Option (List ℕ)) → List Gauge → Result Reply StepFault → Said → Handle D ghosts → O → O → Type 0
+SaysReply state told taps result said handle out out' =
+    (e : Editing) → HandleStands state handle e → IsSaid result (edit_file (mode_of handle) taps said e).answer (told out) (told out')
 
 -- .. and the counts of faults
 abbrev pub CountsStep : {D O : Type 0} {ghosts : Ghosts D} → (D → State) → (O → ℕ) → Result Reply StepFault → Handle D ghosts → O → Handle D ghosts → O → Type 0
@@ -118,28 +119,34 @@ CountsStep state faults result old out new out' =
 
 -- .. and from rest, where updates are automatic before the command or once it is carried out: what it leaves at any moment is safe
 -- between the state before the command and the one to which that leads; and unless the disk fails, it is at rest then
-abbrev pub StepsSafely : {D : Type 0} (d : Ghosts D) → Said → Handle D d → Handle D d → Type 0
-StepsSafely d said old new = IsAutomatic (rule_for old said) (handle_known old) → (opened : List ℕ) (e : Editing) → HandleAtRest d opened old e
-    → LeavesEach d (handle_disk old) (handle_disk new) (IsSafe e (edit_file (mode_of old) said e).editing)
+abbrev pub StepsSafely : {D : Type 0} (d : Ghosts D) → List Gauge → Said → Handle D d → Handle D d → Type 0
+StepsSafely d taps said old new = IsAutomatic (rule_for taps old said) (handle_known old) → (opened : List ℕ) (e : Editing) → HandleAtRest d opened old e
+    → LeavesEach d (handle_disk old) (handle_disk new) (IsSafe e (edit_file (mode_of old) taps said e).editing)
 
-abbrev pub StepsToRest : {D : Type 0} (d : Ghosts D) → Result Reply StepFault → Said → Handle D d → Handle D d → Type 0
-StepsToRest d result said old new = IsAutomatic (rule_for old said) (handle_known old) → (opened : List ℕ) (e : Editing) → HandleAtRest d opened old e
-    → LeavesFile result (edit_file (mode_of old) said e) e (HandleAtRest d opened new)
+abbrev pub StepsToRest : {D : Type 0} (d : Ghosts D) → List Gauge → Result Reply StepFault → Said → Handle D d → Handle D d → Type 0
+StepsToRest d taps result said old new = IsAutomatic (rule_for taps old said) (handle_known old) → (opened : List ℕ) (e : Editing) → HandleAtRest d opened old e
+    → LeavesFile result (edit_file (mode_of old) taps said e) e (HandleAtRest d opened new)
 
--- .. all of that, by the meanings of the disk and of the sink
-pub record Steps {D O : Type 0} (d : Ghosts D) (o : SinkMeaning O) (command : Said) (result : Result Reply StepFault) (old : Handle D d) (out : O) (new : Handle D d) (out' : O) : Type 0 where
-  pub stands : LeavesOpen d.state result command old new
-  pub said : SaysReply d.state o.told result command old out out'
+-- .. and the taps, over every disk: the frames that are fed to those that are on are the ones that are said, where it tells them
+abbrev pub FeedsTaps : {D : Type 0} {ghosts : Ghosts D} → (D → State) → Result Reply StepFault → Said → Handle D ghosts → List Gauge → List Gauge → Type 0
+FeedsTaps state result said handle taps taps' =
+    let rule = rule_for taps handle said in
+    LeavesTaps result (rule.taps (handle_known handle).shape.params.codec) (λ frames. (e : Editing) → HandleStands state handle e → frames ≡ rule.feeds e) taps taps'
+
+-- .. all but the taps, by the meanings of the disk and of the sink
+pub record Steps {D O : Type 0} (d : Ghosts D) (o : SinkMeaning O) (taps : List Gauge) (command : Said) (result : Result Reply StepFault) (old : Handle D d) (out : O) (new : Handle D d) (out' : O) : Type 0 where
+  pub stands : LeavesOpen d.state taps result command old new
+  pub said : SaysReply d.state o.told taps result command old out out'
   pub silent : IfErr result (λ fault. IsSilent fault (o.told out) (o.told out'))
   pub cause : CountsStep d.state o.faults result old out new out'
-  pub memory : LacksMemory result command old
-  pub knows : KnowsAfter result command old new
+  pub memory : LacksMemory taps result command old
+  pub knows : KnowsAfter taps result command old new
   pub leaves : LeavesHandle d.state d.may_leave d.left_between old new
-  pub reads : OnlyChanges d command old new
-  pub safe : StepsSafely d command old new
-  pub rests : StepsToRest d result command old new
-  pub asked : AsksByRule d command old new
-  pub written : WritesByRule d command old new
+  pub reads : OnlyChanges d taps command old new
+  pub safe : StepsSafely d taps command old new
+  pub rests : StepsToRest d taps result command old new
+  pub asked : AsksByRule d taps command old new
+  pub written : WritesByRule d taps command old new
 
 -- ---- a handle that is closed
 

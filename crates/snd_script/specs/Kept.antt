@@ -39,7 +39,7 @@ LeavesTail (Err stop) all reading left = Unit {0}
 
 -- ---- WHOLE OBJECTS. The arguments are the meanings of the shelf and of the source.
 
-abbrev pub LeavesLines : {R T : Type 0} → (R → Option (List ℕ)) → Result T Stop → Run → R → Run → R → Type 0
+abbrev pub LeavesLines : {V : Type 0} {Z : V → Type 0} {R T : Type 0} → (R → Option (List ℕ)) → Result T Stop → Run V Z → R → Run V Z → R → Type 0
 LeavesLines left result run script run' script' =
     (s : List ℕ) → left script ≡ Some s → LeavesTail result (lines_to_serve run.lines s) run'.lines (left script')
 
@@ -49,6 +49,6 @@ KeepsUnless s writes shelf shelf' =
     (f : Files) (n : List ℕ) → TellsFiles s.state shelf f → is_none (f n) ≡ false → writes n ≡ false → KeepsImagesOf s.state s.may_leave s.left_between n shelf shelf'
 
 -- .. by the lines that are left
-abbrev pub KeepsByLines : {S D R : Type 0} → ShelfMeaning S D → SourceMeaning R → S → Run → R → S → Type 0
+abbrev pub KeepsByLines : {V : Type 0} {Z : V → Type 0} {S D R : Type 0} → ShelfMeaning S D → SourceMeaning R → S → Run V Z → R → S → Type 0
 KeepsByLines s r shelf run script shelf' =
     (b : List ℕ) → r.left script ≡ Some b → KeepsUnless s (any_writes (lines_to_serve run.lines b)) shelf shelf'

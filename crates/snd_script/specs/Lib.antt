@@ -12,6 +12,7 @@ pub mod Script
 pub mod Served
 pub mod Serving
 pub mod Stepped
+pub mod Tapped
 pub mod Trail
 pub mod Used
 pub mod Work

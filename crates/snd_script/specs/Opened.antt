@@ -3,7 +3,6 @@ use Rattle.std.specs.Prelude.{◌≡◌, ◌≤◌, ℕ, List, Bool, true, false
 use Rattle.std.specs.Borrow.{GName, MutBor}
 use Rattle.snd_disk.specs.Device.{IsStable, OnlyReadsOn, Tells}
 use Rattle.snd_disk.specs.State.{Rises, State}
-use Rattle.snd_disk.specs.Shelf.{Files}
 use Rattle.snd_disk.specs.declared.disk.Disk.{Ghosts}
 use Rattle.snd_layout.specs.Params.{Parameters}
 use Rattle.snd_layout.specs.declared.kind.Kind.{Kind}
@@ -13,7 +12,7 @@ use Rattle.snd_layout.specs.declared.error.OpenError.{OpenError}
 use Rattle.snd_layout.specs.declared.error.OpenError.TheVariants.{DiskFault, Memory}
 use Rattle.snd_modes.specs.Editing.{Editing}
 use Rattle.snd_modes.specs.Making.{making_of}
-use Rattle.snd_script.specs.Desk.{closed_desk}
+use Rattle.snd_script.specs.Desk.{Store, closed_desk}
 use Rattle.snd_script.specs.Edit.{Edited, Opening, make_edit, open_edit, open_edit_of, opened_as, refused}
 use Rattle.snd_modes.specs.Safe.{IsFit}
 use Rattle.snd_modes.specs.Updating.{updating_of}
@@ -84,16 +83,16 @@ OnlyServes d how old new = Unit {0}
 -- ---- under a name
 
 -- these bytes of the file of a name are opened so
-abbrev pub opens_bytes : OpenAs → List ℕ → Files → List ℕ → Edited
-opens_bytes how name files b = open_edit_of files name (opening_by how) (opened_as (opening_by how) b)
+abbrev pub opens_bytes : OpenAs → List ℕ → Store → List ℕ → Edited
+opens_bytes how name store b = open_edit_of store name (opening_by how) (opened_as (opening_by how) b)
 
 -- the file of a name is opened so, from these files
-abbrev pub opens_edit : Files → List ℕ → OpenAs → Edited
-opens_edit files name Read = open_edit files name Opening.for_reading (files name)
-opens_edit files name Update = open_edit files name Opening.for_updating (files name)
-opens_edit files name (Make kind p) = make_edit files name kind (Ok p)
+abbrev pub opens_edit : Store → List ℕ → OpenAs → Edited
+opens_edit store name Read = open_edit store name Opening.for_reading (store.files name)
+opens_edit store name Update = open_edit store name Opening.for_updating (store.files name)
+opens_edit store name (Make kind p) = make_edit store name kind (Ok p)
 
 -- parameters with which a file can be made; or why not, whatever there is
 abbrev pub MakesOf : Kind → Result Parameters OpenRefusal → Result Params OpenRefusal → Type 0
 MakesOf kind asked (Ok params) = (asked ≡ Ok params) × IsMakeable (Make kind params)
-MakesOf kind asked (Err refusal) = (files : Files) (name : List ℕ) → make_edit files name kind asked ≡ refused (Open refusal) (closed_desk files)
+MakesOf kind asked (Err refusal) = (store : Store) (name : List ℕ) → make_edit store name kind asked ≡ refused (Open refusal) (closed_desk store)

@@ -16,11 +16,14 @@ use Rattle.snd_layout.specs.declared.kind.Kind.{Kind}
 use Rattle.snd_layout.specs.declared.kind.Kind.TheVariants.{Voc}
 use Rattle.snd_layout.specs.declared.piece.Piece.{Piece}
 use Rattle.snd_layout.specs.declared.refusal.OpenRefusal.TheVariants.{TooManyChunks}
-use Rattle.snd_meta.specs.Broadcast.{Broadcast, field_size}
+use Rattle.snd_meta.specs.Broadcast.{field_size}
 use Rattle.snd_meta.specs.Cue.{cue_body, named}
 use Rattle.snd_meta.specs.declared.bext.BextKey.{BextKey}
 use Rattle.snd_meta.specs.declared.bext.BextKey.TheVariants.{TimeRef}
 use Rattle.snd_meta.specs.declared.info.InfoKey.{InfoKey}
+use Rattle.snd_meters.specs.Gauge.{Gauge}
+use Rattle.snd_meters.specs.Gauges.{after_feed, after_start, after_stop, start_answer, stop_answer}
+use Rattle.snd_meters.specs.Report.{report_line}
 use Rattle.snd_modes.specs.declared.error.GetError.TheVariants as get
 use Rattle.snd_modes.specs.Editing.{Editing, frames_left, frames_read, moved_by, moved_to}
 use Rattle.snd_modes.specs.Edits.{automatic_to, moved_write_to, sealed_to, trimmed_to, truncated_to, written_to}
@@ -30,13 +33,18 @@ use Rattle.snd_modes.specs.PieceCalls.{known_put}
 use Rattle.snd_modes.specs.Pieces.{first_piece}
 use Rattle.snd_modes.specs.Relaid.{added_to, place_named, replaced_to}
 use Rattle.snd_modes.specs.WriteCalls.{end_written, is_whole_field, known_cut, known_sealed, known_trimmed, known_written}
+use Rattle.snd_fields.specs.declared.field.Order.TheVariants.{Little}
 use Rattle.snd_pcm.specs.Pcm.{high, low}
+use Rattle.snd_pcm.specs.declared.linear.Linear.{Linear}
+use Rattle.snd_pcm.specs.declared.linear.Linear.TheVariants.{S16}
 use Rattle.snd_container.specs.Fixed.{range_form}
 use Rattle.snd_container.specs.declared.fixed.Fixed.{Fixed}
 use Rattle.snd_tags.specs.Drafts.{bext_timed, bext_with, info_with}
 use Rattle.snd_tags.specs.Found.{broadcast_of, points_of, read_as, texts_of}
 use Rattle.snd_tags.specs.declared.error.TagError.{TagError}
 use Rattle.snd_tags.specs.declared.error.TagError.TheVariants.{Get, BadBody}
+use Rattle.snd_taps.specs.declared.tap.TapKind.{TapKind}
+use Rattle.snd_taps.specs.declared.tap.TapState.{TapState}
 use Rattle.snd_wave.specs.Heads.{new_piece}
 use Rattle.snd_script.specs.Desk.{Mode, is_pinned, makes, pinned, reading, reads, updating, writes, writing}
 use Rattle.snd_script.specs.Hex.{bytes_of_hex}
@@ -119,6 +127,9 @@ pub record Rule : Type 0 where
   -- what is done where it is not so refused; and what the handle knows once it was carried out, over every disk
   pub done : Editing → FileEdited
   pub known : Known → Known
+  -- the frames that it says, and what it makes of the taps with them, in a file of a codec
+  pub feeds : Editing → List (List ℤ)
+  pub taps : Codec → List (List ℤ) → List Gauge → List Gauge
   -- which refusals only what stands on the disk decides
   pub finds : Refusal → Bool
   -- the chunk that is put with a body which the disk decides, where there is one
@@ -138,6 +149,8 @@ telling done known = record {
   refusal = λ g. None;
   done = done;
   known = known;
+  feeds = λ e. [];
+  taps = λ codec frames taps. taps;
   finds = λ refusal. false;
   puts = None;
   changes = false;
@@ -168,14 +181,47 @@ seek_write_rule n = record (telling (λ e. says_of (ok_line n) (moved_write_to n
 abbrev pub seek_both_rule : ℕ → Rule
 seek_both_rule n = record (telling (λ e. says_of (ok_line n) (moved_write_to n (moved_to n e))) (λ k. record k { place = n; write_place = n })) { refusal = λ g. seek_refusal n g.shape }
 
--- `read`: as many frames as are wanted and are left; a frame of a codec that is read has at most 1024 bytes
+-- `read`: as many frames as are wanted and are left, each of which is fed to the taps that are on; a frame of a codec that is
+-- read has at most 1024 bytes
 abbrev pub read_known : ℕ → Known → Known
 read_known n k = record k { place = k.place + min n (k.shape.frames - k.place) }
 
 abbrev pub read_rule : ℕ → Rule
 read_rule n = record (telling (λ e. says_of (frames_text (frames_read e (frames_left e n))) (moved_by (frames_left e n) e)) (read_known n)) {
+  feeds = λ e. frames_read e (frames_left e n);
+  taps = λ codec frames taps. after_feed frames taps;
   asked = 1024 * n + 16384;
   takes_memory = true;
+}
+
+-- `tap`: the first that waits of a kind begins, with the range of the numbers of the codec, which is that of 16 bits for the laws
+-- and for ADPCM
+abbrev pub range_of : Option Fixed → Linear
+range_of None = S16 Little
+range_of (Some form) = range_form form
+
+abbrev pub tap_range : Codec → Linear
+tap_range codec = range_of (fixed_of codec)
+
+abbrev pub why_not : {T : Type 0} → Result T Refusal → Option Refusal
+why_not (Ok x) = None
+why_not (Err refusal) = Some refusal
+
+abbrev pub tap_rule : List Gauge → TapKind → Rule
+tap_rule taps kind = record (telling (says_of done_line) (λ k. k)) {
+  refusal = λ g. why_not (start_answer kind taps);
+  taps = λ codec frames taps. after_start kind (low (tap_range codec)) (high (tap_range codec)) taps;
+}
+
+-- `untap`: the one that is on reports, and is gone
+abbrev pub report_of : TapKind → Result TapState Refusal → Answer
+report_of kind (Ok state) = says (report_line kind state)
+report_of kind (Err refusal) = refuses refusal
+
+abbrev pub untap_rule : List Gauge → TapKind → Rule
+untap_rule taps kind = record (telling (answered (report_of kind (stop_answer kind taps))) (λ k. k)) {
+  refusal = λ g. why_not (stop_answer kind taps);
+  taps = λ codec frames taps. after_stop kind taps;
 }
 
 -- a command that changes the file, with how many bytes it writes at most
@@ -336,11 +382,9 @@ fixed_word word.MuLaw = Some codec.MuLaw
 fixed_word word.ALaw = Some codec.ALaw
 fixed_word other = None
 
--- commands and codecs that are not built yet are refused before all else
+-- codecs that are not built yet are refused before all else
 abbrev pub is_built : Said → Bool
 is_built (Said.create kind codec channels rate name) = is_some (fixed_word codec)
-is_built (Said.tap kind) = false
-is_built (Said.untap kind) = false
 is_built said = true
 
 -- the command that closes a file
@@ -377,31 +421,33 @@ seek_rule updating n = seek_both_rule n
 seek_rule pinned n = seek_both_rule n
 
 -- any built command but `close`; no file is opened while one is open
-abbrev pub built_rule : Mode → Said → Rule
-built_rule mode Said.info = tell_rule
-built_rule mode (Said.seek_read n) = in_mode (reads mode) (seek_read_rule n)
-built_rule mode (Said.seek_write n) = in_mode (writes mode) (seek_write_rule n)
-built_rule mode (Said.seek_both n) = seek_rule mode n
-built_rule mode (Said.read n) = in_mode (reads mode) (read_rule n)
-built_rule mode (Said.write xs) = in_mode (writes mode) (write_rule xs)
-built_rule mode (Said.truncate n) = in_mode (writes mode) (truncate_rule n)
-built_rule mode Said.trim = in_mode (writes mode) trim_rule
-built_rule mode Said.update = in_mode (writes mode) update_rule
-built_rule mode (Said.auto on) = in_mode (writes mode) (auto_rule on)
-built_rule mode (Said.set_chunk id hex) = in_mode (makes mode) (set_chunk_rule id hex)
-built_rule mode (Said.set_string key text) = in_mode (makes mode) (set_string_rule key text)
-built_rule mode (Said.set_bext key text) = in_mode (makes mode) (set_bext_rule key text)
-built_rule mode (Said.set_cue places) = in_mode (makes mode) (set_cue_rule places)
-built_rule mode (Said.get_chunk id) = get_chunk_rule id
-built_rule mode Said.get_chunks = get_chunks_rule
-built_rule mode Said.get_strings = get_strings_rule
-built_rule mode Said.get_bext = get_bext_rule
-built_rule mode Said.get_cues = get_cues_rule
-built_rule mode said = refused_rule AlreadyOpen
+abbrev pub built_rule : Mode → List Gauge → Said → Rule
+built_rule mode taps Said.info = tell_rule
+built_rule mode taps (Said.seek_read n) = in_mode (reads mode) (seek_read_rule n)
+built_rule mode taps (Said.seek_write n) = in_mode (writes mode) (seek_write_rule n)
+built_rule mode taps (Said.seek_both n) = seek_rule mode n
+built_rule mode taps (Said.read n) = in_mode (reads mode) (read_rule n)
+built_rule mode taps (Said.write xs) = in_mode (writes mode) (write_rule xs)
+built_rule mode taps (Said.truncate n) = in_mode (writes mode) (truncate_rule n)
+built_rule mode taps Said.trim = in_mode (writes mode) trim_rule
+built_rule mode taps Said.update = in_mode (writes mode) update_rule
+built_rule mode taps (Said.auto on) = in_mode (writes mode) (auto_rule on)
+built_rule mode taps (Said.set_chunk id hex) = in_mode (makes mode) (set_chunk_rule id hex)
+built_rule mode taps (Said.set_string key text) = in_mode (makes mode) (set_string_rule key text)
+built_rule mode taps (Said.set_bext key text) = in_mode (makes mode) (set_bext_rule key text)
+built_rule mode taps (Said.set_cue places) = in_mode (makes mode) (set_cue_rule places)
+built_rule mode taps (Said.get_chunk id) = get_chunk_rule id
+built_rule mode taps Said.get_chunks = get_chunks_rule
+built_rule mode taps Said.get_strings = get_strings_rule
+built_rule mode taps Said.get_bext = get_bext_rule
+built_rule mode taps Said.get_cues = get_cues_rule
+built_rule mode taps (Said.tap kind) = tap_rule taps kind
+built_rule mode taps (Said.untap kind) = untap_rule taps kind
+built_rule mode taps said = refused_rule AlreadyOpen
 
 -- .. of which one that is pinned refuses some
 abbrev pub unless_pinned : Bool → Mode → Rule → Rule
 unless_pinned held mode rule = if held && is_pinned mode then refused_rule Pinned else rule
 
-abbrev pub rule_of : Mode → Said → Rule
-rule_of mode said = if is_built said then unless_pinned (is_held said) mode (built_rule mode said) else refused_rule NotBuilt
+abbrev pub rule_of : Mode → List Gauge → Said → Rule
+rule_of mode taps said = if is_built said then unless_pinned (is_held said) mode (built_rule mode taps said) else refused_rule NotBuilt

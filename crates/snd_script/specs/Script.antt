@@ -5,8 +5,7 @@ use Rattle.std.specs.Str.{bytes_eq}
 use Rattle.snd_command.specs.Line.{command_of}
 use Rattle.snd_command.specs.Said.{Said}
 use Rattle.snd_command.specs.declared.refusal.ScriptRefusal.{ScriptRefusal}
-use Rattle.snd_disk.specs.Shelf.{Files}
-use Rattle.snd_script.specs.Desk.{Desk, OpenFile, closed_desk, files_closed, open_desk}
+use Rattle.snd_script.specs.Desk.{Desk, OpenFile, Store, closed_desk, open_desk, store_closed}
 use Rattle.snd_script.specs.Edit.{Edited, edit_line}
 use Rattle.snd_script.specs.Replies.{nothing, text_of, is_refusal}
 use Rattle.snd_script.specs.Rules.{is_held, is_set}
@@ -42,21 +41,21 @@ abbrev pub is_too_long : ℕ → List ℕ → Bool
 is_too_long most script = nat_lt most (length script)
 
 -- A file that is open behind the last line is closed, and nothing is said.
-abbrev pub ending_of : Files → Option OpenFile → List Edited
-ending_of files None = []
-ending_of files (Some file) = record { answer = nothing; desk = closed_desk (files_closed (open_desk files file)) } ∷ []
+abbrev pub ending_of : Store → Option OpenFile → List Edited
+ending_of store None = []
+ending_of store (Some file) = record { answer = nothing; desk = closed_desk (store_closed (open_desk store file)) } ∷ []
 
 abbrev pub ending : Desk → List Edited
-ending desk = ending_of desk.files desk.open_file
+ending desk = ending_of desk.store desk.open_file
 
 -- what each of these lines is answered, with the state that it leaves; and then the ending
 abbrev pub steps : Desk → List (List ℕ) → List Edited
 steps desk [] = ending desk
 steps desk (line ∷ lines) = edit_line desk line ∷ steps (edit_line desk line).desk lines
 
--- the whole script, over these files
-unfoldable pub script_steps : Files → List ℕ → List Edited
-script_steps files script = steps (closed_desk files) (lines_within most_bytes script)
+-- the whole script, over these files and taps
+unfoldable pub script_steps : Store → List ℕ → List Edited
+script_steps store script = steps (closed_desk store) (lines_within most_bytes script)
 
 -- what is said in all, whether something is refused, and the state at the end
 abbrev pub texts : List Edited → List ℕ

@@ -3,7 +3,8 @@ use Rattle.std.specs.Prelude.{◌≡◌, ◌⊎◌, ◌≤◌, ℕ, List, [], �
 use Rattle.snd_disk.specs.Shelf.{Files, ShelfState}
 use Rattle.snd_disk.specs.Shelves.{KeepsImagesOf, TellsFiles}
 use Rattle.snd_disk.specs.State.{AtMost, GoesOn, Rises}
-use Rattle.snd_script.specs.Desk.{Desk, closed_desk, files_closed, has_name, makes_name}
+use Rattle.snd_meters.specs.Gauge.{Gauge}
+use Rattle.snd_script.specs.Desk.{Desk, Store, closed_desk, files_closed, has_name, makes_name, stored}
 use Rattle.snd_script.specs.Edit.{Edited}
 use Rattle.snd_script.specs.Lines.{HasNoFeed}
 use Rattle.snd_script.specs.Pinned.{pinned_opening, pins, run_asks, run_puts, run_steps, run_too_long, run_writes}
@@ -13,6 +14,7 @@ use Rattle.snd_script.specs.declared.serving.ScriptEnd.{ScriptEnd}
 use Rattle.snd_script.specs.declared.serving.ScriptEnd.TheVariants.{Done, TooLong, Fault, Memory}
 use Rattle.snd_script.specs.declared.stop.Stop.{Stop}
 use Rattle.snd_script.specs.declared.stop.Stop.TheVariants as stop
+use Rattle.snd_taps.specs.declared.tap.TapKind.{TapKind}
 
 -- ---- the counts of faults of the shelf, the script and the sink
 
@@ -41,6 +43,10 @@ HasFiles state shelf files = (f : Files) × TellsFiles state shelf f × ((n : Li
 
 abbrev pub HasFilesBut : {S : Type 0} → (S → ShelfState) → S → (List ℕ → Bool) → Files → Type 0
 HasFilesBut state shelf lost files = (f : Files) × TellsFiles state shelf f × ((n : List ℕ) → lost n ≡ false → f n ≡ files n)
+
+-- .. and a run has these taps
+abbrev pub HasStore : {S : Type 0} → (S → ShelfState) → S → List Gauge → Store → Type 0
+HasStore state shelf taps store = (f : Files) × TellsFiles state shelf f × ((n : List ℕ) → f n ≡ store.files n) × (store.taps ≡ taps)
 
 abbrev pub none_lost : List ℕ → Bool
 none_lost n = false
@@ -89,33 +95,33 @@ IsCutOff left desk more =
 -- ---- how serving ends
 
 -- all steps are taken
-pub record IsDone {S : Type 0} (state : S → ShelfState) (start : Files) (all : List Edited) (before after : Option (List ℕ)) (shelf : S) : Type 0 where
+pub record IsDone {S : Type 0} (state : S → ShelfState) (start : Store) (all : List Edited) (before after : Option (List ℕ)) (shelf : S) : Type 0 where
   pub appended : Appends before after (texts all)
-  pub files : HasFiles state shelf (last_desk (closed_desk start) all).files
+  pub files : HasFiles state shelf (last_desk (closed_desk start) all).store.files
 
 -- the script failed: the whole lines that came are done, and the open file is closed
-abbrev pub StopsAtScript : {S : Type 0} → (S → ShelfState) → Files → List Edited → Option (List ℕ) → Option (List ℕ) → Option (List ℕ) → S → Type 0
+abbrev pub StopsAtScript : {S : Type 0} → (S → ShelfState) → Store → List Edited → Option (List ℕ) → Option (List ℕ) → Option (List ℕ) → S → Type 0
 StopsAtScript state start all before after more shelf =
     (left : List Edited) × (desk : Desk) × Takes all left (closed_desk start) desk before after × IsCutOff left desk more × HasFiles state shelf (files_closed desk)
 
 -- the sink failed in the answer of a step: that step is taken, and the open file is closed
-abbrev pub StopsAtSink : {S : Type 0} → (S → ShelfState) → Files → List Edited → Option (List ℕ) → Option (List ℕ) → S → Type 0
+abbrev pub StopsAtSink : {S : Type 0} → (S → ShelfState) → Store → List Edited → Option (List ℕ) → Option (List ℕ) → S → Type 0
 StopsAtSink state start all before after shelf =
     (step : Edited) × (left : List Edited) × (desk : Desk) × TakesPart all (step ∷ left) (closed_desk start) desk before after × HasFiles state shelf (files_closed step.desk)
 
 -- a file failed: the open one is not meant, nor one that was to be made; or it failed when it was closed behind a step in
 -- whose answer the sink failed
-abbrev pub StopsAtFile : {S : Type 0} → (S → ShelfState) → Files → List Edited → Option (List ℕ) → Option (List ℕ) → S → Type 0
+abbrev pub StopsAtFile : {S : Type 0} → (S → ShelfState) → Store → List Edited → Option (List ℕ) → Option (List ℕ) → S → Type 0
 StopsAtFile state start all before after shelf =
     ((left : List Edited) × (desk : Desk) × TakesPart all left (closed_desk start) desk before after × HasFilesBut state shelf (lost_at desk left) (files_closed desk))
     ⊎ ((step : Edited) × (left : List Edited) × (desk : Desk) × TakesPart all (step ∷ left) (closed_desk start) desk before after × HasFilesBut state shelf (lost_at step.desk left) (files_closed step.desk))
 
 -- there was no memory for a step: it is not taken, and the open file is closed
-abbrev pub StopsAtMemory : {S : Type 0} → (S → ShelfState) → Files → List Edited → Option (List ℕ) → Option (List ℕ) → S → Type 0
+abbrev pub StopsAtMemory : {S : Type 0} → (S → ShelfState) → Store → List Edited → Option (List ℕ) → Option (List ℕ) → S → Type 0
 StopsAtMemory state start all before after shelf =
     (left : List Edited) × (desk : Desk) × Takes all left (closed_desk start) desk before after × HasFilesBut state shelf (made_next desk left) (files_closed desk)
 
-abbrev pub IsFault : {S : Type 0} → (S → ShelfState) → Files → List Edited → FaultCounts → FaultCounts → Option (List ℕ) → Option (List ℕ) → Option (List ℕ) → S → Type 0
+abbrev pub IsFault : {S : Type 0} → (S → ShelfState) → Store → List Edited → FaultCounts → FaultCounts → Option (List ℕ) → Option (List ℕ) → Option (List ℕ) → S → Type 0
 IsFault state start all old new before after more shelf =
     ((new.shelf ≡ old.shelf) × Rises old.script new.script × (new.out ≡ old.out) × StopsAtScript state start all before after more shelf)
     ⊎ (((new.shelf ≡ old.shelf) × (new.script ≡ old.script) × Rises old.out new.out × StopsAtSink state start all before after shelf)
@@ -123,7 +129,7 @@ IsFault state start all old new before after more shelf =
 
 -- A script is served to its end with exactly its answers and no fault, and the files are those that it leaves; or up to a
 -- fault, or up to want of memory.
-abbrev pub IsServed : {S : Type 0} → (S → ShelfState) → Files → Bool → List Edited → ScriptEnd → FaultCounts → FaultCounts → Option (List ℕ) → Option (List ℕ) → Option (List ℕ) → S → Type 0
+abbrev pub IsServed : {S : Type 0} → (S → ShelfState) → Store → Bool → List Edited → ScriptEnd → FaultCounts → FaultCounts → Option (List ℕ) → Option (List ℕ) → Option (List ℕ) → S → Type 0
 IsServed state start too_long all (Done refused) old new before after more shelf =
     (too_long ≡ false) × (refused ≡ any_refused all) × SameCounts old new × IsDone state start all before after shelf
 IsServed state start too_long all TooLong old new before after more shelf =
@@ -140,12 +146,13 @@ end_at refused stop.Sink = Fault
 end_at refused stop.File = Fault
 end_at refused stop.Memory = Memory
 
--- the script that the source has is served so, from the files that the shelf tells; behind the opening of the file of a name,
--- where there is one
-abbrev pub ServesScript : {S R O : Type 0} → (S → ShelfState) → (R → Option (List ℕ)) → (R → ℕ) → (O → Option (List ℕ)) → (O → ℕ) → Option (List ℕ) → ScriptEnd → S → R → O → S → R → O → Type 0
-ServesScript state left script_faults told out_faults name ended shelf script out shelf' script' out' =
+-- the script that the source has is served so, from the files that the shelf tells, with a tap of each of these kinds; behind the
+-- opening of the file of a name, where there is one
+abbrev pub ServesScript : {S R O : Type 0} → (S → ShelfState) → (R → Option (List ℕ)) → (R → ℕ) → (O → Option (List ℕ)) → (O → ℕ) → List TapKind → Option (List ℕ) → ScriptEnd → S → R → O → S → R → O → Type 0
+ServesScript state left script_faults told out_faults kinds name ended shelf script out shelf' script' out' =
     (files : Files) (s : List ℕ) → TellsFiles state shelf files → left script ≡ Some s →
-    IsServed state files (run_too_long name files s) (run_steps name files s) ended
+    let store = stored files kinds in
+    IsServed state store (run_too_long name store s) (run_steps name store s) ended
     (faults_of state script_faults out_faults shelf script out) (faults_of state script_faults out_faults shelf' script' out') (told out) (told out') (left script') shelf'
 
 -- a fault is answered only where a count rose
@@ -156,7 +163,7 @@ RisesAtFault state script_faults out_faults ended shelf script out shelf' script
 -- nothing is taken of the script where the opening is refused, or `auto on`
 abbrev pub LeavesScript : {S R : Type 0} → (S → ShelfState) → Option (List ℕ) → S → R → R → Type 0
 LeavesScript state name shelf script script' =
-    (files : Files) (n : List ℕ) → TellsFiles state shelf files → name ≡ Some n → pins (pinned_opening files n) ≡ false → script' ≡ script
+    (store : Store) (n : List ℕ) → TellsFiles state shelf store.files → name ≡ Some n → pins (pinned_opening store n) ≡ false → script' ≡ script
 
 -- ---- how it leaves the shelf
 

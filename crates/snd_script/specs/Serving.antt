@@ -4,6 +4,7 @@ use Rattle.std.specs.Str.{bytes_eq}
 use Rattle.snd_command.specs.Line.{command_of}
 use Rattle.snd_command.specs.Said.{Said}
 use Rattle.snd_disk.specs.Shelf.{Files, ShelfState}
+use Rattle.snd_disk.specs.Shelves.{TellsFiles}
 use Rattle.snd_disk.specs.declared.disk.Disk.{Ghosts}
 use Rattle.snd_disk.specs.Device.{Tells}
 use Rattle.snd_disk.specs.State.{Rises, State}
@@ -12,15 +13,18 @@ use Rattle.snd_disk.specs.declared.disk.Step.{Step}
 use Rattle.snd_layout.specs.declared.error.OpenError.{OpenError}
 use Rattle.snd_layout.specs.declared.error.OpenError.TheVariants as cause
 use Rattle.snd_layout.specs.Shape.{Shape}
+use Rattle.snd_meters.specs.Gauge.{Gauge}
 use Rattle.snd_modes.specs.Editing.{Editing}
-use Rattle.snd_script.specs.Desk.{Desk, OpenFile, closed_desk, files_closed, open_desk}
-use Rattle.snd_script.specs.Edit.{Edited, close_edit, edit_file, edit_line, keep_open, open_refusal, opened_edit}
+use Rattle.snd_script.specs.Desk.{Desk, OpenFile, Store, closed_desk, files_closed, open_desk, taps_closed}
+use Rattle.snd_script.specs.Edit.{Edited, close_edit, edit_line, keep_open, open_refusal, opened_edit}
 use Rattle.snd_script.specs.Handled.{HandleStands, handle_disk, mode_of, open_as}
 use Rattle.snd_script.specs.Lines.{CutsOff, Reading, TakesUp}
 use Rattle.snd_script.specs.Opened.{is_making, opens_bytes}
 use Rattle.snd_script.specs.Replies.{Answer, file_line, ok_line, refuses, says, text_of, is_refusal}
+use Rattle.snd_script.specs.Rules.{rule_of}
 use Rattle.snd_script.specs.Script.{any_refused, ending, is_too_long, last_desk, lines_within, steps, texts}
-use Rattle.snd_script.specs.Served.{Appends, AppendsPart, FaultCounts, HasFiles, HasFilesBut, IsCutOff, SameCounts, faults_of, first_text, lost_at, made_next, none_lost}
+use Rattle.snd_script.specs.Served.{Appends, AppendsPart, FaultCounts, HasStore, IsCutOff, SameCounts, faults_of, first_text, lost_at, made_next, none_lost}
+use Rattle.snd_script.specs.Tapped.{TapMeter, taps_of}
 use Rattle.snd_script.specs.declared.handle.Handle.{Handle}
 use Rattle.snd_script.specs.declared.open.OpenAs.{OpenAs}
 use Rattle.snd_script.specs.declared.run.Run.{Run}
@@ -42,7 +46,7 @@ abbrev pub moment : Reading → Option (List ℕ) → Bool → Option (List ℕ)
 moment reading left refused told = record { room = reading.room; rest = reading.rest; left = left; refused = refused; told = told }
 
 -- .. of a run over a source and a sink
-abbrev pub moment_of : {R O : Type 0} → (R → Option (List ℕ)) → (O → Option (List ℕ)) → Run → R → O → Moment
+abbrev pub moment_of : {V : Type 0} {Z : V → Type 0} {R O : Type 0} → (R → Option (List ℕ)) → (O → Option (List ℕ)) → Run V Z → R → O → Moment
 moment_of left told run script out = moment run.lines (left script) run.refused (told out)
 
 -- where the source has the bytes s left: the lines that are not served yet, and whether the script is too long
@@ -89,32 +93,34 @@ IsStopped Memory too_long all desk m m' stands = (left : List Edited) × (at : D
 -- it stops, or goes on with no file open
 abbrev pub IsServedOn : {T : Type 0} → Result T Stop → Bool → List Edited → Desk → Moment → Moment → ((List ℕ → Bool) → Desk → Type 0) → Type 0
 IsServedOn (Ok x) too_long all desk m m' stands =
-    (files : Files) × (s : List ℕ) × (m'.left ≡ Some s) × Serves all (steps_left (closed_desk files) m' s) desk (closed_desk files) m m' × stands none_lost (closed_desk files)
+    (store : Store) × (s : List ℕ) × (m'.left ≡ Some s) × Serves all (steps_left (closed_desk store) m' s) desk (closed_desk store) m m' × stands none_lost (closed_desk store)
     × (is_longer m' s ≡ too_long)
 IsServedOn (Err stop) too_long all desk m m' stands = IsStopped stop too_long all desk m m' stands
 
 -- it stops, or the open file is to be closed
-abbrev pub IsServedOpen : {T : Type 0} → Result T Stop → Bool → List Edited → Files → Desk → Moment → Moment → ((List ℕ → Bool) → Desk → Type 0) → Type 0
-IsServedOpen (Ok x) too_long all files desk m m' stands =
-    (file : OpenFile) × (s : List ℕ) × (m'.left ≡ Some s) × Serves all (steps_from (close_edit files file) m' s) desk (open_desk files file) m m'
-    × stands none_lost (open_desk files file) × (is_longer m' s ≡ too_long)
-IsServedOpen (Err stop) too_long all files desk m m' stands = IsStopped stop too_long all desk m m' stands
+abbrev pub IsServedOpen : {T : Type 0} → Result T Stop → Bool → List Edited → Store → Desk → Moment → Moment → ((List ℕ → Bool) → Desk → Type 0) → Type 0
+IsServedOpen (Ok x) too_long all store desk m m' stands =
+    (file : OpenFile) × (s : List ℕ) × (m'.left ≡ Some s) × Serves all (steps_from (close_edit store file) m' s) desk (open_desk store file) m m'
+    × stands none_lost (open_desk store file) × (is_longer m' s ≡ too_long)
+IsServedOpen (Err stop) too_long all store desk m m' stands = IsStopped stop too_long all desk m m' stands
 
 -- ---- what stands at a state
 
--- the shelf has its files, once the open one is closed
-abbrev pub ShelfStands : {S : Type 0} → (S → ShelfState) → S → (List ℕ → Bool) → Desk → Type 0
-ShelfStands state shelf lost desk = HasFilesBut state shelf lost (files_closed desk)
+-- the shelf has its files and a run its taps, once the open file is closed
+abbrev pub ShelfStands : {S : Type 0} → (S → ShelfState) → S → List Gauge → (List ℕ → Bool) → Desk → Type 0
+ShelfStands state shelf taps lost desk =
+    (f : Files) × TellsFiles state shelf f × ((n : List ℕ) → lost n ≡ false → f n ≡ files_closed desk n) × (taps_closed desk ≡ taps)
 
 -- with the file of a name taken out: the others are these files, and the disk holds that one
-pub record DiskStands {D : Type 0} (state : D → State) (files : Files) (name : List ℕ) (disk : D) (lost : List ℕ → Bool) (desk : Desk) : Type 0 where
-  pub others : (n : List ℕ) → bytes_eq n name ≡ false → files_closed desk n ≡ files n
+pub record DiskStands {D : Type 0} (state : D → State) (store : Store) (name : List ℕ) (taps : List Gauge) (disk : D) (lost : List ℕ → Bool) (desk : Desk) : Type 0 where
+  pub others : (n : List ℕ) → bytes_eq n name ≡ false → files_closed desk n ≡ store.files n
   pub holds : lost name ≡ false → (b : List ℕ) × Tells state disk b × (files_closed desk name ≡ Some b)
+  pub are : taps_closed desk ≡ taps
 
--- while it is open: the handle stands for it. The flag is whether it is to stay open.
-pub record OpenStands {D : Type 0} {ghosts : Ghosts D} (state : D → State) (files : Files) (name : List ℕ) (stays : Bool) (handle : Handle D ghosts) (lost : List ℕ → Bool) (desk : Desk) : Type 0 where
+-- while it is open: the handle stands for it, and these are the taps. The flag is whether it is to stay open.
+pub record OpenStands {D : Type 0} {ghosts : Ghosts D} (state : D → State) (store : Store) (name : List ℕ) (stays : Bool) (taps : List Gauge) (handle : Handle D ghosts) (lost : List ℕ → Bool) (desk : Desk) : Type 0 where
   pub editing : Editing
-  pub is : desk ≡ open_desk files (record { name = name; mode = open_as stays (mode_of handle); editing = editing })
+  pub is : desk ≡ open_desk store (record { name = name; mode = open_as stays (mode_of handle); editing = editing; taps = taps })
   pub stands : lost name ≡ false → HandleStands state handle editing
 
 -- ---- counts of faults
@@ -169,12 +175,12 @@ StopsLine stop edited desk before after stands = ⊥
 
 -- A line while a file is open: it was answered, and the file that it leaves is open; or the file is to be closed, and all is
 -- as it was; or it stops the run.
-abbrev pub IsLineServed : Result Next Stop → Edited → Files → OpenFile → Bool → Bool → Option (List ℕ) → Option (List ℕ) → ((List ℕ → Bool) → Desk → Type 0) → Type 0
-IsLineServed (Ok next.Open) edited files file refused refused' before after stands =
+abbrev pub IsLineServed : Result Next Stop → Edited → Store → OpenFile → Bool → Bool → Option (List ℕ) → Option (List ℕ) → ((List ℕ → Bool) → Desk → Type 0) → Type 0
+IsLineServed (Ok next.Open) edited store file refused refused' before after stands =
     (refused' ≡ (refused || is_refusal edited.answer)) × Appends before after (text_of edited.answer) × stands none_lost edited.desk
-IsLineServed (Ok next.Close) edited files file refused refused' before after stands =
-    (edited ≡ close_edit files file) × (refused' ≡ refused) × (after ≡ before) × stands none_lost (open_desk files file)
-IsLineServed (Err stop) edited files file refused refused' before after stands = StopsLine stop edited (open_desk files file) before after stands
+IsLineServed (Ok next.Close) edited store file refused refused' before after stands =
+    (edited ≡ close_edit store file) × (refused' ≡ refused) × (after ≡ before) × stands none_lost (open_desk store file)
+IsLineServed (Err stop) edited store file refused refused' before after stands = StopsLine stop edited (open_desk store file) before after stands
 
 -- a line came, of which this is kept
 pub record Brings (room : ℕ) (s kept : List ℕ) (room' : ℕ) (s' : List ℕ) : Type 0 where
@@ -203,70 +209,70 @@ IsNotOpened error result refused refused' before after faults faults' =
 
 -- ---- WHOLE OBJECTS. The first arguments are the meanings of the shelf or the disk, of the source and of the sink.
 
--- the lines that are left are served on, where the shelf has these files and the source tells its bytes
-abbrev pub ServesLines : {S R O T : Type 0} → (S → ShelfState) → (R → Option (List ℕ)) → (O → Option (List ℕ)) → Result T Stop → S → Run → R → O → S → Run → R → O → Type 0
-ServesLines state left told result shelf run script out shelf' run' script' out' =
-    (files : Files) (s : List ℕ) → HasFiles state shelf files → left script ≡ Some s →
+-- the lines that are left are served on, where the shelf has these files, the run these taps, and the source tells its bytes
+abbrev pub ServesLines : {V : Type 0} {Z : V → Type 0} {S R O T : Type 0} → TapMeter V Z → (S → ShelfState) → (R → Option (List ℕ)) → (O → Option (List ℕ)) → Result T Stop → S → Run V Z → R → O → S → Run V Z → R → O → Type 0
+ServesLines meter state left told result shelf run script out shelf' run' script' out' =
+    (store : Store) (s : List ℕ) → HasStore state shelf (taps_of meter run) store → left script ≡ Some s →
     let m = moment_of left told run script out in
-    IsServedOn result (is_longer m s) (steps_left (closed_desk files) m s) (closed_desk files) m (moment_of left told run' script' out') (ShelfStands state shelf')
+    IsServedOn result (is_longer m s) (steps_left (closed_desk store) m s) (closed_desk store) m (moment_of left told run' script' out') (ShelfStands state shelf' (taps_of meter run'))
 
 -- .. up to where the run stops
-abbrev pub ServesAll : {S R O : Type 0} → (S → ShelfState) → (R → Option (List ℕ)) → (O → Option (List ℕ)) → Stop → S → Run → R → O → S → Run → R → O → Type 0
-ServesAll state left told stop shelf run script out shelf' run' script' out' =
-    (files : Files) (s : List ℕ) → HasFiles state shelf files → left script ≡ Some s →
+abbrev pub ServesAll : {V : Type 0} {Z : V → Type 0} {S R O : Type 0} → TapMeter V Z → (S → ShelfState) → (R → Option (List ℕ)) → (O → Option (List ℕ)) → Stop → S → Run V Z → R → O → S → Run V Z → R → O → Type 0
+ServesAll meter state left told stop shelf run script out shelf' run' script' out' =
+    (store : Store) (s : List ℕ) → HasStore state shelf (taps_of meter run) store → left script ≡ Some s →
     let m = moment_of left told run script out in
-    IsStopped stop (is_longer m s) (steps_left (closed_desk files) m s) (closed_desk files) m (moment_of left told run' script' out') (ShelfStands state shelf')
+    IsStopped stop (is_longer m s) (steps_left (closed_desk store) m s) (closed_desk store) m (moment_of left told run' script' out') (ShelfStands state shelf' (taps_of meter run'))
 
 -- .. behind a line that is still to be answered, by the files
-abbrev pub ServesLine : {S R O T : Type 0} → (S → ShelfState) → (R → Option (List ℕ)) → (O → Option (List ℕ)) → (Files → Edited) → Result T Stop → S → Run → R → O → S → Run → R → O → Type 0
-ServesLine state left told edited result shelf run script out shelf' run' script' out' =
-    (files : Files) (s : List ℕ) → HasFiles state shelf files → left script ≡ Some s →
+abbrev pub ServesLine : {V : Type 0} {Z : V → Type 0} {S R O T : Type 0} → TapMeter V Z → (S → ShelfState) → (R → Option (List ℕ)) → (O → Option (List ℕ)) → (Store → Edited) → Result T Stop → S → Run V Z → R → O → S → Run V Z → R → O → Type 0
+ServesLine meter state left told edited result shelf run script out shelf' run' script' out' =
+    (store : Store) (s : List ℕ) → HasStore state shelf (taps_of meter run) store → left script ≡ Some s →
     let m = moment_of left told run script out in
-    IsServedOn result (is_longer m s) (steps_from (edited files) m s) (closed_desk files) m (moment_of left told run' script' out') (ShelfStands state shelf')
+    IsServedOn result (is_longer m s) (steps_from (edited store) m s) (closed_desk store) m (moment_of left told run' script' out') (ShelfStands state shelf' (taps_of meter run'))
 
 -- .. of the file of a name, that is taken out, behind its opening. A file that is not made is there.
-abbrev pub ServesDisk : {D R O T : Type 0} → (D → State) → (R → Option (List ℕ)) → (O → Option (List ℕ)) → OpenAs → List ℕ → Result T Stop → D → Run → R → O → D → Run → R → O → Type 0
-ServesDisk state left told how name result disk run script out disk' run' script' out' =
-    (files : Files) (b s : List ℕ) → Tells state disk b → (is_making how ≡ false → files name ≡ Some b) → left script ≡ Some s →
+abbrev pub ServesDisk : {V : Type 0} {Z : V → Type 0} {D R O T : Type 0} → TapMeter V Z → (D → State) → (R → Option (List ℕ)) → (O → Option (List ℕ)) → OpenAs → List ℕ → Result T Stop → D → Run V Z → R → O → D → Run V Z → R → O → Type 0
+ServesDisk meter state left told how name result disk run script out disk' run' script' out' =
+    (store : Store) (b s : List ℕ) → Tells state disk b → (is_making how ≡ false → store.files name ≡ Some b) → store.taps ≡ taps_of meter run → left script ≡ Some s →
     let m = moment_of left told run script out in
-    IsServedOn result (is_longer m s) (steps_from (opens_bytes how name files b) m s) (closed_desk files) m (moment_of left told run' script' out') (DiskStands state files name disk')
+    IsServedOn result (is_longer m s) (steps_from (opens_bytes how name store b) m s) (closed_desk store) m (moment_of left told run' script' out') (DiskStands state store name (taps_of meter run') disk')
 
 -- .. with it open, behind the answer of its opening, up to its close
-abbrev pub ServesHandle : {D R O T : Type 0} {ghosts : Ghosts D} → (D → State) → (R → Option (List ℕ)) → (O → Option (List ℕ)) → List ℕ → Result T Stop → Handle D ghosts → Run → R → O → D → Run → R → O → Type 0
-ServesHandle state left told name result handle run script out disk' run' script' out' =
-    (files : Files) (e : Editing) (s : List ℕ) → HandleStands state handle e → left script ≡ Some s →
+abbrev pub ServesHandle : {V : Type 0} {Z : V → Type 0} {D R O T : Type 0} {ghosts : Ghosts D} → TapMeter V Z → (D → State) → (R → Option (List ℕ)) → (O → Option (List ℕ)) → List ℕ → Result T Stop → Handle D ghosts → Run V Z → R → O → D → Run V Z → R → O → Type 0
+ServesHandle meter state left told name result handle run script out disk' run' script' out' =
+    (store : Store) (e : Editing) (s : List ℕ) → HandleStands state handle e → left script ≡ Some s →
     let m = moment_of left told run script out in
-    let opened = opened_edit files (record { name = name; mode = mode_of handle; editing = e }) in
-    IsServedOn result (is_longer m s) (steps_from opened m s) (closed_desk files) m (moment_of left told run' script' out') (DiskStands state files name disk')
+    let opened = opened_edit store (record { name = name; mode = mode_of handle; editing = e; taps = taps_of meter run }) in
+    IsServedOn result (is_longer m s) (steps_from opened m s) (closed_desk store) m (moment_of left told run' script' out') (DiskStands state store name (taps_of meter run') disk')
 
 -- .. up to where it is to be closed
-abbrev pub ServesToClose : {D R O T : Type 0} {ghosts : Ghosts D} → (D → State) → (R → Option (List ℕ)) → (O → Option (List ℕ)) → List ℕ → Result T Stop → Handle D ghosts → Run → R → O → Handle D ghosts → Run → R → O → Type 0
-ServesToClose state left told name result handle run script out handle' run' script' out' =
-    (files : Files) (e : Editing) (s : List ℕ) → HandleStands state handle e → left script ≡ Some s →
+abbrev pub ServesToClose : {V : Type 0} {Z : V → Type 0} {D R O T : Type 0} {ghosts : Ghosts D} → TapMeter V Z → (D → State) → (R → Option (List ℕ)) → (O → Option (List ℕ)) → List ℕ → Result T Stop → Handle D ghosts → Run V Z → R → O → Handle D ghosts → Run V Z → R → O → Type 0
+ServesToClose meter state left told name result handle run script out handle' run' script' out' =
+    (store : Store) (e : Editing) (s : List ℕ) → HandleStands state handle e → left script ≡ Some s →
     let m = moment_of left told run script out in
-    let opened = opened_edit files (record { name = name; mode = mode_of handle; editing = e }) in
-    IsServedOpen result (is_longer m s) (steps_from opened m s) files (closed_desk files) m (moment_of left told run' script' out') (OpenStands state files name false handle')
+    let opened = opened_edit store (record { name = name; mode = mode_of handle; editing = e; taps = taps_of meter run }) in
+    IsServedOpen result (is_longer m s) (steps_from opened m s) store (closed_desk store) m (moment_of left told run' script' out') (OpenStands state store name false (taps_of meter run') handle')
 
 -- .. and behind no line; the flag is whether it is to stay open
-abbrev pub ServesOpen : {D R O T : Type 0} {ghosts : Ghosts D} → (D → State) → (R → Option (List ℕ)) → (O → Option (List ℕ)) → List ℕ → Bool → Result T Stop → Handle D ghosts → Run → R → O → Handle D ghosts → Run → R → O → Type 0
-ServesOpen state left told name stays result handle run script out handle' run' script' out' =
-    (files : Files) (e : Editing) (s : List ℕ) → HandleStands state handle e → left script ≡ Some s →
+abbrev pub ServesOpen : {V : Type 0} {Z : V → Type 0} {D R O T : Type 0} {ghosts : Ghosts D} → TapMeter V Z → (D → State) → (R → Option (List ℕ)) → (O → Option (List ℕ)) → List ℕ → Bool → Result T Stop → Handle D ghosts → Run V Z → R → O → Handle D ghosts → Run V Z → R → O → Type 0
+ServesOpen meter state left told name stays result handle run script out handle' run' script' out' =
+    (store : Store) (e : Editing) (s : List ℕ) → HandleStands state handle e → left script ≡ Some s →
     let m = moment_of left told run script out in
-    let desk = open_desk files (record { name = name; mode = open_as stays (mode_of handle); editing = e }) in
-    IsServedOpen result (is_longer m s) (steps_left desk m s) files desk m (moment_of left told run' script' out') (OpenStands state files name stays handle')
+    let desk = open_desk store (record { name = name; mode = open_as stays (mode_of handle); editing = e; taps = taps_of meter run }) in
+    IsServedOpen result (is_longer m s) (steps_left desk m s) store desk m (moment_of left told run' script' out') (OpenStands state store name stays (taps_of meter run') handle')
 
 -- one line on an open file is served, by what it says of it
-abbrev pub AnswersOpen : {D O : Type 0} {ghosts : Ghosts D} → (D → State) → (O → Option (List ℕ)) → List ℕ → Bool → (Files → OpenFile → Edited) → Result Next Stop → Handle D ghosts → Run → O → Handle D ghosts → Run → O → Type 0
-AnswersOpen state told name stays edited result handle run out handle' run' out' =
-    (files : Files) (e : Editing) → HandleStands state handle e →
-    let file : OpenFile = record { name = name; mode = open_as stays (mode_of handle); editing = e } in
-    IsLineServed result (edited files file) files file run.refused run'.refused (told out) (told out') (OpenStands state files name stays handle')
+abbrev pub AnswersOpen : {V : Type 0} {Z : V → Type 0} {D O : Type 0} {ghosts : Ghosts D} → TapMeter V Z → (D → State) → (O → Option (List ℕ)) → List ℕ → Bool → (Store → OpenFile → Edited) → Result Next Stop → Handle D ghosts → Run V Z → O → Handle D ghosts → Run V Z → O → Type 0
+AnswersOpen meter state told name stays edited result handle run out handle' run' out' =
+    (store : Store) (e : Editing) → HandleStands state handle e →
+    let file : OpenFile = record { name = name; mode = open_as stays (mode_of handle); editing = e; taps = taps_of meter run } in
+    IsLineServed result (edited store file) store file run.refused run'.refused (told out) (told out') (OpenStands state store name stays (taps_of meter run') handle')
 
-abbrev pub edit_open_line : List ℕ → Files → OpenFile → Edited
-edit_open_line line files file = edit_line (open_desk files file) line
+abbrev pub edit_open_line : List ℕ → Store → OpenFile → Edited
+edit_open_line line store file = edit_line (open_desk store file) line
 
 -- an answer is appended, and noted where it is a refusal
-abbrev pub Answers : {O T : Type 0} → (O → Option (List ℕ)) → Answer → Result T Stop → Run → O → Run → O → Type 0
+abbrev pub Answers : {V : Type 0} {Z : V → Type 0} {O T : Type 0} → (O → Option (List ℕ)) → Answer → Result T Stop → Run V Z → O → Run V Z → O → Type 0
 Answers told answer result run out run' out' = IsAnswered result answer run.refused run'.refused (told out) (told out')
 
 -- a command on an open file is answered, or stops the run
@@ -275,11 +281,11 @@ IsStepAnswered (Ok x) edited desk refused refused' before after stands =
     (refused' ≡ (refused || is_refusal edited.answer)) × Appends before after (text_of edited.answer) × stands none_lost edited.desk
 IsStepAnswered (Err stop) edited desk refused refused' before after stands = StopsLine stop edited desk before after stands
 
-abbrev pub AnswersStep : {D O T : Type 0} {ghosts : Ghosts D} → (D → State) → (O → Option (List ℕ)) → List ℕ → Bool → Said → Result T Stop → Handle D ghosts → Run → O → Handle D ghosts → Run → O → Type 0
-AnswersStep state told name stays said result handle run out handle' run' out' =
-    (files : Files) (e : Editing) → HandleStands state handle e →
-    let file : OpenFile = record { name = name; mode = open_as stays (mode_of handle); editing = e } in
-    IsStepAnswered result (keep_open files file (edit_file (mode_of handle) said e)) (open_desk files file) run.refused run'.refused (told out) (told out') (OpenStands state files name stays handle')
+abbrev pub AnswersStep : {V : Type 0} {Z : V → Type 0} {D O T : Type 0} {ghosts : Ghosts D} → TapMeter V Z → (D → State) → (O → Option (List ℕ)) → List ℕ → Bool → Said → Result T Stop → Handle D ghosts → Run V Z → O → Handle D ghosts → Run V Z → O → Type 0
+AnswersStep meter state told name stays said result handle run out handle' run' out' =
+    (store : Store) (e : Editing) → HandleStands state handle e →
+    let file : OpenFile = record { name = name; mode = open_as stays (mode_of handle); editing = e; taps = taps_of meter run } in
+    IsStepAnswered result (keep_open store file (rule_of (mode_of handle) file.taps said)) (open_desk store file) run.refused run'.refused (told out) (told out') (OpenStands state store name stays (taps_of meter run') handle')
 
 -- the counts of faults, by how the run goes on
 abbrev pub CountsRun : {S R O T : Type 0} → (S → ShelfState) → (R → ℕ) → (O → ℕ) → Result T Stop → S → R → O → S → R → O → Type 0
@@ -314,11 +320,11 @@ CountsLine state out_faults result handle out handle' out' =
     (script : ℕ) → IsCounted result (disk_faults_of state (λ (n : ℕ). n) out_faults (handle_disk handle) script out) (disk_faults_of state (λ (n : ℕ). n) out_faults (handle_disk handle') script out')
 
 -- what is taken of the script is what may still be taken
-abbrev pub TakesLines : {R : Type 0} → (R → ℕ) → Run → R → Run → R → Type 0
+abbrev pub TakesLines : {V : Type 0} {Z : V → Type 0} {R : Type 0} → (R → ℕ) → Run V Z → R → Run V Z → R → Type 0
 TakesLines given run script run' script' = TakesUp given run.lines script run'.lines script'
 
 -- the next line comes, where the source tells its bytes
-abbrev pub BringsLine : {R T : Type 0} → (R → Option (List ℕ)) → Result T Stop → List ℕ → Run → R → Run → R → Type 0
+abbrev pub BringsLine : {V : Type 0} {Z : V → Type 0} {R T : Type 0} → (R → Option (List ℕ)) → Result T Stop → List ℕ → Run V Z → R → Run V Z → R → Type 0
 BringsLine left result kept run script run' script' =
     (s : List ℕ) → left script ≡ Some s → IsBrought result run.lines.room (run.lines.rest ++ s) kept run'.lines (left script')
 
@@ -329,5 +335,5 @@ AnswersClose told frames result out out' = IsAnswered result (says (ok_line fram
 abbrev pub AnswersFile : {O T : Type 0} → (O → Option (List ℕ)) → Shape → Result T Stop → O → O → Type 0
 AnswersFile told shape result out out' = IsAnswered result (says (file_line shape)) false false (told out) (told out')
 
-abbrev pub AnswersError : {O T : Type 0} → (O → Option (List ℕ)) → (O → ℕ) → OpenError → Result T Stop → Run → O → Run → O → Type 0
+abbrev pub AnswersError : {V : Type 0} {Z : V → Type 0} {O T : Type 0} → (O → Option (List ℕ)) → (O → ℕ) → OpenError → Result T Stop → Run V Z → O → Run V Z → O → Type 0
 AnswersError told faults error result run out run' out' = IsNotOpened error result run.refused run'.refused (told out) (told out') (faults out) (faults out')

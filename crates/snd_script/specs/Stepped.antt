@@ -1,8 +1,9 @@
 -- One command on an open file: how it ends, and what the handle knows then, by what it knew alone.
-use Rattle.std.specs.Prelude.{◌≡◌, ◌⊎◌, ◌≤◌, ℕ, List, ◌++◌, Bool, true, false, ◌&&◌, Option, None, Some, Result, Ok, Err, is_none}
+use Rattle.std.specs.Prelude.{◌≡◌, ◌⊎◌, ◌≤◌, ℕ, ℤ, List, ◌++◌, Bool, true, false, ◌&&◌, Option, None, Some, Result, Ok, Err, is_none}
 use Rattle.snd_disk.specs.State.{Rises}
 use Rattle.snd_disk.specs.Streams.{AppendsFront}
 use Rattle.snd_disk.specs.declared.disk.Step.{Step}
+use Rattle.snd_meters.specs.Gauge.{Gauge}
 use Rattle.snd_modes.specs.Editing.{Editing}
 use Rattle.snd_modes.specs.Handle.{Known}
 use Rattle.snd_modes.specs.PieceCalls.{known_put}
@@ -58,6 +59,13 @@ IsStepCause (Ok reply) disk disk' out out' = (disk' ≡ disk) × (out' ≡ out)
 IsStepCause (Err Disk) disk disk' out out' = Rose disk disk' × (out' ≡ out)
 IsStepCause (Err Out) disk disk' out out' = (disk' ≡ disk) × Rose out out'
 IsStepCause (Err Memory) disk disk' out out' = (disk' ≡ disk) × (out' ≡ out)
+
+-- The taps afterwards: with some frames, where the command was carried out or refused, also where its reply did not get out; the
+-- same ones where nothing was said.
+abbrev pub LeavesTaps : Result Reply StepFault → (List (List ℤ) → List Gauge → List Gauge) → (List (List ℤ) → Type 0) → List Gauge → List Gauge → Type 0
+LeavesTaps (Err Disk) after are taps taps' = taps' ≡ taps
+LeavesTaps (Err Memory) after are taps taps' = taps' ≡ taps
+LeavesTaps result after are taps taps' = (frames : List (List ℤ)) × are frames × (taps' ≡ after frames taps)
 
 -- ---- over every disk
 

@@ -10,11 +10,12 @@ use Rattle.snd_disk.specs.declared.disk.Disk.{Ghosts}
 use Rattle.snd_disk.specs.declared.shelf.Shelf.{Ghosts as ShelfMeaning}
 use Rattle.snd_disk.specs.declared.streams.Sink.{Ghosts as SinkMeaning}
 use Rattle.snd_disk.specs.declared.streams.Source.{Ghosts as SourceMeaning}
+use Rattle.snd_meters.specs.Gauge.{Gauge}
 use Rattle.snd_modes.specs.Editing.{Editing}
 use Rattle.snd_modes.specs.Safe.{IsFit, IsSafe}
 use Rattle.snd_modes.specs.Updating.{updating_of}
 use Rattle.snd_patch.specs.Images.{LeavesEach}
-use Rattle.snd_script.specs.Desk.{OpenFile, open_desk, pinned}
+use Rattle.snd_script.specs.Desk.{OpenFile, Store, open_desk, pinned, stored}
 use Rattle.snd_script.specs.Edit.{Edited, edit_file}
 use Rattle.snd_script.specs.Handled.{HandleAtRest, handle_disk, handle_known, mode_of, rule_for}
 use Rattle.snd_script.specs.Pinned.{auto_steps, pinned_steps}
@@ -22,12 +23,14 @@ use Rattle.snd_script.specs.PinnedRun.{opened_pinned}
 use Rattle.snd_script.specs.Replies.{text_of}
 use Rattle.snd_script.specs.Serving.{edit_open_line, lines_left, moment_of, steps_left}
 use Rattle.snd_script.specs.Stepped.{IsAutomatic}
+use Rattle.snd_script.specs.Tapped.{TapMeter, taps_of}
 use Rattle.snd_script.specs.declared.handle.Handle.{Handle}
 use Rattle.snd_script.specs.declared.run.Run.{Run}
 use Rattle.snd_script.specs.declared.stop.Next.{Next}
 use Rattle.snd_script.specs.declared.stop.Next.TheVariants as next
 use Rattle.snd_script.specs.declared.stop.Stop.{Stop}
 use Rattle.snd_script.specs.declared.stop.Stop.TheVariants as stop
+use Rattle.snd_taps.specs.declared.tap.TapKind.{TapKind}
 
 -- what was left between two clock values has P
 abbrev pub EachBetween : (ℕ → ℕ → List ℕ → Type 0) → ℕ → ℕ → (List ℕ → Type 0) → Type 0
@@ -103,77 +106,77 @@ pub record MovesSafely {D T : Type 0} (d : Ghosts D) (opened : List ℕ) (result
   pub rests : RestsAt d opened result e e' new
 
 -- a command on an open file at rest, where updates are automatic before it or once it is carried out
-abbrev pub StepMoves : {D T : Type 0} (d : Ghosts D) → Said → Result T Stop → Handle D d → Handle D d → Type 0
-StepMoves d said result old new = IsAutomatic (rule_for old said) (handle_known old) → (opened : List ℕ) (e : Editing) → HandleAtRest d opened old e
-    → MovesSafely d opened result e (edit_file (mode_of old) said e).editing old new
+abbrev pub StepMoves : {D T : Type 0} (d : Ghosts D) → List Gauge → Said → Result T Stop → Handle D d → Handle D d → Type 0
+StepMoves d taps said result old new = IsAutomatic (rule_for taps old said) (handle_known old) → (opened : List ℕ) (e : Editing) → HandleAtRest d opened old e
+    → MovesSafely d opened result e (edit_file (mode_of old) taps said e).editing old new
 
 -- .. on one that is to stay open, where they are
-abbrev pub CommandMoves : {D T : Type 0} (d : Ghosts D) → Bool → Said → Result T Stop → Handle D d → Handle D d → Type 0
-CommandMoves d stays said result old new = stays ≡ true → (opened : List ℕ) (e : Editing) → e.automatic ≡ true → HandleAtRest d opened old e
-    → MovesSafely d opened result e (edit_file pinned said e).editing old new
+abbrev pub CommandMoves : {D T : Type 0} (d : Ghosts D) → List Gauge → Bool → Said → Result T Stop → Handle D d → Handle D d → Type 0
+CommandMoves d taps stays said result old new = stays ≡ true → (opened : List ℕ) (e : Editing) → e.automatic ≡ true → HandleAtRest d opened old e
+    → MovesSafely d opened result e (edit_file pinned taps said e).editing old new
 
 -- a file that stays open, by its name
-abbrev pub pinned_file : List ℕ → Editing → OpenFile
-pinned_file name e = record { name = name; mode = pinned; editing = e }
+abbrev pub pinned_file : List ℕ → List Gauge → Editing → OpenFile
+pinned_file name taps e = record { name = name; mode = pinned; editing = e; taps = taps }
 
 -- a whole line
-abbrev pub LineMoves : {D T : Type 0} (d : Ghosts D) → Bool → List ℕ → Result T Stop → Handle D d → Handle D d → Type 0
-LineMoves d stays line result old new = stays ≡ true → (opened : List ℕ) (files : Files) (name : List ℕ) (e : Editing) → e.automatic ≡ true → HandleAtRest d opened old e
-    → MovesSafely d opened result e (state_behind e (edit_open_line line files (pinned_file name e))) old new
+abbrev pub LineMoves : {D T : Type 0} (d : Ghosts D) → List Gauge → Bool → List ℕ → Result T Stop → Handle D d → Handle D d → Type 0
+LineMoves d taps stays line result old new = stays ≡ true → (opened : List ℕ) (store : Store) (name : List ℕ) (e : Editing) → e.automatic ≡ true → HandleAtRest d opened old e
+    → MovesSafely d opened result e (state_behind e (edit_open_line line store (pinned_file name taps e))) old new
 
 -- .. that says nothing leaves all as it was
 abbrev pub IsIdle : {D : Type 0} {ghosts : Ghosts D} → List ℕ → Result Next Stop → Handle D ghosts → Handle D ghosts → Type 0
 IsIdle line result old new = command_of line ≡ Ok None → (result ≡ Ok next.Open) × (new ≡ old)
 
 -- lines up to where the run stops, behind a trail so far
-abbrev pub TrailsOpen : {D R O : Type 0} (d : Ghosts D) → SourceMeaning R → SinkMeaning O → Bool → Handle D d → Run → R → O → Handle D d → O → Type 0
-TrailsOpen d r o stays handle run script out handle' out' =
-    stays ≡ true → (opened : List ℕ) (files : Files) (name : List ℕ) (e : Editing) (t0 : ℕ) (past : List Editing) (s t : List ℕ) → HandleAtRest d opened handle e → e.automatic ≡ true →
+abbrev pub TrailsOpen : {V : Type 0} {Z : V → Type 0} {D R O : Type 0} → TapMeter V Z → (d : Ghosts D) → SourceMeaning R → SinkMeaning O → Bool → Handle D d → Run V Z → R → O → Handle D d → O → Type 0
+TrailsOpen meter d r o stays handle run script out handle' out' =
+    stays ≡ true → (opened : List ℕ) (store : Store) (name : List ℕ) (e : Editing) (t0 : ℕ) (past : List Editing) (s t : List ℕ) → HandleAtRest d opened handle e → e.automatic ≡ true →
     TrailTo IsSafe (d.left_between (handle_disk handle)) t0 (d.state (handle_disk handle)).clock e past → r.left script ≡ Some s → o.told out ≡ Some t →
-    let all = steps_left (open_desk files (pinned_file name e)) (moment_of r.left o.told run script out) s in
+    let all = steps_left (open_desk store (pinned_file name (taps_of meter run) e)) (moment_of r.left o.told run script out) s in
     (sent : List ℕ) × (o.told out' ≡ Some (t ++ sent)) × TrailsOn d opened t0 handle' (reverse past ++ reached (length sent) e all)
 
 -- .. behind the answer that a file was opened, and behind `auto on`
-abbrev pub TrailsPinned : {D R O : Type 0} (d : Ghosts D) → SourceMeaning R → SinkMeaning O → Handle D d → Run → R → O → Handle D d → O → Type 0
-TrailsPinned d r o handle run script out handle' out' =
-    (opened : List ℕ) (files : Files) (name : List ℕ) (e : Editing) (s t : List ℕ) → HandleAtRest d opened handle e → r.left script ≡ Some s → o.told out ≡ Some t →
-    let all = pinned_steps (opened_pinned files name e) (lines_left (moment_of r.left o.told run script out) s) in
+abbrev pub TrailsPinned : {V : Type 0} {Z : V → Type 0} {D R O : Type 0} → TapMeter V Z → (d : Ghosts D) → SourceMeaning R → SinkMeaning O → Handle D d → Run V Z → R → O → Handle D d → O → Type 0
+TrailsPinned meter d r o handle run script out handle' out' =
+    (opened : List ℕ) (store : Store) (name : List ℕ) (e : Editing) (s t : List ℕ) → HandleAtRest d opened handle e → r.left script ≡ Some s → o.told out ≡ Some t →
+    let all = pinned_steps (opened_pinned store name (taps_of meter run) e) (lines_left (moment_of r.left o.told run script out) s) in
     (sent : List ℕ) × (o.told out' ≡ Some (t ++ sent)) × TrailsOn d opened (d.state (handle_disk handle)).clock handle' (reached (length sent) e all)
 
 -- .. and the file is closed
-abbrev pub TrailsClosed : {D R O : Type 0} (d : Ghosts D) → SourceMeaning R → SinkMeaning O → Handle D d → Run → R → O → D → O → Type 0
-TrailsClosed d r o handle run script out disk out' =
-    (opened : List ℕ) (files : Files) (name : List ℕ) (e : Editing) (s t : List ℕ) → HandleAtRest d opened handle e → r.left script ≡ Some s → o.told out ≡ Some t →
-    let all = pinned_steps (opened_pinned files name e) (lines_left (moment_of r.left o.told run script out) s) in
+abbrev pub TrailsClosed : {V : Type 0} {Z : V → Type 0} {D R O : Type 0} → TapMeter V Z → (d : Ghosts D) → SourceMeaning R → SinkMeaning O → Handle D d → Run V Z → R → O → D → O → Type 0
+TrailsClosed meter d r o handle run script out disk out' =
+    (opened : List ℕ) (store : Store) (name : List ℕ) (e : Editing) (s t : List ℕ) → HandleAtRest d opened handle e → r.left script ≡ Some s → o.told out ≡ Some t →
+    let all = pinned_steps (opened_pinned store name (taps_of meter run) e) (lines_left (moment_of r.left o.told run script out) s) in
     (sent : List ℕ) × (o.told out' ≡ Some (t ++ sent)) × Trail IsSafe (d.left_between disk) (d.state (handle_disk handle)).clock (d.state disk).clock (reached (length sent) e all)
 
 -- .. with its disk taken out, where a crash leaves its bytes alone and these are fit
-abbrev pub TrailsDisk : {D R O : Type 0} (d : Ghosts D) → SourceMeaning R → SinkMeaning O → D → Run → R → O → D → O → Type 0
-TrailsDisk d r o disk run script out disk' out' =
-    (files : Files) (name b : List ℕ) (e : Editing) (s t : List ℕ) → Tells d.state disk b → IsStable d.state d.may_leave disk → updating_of b ≡ Ok e → IsFit e →
+abbrev pub TrailsDisk : {V : Type 0} {Z : V → Type 0} {D R O : Type 0} → TapMeter V Z → (d : Ghosts D) → SourceMeaning R → SinkMeaning O → D → Run V Z → R → O → D → O → Type 0
+TrailsDisk meter d r o disk run script out disk' out' =
+    (store : Store) (name b : List ℕ) (e : Editing) (s t : List ℕ) → Tells d.state disk b → IsStable d.state d.may_leave disk → updating_of b ≡ Ok e → IsFit e →
     r.left script ≡ Some s → o.told out ≡ Some t →
-    let all = pinned_steps (opened_pinned files name e) (lines_left (moment_of r.left o.told run script out) s) in
+    let all = pinned_steps (opened_pinned store name (taps_of meter run) e) (lines_left (moment_of r.left o.told run script out) s) in
     (sent : List ℕ) × (o.told out' ≡ Some (t ++ sent)) × Trail IsSafe (d.left_between disk') (d.state disk).clock (d.state disk').clock (reached (length sent) e all)
 
 -- .. on a shelf, where a crash leaves the bytes of the file alone
-abbrev pub TrailsPinnedFile : {S D R O : Type 0} → ShelfMeaning S D → SourceMeaning R → SinkMeaning O → List ℕ → S → Run → R → O → S → O → Type 0
-TrailsPinnedFile s r o name shelf run script out shelf' out' =
-    (files : Files) (b : List ℕ) (e : Editing) (text t : List ℕ) → TellsFiles s.state shelf files → files name ≡ Some b → ((x : List ℕ) → s.may_leave shelf name x → x ≡ b) →
+abbrev pub TrailsPinnedFile : {V : Type 0} {Z : V → Type 0} {S D R O : Type 0} → TapMeter V Z → ShelfMeaning S D → SourceMeaning R → SinkMeaning O → List ℕ → S → Run V Z → R → O → S → O → Type 0
+TrailsPinnedFile meter s r o name shelf run script out shelf' out' =
+    (store : Store) (b : List ℕ) (e : Editing) (text t : List ℕ) → TellsFiles s.state shelf store.files → store.files name ≡ Some b → ((x : List ℕ) → s.may_leave shelf name x → x ≡ b) →
     updating_of b ≡ Ok e → IsFit e → r.left script ≡ Some text → o.told out ≡ Some t →
-    let all = pinned_steps (opened_pinned files name e) (lines_left (moment_of r.left o.told run script out) text) in
+    let all = pinned_steps (opened_pinned store name (taps_of meter run) e) (lines_left (moment_of r.left o.told run script out) text) in
     (sent : List ℕ) × (o.told out' ≡ Some (t ++ sent))
     × Trail IsSafe (s.left_between shelf' name) ((s.state shelf).clock name) ((s.state shelf').clock name) (reached (length sent) e all)
 
 -- .. where there is such a file
-abbrev pub TrailsRun : {S D R O : Type 0} → ShelfMeaning S D → SourceMeaning R → SinkMeaning O → Option (List ℕ) → S → Run → R → O → S → O → Type 0
-TrailsRun s r o (Some name) shelf run script out shelf' out' = TrailsPinnedFile s r o name shelf run script out shelf' out'
-TrailsRun s r o None shelf run script out shelf' out' = Unit {0}
+abbrev pub TrailsRun : {V : Type 0} {Z : V → Type 0} {S D R O : Type 0} → TapMeter V Z → ShelfMeaning S D → SourceMeaning R → SinkMeaning O → Option (List ℕ) → S → Run V Z → R → O → S → O → Type 0
+TrailsRun meter s r o (Some name) shelf run script out shelf' out' = TrailsPinnedFile meter s r o name shelf run script out shelf' out'
+TrailsRun meter s r o None shelf run script out shelf' out' = Unit {0}
 
 -- The whole script with a file that is updated automatically from the start: at each moment since then a crash leaves what is safe
 -- between two states that follow each other, in their order; and by the bytes that were appended, the last of them are known.
-abbrev pub TrailsScript : {S D R O : Type 0} → ShelfMeaning S D → SourceMeaning R → SinkMeaning O → Option (List ℕ) → S → R → O → S → O → Type 0
-TrailsScript s r o named shelf script out shelf' out' =
+abbrev pub TrailsScript : {S D R O : Type 0} → ShelfMeaning S D → SourceMeaning R → SinkMeaning O → List TapKind → Option (List ℕ) → S → R → O → S → O → Type 0
+TrailsScript s r o kinds named shelf script out shelf' out' =
     (name : List ℕ) (files : Files) (b : List ℕ) (e : Editing) (text t : List ℕ) → named ≡ Some name → TellsFiles s.state shelf files → files name ≡ Some b →
     ((x : List ℕ) → s.may_leave shelf name x → x ≡ b) → updating_of b ≡ Ok e → IsFit e → r.left script ≡ Some text → o.told out ≡ Some t →
     (sent : List ℕ) × (o.told out' ≡ Some (t ++ sent))
-    × Trail IsSafe (s.left_between shelf' name) ((s.state shelf).clock name) ((s.state shelf').clock name) (reached (length sent) e (auto_steps files name text))
+    × Trail IsSafe (s.left_between shelf' name) ((s.state shelf).clock name) ((s.state shelf').clock name) (reached (length sent) e (auto_steps (stored files kinds) name text))

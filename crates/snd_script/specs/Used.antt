@@ -61,16 +61,16 @@ pub record LineUses (result : Result Next Stop) (owed hand old new : ℕ) : Type
 -- these are their meanings.
 
 -- lines are served with no file open, behind one for which so much is in hand; the open file is closed where the run stops
-abbrev pub UsesOn : {X R T : Type 0} → (X → ℕ) → (R → Option (List ℕ)) → Result T Stop → (Said → ℕ) → ℕ → X → Run → R → X → Run → R → Type 0
+abbrev pub UsesOn : {V : Type 0} {Z : V → Type 0} {X R T : Type 0} → (X → ℕ) → (R → Option (List ℕ)) → Result T Stop → (Said → ℕ) → ℕ → X → Run V Z → R → X → Run V Z → R → Type 0
 UsesOn count left result most hand x run script x' run' script' =
     (s : List ℕ) → left script ≡ Some s → Uses result most hand 0 (most Said.close) run.lines s run'.lines (left script') (count x) (count x')
 
 -- .. with a file open, which is closed
-abbrev pub UsesClosed : {D R T : Type 0} {ghosts : Ghosts D} → (D → ℕ) → (R → Option (List ℕ)) → Result T Stop → (Said → ℕ) → Handle D ghosts → Run → R → D → Run → R → Type 0
+abbrev pub UsesClosed : {V : Type 0} {Z : V → Type 0} {D R T : Type 0} {ghosts : Ghosts D} → (D → ℕ) → (R → Option (List ℕ)) → Result T Stop → (Said → ℕ) → Handle D ghosts → Run V Z → R → D → Run V Z → R → Type 0
 UsesClosed count left result most handle run script disk run' script' = UsesOn count left result most 0 (handle_disk handle) run script disk run' script'
 
 -- .. or is still to be closed
-abbrev pub UsesOpen : {D R T : Type 0} {ghosts : Ghosts D} → (D → ℕ) → (R → Option (List ℕ)) → Result T Stop → (Said → ℕ) → Handle D ghosts → Run → R → Handle D ghosts → Run → R → Type 0
+abbrev pub UsesOpen : {V : Type 0} {Z : V → Type 0} {D R T : Type 0} {ghosts : Ghosts D} → (D → ℕ) → (R → Option (List ℕ)) → Result T Stop → (Said → ℕ) → Handle D ghosts → Run V Z → R → Handle D ghosts → Run V Z → R → Type 0
 UsesOpen count left result most handle run script handle' run' script' =
     (s : List ℕ) → left script ≡ Some s → Uses result most 0 (most Said.close) 0 run.lines s run'.lines (left script') (count (handle_disk handle)) (count (handle_disk handle'))
 
@@ -93,7 +93,7 @@ abbrev pub LineWrites : {D : Type 0} (d : Ghosts D) → Bool → Result Next Sto
 LineWrites d stays result answer handle handle' = HandleUses (λ x. (d.state x).written) result (most_in stays written_by) (by_command (most_in stays written_by) answer) handle handle'
 
 -- .. up to where the run stops: the bytes that are asked of the disks, and written, have a bound for each line that is left
-abbrev pub BoundsLines : {S D R : Type 0} → ShelfMeaning S D → SourceMeaning R → S → Run → R → S → Type 0
+abbrev pub BoundsLines : {V : Type 0} {Z : V → Type 0} {S D R : Type 0} → ShelfMeaning S D → SourceMeaning R → S → Run V Z → R → S → Type 0
 BoundsLines s r shelf run script shelf' =
     (b : List ℕ) → r.left script ≡ Some b →
     AtMost (s.state shelf).asked (use_left asked_by run.lines b) (s.state shelf').asked

@@ -3,13 +3,13 @@ use Rattle.std.specs.Prelude.{◌≡◌, ◌⊎◌, ◌≤◌, ℕ, ℤ, List, B
 use Rattle.std.specs.Borrow.{MutBor}
 use Rattle.snd_command.specs.Said.{Said}
 use Rattle.snd_container.specs.Sound.{fixed_of}
-use Rattle.snd_disk.specs.Shelf.{Files}
 use Rattle.snd_disk.specs.Device.{AsksAtMost, GoesOnFrom, IsStable, OnlyReadsOn, Tells, WritesAtMost}
 use Rattle.snd_disk.specs.State.{State}
 use Rattle.snd_disk.specs.declared.disk.Disk.{Ghosts}
 use Rattle.snd_disk.specs.declared.disk.Step.{Step}
 use Rattle.snd_disk.specs.declared.streams.Sink.{Ghosts as SinkMeaning}
 use Rattle.snd_layout.specs.Params.{params_of}
+use Rattle.snd_meters.specs.Gauge.{Gauge}
 use Rattle.snd_modes.specs.Editing.{Editing, frames_left, frames_read, moved_by}
 use Rattle.snd_modes.specs.Edits.{sealed_to}
 use Rattle.snd_modes.specs.Handle.{Known, Stands, channels_of, disk_of, known_of, loan_of}
@@ -20,14 +20,14 @@ use Rattle.snd_modes.specs.Safe.{IsSafe}
 use Rattle.snd_patch.specs.Images.{LeavesEach}
 use Rattle.snd_patch.specs.Steps.{StillTells}
 use Rattle.snd_pcm.specs.Groups.{first_groups}
-use Rattle.snd_script.specs.Desk.{Mode, closed_desk, makes, reads, writes}
+use Rattle.snd_script.specs.Desk.{Mode, Store, closed_desk, makes, reads, writes}
 use Rattle.snd_script.specs.Edit.{Edited, Opening, edit_by, edit_closed, make_edit, open_edit, refused}
-use Rattle.snd_script.specs.Rules.{Rule, auto_rule, get_bext_rule, get_chunk_rule, get_chunks_rule, get_cues_rule, get_strings_rule, in_mode, is_close, read_rule, refused_rule, rule_of, seek_read_rule, seek_rule, seek_write_rule, set_bext_rule, set_chunk_rule, set_cue_rule, set_string_rule, tell_rule, trim_rule, truncate_rule, unless_pinned, update_rule, write_rule}
+use Rattle.snd_script.specs.Rules.{Rule, auto_rule, get_bext_rule, get_chunk_rule, get_chunks_rule, get_cues_rule, get_strings_rule, in_mode, is_close, read_rule, refused_rule, rule_of, seek_read_rule, seek_rule, seek_write_rule, set_bext_rule, set_chunk_rule, set_cue_rule, set_string_rule, tap_rule, tell_rule, trim_rule, truncate_rule, unless_pinned, untap_rule, update_rule, write_rule}
 use Rattle.snd_script.specs.Handled.{back_of}
 use Rattle.snd_script.specs.Kept.{work_writes}
 use Rattle.snd_script.specs.Used.{work_asks, work_makes}
 use Rattle.snd_script.specs.Script.{asked_by, writes_name, written_by}
-use Rattle.snd_script.specs.Stepped.{IsAutomatic, IsSaid, IsSilent, IsStepCause, Knows, LeavesFile, Rose, changes_by}
+use Rattle.snd_script.specs.Stepped.{IsAutomatic, IsSaid, IsSilent, IsStepCause, Knows, LeavesFile, LeavesTaps, Rose, changes_by}
 use Rattle.snd_script.specs.declared.handle.Reply.{Reply}
 use Rattle.snd_script.specs.declared.handle.StepFault.{StepFault}
 use Rattle.snd_script.specs.declared.handle.StepFault.TheVariants.{Disk, Out, Memory}
@@ -37,7 +37,7 @@ use Rattle.snd_script.specs.declared.work.Asking.TheVariants as asking
 use Rattle.snd_script.specs.declared.work.Setting.{Setting}
 use Rattle.snd_script.specs.declared.work.Setting.TheVariants as setting
 use Rattle.snd_script.specs.declared.work.Work.{Work}
-use Rattle.snd_script.specs.declared.work.Work.TheVariants.{Open, Update, Make, Close, Tell, SeekRead, SeekWrite, SeekBoth, Read, Write, Truncate, Trim, BringUp, Auto, Set, Ask, NotBuilt}
+use Rattle.snd_script.specs.declared.work.Work.TheVariants.{Open, Update, Make, Close, Tell, SeekRead, SeekWrite, SeekBoth, Read, Write, Truncate, Trim, BringUp, Auto, Set, Ask, Tap, Untap, NotBuilt}
 
 -- the rule of what is set, and of what is asked
 abbrev pub setting_rule : Setting → Rule
@@ -54,29 +54,31 @@ asking_rule asking.Broadcast = get_bext_rule
 asking_rule asking.Points = get_cues_rule
 
 -- the rule of what is done on an open file, unless it is closed
-abbrev pub work_rule : Mode → Work → Rule
-work_rule mode Tell = tell_rule
-work_rule mode (SeekRead n) = in_mode (reads mode) (seek_read_rule n)
-work_rule mode (SeekWrite n) = in_mode (writes mode) (seek_write_rule n)
-work_rule mode (SeekBoth n) = seek_rule mode n
-work_rule mode (Read n) = in_mode (reads mode) (read_rule n)
-work_rule mode (Write xs) = in_mode (writes mode) (write_rule xs.now)
-work_rule mode (Truncate n) = in_mode (writes mode) (truncate_rule n)
-work_rule mode Trim = in_mode (writes mode) trim_rule
-work_rule mode BringUp = in_mode (writes mode) update_rule
-work_rule mode (Auto on) = unless_pinned true mode (in_mode (writes mode) (auto_rule on))
-work_rule mode (Set setting) = in_mode (makes mode) (setting_rule setting)
-work_rule mode (Ask asking) = asking_rule asking
-work_rule mode NotBuilt = refused_rule refusal.NotBuilt
-work_rule mode work = unless_pinned true mode (refused_rule refusal.AlreadyOpen)
+abbrev pub work_rule : Mode → List Gauge → Work → Rule
+work_rule mode taps Tell = tell_rule
+work_rule mode taps (SeekRead n) = in_mode (reads mode) (seek_read_rule n)
+work_rule mode taps (SeekWrite n) = in_mode (writes mode) (seek_write_rule n)
+work_rule mode taps (SeekBoth n) = seek_rule mode n
+work_rule mode taps (Read n) = in_mode (reads mode) (read_rule n)
+work_rule mode taps (Write xs) = in_mode (writes mode) (write_rule xs.now)
+work_rule mode taps (Truncate n) = in_mode (writes mode) (truncate_rule n)
+work_rule mode taps Trim = in_mode (writes mode) trim_rule
+work_rule mode taps BringUp = in_mode (writes mode) update_rule
+work_rule mode taps (Auto on) = unless_pinned true mode (in_mode (writes mode) (auto_rule on))
+work_rule mode taps (Set setting) = in_mode (makes mode) (setting_rule setting)
+work_rule mode taps (Ask asking) = asking_rule asking
+work_rule mode taps (Tap kind) = tap_rule taps kind
+work_rule mode taps (Untap kind) = untap_rule taps kind
+work_rule mode taps NotBuilt = refused_rule refusal.NotBuilt
+work_rule mode taps work = unless_pinned true mode (refused_rule refusal.AlreadyOpen)
 
 -- with none open
-abbrev pub work_closed : Work → Files → Edited
-work_closed (Open name) files = open_edit files name.now Opening.for_reading (files name.now)
-work_closed (Update name) files = open_edit files name.now Opening.for_updating (files name.now)
-work_closed (Make kind codec channels rate name) files = make_edit files name.now kind (params_of channels rate codec)
-work_closed NotBuilt files = refused refusal.NotBuilt (closed_desk files)
-work_closed work files = refused refusal.NotOpen (closed_desk files)
+abbrev pub work_closed : Work → Store → Edited
+work_closed (Open name) store = open_edit store name.now Opening.for_reading (store.files name.now)
+work_closed (Update name) store = open_edit store name.now Opening.for_updating (store.files name.now)
+work_closed (Make kind codec channels rate name) store = make_edit store name.now kind (params_of channels rate codec)
+work_closed NotBuilt store = refused refusal.NotBuilt (closed_desk store)
+work_closed work store = refused refusal.NotOpen (closed_desk store)
 
 abbrev pub work_closes : Work → Bool
 work_closes Close = true
@@ -102,8 +104,8 @@ IsBuiltWork work = Unit {0}
 
 -- this is done for what is said
 pub record WorksFor (said : Said) (work : Work) : Type 0 where
-  pub rule : (mode : Mode) → is_close said ≡ false → rule_of mode said ≡ work_rule mode work
-  pub closed : (files : Files) → edit_closed files said ≡ work_closed work files
+  pub rule : (mode : Mode) (taps : List Gauge) → is_close said ≡ false → rule_of mode taps said ≡ work_rule mode taps work
+  pub closed : (store : Store) → edit_closed store said ≡ work_closed work store
   pub named : (n : List ℕ) → work_name work ≡ Some n → name_of said ≡ Some n
   pub closes : is_close said ≡ work_closes work
   pub built : IsBuiltWork work
@@ -159,8 +161,16 @@ pub record Follows {D M O : Type 0} {mode : ModeGhosts M} (d : Ghosts D) (o : Si
   pub written : WritesAtMost d.state rule.written (disk_of old) (disk_of new)
 
 -- .. the rule of what is done
-abbrev pub FollowsWork : {D M O : Type 0} {mode : ModeGhosts M} (d : Ghosts D) → SinkMeaning O → Mode → Work → Result Reply StepFault → File D M d mode → O → File D M d mode → O → Type 0
-FollowsWork d o open_as work result old out new out' = Follows d o (work_rule open_as work) result old out new out'
+abbrev pub FollowsWork : {D M O : Type 0} {mode : ModeGhosts M} (d : Ghosts D) → SinkMeaning O → Mode → List Gauge → Work → Result Reply StepFault → File D M d mode → O → File D M d mode → O → Type 0
+FollowsWork d o open_as taps work result old out new out' = Follows d o (work_rule open_as taps work) result old out new out'
+
+-- .. and what becomes of the taps
+abbrev pub FeedsFile : {D M : Type 0} {ghosts : Ghosts D} {mode : ModeGhosts M} → (D → State) → Rule → Result Reply StepFault → File D M ghosts mode → List Gauge → List Gauge → Type 0
+FeedsFile state rule result file taps taps' =
+    LeavesTaps result (rule.taps (known_of file).shape.params.codec) (λ frames. (e : Editing) → Stands state file e → frames ≡ rule.feeds e) taps taps'
+
+abbrev pub FeedsWork : {D M : Type 0} {ghosts : Ghosts D} {mode : ModeGhosts M} → (D → State) → Mode → Work → Result Reply StepFault → File D M ghosts mode → List Gauge → List Gauge → Type 0
+FeedsWork state open_as work result file taps taps' = FeedsFile state (work_rule open_as taps work) result file taps taps'
 
 -- The sink's count has risen where the reply did not get out, and is as before where it did. Nothing else goes wrong.
 abbrev pub IsSent : Result Reply StepFault → ℕ → ℕ → Type 0

@@ -3,7 +3,8 @@
 ghost use Rattle.std.specs.Prelude.{◌≡◌, None};
 ghost use Rattle.snd_modes.specs.Handle.{known_of};
 ghost use Rattle.snd_script.specs.Rules.{read_rule, refused_rule, seek_both_rule, seek_read_rule, seek_write_rule, tell_rule};
-ghost use Rattle.snd_script.specs.Work.{Follows};
+ghost use Rattle.snd_script.specs.Tapped.{meter_taps};
+ghost use Rattle.snd_script.specs.Work.{FeedsFile, Follows};
 
 use crate::handle::{Reply, StepFault};
 use crate::reading::read_some;
@@ -11,7 +12,9 @@ use crate::room::Room;
 use crate::say::{refuse, say_file, say_frames, say_ok};
 use snd_disk::{Disk, Sink};
 use snd_lines::Refusal;
+use snd_meters::Meters;
 use snd_modes::{CanRead, CanWrite, File, Mode, SeekError, Update};
+use snd_taps::Tap;
 
 /// Refuses a command.
 pub fn refuse_on<'d, D: Disk, M: Mode, O: Sink>(
@@ -93,18 +96,21 @@ pub fn seek_both<'d, D: Disk, O: Sink>(
     }
 }
 
-/// Reads frames, by way of the samples and the page.
+/// Reads frames, by way of the samples and the page, and feeds them to the taps.
 pub fn read<'d, D: Disk, M: CanRead, O: Sink>(
     file: &mut File<'d, D, M>,
     room: &mut Room,
+    meters: &mut Meters,
     wanted: u64,
     out: &mut O,
 ) -> Result<Reply, StepFault>
     requires { (known_of file.old).broken ≡ None }
-    ensures { Follows D.Disk O.Sink (read_rule wanted) result file.old out.old file.new out.new }
+    ensures follows { Follows D.Disk O.Sink (read_rule wanted) result file.old out.old file.new out.new }
+    ensures taps { FeedsFile D.state (read_rule wanted) result file.old (meter_taps (λ b. meter b) meters.old) (meter_taps (λ b. meter b) meters.new) }
 {
     let channels = usize::from(file.params().channels);
     let frames = read_some(file, &mut room.samples, wanted)?;
     let read = &room.samples[..frames * channels];
+    meters.feed(channels, read);
     say_frames(&mut room.page, out, read, channels, frames)
 }

@@ -28,6 +28,7 @@ use snd_container::fit;
 use snd_disk::{Shelf, ShelfFault, Sink, Source};
 use snd_layout::{Codec, Kind, OpenRefusal, Params};
 use snd_lines::Refusal;
+use snd_taps::Tap;
 use std::alloc::Global;
 use std::str;
 
@@ -61,7 +62,7 @@ fn serve_name<S: Shelf, R: Source, O: Sink>(
     requires back { (S.state shelf.old).out name.now ≡ false }
     requires named { is_name name.now ≡ true }
     requires makeable { IsMakeable how.now }
-    ensures served { ServesLine S.state R.left O.told (λ f. opens_edit f name.now how.now) result shelf.old run.old script.old out.old shelf.new run.new script.new out.new }
+    ensures served { ServesLine (λ b. meter b) S.state R.left O.told (λ store. opens_edit store name.now how.now) result shelf.old run.old script.old out.old shelf.new run.new script.new out.new }
     ensures fewer { OnOk result (run.new.lines.room ≤ run.old.lines.room) }
     ensures given { TakesLines R.given run.old script.old run.new script.new }
     ensures counted { CountsRun S.state R.faults O.faults result shelf.old script.old out.old shelf.new script.new out.new }
@@ -104,7 +105,7 @@ fn closed_command<S: Shelf, R: Source, O: Sink>(
 ) -> Result<(), Stop>
     requires back { (n : List ℕ) → (S.state shelf.old).out n ≡ false }
     requires named { (name : List ℕ) → name_of (line_said said) ≡ Some name → is_name name ≡ true }
-    ensures served { ServesLine S.state R.left O.told (λ f. edit_closed f (line_said said.entry)) result shelf.old run.old script.old out.old shelf.new run.new script.new out.new }
+    ensures served { ServesLine (λ b. meter b) S.state R.left O.told (λ store. edit_closed store (line_said said.entry)) result shelf.old run.old script.old out.old shelf.new run.new script.new out.new }
     ensures fewer { OnOk result (run.new.lines.room ≤ run.old.lines.room) }
     ensures given { TakesLines R.given run.old script.old run.new script.new }
     ensures counted { CountsRun S.state R.faults O.faults result shelf.old script.old out.old shelf.new script.new out.new }
@@ -139,7 +140,9 @@ fn closed_command<S: Shelf, R: Source, O: Sink>(
         | Work::BringUp
         | Work::Auto(_)
         | Work::Set(_)
-        | Work::Ask(_) => run.refuse(Refusal::NotOpen, out),
+        | Work::Ask(_)
+        | Work::Tap(_)
+        | Work::Untap(_) => run.refuse(Refusal::NotOpen, out),
     }
 }
 
@@ -154,7 +157,7 @@ pub fn closed_line<S: Shelf, R: Source, O: Sink>(
     run: &mut Run,
 ) -> Result<(), Stop>
     requires { (n : List ℕ) → (S.state shelf.old).out n ≡ false }
-    ensures served { ServesLine S.state R.left O.told (λ f. edit_line (closed_desk f) line.old) result shelf.old run.old script.old out.old shelf.new run.new script.new out.new }
+    ensures served { ServesLine (λ b. meter b) S.state R.left O.told (λ store. edit_line (closed_desk store) line.old) result shelf.old run.old script.old out.old shelf.new run.new script.new out.new }
     ensures fewer { OnOk result (run.new.lines.room ≤ run.old.lines.room) }
     ensures given { TakesLines R.given run.old script.old run.new script.new }
     ensures counted { CountsRun S.state R.faults O.faults result shelf.old script.old out.old shelf.new script.new out.new }

@@ -25,6 +25,7 @@ mod session;
 mod setting;
 mod step;
 mod stop;
+mod tapping;
 mod text;
 mod work;
 

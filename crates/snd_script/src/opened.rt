@@ -11,6 +11,7 @@ ghost use Rattle.snd_script.specs.Script.{asked_by, most_in, written_by};
 ghost use Rattle.snd_script.specs.Rules.{is_close};
 ghost use Rattle.snd_script.specs.declared.stop.Next.TheVariants as next;
 ghost use Rattle.snd_script.specs.Used.{CommandAsks, CommandWrites, LineAsks, LineWrites, UsesOpen};
+ghost use Rattle.snd_script.specs.Tapped.{taps_of};
 ghost use Rattle.snd_script.specs.Trail.{CommandMoves, IsIdle, LineMoves, TrailsOpen};
 ghost use Rattle.snd_script.specs.Serving.{AnswersOpen, CountsHandle, CountsLine, IsWhole, ServesOpen, TakesLines, edit_open_line};
 
@@ -22,6 +23,7 @@ use crate::run::Run;
 use crate::stop::{Next, Stop};
 use snd_command::LineCommand;
 use snd_disk::{Disk, Sink, Source};
+use snd_taps::Tap;
 
 // One command on an open file. Closing is left to the caller.
 fn open_command<'d, D: Disk, O: Sink>(
@@ -33,12 +35,12 @@ fn open_command<'d, D: Disk, O: Sink>(
 ) -> Result<Next, Stop>
     requires working { (handle_known handle.old).broken ≡ None }
     requires updated { stays ≡ true → mode_of handle.old ≡ updating }
-    ensures answered { (name : List ℕ) → AnswersOpen D.state O.told name stays (λ files file. edit_open files file (line_said said.entry)) result handle.old run.old out.old handle.new run.new out.new }
+    ensures answered { (name : List ℕ) → AnswersOpen (λ b. meter b) D.state O.told name stays (λ store file. edit_open store file (line_said said.entry)) result handle.old run.old out.old handle.new run.new out.new }
     ensures lines { run.new.lines ≡ run.old.lines }
     ensures whole { IsWhole result (handle_known handle.new).broken }
     ensures counted { CountsLine D.state O.faults result handle.old out.old handle.new out.new }
     ensures leaves { LeavesHandle D.state D.may_leave D.left_between handle.old handle.new }
-    ensures moves { CommandMoves D.Disk stays (line_said said.entry) result handle.old handle.new }
+    ensures moves { CommandMoves D.Disk (taps_of (λ b. meter b) run.old) stays (line_said said.entry) result handle.old handle.new }
     ensures asked { CommandAsks D.Disk stays result (line_said said.entry) handle.old handle.new }
     ensures written { CommandWrites D.Disk stays result (line_said said.entry) handle.old handle.new }
     ensures closes { result ≡ Ok next.Close → stays ≡ false }
@@ -64,12 +66,12 @@ fn open_line<'d, D: Disk, O: Sink>(
 ) -> Result<Next, Stop>
     requires working { (handle_known handle.old).broken ≡ None }
     requires updated { stays ≡ true → mode_of handle.old ≡ updating }
-    ensures answered { (name : List ℕ) → AnswersOpen D.state O.told name stays (edit_open_line line.old) result handle.old run.old out.old handle.new run.new out.new }
+    ensures answered { (name : List ℕ) → AnswersOpen (λ b. meter b) D.state O.told name stays (edit_open_line line.old) result handle.old run.old out.old handle.new run.new out.new }
     ensures lines { run.new.lines ≡ run.old.lines }
     ensures whole { IsWhole result (handle_known handle.new).broken }
     ensures counted { CountsLine D.state O.faults result handle.old out.old handle.new out.new }
     ensures leaves { LeavesHandle D.state D.may_leave D.left_between handle.old handle.new }
-    ensures moves { LineMoves D.Disk stays line.old result handle.old handle.new }
+    ensures moves { LineMoves D.Disk (taps_of (λ b. meter b) run.old) stays line.old result handle.old handle.new }
     ensures idle { IsIdle line.old result handle.old handle.new }
     ensures asked { LineAsks D.Disk stays result (command_of line.old) handle.old handle.new }
     ensures written { LineWrites D.Disk stays result (command_of line.old) handle.old handle.new }
@@ -96,13 +98,13 @@ pub fn serve_open<'d, D: Disk, R: Source, O: Sink>(
 ) -> Result<(), Stop>
     requires working { (handle_known handle.old).broken ≡ None }
     requires updated { stays ≡ true → mode_of handle.old ≡ updating }
-    ensures served { (name : List ℕ) → ServesOpen D.state R.left O.told name stays result handle.old run.old script.old out.old handle.new run.new script.new out.new }
+    ensures served { (name : List ℕ) → ServesOpen (λ b. meter b) D.state R.left O.told name stays result handle.old run.old script.old out.old handle.new run.new script.new out.new }
     ensures fewer { OnOk result (run.new.lines.room ≤ run.old.lines.room) }
     ensures given { TakesLines R.given run.old script.old run.new script.new }
     ensures whole { IsWhole result (handle_known handle.new).broken }
     ensures counted { CountsHandle D.state R.faults O.faults result handle.old script.old out.old handle.new script.new out.new }
     ensures leaves { LeavesHandle D.state D.may_leave D.left_between handle.old handle.new }
-    ensures trail { TrailsOpen D.Disk R.Source O.Sink stays handle.old run.old script.old out.old handle.new out.new }
+    ensures trail { TrailsOpen (λ b. meter b) D.Disk R.Source O.Sink stays handle.old run.old script.old out.old handle.new out.new }
     ensures asked { UsesOpen (λ d. (D.state d).asked) R.left result (most_in stays asked_by) handle.old run.old script.old handle.new run.new script.new }
     ensures written { UsesOpen (λ d. (D.state d).written) R.left result (most_in stays written_by) handle.old run.old script.old handle.new run.new script.new }
     ensures tail { LeavesLines R.left result run.old script.old run.new script.new }

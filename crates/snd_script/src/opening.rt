@@ -8,6 +8,7 @@ ghost use Rattle.snd_script.specs.Handled.{LeavesDisk, LeavesHandle, handle_know
 ghost use Rattle.snd_script.specs.Kept.{LeavesLines};
 ghost use Rattle.snd_script.specs.Opened.{IsMakeable, OnlyServes, most_made};
 ghost use Rattle.snd_script.specs.Script.{asked_by, written_by};
+ghost use Rattle.snd_script.specs.Tapped.{taps_of};
 ghost use Rattle.snd_script.specs.Used.{UsesClosed, UsesOn, UsesOpen, most_asked};
 ghost use Rattle.snd_script.specs.Serving.{AnswersClose, AnswersError, AnswersFile, CountsClosed, CountsDisk, CountsHandle, IsSinkCounted, IsWhole, ServesDisk, ServesHandle, ServesToClose, TakesLines};
 
@@ -21,6 +22,7 @@ use snd_disk::{Disk, Sink, Source};
 use snd_layout::OpenError;
 use snd_lines::Refusal;
 use snd_modes::{File, Mode};
+use snd_taps::Tap;
 use std::alloc::Global;
 
 // Tells of a file that was opened.
@@ -54,7 +56,7 @@ fn serve_opened<'d, D: Disk, R: Source, O: Sink>(
     run: &mut Run,
 ) -> Result<(), Stop>
     requires { (handle_known handle.old).broken ≡ None }
-    ensures served { (name : List ℕ) → ServesToClose D.state R.left O.told name result handle.old run.old script.old out.old handle.new run.new script.new out.new }
+    ensures served { (name : List ℕ) → ServesToClose (λ b. meter b) D.state R.left O.told name result handle.old run.old script.old out.old handle.new run.new script.new out.new }
     ensures fewer { OnOk result (run.new.lines.room ≤ run.old.lines.room) }
     ensures given { TakesLines R.given run.old script.old run.new script.new }
     ensures whole { IsWhole result (handle_known handle.new).broken }
@@ -90,7 +92,7 @@ fn serve_handle<'d, D: Disk, R: Source, O: Sink>(
 ) -> (Result<(), Stop>, &'d mut D)
     requires { (handle_known handle).broken ≡ None }
     ensures lends { result.1.ghost_name ≡ handle_loan handle.entry }
-    ensures served { (name : List ℕ) → ServesHandle D.state R.left O.told name result.0 handle.entry run.old script.old out.old result.1.now run.new script.new out.new }
+    ensures served { (name : List ℕ) → ServesHandle (λ b. meter b) D.state R.left O.told name result.0 handle.entry run.old script.old out.old result.1.now run.new script.new out.new }
     ensures fewer { OnOk result.0 (run.new.lines.room ≤ run.old.lines.room) }
     ensures given { TakesLines R.given run.old script.old run.new script.new }
     ensures counted { CountsClosed D.state R.faults O.faults result.0 handle.entry script.old out.old result.1.now script.new out.new }
@@ -116,6 +118,7 @@ fn serve_handle<'d, D: Disk, R: Source, O: Sink>(
 pub fn not_opened<O: Sink>(error: OpenError, out: &mut O, run: &mut Run) -> Result<(), Stop>
     ensures answered { AnswersError O.told O.faults error result run.old out.old run.new out.new }
     ensures lines { run.new.lines ≡ run.old.lines }
+    ensures taps { taps_of (λ b. meter b) run.new ≡ taps_of (λ b. meter b) run.old }
 {
     match error {
         OpenError::Refused(refusal) => run.refuse(Refusal::Open(refusal), out),
@@ -137,7 +140,7 @@ pub fn serve_disk<D: Disk, R: Source, O: Sink>(
     run: &mut Run,
 ) -> Result<(), Stop>
     requires { IsMakeable how.now }
-    ensures served { (name : List ℕ) → ServesDisk D.state R.left O.told how.now name result disk.old run.old script.old out.old disk.new run.new script.new out.new }
+    ensures served { (name : List ℕ) → ServesDisk (λ b. meter b) D.state R.left O.told how.now name result disk.old run.old script.old out.old disk.new run.new script.new out.new }
     ensures fewer { OnOk result (run.new.lines.room ≤ run.old.lines.room) }
     ensures given { TakesLines R.given run.old script.old run.new script.new }
     ensures counted { CountsDisk D.state R.faults O.faults result disk.old script.old out.old disk.new script.new out.new }

@@ -5,11 +5,14 @@ ghost use Rattle.std.specs.Fmt.{signed_decimal};
 ghost use Rattle.snd_layout.specs.Names.{codec_name, kind_name};
 ghost use Rattle.snd_script.specs.Replies.{described, error_line, frame_line, ok_line, spaced, counts_text};
 ghost use Rattle.snd_lines.specs.Refusals.{refusal_name};
+ghost use Rattle.snd_meters.specs.Report.{report_line};
+ghost use Rattle.snd_taps.specs.Names.{tap_name};
 
 use arrayvec::ArrayVec;
 use itoa::Buffer;
 use snd_layout::{Codec, Kind, Params};
 use snd_lines::Refusal;
+use snd_taps::{TapKind, TapState};
 
 /// Appends a text.
 #[inline]
@@ -143,5 +146,28 @@ pub fn push_file<const N: usize>(
     push_text(page, kind_word(kind));
     page.push(b' ');
     push_text(page, codec_word(params.codec));
+    page.push(b'\n');
+}
+
+/// The word of a kind of tap.
+#[tactic(auto, using(crate::proofs::Names::short_tap))]
+fn tap_word(kind: TapKind) -> &'static [u8]
+    ensures word { result.now ≡ tap_name kind }
+    ensures short { length result.now ≤ 6 }
+{
+    kind.name().as_bytes()
+}
+
+/// Appends the report of a tap.
+pub fn push_report<const N: usize>(page: &mut ArrayVec<u8, N>, kind: TapKind, state: TapState)
+    requires { length page.old.items + 72 ≤ N }
+    ensures { page.new.items ≡ page.old.items ++ report_line kind state }
+{
+    push_text(page, b"ok ");
+    push_text(page, tap_word(kind));
+    page.push(b' ');
+    push_number(page, state.frames);
+    page.push(b' ');
+    push_text(page, Buffer::new().format(state.value).as_bytes());
     page.push(b'\n');
 }

@@ -21,6 +21,7 @@ use crate::stop::Stop;
 use snd_command::LineCommand;
 use snd_disk::{Disk, Shelf, ShelfFault, Sink, Source};
 use snd_lines::Refusal;
+use snd_taps::Tap;
 use std::alloc::Global;
 
 // Answers that a file was opened, and that it is updated automatically. Then it carries out lines up to
@@ -34,13 +35,13 @@ fn serve_pinned_open<'d, D: Disk, R: Source, O: Sink>(
     requires working { (handle_known handle.old).broken ≡ None }
     requires updated { mode_of handle.old ≡ updating }
     requires fresh { run.old.refused ≡ false }
-    ensures served { (name : List ℕ) → StopsOpen D.state R.left O.told name result handle.old run.old script.old out.old handle.new run.new script.new out.new }
+    ensures served { (name : List ℕ) → StopsOpen (λ b. meter b) D.state R.left O.told name result handle.old run.old script.old out.old handle.new run.new script.new out.new }
     ensures unread { UnreadOpen D.state handle.old script.old script.new }
     ensures given { TakesLines R.given run.old script.old run.new script.new }
     ensures whole { IsWhole (stopped result) (handle_known handle.new).broken }
     ensures counted { CountsHandle D.state R.faults O.faults (stopped result) handle.old script.old out.old handle.new script.new out.new }
     ensures leaves { LeavesHandle D.state D.may_leave D.left_between handle.old handle.new }
-    ensures trail { TrailsPinned D.Disk R.Source O.Sink handle.old run.old script.old out.old handle.new out.new }
+    ensures trail { TrailsPinned (λ b. meter b) D.Disk R.Source O.Sink handle.old run.old script.old out.old handle.new out.new }
     ensures asked { OpenAsks D.Disk R.Source 0 handle.old run.old script.old handle.new }
     ensures written { OpenWrites D.Disk R.Source 72 handle.old run.old script.old handle.new }
 {
@@ -70,12 +71,12 @@ fn serve_pinned_handle<'d, D: Disk, R: Source, O: Sink>(
     requires updated { mode_of handle ≡ updating }
     requires fresh { run.old.refused ≡ false }
     ensures lends { result.1.ghost_name ≡ handle_loan handle.entry }
-    ensures served { (name : List ℕ) → StopsClosed D.state R.left O.told name result.0 handle.entry run.old script.old out.old result.1.now run.new script.new out.new }
+    ensures served { (name : List ℕ) → StopsClosed (λ b. meter b) D.state R.left O.told name result.0 handle.entry run.old script.old out.old result.1.now run.new script.new out.new }
     ensures unread { UnreadOpen D.state handle.entry script.old script.new }
     ensures given { TakesLines R.given run.old script.old run.new script.new }
     ensures counted { CountsClosed D.state R.faults O.faults (stopped result.0) handle.entry script.old out.old result.1.now script.new out.new }
     ensures leaves { LeavesDisk D.state D.may_leave D.left_between handle.entry result.1.now }
-    ensures trail { TrailsClosed D.Disk R.Source O.Sink handle.entry run.old script.old out.old result.1.now out.new }
+    ensures trail { TrailsClosed (λ b. meter b) D.Disk R.Source O.Sink handle.entry run.old script.old out.old result.1.now out.new }
     ensures asked { ClosedAsks D.Disk R.Source 0 handle.entry run.old script.old result.1.now }
     ensures written { ClosedWrites D.Disk R.Source 144 handle.entry run.old script.old result.1.now }
 {
@@ -96,13 +97,13 @@ fn serve_pinned_disk<D: Disk, R: Source, O: Sink>(
     run: &mut Run,
 ) -> Stop
     requires { run.old.refused ≡ false }
-    ensures served { (name : List ℕ) → StopsDisk D.state R.left O.told name result disk.old run.old script.old out.old disk.new run.new script.new out.new }
+    ensures served { (name : List ℕ) → StopsDisk (λ b. meter b) D.state R.left O.told name result disk.old run.old script.old out.old disk.new run.new script.new out.new }
     ensures unread { UnreadDisk D.state disk.old script.old script.new }
     ensures given { TakesLines R.given run.old script.old run.new script.new }
     ensures counted { CountsDisk D.state R.faults O.faults (stopped result) disk.old script.old out.old disk.new script.new out.new }
     ensures tells { StillTells (D.state disk.old) (D.state disk.new) }
     ensures time { GoesOnFrom D.state D.left_between disk.old disk.new }
-    ensures trail { TrailsDisk D.Disk R.Source O.Sink disk.old run.old script.old out.old disk.new out.new }
+    ensures trail { TrailsDisk (λ b. meter b) D.Disk R.Source O.Sink disk.old run.old script.old out.old disk.new out.new }
     ensures asked { PinnedAsks D.Disk R.Source 16384 disk.old run.old script.old disk.new }
     ensures written { PinnedWrites D.Disk R.Source 144 disk.old run.old script.old disk.new }
 {
@@ -135,14 +136,14 @@ pub fn serve_pinned<S: Shelf, R: Source, O: Sink>(
 ) -> Stop
     requires back { (S.state shelf.old).out name.now ≡ false }
     requires fresh { run.old.refused ≡ false }
-    ensures served { StopsPinned S.state R.left O.told name.now result shelf.old run.old script.old out.old shelf.new run.new script.new out.new }
+    ensures served { StopsPinned (λ b. meter b) S.state R.left O.told name.now result shelf.old run.old script.old out.old shelf.new run.new script.new out.new }
     ensures unread { UnreadPinned S.state name.now shelf.old script.old script.new }
     ensures given { TakesLines R.given run.old script.old run.new script.new }
     ensures counted { CountsStop S.state R.faults O.faults result shelf.old script.old out.old shelf.new script.new out.new }
     ensures shelf { LeavesShelf S.state S.left_between shelf.old shelf.new }
     ensures asked { ShelfAsks S.Shelf R.Source 16384 shelf.old run.old script.old shelf.new }
     ensures written { ShelfWrites S.Shelf R.Source 144 shelf.old run.old script.old shelf.new }
-    ensures trail { TrailsPinnedFile S.Shelf R.Source O.Sink name.now shelf.old run.old script.old out.old shelf.new out.new }
+    ensures trail { TrailsPinnedFile (λ b. meter b) S.Shelf R.Source O.Sink name.now shelf.old run.old script.old out.old shelf.new out.new }
     ensures images { KeepsUnless S.Shelf (λ n. bytes_eq n name.now) shelf.old shelf.new }
 {
     let mut disk = match shelf.take(name, false) {

@@ -6,6 +6,7 @@ ghost use Rattle.snd_command.specs.Said.{line_said};
 ghost use Rattle.snd_script.specs.Handled.{handle_known, mode_of, HandleAsks, HandleWrites, LeavesHandle};
 ghost use Rattle.snd_script.specs.Replies.{refuses};
 ghost use Rattle.snd_script.specs.Script.{asked_by, written_by};
+ghost use Rattle.snd_script.specs.Tapped.{taps_of};
 ghost use Rattle.snd_script.specs.Trail.{StepMoves};
 ghost use Rattle.snd_script.specs.Serving.{IsScriptCounted, IsSinkCounted, IsWhole, Answers, CountsLine, TakesLines, BringsLine, AnswersStep};
 
@@ -17,6 +18,7 @@ use crate::text::put_refusal;
 use snd_command::LineCommand;
 use snd_disk::{Disk, Sink, Source};
 use snd_lines::Refusal;
+use snd_taps::Tap;
 
 /// A run over a script: its lines, what is used again from command to command, and whether a line was
 /// refused so far.
@@ -34,6 +36,7 @@ impl Run {
         ensures fewer { OnOk result (self.new.lines.room < self.old.lines.room) }
         ensures given { TakesLines R.given self.old script.old self.new script.new }
         ensures noted { self.new.refused ≡ self.old.refused }
+        ensures taps { taps_of (λ b. meter b) self.new ≡ taps_of (λ b. meter b) self.old }
         ensures faults { IsScriptCounted result (R.faults script.old) (R.faults script.new) }
     {
         match self.lines.next_line(script, line) {
@@ -48,6 +51,7 @@ impl Run {
     pub fn refuse<O: Sink>(&mut self, refusal: Refusal, out: &mut O) -> Result<(), Stop>
         ensures answered { Answers O.told (refuses refusal) result self.old out.old self.new out.new }
         ensures lines { self.new.lines ≡ self.old.lines }
+        ensures taps { taps_of (λ b. meter b) self.new ≡ taps_of (λ b. meter b) self.old }
         ensures faults { IsSinkCounted result (O.faults out.old) (O.faults out.new) }
     {
         self.refused = true;
@@ -66,12 +70,12 @@ impl Run {
     ) -> Result<(), Stop>
         requires whole { (handle_known handle.old).broken ≡ None }
         requires step { is_close (line_said said) ≡ false }
-        ensures answered { (name : List ℕ) (stays : Bool) → AnswersStep D.state O.told name stays (line_said said.entry) result handle.old self.old out.old handle.new self.new out.new }
+        ensures answered { (name : List ℕ) (stays : Bool) → AnswersStep (λ b. meter b) D.state O.told name stays (line_said said.entry) result handle.old self.old out.old handle.new self.new out.new }
         ensures lines { self.new.lines ≡ self.old.lines }
         ensures whole { IsWhole result (handle_known handle.new).broken }
         ensures counted { CountsLine D.state O.faults result handle.old out.old handle.new out.new }
         ensures leaves { LeavesHandle D.state D.may_leave D.left_between handle.old handle.new }
-        ensures moves { StepMoves D.Disk (line_said said.entry) result handle.old handle.new }
+        ensures moves { StepMoves D.Disk (taps_of (λ b. meter b) self.old) (line_said said.entry) result handle.old handle.new }
         ensures asked { HandleAsks D.state (most_on (mode_of handle.old) asked_by (line_said said.entry)) handle.old handle.new }
         ensures written { HandleWrites D.state (most_on (mode_of handle.old) written_by (line_said said.entry)) handle.old handle.new }
     {

@@ -5,13 +5,16 @@ ghost use Rattle.std.specs.Prelude.{◌≡◌, ◌*◌, ◌≤◌, length};
 ghost use Rattle.snd_script.specs.Stepped.{Says};
 ghost use Rattle.snd_script.specs.Replies.{described, ok_line, refuses, says, read_text};
 ghost use Rattle.snd_script.specs.Work.{IsSent};
+ghost use Rattle.snd_meters.specs.Report.{report_line};
 
 use crate::handle::{Reply, StepFault};
+use crate::page::push_report;
 use crate::text::{PAGE_BYTES, put_file_line, put_frames, put_ok, put_refusal};
 use arrayvec::ArrayVec;
 use snd_disk::Sink;
 use snd_layout::{Kind, Params};
 use snd_lines::Refusal;
+use snd_taps::{TapKind, TapState};
 
 /// Says that a command was carried out, with a number.
 pub fn say_ok<O: Sink>(out: &mut O, number: u64) -> Result<Reply, StepFault>
@@ -33,6 +36,16 @@ pub fn say_text<O: Sink>(out: &mut O, text: &[u8]) -> Result<Reply, StepFault>
         Ok(()) => Ok(Reply::Ok),
         Err(_) => Err(StepFault::Out),
     }
+}
+
+/// Says what a tap saw.
+pub fn say_report<O: Sink>(out: &mut O, kind: TapKind, state: TapState) -> Result<Reply, StepFault>
+    ensures said { Says O.told (says (report_line kind state)) result out.old out.new }
+    ensures sent { IsSent result (O.faults out.old) (O.faults out.new) }
+{
+    let mut line = ArrayVec::<u8, 72>::new();
+    push_report(&mut line, kind, state);
+    say_text(out, &line)
 }
 
 /// Says what is known of a file.

@@ -1,6 +1,6 @@
 //! A whole script.
 
-ghost use Rattle.std.specs.Prelude.{◌≡◌, ◌+◌, ◌<◌, ◌≤◌, List, ℕ, OnOk, false};
+ghost use Rattle.std.specs.Prelude.{◌≡◌, ◌+◌, ◌<◌, ◌≤◌, List, ℕ, OnOk, false, map};
 ghost use Rattle.snd_script.specs.Kept.{KeepsByLines, LeavesLines};
 ghost use Rattle.snd_script.specs.Trail.{TrailsRun, TrailsScript};
 ghost use Rattle.snd_script.specs.Serving.{ServesLines, ServesAll, CountsRun, CountsStop, TakesLines};
@@ -16,6 +16,7 @@ use crate::run::Run;
 use crate::session::Session;
 use crate::stop::Stop;
 use snd_disk::{Shelf, Sink, Source};
+use snd_taps::Tap;
 use std::alloc::Global;
 
 /// How serving a script ends.
@@ -44,7 +45,7 @@ fn serve_line<S: Shelf, R: Source, O: Sink>(
     run: &mut Run,
 ) -> Result<(), Stop>
     requires { (n : List ℕ) → (S.state shelf.old).out n ≡ false }
-    ensures served { ServesLines S.state R.left O.told result shelf.old run.old script.old out.old shelf.new run.new script.new out.new }
+    ensures served { ServesLines (λ b. meter b) S.state R.left O.told result shelf.old run.old script.old out.old shelf.new run.new script.new out.new }
     ensures fewer { OnOk result (run.new.lines.room < run.old.lines.room) }
     ensures given { TakesLines R.given run.old script.old run.new script.new }
     ensures counted { CountsRun S.state R.faults O.faults result shelf.old script.old out.old shelf.new script.new out.new }
@@ -69,7 +70,7 @@ fn serve_lines<S: Shelf, R: Source, O: Sink>(
     run: &mut Run,
 ) -> Stop
     requires { (n : List ℕ) → (S.state shelf.old).out n ≡ false }
-    ensures served { ServesAll S.state R.left O.told result shelf.old run.old script.old out.old shelf.new run.new script.new out.new }
+    ensures served { ServesAll (λ b. meter b) S.state R.left O.told result shelf.old run.old script.old out.old shelf.new run.new script.new out.new }
     ensures given { TakesLines R.given run.old script.old run.new script.new }
     ensures counted { CountsStop S.state R.faults O.faults result shelf.old script.old out.old shelf.new script.new out.new }
     ensures shelf { LeavesShelf S.state S.left_between shelf.old shelf.new }
@@ -97,13 +98,13 @@ fn serve_run<S: Shelf, R: Source, O: Sink>(
 ) -> Stop
     requires back { (n : List ℕ) → (S.state shelf.old).out n ≡ false }
     requires fresh { run.old.refused ≡ false }
-    ensures served { StopsRun S.state R.left O.told (named pinned.entry) result shelf.old run.old script.old out.old shelf.new run.new script.new out.new }
+    ensures served { StopsRun (λ b. meter b) S.state R.left O.told (named pinned.entry) result shelf.old run.old script.old out.old shelf.new run.new script.new out.new }
     ensures unread { LeavesScript S.state (named pinned.entry) shelf.old script.old script.new }
     ensures given { TakesLines R.given run.old script.old run.new script.new }
     ensures counted { CountsStop S.state R.faults O.faults result shelf.old script.old out.old shelf.new script.new out.new }
     ensures shelf { LeavesShelf S.state S.left_between shelf.old shelf.new }
     ensures bounds { BoundsRun S.Shelf R.Source (named pinned.entry) shelf.old run.old script.old shelf.new }
-    ensures trail { TrailsRun S.Shelf R.Source O.Sink (named pinned.entry) shelf.old run.old script.old out.old shelf.new out.new }
+    ensures trail { TrailsRun (λ b. meter b) S.Shelf R.Source O.Sink (named pinned.entry) shelf.old run.old script.old out.old shelf.new out.new }
     ensures images { KeepsInRun S.Shelf R.Source (named pinned.entry) shelf.old run.old script.old shelf.new }
 {
     match pinned {
@@ -127,6 +128,9 @@ fn end_at(stop: Stop, refused: bool) -> ScriptEnd
 /// Carries out a script and appends its replies, each line as soon as it has come. A file that is open
 /// at the end is closed, and every file that was taken is given back, also after a fault.
 ///
+/// The taps are handed in, and all of them wait at first. Each frame that a `read` replies is fed to those that
+/// are on. Where a file is closed, they wait again; they are dropped at the end.
+///
 /// A fault ends the run at once. Where the script failed, what came before is done; where the sink failed
 /// in a reply, its command is carried out too. The open file is closed then, as at any end. Where a file
 /// failed, it is left as the failing call left it, and all others are as before.
@@ -147,19 +151,20 @@ pub fn serve<S: Shelf, R: Source, O: Sink>(
     shelf: &mut S,
     script: &mut R,
     out: &mut O,
+    taps: Vec<Box<dyn Tap>>,
     pinned: Option<&str>,
 ) -> ScriptEnd
     requires { (n : List ℕ) → (S.state shelf.old).out n ≡ false }
-    ensures served { ServesScript S.state R.left R.faults O.told O.faults (named pinned.entry) result shelf.old script.old out.old shelf.new script.new out.new }
+    ensures served { ServesScript S.state R.left R.faults O.told O.faults (map (λ b. (meter b).kind) taps.items) (named pinned.entry) result shelf.old script.old out.old shelf.new script.new out.new }
     ensures fault { RisesAtFault S.state R.faults O.faults result shelf.old script.old out.old shelf.new script.new out.new }
     ensures unread { LeavesScript S.state (named pinned.entry) shelf.old script.old script.new }
     ensures taken { R.given script.new ≤ R.given script.old + 16777217 }
     ensures leaves { LeavesShelf S.state S.left_between shelf.old shelf.new }
     ensures bounds { BoundsScript S.state R.left (named pinned.entry) shelf.old script.old shelf.new }
-    ensures trail { TrailsScript S.Shelf R.Source O.Sink (named pinned.entry) shelf.old script.old out.old shelf.new out.new }
+    ensures trail { TrailsScript S.Shelf R.Source O.Sink (map (λ b. (meter b).kind) taps.items) (named pinned.entry) shelf.old script.old out.old shelf.new out.new }
     ensures images { KeepsUnnamed S.state S.may_leave S.left_between R.left (named pinned.entry) shelf.old script.old shelf.new }
 {
-    let Ok(session) = Session::new(alloc) else {
+    let Ok(session) = Session::new(alloc, taps) else {
         return ScriptEnd::Memory;
     };
     let mut run = Run {

@@ -3,7 +3,8 @@
 ghost use Rattle.std.specs.Prelude.{◌≡◌, None, false};
 ghost use Rattle.snd_modes.specs.Handle.{known_of};
 ghost use Rattle.snd_script.specs.Desk.{reading, updating, writing};
-ghost use Rattle.snd_script.specs.Work.{FollowsWork, work_closes, work_sets};
+ghost use Rattle.snd_script.specs.Tapped.{meter_taps};
+ghost use Rattle.snd_script.specs.Work.{FeedsWork, FollowsWork, work_closes, work_sets};
 
 use crate::asking::ask;
 use crate::carry::{read, refuse_on, seek_both, seek_read, seek_write, tell};
@@ -11,10 +12,13 @@ use crate::change::{bring_up, set_auto, trim, truncate, write};
 use crate::handle::{Reply, StepFault};
 use crate::room::Room;
 use crate::setting::set;
+use crate::tapping::{tap, untap};
 use crate::work::Work;
 use snd_disk::{Disk, Sink};
 use snd_lines::Refusal;
+use snd_meters::Meters;
 use snd_modes::{CanShrink, File, Read, Update, Write};
+use snd_taps::Tap;
 use std::alloc::Global;
 
 /// On a file that is read.
@@ -22,16 +26,18 @@ pub fn step_read<'d, D: Disk, O: Sink>(
     file: &mut File<'d, D, Read>,
     work: Work<'_>,
     room: &mut Room,
+    meters: &mut Meters,
     out: &mut O,
 ) -> Result<Reply, StepFault>
     requires working { (known_of file.old).broken ≡ None }
     requires stays { work_closes work ≡ false }
-    ensures { FollowsWork D.Disk O.Sink reading work.entry result file.old out.old file.new out.new }
+    ensures follows { FollowsWork D.Disk O.Sink reading (meter_taps (λ b. meter b) meters.old) work.entry result file.old out.old file.new out.new }
+    ensures taps { FeedsWork D.state reading work.entry result file.old (meter_taps (λ b. meter b) meters.old) (meter_taps (λ b. meter b) meters.new) }
 {
     match work {
         Work::Tell => tell(file, out),
         Work::SeekRead(to) | Work::SeekBoth(to) => seek_read(file, to, out),
-        Work::Read(count) => read(file, room, count, out),
+        Work::Read(count) => read(file, room, meters, count, out),
         Work::Ask(asking) => ask(file, room.alloc, asking, out),
         Work::Set(_)
         | Work::SeekWrite(_)
@@ -43,6 +49,8 @@ pub fn step_read<'d, D: Disk, O: Sink>(
         Work::Open(_) | Work::Update(_) | Work::Make(..) => {
             refuse_on(file, Refusal::AlreadyOpen, out)
         }
+        Work::Tap(kind) => tap(file, meters, kind, out),
+        Work::Untap(kind) => untap(file, meters, kind, out),
         Work::NotBuilt => refuse_on(file, Refusal::NotBuilt, out),
         Work::Close => unreachable!(),
     }
@@ -54,15 +62,17 @@ pub fn step_made<'d, D: Disk, O: Sink>(
     file: &mut File<'d, D, Write>,
     work: Work<'_>,
     alloc: Global,
+    meters: &mut Meters,
     out: &mut O,
 ) -> Result<Reply, StepFault>
     requires working { (known_of file.old).broken ≡ None }
     requires stays { work_closes work ≡ false }
-    ensures { FollowsWork D.Disk O.Sink writing work.entry result file.old out.old file.new out.new }
+    ensures follows { FollowsWork D.Disk O.Sink writing (meter_taps (λ b. meter b) meters.old) work.entry result file.old out.old file.new out.new }
+    ensures taps { FeedsWork D.state writing work.entry result file.old (meter_taps (λ b. meter b) meters.old) (meter_taps (λ b. meter b) meters.new) }
 {
     match work {
         Work::Set(setting) => set(file, alloc, setting, out),
-        other => step_write(file, other, alloc, out),
+        other => step_write(file, other, alloc, meters, out),
     }
 }
 
@@ -71,12 +81,14 @@ fn step_write<'d, D: Disk, M: CanShrink, O: Sink>(
     file: &mut File<'d, D, M>,
     work: Work<'_>,
     alloc: Global,
+    meters: &mut Meters,
     out: &mut O,
 ) -> Result<Reply, StepFault>
     requires working { (known_of file.old).broken ≡ None }
     requires stays { work_closes work ≡ false }
     requires head { work_sets work ≡ false }
-    ensures { FollowsWork D.Disk O.Sink writing work.entry result file.old out.old file.new out.new }
+    ensures follows { FollowsWork D.Disk O.Sink writing (meter_taps (λ b. meter b) meters.old) work.entry result file.old out.old file.new out.new }
+    ensures taps { FeedsWork D.state writing work.entry result file.old (meter_taps (λ b. meter b) meters.old) (meter_taps (λ b. meter b) meters.new) }
 {
     match work {
         Work::Tell => tell(file, out),
@@ -91,6 +103,8 @@ fn step_write<'d, D: Disk, M: CanShrink, O: Sink>(
         Work::Open(_) | Work::Update(_) | Work::Make(..) => {
             refuse_on(file, Refusal::AlreadyOpen, out)
         }
+        Work::Tap(kind) => tap(file, meters, kind, out),
+        Work::Untap(kind) => untap(file, meters, kind, out),
         Work::NotBuilt => refuse_on(file, Refusal::NotBuilt, out),
         Work::Close | Work::Set(_) => unreachable!(),
     }
@@ -102,17 +116,19 @@ pub fn step_update<'d, D: Disk, O: Sink>(
     file: &mut File<'d, D, Update>,
     work: Work<'_>,
     room: &mut Room,
+    meters: &mut Meters,
     out: &mut O,
 ) -> Result<Reply, StepFault>
     requires working { (known_of file.old).broken ≡ None }
     requires stays { work_closes work ≡ false }
-    ensures { FollowsWork D.Disk O.Sink updating work.entry result file.old out.old file.new out.new }
+    ensures follows { FollowsWork D.Disk O.Sink updating (meter_taps (λ b. meter b) meters.old) work.entry result file.old out.old file.new out.new }
+    ensures taps { FeedsWork D.state updating work.entry result file.old (meter_taps (λ b. meter b) meters.old) (meter_taps (λ b. meter b) meters.new) }
 {
     match work {
         Work::SeekRead(to) => seek_read(file, to, out),
         Work::SeekBoth(to) => seek_both(file, to, out),
-        Work::Read(count) => read(file, room, count, out),
+        Work::Read(count) => read(file, room, meters, count, out),
         Work::Set(_) => refuse_on(file, Refusal::WrongMode, out),
-        other => step_write(file, other, room.alloc, out),
+        other => step_write(file, other, room.alloc, meters, out),
     }
 }

@@ -10,6 +10,7 @@ use snd_command::{CodecWord, LineCommand, MOST_CUES, MOST_SAMPLES};
 use snd_fields::Id4;
 use snd_layout::{Codec, Kind};
 use snd_meta::{BextKey, InfoKey};
+use snd_taps::TapKind;
 
 /// What is set in a file that is made.
 #[derive(Clone, Copy, Debug, PartialEq, Eq)]
@@ -74,6 +75,10 @@ pub enum Work<'a> {
     Set(Setting<'a>),
     /// What chunks say is put.
     Ask(Asking),
+    /// The first tap of a kind that waits begins.
+    Tap(TapKind),
+    /// The one of a kind that is on reports, and is dropped.
+    Untap(TapKind),
     /// The command is not built yet.
     NotBuilt,
 }
@@ -165,6 +170,7 @@ pub fn work_of<'a>(said: LineCommand<'a, 'a>) -> Work<'a>
         LineCommand::GetStrings => Work::Ask(Asking::Texts),
         LineCommand::GetBext => Work::Ask(Asking::Broadcast),
         LineCommand::GetCues => Work::Ask(Asking::Points),
-        LineCommand::Tap(_) | LineCommand::Untap(_) => Work::NotBuilt,
+        LineCommand::Tap(kind) => Work::Tap(kind),
+        LineCommand::Untap(kind) => Work::Untap(kind),
     }
 }

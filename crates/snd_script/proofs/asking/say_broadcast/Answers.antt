@@ -1,4 +1,4 @@
-use Rattle.std.proofs.Common.{List, ◌≡◌, Result, Ok, Err, codes, refl, sym, subst}
+use Rattle.std.proofs.Common.{Ok, Err, codes, refl}
 use Rattle.snd_meta.specs.Broadcast.{Broadcast}
 use Rattle.snd_modes.specs.Handle.{known_of}
 use Rattle.snd_modes.specs.Pieces.{first_piece}

@@ -1,11 +1,11 @@
-use Rattle.std.proofs.Common.{rules, ◌≡◌, ℕ, Result, Ok, Err, codes, refl, sym, subst}
+use Rattle.std.proofs.Common.{rules, Ok, Err}
 use Rattle.snd_modes.specs.Handle.{known_of}
 use Rattle.snd_modes.specs.Pieces.{first_piece}
 use Rattle.snd_tags.specs.declared.error.TagError.TheVariants.{Get}
 use Rattle.snd_script.specs.Replies.{body_text}
 use Rattle.snd_script.specs.Rules.{chunk_of, finds_none, piece_refusal}
 use Rattle.snd_lines.specs.declared.refusal.Refusal.TheVariants.{NoSuchChunk}
-use Rattle.snd_script.proofs.Decided.{as_found, asks_more, body_answers, decides_body, gathered_reply}
+use Rattle.snd_script.proofs.Decided.{asks_more, body_answers, decides_body, gathered_reply}
 use Rattle.snd_script.proofs.Tells.{told}
 use Rattle.snd_script.proofs.asking.say_chunk.Goals as goal
 

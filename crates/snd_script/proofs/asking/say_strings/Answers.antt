@@ -1,4 +1,4 @@
-use Rattle.std.proofs.Common.{List, ◌≡◌, Result, Ok, Err, codes, refl, sym, subst}
+use Rattle.std.proofs.Common.{List, Ok, Err}
 use Rattle.snd_meta.specs.Info.{Entry}
 use Rattle.snd_modes.specs.Handle.{known_of}
 use Rattle.snd_tags.specs.Found.{texts_of}

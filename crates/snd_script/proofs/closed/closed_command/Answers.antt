@@ -13,23 +13,23 @@ use Rattle.snd_script.proofs.Uses.{uses_in_hand, uses_of_more}
 use Rattle.snd_script.proofs.closed.closed_command.Goals as goal
 
 pub returns-in-Err-clause-served : goal.returns-in-Err-clause-served
-returns-in-Err-clause-served g c = λ files s has left.
-    replied_closed _ files _ _ _ _ _ _ _ s (edit_closed files (line_said c.args.said)) (refuses (refusal.Open c.in-Err.refusal)) (ShelfStands g.S.Shelf.state c.args.shelf.now)
-    (c.in-Make.ensures.closed files ∙ c.in-Err.ensures.made files c.in-Make.name.now)
-    c.refuse.ensures.lines left c.refuse.ensures.answered (still_stands g.S.Shelf.state c.args.shelf.now files has)
+returns-in-Err-clause-served g c = λ store s has left.
+    replied_closed _ store _ _ _ _ _ _ _ s (edit_closed store (line_said c.args.said)) (refuses (refusal.Open c.in-Err.refusal)) (ShelfStands g.S.Shelf.state c.args.shelf.now _)
+    (c.in-Make.ensures.closed store ∙ c.in-Err.ensures.made store c.in-Make.name.now)
+    c.refuse.ensures.lines left c.refuse.ensures.answered (still_stands g.S.Shelf.state c.args.shelf.now store _ _ c.refuse.ensures.taps has)
 
 pub returns-in-NotBuilt-clause-served : goal.returns-in-NotBuilt-clause-served
-returns-in-NotBuilt-clause-served g c = λ files s has left.
-    replied_closed _ files _ _ _ _ _ _ _ s (edit_closed files (line_said c.args.said)) (refuses refusal.NotBuilt) (ShelfStands g.S.Shelf.state c.args.shelf.now)
-    (c.in-NotBuilt.ensures.closed files)
-    c.refuse-in-NotBuilt.ensures.lines left c.refuse-in-NotBuilt.ensures.answered (still_stands g.S.Shelf.state c.args.shelf.now files has)
+returns-in-NotBuilt-clause-served g c = λ store s has left.
+    replied_closed _ store _ _ _ _ _ _ _ s (edit_closed store (line_said c.args.said)) (refuses refusal.NotBuilt) (ShelfStands g.S.Shelf.state c.args.shelf.now _)
+    (c.in-NotBuilt.ensures.closed store)
+    c.refuse-in-NotBuilt.ensures.lines left c.refuse-in-NotBuilt.ensures.answered (still_stands g.S.Shelf.state c.args.shelf.now store _ _ c.refuse-in-NotBuilt.ensures.taps has)
 
 pub returns-in-Close : goal.returns-in-Close
 returns-in-Close g c = record {
-  served = λ files s has left.
-      replied_closed _ files _ _ _ _ _ _ _ s (edit_closed files (line_said c.args.said)) (refuses refusal.NotOpen) (ShelfStands g.S.Shelf.state c.args.shelf.now)
-      (needs_open c.work_of.result files (edit_closed files (line_said c.args.said)) c.in-Close.is (c.work_of.ensures.closed files))
-      c.refuse-in-Close.ensures.lines left c.refuse-in-Close.ensures.answered (still_stands g.S.Shelf.state c.args.shelf.now files has);
+  served = λ store s has left.
+      replied_closed _ store _ _ _ _ _ _ _ s (edit_closed store (line_said c.args.said)) (refuses refusal.NotOpen) (ShelfStands g.S.Shelf.state c.args.shelf.now _)
+      (needs_open c.work_of.result store (edit_closed store (line_said c.args.said)) c.in-Close.is (c.work_of.ensures.closed store))
+      c.refuse-in-Close.ensures.lines left c.refuse-in-Close.ensures.answered (still_stands g.S.Shelf.state c.args.shelf.now store _ _ c.refuse-in-Close.ensures.taps has);
   fewer = search rules;
   given = search rules;
   counted = search rules;

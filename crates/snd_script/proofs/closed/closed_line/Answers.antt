@@ -1,4 +1,4 @@
-use Rattle.std.proofs.Common.{ap, sym, ◌∙◌}
+use Rattle.std.proofs.Common.{ap, refl, sym, ◌∙◌}
 use Rattle.snd_script.specs.Desk.{closed_desk}
 use Rattle.snd_script.specs.Edit.{edit_line, line_edit}
 use Rattle.snd_script.specs.Replies.{refuses}
@@ -16,16 +16,16 @@ closed_command-requires-clause-named g c = λ name is.
     name_is_good _ name _ (sym says) is
 
 pub returns-in-Err-clause-served : goal.returns-in-Err-clause-served
-returns-in-Err-clause-served g c = λ files s has left.
-    replied_closed _ files _ _ _ _ _ _ _ s (edit_line (closed_desk files) c.args.line.now) (refuses c.line_refusal.result) (ShelfStands g.S.Shelf.state c.args.shelf.now)
-    (ap (line_edit (closed_desk files)) (sym c.in-Err.ensures) ∙ c.line_refusal.ensures (closed_desk files))
-    c.refuse.ensures.lines left c.refuse.ensures.answered (still_stands g.S.Shelf.state c.args.shelf.now files has)
+returns-in-Err-clause-served g c = λ store s has left.
+    replied_closed _ store _ _ _ _ _ _ _ s (edit_line (closed_desk store) c.args.line.now) (refuses c.line_refusal.result) (ShelfStands g.S.Shelf.state c.args.shelf.now _)
+    (ap (line_edit (closed_desk store)) (sym c.in-Err.ensures) ∙ c.line_refusal.ensures (closed_desk store))
+    c.refuse.ensures.lines left c.refuse.ensures.answered (still_stands g.S.Shelf.state c.args.shelf.now store _ _ c.refuse.ensures.taps has)
 
 pub returns-in-Ok-None-clause-served : goal.returns-in-Ok-None-clause-served
-returns-in-Ok-None-clause-served g c = λ files s has left.
+returns-in-Ok-None-clause-served g c = λ store s has left.
     let says = rw c.in-Ok-None.field-0-is at c.in-Ok-None.ensures in
-    nothing_said files (g.R.Source.left c.args.script.now) c.args.run.now.lines c.args.run.now.refused (g.O.Sink.told c.args.out.now) s (edit_line (closed_desk files) c.args.line.now) (ShelfStands g.S.Shelf.state c.args.shelf.now)
-    (ap (line_edit (closed_desk files)) (sym says)) left (still_stands g.S.Shelf.state c.args.shelf.now files has)
+    nothing_said store (g.R.Source.left c.args.script.now) c.args.run.now.lines c.args.run.now.refused (g.O.Sink.told c.args.out.now) s (edit_line (closed_desk store) c.args.line.now) (ShelfStands g.S.Shelf.state c.args.shelf.now _)
+    (ap (line_edit (closed_desk store)) (sym says)) left (still_stands g.S.Shelf.state c.args.shelf.now store _ _ refl has)
 
 pub returns-in-Ok-Some-clause-asked : goal.returns-in-Ok-Some-clause-asked
 returns-in-Ok-Some-clause-asked g c = λ s left.

@@ -6,6 +6,7 @@ use Rattle.snd_script.specs.Handled.{mode_of, open_as}
 use Rattle.snd_script.specs.Rules.{is_close}
 use Rattle.snd_script.specs.Script.{asked_by, written_by}
 use Rattle.snd_script.specs.Serving.{OpenStands}
+use Rattle.snd_script.specs.Tapped.{taps_of}
 use Rattle.snd_script.proofs.OpenChains.{refused_stops, step_served, step_stops}
 use Rattle.snd_script.proofs.PinnedMoves.{automatic_of, carried_behind, moves_as, moves_refused}
 use Rattle.snd_script.proofs.Limits.{most_within}
@@ -16,29 +17,29 @@ use Rattle.snd_script.proofs.opened.open_command.Goals as goal
 pub returns-in_err-refuse-clause-answered : goal.returns-in_err-refuse-clause-answered
 returns-in_err-refuse-clause-answered g c =
     let p = err_from_is_err_and c.from_residual.result c.from_residual.ensures.1 in
-    rw (p.1, p.2) (λ name files e stands.
-    let file : OpenFile = record { name = name; mode = open_as c.args.stays (mode_of c.args.handle.now); editing = e } in
-    refused_stops _ _ c.in-Some.refusal (open_desk files file) c.args.run.now.refused c.refuse.new.self.refused _ _ _
-    (held_edit files name (mode_of c.args.handle.now) (line_said c.args.said) e c.args.stays c.in-Some.refusal c.in-Some.ensures.0 c.in-Some.ensures.1) c.in_err-refuse.ensures.answered
-    (stands_open g.D.Disk.state files name c.args.stays c.args.handle.now c.args.handle.now e _ refl stands))
+    rw (p.1, p.2) (λ name store e stands.
+    let file : OpenFile = record { name = name; mode = open_as c.args.stays (mode_of c.args.handle.now); editing = e; taps = taps_of (λ b. (goal.Tap-dyn g b).meter b.1) c.args.run.now } in
+    refused_stops _ _ c.in-Some.refusal (open_desk store file) c.args.run.now.refused c.refuse.new.self.refused _ _ _
+    (held_edit store name (mode_of c.args.handle.now) (taps_of (λ b. (goal.Tap-dyn g b).meter b.1) c.args.run.now) (line_said c.args.said) e c.args.stays c.in-Some.refusal c.in-Some.ensures.0 (c.in-Some.ensures.1 (taps_of (λ b. (goal.Tap-dyn g b).meter b.1) c.args.run.now))) c.in_err-refuse.ensures.answered
+    (stands_open g.D.Disk.state store name c.args.stays _ _ c.args.handle.now c.args.handle.now e _ refl c.refuse.ensures.taps stands))
 
 pub returns-in_err-step-clause-answered : goal.returns-in_err-step-clause-answered
 returns-in_err-step-clause-answered g c =
     let p = err_from_is_err_and c.from_residual-in_err-step.result c.from_residual-in_err-step.ensures.1 in
-    rw (p.1, p.2) (λ name files e stands.
-    let file : OpenFile = record { name = name; mode = open_as c.args.stays (mode_of c.args.handle.now); editing = e } in
+    rw (p.1, p.2) (λ name store e stands.
+    let file : OpenFile = record { name = name; mode = open_as c.args.stays (mode_of c.args.handle.now); editing = e; taps = taps_of (λ b. (goal.Tap-dyn g b).meter b.1) c.args.run.now } in
     let remains : is_close (line_said c.args.said) ≡ false = search rules in
-    step_stops files file (line_said c.args.said) _ c.args.run.now.refused c.step.new.self.refused _ _ _
-    (kept_edit files name (mode_of c.args.handle.now) (line_said c.args.said) e c.args.stays c.requires.updated c.in_default.ensures remains)
-    _ (c.in_err-step.ensures.answered name c.args.stays files e stands))
+    step_stops store file (line_said c.args.said) _ c.args.run.now.refused c.step.new.self.refused _ _ _
+    (kept_edit store name (mode_of c.args.handle.now) (taps_of (λ b. (goal.Tap-dyn g b).meter b.1) c.args.run.now) (line_said c.args.said) e c.args.stays c.requires.updated c.in_default.ensures remains)
+    _ (c.in_err-step.ensures.answered name c.args.stays store e stands))
 
 pub returns-clause-answered : goal.returns-clause-answered
-returns-clause-answered g c = λ name files e stands.
-    let file : OpenFile = record { name = name; mode = open_as c.args.stays (mode_of c.args.handle.now); editing = e } in
+returns-clause-answered g c = λ name store e stands.
+    let file : OpenFile = record { name = name; mode = open_as c.args.stays (mode_of c.args.handle.now); editing = e; taps = taps_of (λ b. (goal.Tap-dyn g b).meter b.1) c.args.run.now } in
     let remains : is_close (line_said c.args.said) ≡ false = search rules in
-    step_served files file (line_said c.args.said) _ _ _ _ _ (OpenStands g.D.Disk.state files name c.args.stays c.step.new.handle)
-    (kept_edit files name (mode_of c.args.handle.now) (line_said c.args.said) e c.args.stays c.requires.updated c.in_default.ensures remains)
-    _ (c.in_ok-step.ensures.answered name c.args.stays files e stands)
+    step_served store file (line_said c.args.said) _ _ _ _ _ (OpenStands g.D.Disk.state store name c.args.stays _ c.step.new.handle)
+    (kept_edit store name (mode_of c.args.handle.now) (taps_of (λ b. (goal.Tap-dyn g b).meter b.1) c.args.run.now) (line_said c.args.said) e c.args.stays c.requires.updated c.in_default.ensures remains)
+    _ (c.in_ok-step.ensures.answered name c.args.stays store e stands)
 
 pub returns-in_err-step-clause-asked : goal.returns-in_err-step-clause-asked
 returns-in_err-step-clause-asked g c =
@@ -70,22 +71,22 @@ returns-clause-written g c = record {
 
 pub returns-in_err-refuse-clause-moves : goal.returns-in_err-refuse-clause-moves
 returns-in_err-refuse-clause-moves g c = λ pins opened e on rest.
-    moves_refused g.D.Disk g.met.D.Disk.only_now opened _ e (line_said c.args.said) c.in-Some.refusal c.args.handle.now c.in-Some.ensures.1 rest
+    moves_refused g.D.Disk g.met.D.Disk.only_now opened _ e (taps_of (λ b. (goal.Tap-dyn g b).meter b.1) c.args.run.now) (line_said c.args.said) c.in-Some.refusal c.args.handle.now (c.in-Some.ensures.1 (taps_of (λ b. (goal.Tap-dyn g b).meter b.1) c.args.run.now)) rest
 
 pub returns-in-Some-clause-moves : goal.returns-in-Some-clause-moves
 returns-in-Some-clause-moves g c = λ pins opened e on rest.
-    moves_refused g.D.Disk g.met.D.Disk.only_now opened _ e (line_said c.args.said) c.in-Some.refusal c.args.handle.now c.in-Some.ensures.1 rest
+    moves_refused g.D.Disk g.met.D.Disk.only_now opened _ e (taps_of (λ b. (goal.Tap-dyn g b).meter b.1) c.args.run.now) (line_said c.args.said) c.in-Some.refusal c.args.handle.now (c.in-Some.ensures.1 (taps_of (λ b. (goal.Tap-dyn g b).meter b.1) c.args.run.now)) rest
 
 pub returns-in_err-step-clause-moves : goal.returns-in_err-step-clause-moves
 returns-in_err-step-clause-moves g c =
     let p = err_from_is_err_and c.from_residual-in_err-step.result c.from_residual-in_err-step.ensures.1 in
     rw (p.1, p.2) (λ pins opened e on rest.
     let moves = c.in_err-step.ensures.moves (inl (automatic_of g.D.Disk opened c.args.handle.now e rest ∙ on)) opened e rest in
-    moves_as g.D.Disk opened _ e _ _ c.args.handle.now c.step.new.handle (carried_behind (mode_of c.args.handle.now) (line_said c.args.said) e (c.requires.updated pins) (c.in_default.ensures pins))
+    moves_as g.D.Disk opened _ e _ _ c.args.handle.now c.step.new.handle (carried_behind (mode_of c.args.handle.now) (taps_of (λ b. (goal.Tap-dyn g b).meter b.1) c.args.run.now) (line_said c.args.said) e (c.requires.updated pins) (c.in_default.ensures pins))
     (record { leaves = moves.leaves; rests = moves.rests }))
 
 pub returns-clause-moves : goal.returns-clause-moves
 returns-clause-moves g c = λ pins opened e on rest.
     let moves = c.in_ok-step.ensures.moves (inl (automatic_of g.D.Disk opened c.args.handle.now e rest ∙ on)) opened e rest in
-    moves_as g.D.Disk opened _ e _ _ c.args.handle.now c.step.new.handle (carried_behind (mode_of c.args.handle.now) (line_said c.args.said) e (c.requires.updated pins) (c.in_default.ensures pins))
+    moves_as g.D.Disk opened _ e _ _ c.args.handle.now c.step.new.handle (carried_behind (mode_of c.args.handle.now) (taps_of (λ b. (goal.Tap-dyn g b).meter b.1) c.args.run.now) (line_said c.args.said) e (c.requires.updated pins) (c.in_default.ensures pins))
     (record { leaves = moves.leaves; rests = moves.rests })

@@ -2,19 +2,20 @@ use Rattle.std.proofs.Common.{◌∙◌, ap, sym, refl, rules, arith, ℕ, List,
 use Rattle.std.proofs.lemmas.List.{append-nil, length-append}
 use Rattle.snd_command.specs.Line.{command_of}
 use Rattle.std.proofs.lemmas.Result.{err_from_is_err_and}
-use Rattle.snd_script.specs.Desk.{OpenFile, open_desk}
+use Rattle.snd_script.specs.Desk.{Desk, OpenFile, open_desk}
 use Rattle.snd_script.specs.Edit.{close_edit, edit_line}
 use Rattle.snd_script.specs.Handled.{mode_of, open_as}
 use Rattle.snd_script.specs.Lines.{Reading, to_take}
 use Rattle.snd_script.specs.Replies.{text_of}
 use Rattle.snd_script.specs.Script.{asked_by, most_in, written_by}
 use Rattle.snd_script.specs.Serving.{Moment, moment, moment_of, steps_left}
+use Rattle.snd_script.specs.Tapped.{taps_of}
 use Rattle.snd_script.specs.Trail.{pinned_file, state_behind}
 use Rattle.snd_script.specs.declared.stop.Next.{Next}
 use Rattle.snd_script.proofs.Chains.{none_left, serves_none, stopped_as, stopped_then}
 use Rattle.snd_script.proofs.OpenChains.{at_close, at_open, at_stops, comes_at, left_at}
-use Rattle.snd_script.proofs.PinnedMoves.{command_automatic, stands_of}
-use Rattle.snd_script.proofs.PinnedTrails.{trail_ends, trail_on}
+use Rattle.snd_script.proofs.PinnedMoves.{command_automatic, stands_of, taps_in}
+use Rattle.snd_script.proofs.PinnedTrails.{trail_ends, trail_on, trail_with}
 use Rattle.snd_script.proofs.Stepping.{held_desk, leaves_handle_none, leaves_handle_then, stands_open}
 use Rattle.snd_script.proofs.Tails.{tail_none, tail_of_line}
 use Rattle.snd_script.proofs.TrailRuns.{trail_begins, trail_rests}
@@ -23,20 +24,20 @@ use Rattle.snd_script.proofs.opened.serve_open.Goals as goal
 
 pub loop-line-init : goal.loop-line-init
 loop-line-init g c = record {
-  told = λ name files e s stands left. (e, s, left, stands, serves_none _ _ _ _ refl refl, refl);
+  told = λ name store e s stands left. (e, s, left, stands, serves_none _ _ _ _ refl refl, refl);
   whole = search rules;
   fewer = omega arith;
   given = omega arith;
   counted = record { shelf = refl; script = refl; out = refl };
   leaves = leaves_handle_none _ _ _ c.args.handle.now;
-  trail = λ pins opened files name e t0 past s t rest on before left told. (
+  trail = λ pins opened store name e t0 past s t rest on before left told. (
     e,
     s,
     [],
     on,
     left,
     told ∙ ap (λ (l : List ℕ). Some l) (sym (append-nil t)),
-    trail_begins g.D.Disk g.met.D.Disk.only_now opened t0 past e (steps_left (open_desk files (pinned_file name e)) (moment_of g.R.Source.left g.O.Sink.told c.args.run.now c.args.script.now c.args.out.now) s) c.args.handle.now rest before,
+    trail_begins g.D.Disk g.met.D.Disk.only_now opened t0 past e (steps_left (open_desk store (pinned_file name _ e)) (moment_of g.R.Source.left g.O.Sink.told c.args.run.now c.args.script.now c.args.out.now) s) c.args.handle.now rest before,
   );
   tail = λ s left. tail_none _ s _ left;
   asked = λ s left. uses_so_far_none _ _ s _ _ left;
@@ -46,32 +47,34 @@ loop-line-init g c = record {
 pub returns-in_err-next-clause-served : goal.returns-in_err-next-clause-served
 returns-in_err-next-clause-served g c =
     let p = err_from_is_err_and c.from_residual.result c.from_residual.ensures.1 in
-    rw (p.1, p.2) (λ name files e s stands left.
-    let so_far = c.loop-line.invariant.told name files e s stands left in
-    stopped_then _ _ _ _ _ _ _ _ _ _ so_far.4 (stopped_as _ _ _ _ _ _ _ _ so_far.5 (none_left _ (held_desk files name c.args.stays c.loop-line.handle so_far.0) so_far.1 _ _ _ (c.in_err-next.ensures.brought so_far.1 so_far.2) c.in_err-next.ensures.noted refl
-    (stands_open g.D.Disk.state files name c.args.stays c.loop-line.handle c.loop-line.handle so_far.0 _ refl so_far.3))))
+    rw (p.1, p.2) (λ name store e s stands left.
+    let so_far = c.loop-line.invariant.told name store e s stands left in
+    stopped_then _ _ _ _ _ _ _ _ _ _ so_far.4 (stopped_as _ _ _ _ _ _ _ _ so_far.5 (none_left _ (held_desk store name c.args.stays _ c.loop-line.handle so_far.0) so_far.1 _ _ _ (c.in_err-next.ensures.brought so_far.1 so_far.2) c.in_err-next.ensures.noted refl
+    (stands_open g.D.Disk.state store name c.args.stays _ _ c.loop-line.handle c.loop-line.handle so_far.0 _ refl c.next.ensures.taps so_far.3))))
 
 pub returns-in_err-open_line-clause-served : goal.returns-in_err-open_line-clause-served
 returns-in_err-open_line-clause-served g c =
     let p = err_from_is_err_and c.from_residual-in_err-open_line.result c.from_residual-in_err-open_line.ensures.1 in
-    rw (p.1, p.2) (λ name files e s stands left.
-    let so_far = c.loop-line.invariant.told name files e s stands left in
+    rw (p.1, p.2) (λ name store e s stands left.
+    let so_far = c.loop-line.invariant.told name store e s stands left in
     let comes = c.in_ok-next.ensures.brought so_far.1 so_far.2 in
     let m : Moment = moment c.loop-line.run.lines (g.R.Source.left c.loop-line.script) c.loop-line.run.refused (g.O.Sink.told c.loop-line.out) in
     let m' : Moment = moment c.next.new.self.lines (g.R.Source.left c.next.new.script) c.next.new.self.refused (g.O.Sink.told c.loop-line.out) in
-    let at = comes_at _ _ _ (held_desk files name c.args.stays c.loop-line.handle so_far.0) c.next.new.line so_far.1 comes.0 _ m m' so_far.4 so_far.5 comes.2 c.in_ok-next.ensures.noted refl in
-    at_stops _ _ _ _ _ _ m' _ _ comes.0 _ at (c.in_err-open_line.ensures.answered name files so_far.0 so_far.3))
+    let served = left_at _ _ _ _ _ m so_far.1 (ap (λ t. held_desk store name c.args.stays t c.loop-line.handle so_far.0) (sym c.next.ensures.taps)) so_far.4 in
+    let at = comes_at _ _ _ (held_desk store name c.args.stays _ c.loop-line.handle so_far.0) c.next.new.line so_far.1 comes.0 _ m m' served so_far.5 comes.2 c.in_ok-next.ensures.noted refl in
+    at_stops _ _ _ _ _ _ m' _ _ comes.0 _ at (c.in_err-open_line.ensures.answered name store so_far.0 so_far.3))
 
 pub loop-line-preserved : goal.loop-line-preserved
 loop-line-preserved g c = record {
-  told = λ name files e s stands left.
-      let so_far = c.loop-line.invariant.told name files e s stands left in
+  told = λ name store e s stands left.
+      let so_far = c.loop-line.invariant.told name store e s stands left in
       let comes = c.in_ok-next.ensures.brought so_far.1 so_far.2 in
       let m : Moment = moment c.loop-line.run.lines (g.R.Source.left c.loop-line.script) c.loop-line.run.refused (g.O.Sink.told c.loop-line.out) in
       let m' : Moment = moment c.next.new.self.lines (g.R.Source.left c.next.new.script) c.next.new.self.refused (g.O.Sink.told c.loop-line.out) in
-      let desk = held_desk files name c.args.stays c.loop-line.handle so_far.0 in
-      let at = comes_at _ _ _ desk c.next.new.line so_far.1 comes.0 _ m m' so_far.4 so_far.5 comes.2 c.in_ok-next.ensures.noted refl in
-      let answered = c.in_ok-open_line.ensures.answered name files so_far.0 so_far.3 in
+      let desk = held_desk store name c.args.stays (taps_of (λ b. (goal.Tap-dyn g b).meter b.1) c.next.new.self) c.loop-line.handle so_far.0 in
+      let served = left_at _ _ _ _ _ m so_far.1 (ap (λ t. held_desk store name c.args.stays t c.loop-line.handle so_far.0) (sym c.next.ensures.taps)) so_far.4 in
+      let at = comes_at _ _ _ desk c.next.new.line so_far.1 comes.0 _ m m' served so_far.5 comes.2 c.in_ok-next.ensures.noted refl in
+      let answered = c.in_ok-open_line.ensures.answered name store so_far.0 so_far.3 in
       let said = rw c.in-Open.is at answered in
       let next = at_open _ _ _ _ c.next.new.self.lines c.open_line.new.run.lines _ _ _ _ comes.0 c.in_ok-open_line.ensures.lines _ desk (edit_line desk c.next.new.line) at said.0 said.1 in
       (said.2.editing, comes.0, comes.1, said.2.stands refl, left_at _ _ _ _ _ _ _ said.2.is next.0, next.1);
@@ -84,23 +87,24 @@ loop-line-preserved g c = record {
     out = (c.in_ok-open_line.ensures.counted 0).out ∙ c.loop-line.invariant.counted.out;
   };
   leaves = leaves_handle_then _ _ _ _ _ _ c.loop-line.invariant.leaves c.in_ok-open_line.ensures.leaves;
-  trail = λ pins opened files name e t0 past s t rest on before left told.
-      let so_far = c.loop-line.invariant.trail pins opened files name e t0 past s t rest on before left told in
+  trail = λ pins opened store name e t0 past s t rest on before left told.
+      let so_far = c.loop-line.invariant.trail pins opened store name e t0 past s t rest on before left told in
       let comes = c.in_ok-next.ensures.brought so_far.1 so_far.4 in
       let e' = so_far.0 in
+      let trail = trail_with g.D.Disk opened t0 _ e _ store name _ _ e' _ _ c.loop-line.handle c.next.ensures.taps so_far.6 in
       let kept = c.next.new.line in
-      let step = edit_line (open_desk files (pinned_file name e')) kept in
+      let step = edit_line (open_desk store (pinned_file name (taps_of (λ b. (goal.Tap-dyn g b).meter b.1) c.next.new.self) e')) kept in
       let sent = so_far.2 ++ text_of step.answer in
-      let answered = rw (pins, c.in-Open.is) at (c.in_ok-open_line.ensures.answered name files e' (stands_of g.D.Disk opened c.loop-line.handle e' so_far.6.rests)) in
-      let moves = rw c.in-Open.is at (c.in_ok-open_line.ensures.moves pins opened files name e' so_far.3 so_far.6.rests) in (
+      let answered = rw (pins, c.in-Open.is) at (c.in_ok-open_line.ensures.answered name store e' (stands_of g.D.Disk opened c.loop-line.handle e' so_far.6.rests)) in
+      let moves = rw c.in-Open.is at (c.in_ok-open_line.ensures.moves pins opened store name e' so_far.3 so_far.6.rests) in (
         state_behind e' step,
         comes.0,
         sent,
-        command_automatic files name e' (command_of kept) ∙ so_far.3,
+        command_automatic store name (taps_of (λ b. (goal.Tap-dyn g b).meter b.1) c.next.new.self) e' (command_of kept) ∙ so_far.3,
         comes.1,
         answered.1 (t ++ so_far.2) so_far.5 ∙ ap (λ (l : List ℕ). Some l) (append_assoc t so_far.2 (text_of step.answer)),
-        trail_on g.D.Disk g.met.D.Disk.only_now opened t0 _ e _ files name e' kept c.loop-line.run.lines c.next.new.self.lines so_far.1 comes.0 (length so_far.2) c.loop-line.handle c.open_line.new.handle so_far.6 comes.2
-            c.open_line.new.run.lines (length sent) c.in_ok-open_line.ensures.lines (record { leaves = moves.leaves; rests = moves.rests }) (λ none. (c.in_ok-open_line.ensures.idle none).1) (length-append so_far.2 (text_of step.answer)),
+        trail_on g.D.Disk g.met.D.Disk.only_now opened t0 _ e _ store name (taps_of (λ b. (goal.Tap-dyn g b).meter b.1) c.next.new.self) e' kept c.loop-line.run.lines c.next.new.self.lines so_far.1 comes.0 (length so_far.2) c.loop-line.handle c.open_line.new.handle trail comes.2
+            (taps_of (λ b. (goal.Tap-dyn g b).meter b.1) c.open_line.new.run) (ap (λ (d : Desk). taps_in (taps_of (λ b. (goal.Tap-dyn g b).meter b.1) c.next.new.self) d.open_file) answered.2.is) c.open_line.new.run.lines (length sent) c.in_ok-open_line.ensures.lines (record { leaves = moves.leaves; rests = moves.rests }) (λ none. (c.in_ok-open_line.ensures.idle none).1) (length-append so_far.2 (text_of step.answer)),
       );
   tail = λ s left.
       let so_far = c.loop-line.invariant.tail s left in
@@ -119,17 +123,18 @@ loop-line-preserved g c = record {
 }
 
 pub returns-in-Close-clause-served : goal.returns-in-Close-clause-served
-returns-in-Close-clause-served g c = λ name files e s stands left.
-    let so_far = c.loop-line.invariant.told name files e s stands left in
+returns-in-Close-clause-served g c = λ name store e s stands left.
+    let so_far = c.loop-line.invariant.told name store e s stands left in
     let comes = c.in_ok-next.ensures.brought so_far.1 so_far.2 in
     let m : Moment = moment c.loop-line.run.lines (g.R.Source.left c.loop-line.script) c.loop-line.run.refused (g.O.Sink.told c.loop-line.out) in
     let m' : Moment = moment c.next.new.self.lines (g.R.Source.left c.next.new.script) c.next.new.self.refused (g.O.Sink.told c.loop-line.out) in
-    let file : OpenFile = record { name = name; mode = open_as c.args.stays (mode_of c.loop-line.handle); editing = so_far.0 } in
-    let desk = held_desk files name c.args.stays c.loop-line.handle so_far.0 in
-    let at = comes_at _ _ _ desk c.next.new.line so_far.1 comes.0 _ m m' so_far.4 so_far.5 comes.2 c.in_ok-next.ensures.noted refl in
-    let answered = c.in_ok-open_line.ensures.answered name files so_far.0 so_far.3 in
+    let file : OpenFile = record { name = name; mode = open_as c.args.stays (mode_of c.loop-line.handle); editing = so_far.0; taps = taps_of (λ b. (goal.Tap-dyn g b).meter b.1) c.next.new.self } in
+    let desk = held_desk store name c.args.stays (taps_of (λ b. (goal.Tap-dyn g b).meter b.1) c.next.new.self) c.loop-line.handle so_far.0 in
+    let served = left_at _ _ _ _ _ m so_far.1 (ap (λ t. held_desk store name c.args.stays t c.loop-line.handle so_far.0) (sym c.next.ensures.taps)) so_far.4 in
+    let at = comes_at _ _ _ desk c.next.new.line so_far.1 comes.0 _ m m' served so_far.5 comes.2 c.in_ok-next.ensures.noted refl in
+    let answered = c.in_ok-open_line.ensures.answered name store so_far.0 so_far.3 in
     let said = rw c.in-Close.is at answered in
-    let next = at_close _ _ _ _ c.next.new.self.lines c.open_line.new.run.lines _ _ _ _ comes.0 c.in_ok-open_line.ensures.lines _ desk (edit_line desk c.next.new.line) (close_edit files file) at said.0 said.1 said.2 in
+    let next = at_close _ _ _ _ c.next.new.self.lines c.open_line.new.run.lines _ _ _ _ comes.0 c.in_ok-open_line.ensures.lines _ desk (edit_line desk c.next.new.line) (close_edit store file) at said.0 said.1 said.2 in
     (file, comes.0, comes.1, next.0, said.3, next.1)
 
 pub returns-in-Close-clause-counted : goal.returns-in-Close-clause-counted
@@ -186,17 +191,18 @@ returns-in-Close-clause-tail g c = λ s left.
     tail_of_line _ c.loop-line.run.lines c.next.new.self.lines _ c.next.new.line comes.0 _ _ so_far comes.2 c.in_ok-open_line.ensures.lines comes.1
 
 pub returns-in_err-next-clause-trail : goal.returns-in_err-next-clause-trail
-returns-in_err-next-clause-trail g c = λ pins opened files name e t0 past s t rest on before left told.
-    let so_far = c.loop-line.invariant.trail pins opened files name e t0 past s t rest on before left told in
+returns-in_err-next-clause-trail g c = λ pins opened store name e t0 past s t rest on before left told.
+    let so_far = c.loop-line.invariant.trail pins opened store name e t0 past s t rest on before left told in
     (so_far.2, so_far.5, trail_rests g.D.Disk g.met.D.Disk.only_now opened t0 _ e _ so_far.0 (length so_far.2) c.loop-line.handle _ so_far.6)
 
 pub returns-in_err-open_line-clause-trail : goal.returns-in_err-open_line-clause-trail
-returns-in_err-open_line-clause-trail g c = λ pins opened files name e t0 past s t rest on before left told.
-    let so_far = c.loop-line.invariant.trail pins opened files name e t0 past s t rest on before left told in
+returns-in_err-open_line-clause-trail g c = λ pins opened store name e t0 past s t rest on before left told.
+    let so_far = c.loop-line.invariant.trail pins opened store name e t0 past s t rest on before left told in
     let comes = c.in_ok-next.ensures.brought so_far.1 so_far.4 in
-    let answered = rw pins at (c.in_err-open_line.ensures.answered name files so_far.0 (stands_of g.D.Disk opened c.loop-line.handle so_far.0 so_far.6.rests)) in
-    trail_ends g.D.Disk g.met.D.Disk.only_now opened t0 _ e _ files name so_far.0 c.next.new.line c.loop-line.run.lines c.next.new.self.lines so_far.1 comes.0 (length so_far.2) c.loop-line.handle c.open_line.new.handle so_far.6 comes.2
-    t so_far.2 _ _ refl so_far.5 _ Next _ _ (c.in_err-open_line.ensures.moves pins opened files name so_far.0 so_far.3 so_far.6.rests) answered c.in_err-open_line.ensures.whole
+    let trail = trail_with g.D.Disk opened t0 _ e _ store name _ _ so_far.0 _ _ c.loop-line.handle c.next.ensures.taps so_far.6 in
+    let answered = rw pins at (c.in_err-open_line.ensures.answered name store so_far.0 (stands_of g.D.Disk opened c.loop-line.handle so_far.0 so_far.6.rests)) in
+    trail_ends g.D.Disk g.met.D.Disk.only_now opened t0 _ e _ store name _ so_far.0 c.next.new.line c.loop-line.run.lines c.next.new.self.lines so_far.1 comes.0 (length so_far.2) c.loop-line.handle c.open_line.new.handle trail comes.2
+    t so_far.2 _ _ refl so_far.5 _ Next _ _ (c.in_err-open_line.ensures.moves pins opened store name so_far.0 so_far.3 so_far.6.rests) answered c.in_err-open_line.ensures.whole
     (λ none. let is = (c.in_err-open_line.ensures.idle none).0 in absurd (cc))
 
 pub returns-in-Close-clause-trail : goal.returns-in-Close-clause-trail

@@ -10,30 +10,30 @@ use Rattle.snd_script.proofs.Uses.{closed_where_stopped}
 use Rattle.snd_script.proofs.opening.serve_handle.Goals as goal
 
 pub returns-in-Ok-finish-clause-served : goal.returns-in-Ok-finish-clause-served
-returns-in-Ok-finish-clause-served g c = λ name files e s stands left.
-    let so_far = c.in-Ok.ensures.served name files e s stands left in
-    let closes = finished_tells g.D.Disk.state files name false c.serve_opened.new.handle c.in-Ok-finish.disk.now (writes (mode_of c.serve_opened.new.handle)) g.D.Disk.may_leave (c.in-Ok-finish.frames, c.in-Ok-finish.disk) c.in-Ok-finish.ensures.back refl in
-    closed_then _ files _ _ (closed_desk files) _ c.serve_opened.new.run.lines (g.R.Source.left c.serve_opened.new.script) c.serve_opened.new.run.refused (g.O.Sink.told c.serve_opened.new.out) (g.O.Sink.told c.reply_closed.new.out) so_far.1 so_far.0 c.in-Ok-finish.frames
-    (DiskStands g.D.Disk.state files name c.in-Ok-finish.disk.now)
-    (c.in-Ok-finish.ensures.cause.1 ∙ frames_open g.D.Disk.state files name c.serve_opened.new.handle so_far.0 so_far.4) c.reply_closed.ensures.answered so_far.2 so_far.3 so_far.5
-    (desk_closed g.D.Disk.state files name false c.serve_opened.new.handle c.in-Ok-finish.disk.now none_lost (open_desk files so_far.0)
-    (disk_stands g.D.Disk.state files name false c.serve_opened.new.handle c.in-Ok-finish.disk.now none_lost (open_desk files so_far.0) closes so_far.4))
+returns-in-Ok-finish-clause-served g c = λ name store e s stands left.
+    let so_far = c.in-Ok.ensures.served name store e s stands left in
+    let closes = finished_tells g.D.Disk.state c.serve_opened.new.handle c.in-Ok-finish.disk.now (writes (mode_of c.serve_opened.new.handle)) g.D.Disk.may_leave (c.in-Ok-finish.frames, c.in-Ok-finish.disk) c.in-Ok-finish.ensures.back refl in
+    closed_then _ store _ _ (closed_desk store) _ c.serve_opened.new.run.lines (g.R.Source.left c.serve_opened.new.script) c.serve_opened.new.run.refused (g.O.Sink.told c.serve_opened.new.out) (g.O.Sink.told c.reply_closed.new.out) so_far.1 so_far.0 c.in-Ok-finish.frames
+    (DiskStands g.D.Disk.state store name _ c.in-Ok-finish.disk.now)
+    (c.in-Ok-finish.ensures.cause.1 ∙ frames_open g.D.Disk.state store name _ c.serve_opened.new.handle so_far.0 so_far.4) c.reply_closed.ensures.answered so_far.2 so_far.3 so_far.5
+    (desk_closed g.D.Disk.state store name _ c.in-Ok-finish.disk.now none_lost (open_desk store so_far.0)
+    (disk_stands g.D.Disk.state store name false _ c.serve_opened.new.handle c.in-Ok-finish.disk.now _ c.in-Ok-finish.ensures.taps none_lost (open_desk store so_far.0) closes so_far.4))
 
 pub returns-in-Err-finish-clause-served : goal.returns-in-Err-finish-clause-served
-returns-in-Err-finish-clause-served g c = λ name files e s stands left.
-    open_failed _ _ _ _ _ (OpenStands g.D.Disk.state files name false c.serve_opened.new.handle) (DiskStands g.D.Disk.state files name c.in-Err-finish.disk.now)
-    (disk_lost g.D.Disk.state files name false c.serve_opened.new.handle c.in-Err-finish.disk.now) {T = Unit {0}} tt files (c.in-Ok.ensures.served name files e s stands left)
+returns-in-Err-finish-clause-served g c = λ name store e s stands left.
+    open_failed _ _ _ _ _ (OpenStands g.D.Disk.state store name false _ c.serve_opened.new.handle) (DiskStands g.D.Disk.state store name _ c.in-Err-finish.disk.now)
+    (disk_lost g.D.Disk.state store name false _ c.serve_opened.new.handle c.in-Err-finish.disk.now _ c.in-Err-finish.ensures.taps) {T = Unit {0}} tt store (c.in-Ok.ensures.served name store e s stands left)
 
 pub returns-in-Ok-finish-2-clause-served : goal.returns-in-Ok-finish-2-clause-served
-returns-in-Ok-finish-2-clause-served g c = λ name files e s stands left.
-    let closes = finished_tells g.D.Disk.state files name false c.serve_opened.new.handle c.in-Ok-finish-2.disk.now (writes (mode_of c.serve_opened.new.handle)) g.D.Disk.may_leave (c.in-Ok-finish-2.field-0-0, c.in-Ok-finish-2.disk) c.in-Ok-finish-2.ensures.back refl in
-    stopped_stands c.in-Err.stop _ _ _ _ _ (OpenStands g.D.Disk.state files name false c.serve_opened.new.handle) (DiskStands g.D.Disk.state files name c.in-Ok-finish-2.disk.now)
-    (λ lost desk. disk_stands g.D.Disk.state files name false c.serve_opened.new.handle c.in-Ok-finish-2.disk.now lost desk closes) (c.in-Err.ensures.served name files e s stands left)
+returns-in-Ok-finish-2-clause-served g c = λ name store e s stands left.
+    let closes = finished_tells g.D.Disk.state c.serve_opened.new.handle c.in-Ok-finish-2.disk.now (writes (mode_of c.serve_opened.new.handle)) g.D.Disk.may_leave (c.in-Ok-finish-2.field-0-0, c.in-Ok-finish-2.disk) c.in-Ok-finish-2.ensures.back refl in
+    stopped_stands c.in-Err.stop _ _ _ _ _ (OpenStands g.D.Disk.state store name false _ c.serve_opened.new.handle) (DiskStands g.D.Disk.state store name _ c.in-Ok-finish-2.disk.now)
+    (λ lost desk. disk_stands g.D.Disk.state store name false _ c.serve_opened.new.handle c.in-Ok-finish-2.disk.now _ c.in-Ok-finish-2.ensures.taps lost desk closes) (c.in-Err.ensures.served name store e s stands left)
 
 pub returns-in-Err-finish-2-clause-served : goal.returns-in-Err-finish-2-clause-served
-returns-in-Err-finish-2-clause-served g c = λ name files e s stands left.
-    stopped_failed _ _ _ _ _ (OpenStands g.D.Disk.state files name false c.serve_opened.new.handle) (DiskStands g.D.Disk.state files name c.in-Err-finish-2.disk.now)
-    (disk_lost g.D.Disk.state files name false c.serve_opened.new.handle c.in-Err-finish-2.disk.now) c.in-Err.stop (c.in-Err.ensures.served name files e s stands left)
+returns-in-Err-finish-2-clause-served g c = λ name store e s stands left.
+    stopped_failed _ _ _ _ _ (OpenStands g.D.Disk.state store name false _ c.serve_opened.new.handle) (DiskStands g.D.Disk.state store name _ c.in-Err-finish-2.disk.now)
+    (disk_lost g.D.Disk.state store name false _ c.serve_opened.new.handle c.in-Err-finish-2.disk.now _ c.in-Err-finish-2.ensures.taps) c.in-Err.stop (c.in-Err.ensures.served name store e s stands left)
 
 pub returns-in-Ok-finish-2-clause-asked : goal.returns-in-Ok-finish-2-clause-asked
 returns-in-Ok-finish-2-clause-asked g c = λ s left.

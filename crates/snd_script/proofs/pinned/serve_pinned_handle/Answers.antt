@@ -7,17 +7,17 @@ use Rattle.snd_script.proofs.TrailRuns.{trail_closed}
 use Rattle.snd_script.proofs.pinned.serve_pinned_handle.Goals as goal
 
 pub returns-in-Ok-clause-served : goal.returns-in-Ok-clause-served
-returns-in-Ok-clause-served g c = λ name files e s stands left.
+returns-in-Ok-clause-served g c = λ name store e s stands left.
     let seals : writes (mode_of c.serve_pinned_open-stop.new.handle) ≡ true = ap writes (c.serve_pinned_open-stop.ensures.leaves.mode ∙ c.requires.updated) in
     let back = subst (λ (b : Bool). FinishesAs b g.D.Disk.state g.D.Disk.may_leave c.serve_pinned_open-stop.new.handle (Ok (c.in-Ok.field-0-0, c.in-Ok.disk))) seals c.in-Ok.ensures.back in
-    let closes = finished_tells g.D.Disk.state files name true c.serve_pinned_open-stop.new.handle c.in-Ok.disk.now true g.D.Disk.may_leave (c.in-Ok.field-0-0, c.in-Ok.disk) back refl in
-    stopped_stands c.serve_pinned_open-stop.result _ _ _ _ _ (OpenStands g.D.Disk.state files name true c.serve_pinned_open-stop.new.handle) (DiskStands g.D.Disk.state files name c.in-Ok.disk.now)
-    (λ lost desk. disk_stands g.D.Disk.state files name true c.serve_pinned_open-stop.new.handle c.in-Ok.disk.now lost desk closes) (c.serve_pinned_open-stop.ensures.served name files e s stands left)
+    let closes = finished_tells g.D.Disk.state c.serve_pinned_open-stop.new.handle c.in-Ok.disk.now true g.D.Disk.may_leave (c.in-Ok.field-0-0, c.in-Ok.disk) back refl in
+    stopped_stands c.serve_pinned_open-stop.result _ _ _ _ _ (OpenStands g.D.Disk.state store name true _ c.serve_pinned_open-stop.new.handle) (DiskStands g.D.Disk.state store name _ c.in-Ok.disk.now)
+    (λ lost desk. disk_stands g.D.Disk.state store name true _ c.serve_pinned_open-stop.new.handle c.in-Ok.disk.now _ c.in-Ok.ensures.taps lost desk closes) (c.serve_pinned_open-stop.ensures.served name store e s stands left)
 
 pub returns-in-Err-clause-served : goal.returns-in-Err-clause-served
-returns-in-Err-clause-served g c = λ name files e s stands left.
-    stopped_failed _ _ _ _ _ (OpenStands g.D.Disk.state files name true c.serve_pinned_open-stop.new.handle) (DiskStands g.D.Disk.state files name c.in-Err.disk.now)
-    (disk_lost g.D.Disk.state files name true c.serve_pinned_open-stop.new.handle c.in-Err.disk.now) c.serve_pinned_open-stop.result (c.serve_pinned_open-stop.ensures.served name files e s stands left)
+returns-in-Err-clause-served g c = λ name store e s stands left.
+    stopped_failed _ _ _ _ _ (OpenStands g.D.Disk.state store name true _ c.serve_pinned_open-stop.new.handle) (DiskStands g.D.Disk.state store name _ c.in-Err.disk.now)
+    (disk_lost g.D.Disk.state store name true _ c.serve_pinned_open-stop.new.handle c.in-Err.disk.now _ c.in-Err.ensures.taps) c.serve_pinned_open-stop.result (c.serve_pinned_open-stop.ensures.served name store e s stands left)
 
 pub returns-in-Ok-clause-asked : goal.returns-in-Ok-clause-asked
 returns-in-Ok-clause-asked g c = λ s left.
@@ -40,8 +40,8 @@ returns-in-Err-clause-written g c = λ s left.
     record { later = omega (arith, uses.later, c.in-Err.ensures.written.later); most = omega (arith, uses.most, c.in-Err.ensures.written.most) }
 
 pub returns-in-Ok-clause-trail : goal.returns-in-Ok-clause-trail
-returns-in-Ok-clause-trail g c = λ opened files name e s t rest left told.
-    let run = c.serve_pinned_open-stop.ensures.trail opened files name e s t rest left told in (
+returns-in-Ok-clause-trail g c = λ opened store name e s t rest left told.
+    let run = c.serve_pinned_open-stop.ensures.trail opened store name e s t rest left told in (
       run.0,
       run.1,
       trail_closed g.D.Disk g.met.D.Disk.only_now opened (g.D.Disk.state (handle_disk c.args.handle)).clock c.serve_pinned_open-stop.new.handle c.in-Ok.disk.now _ run.2
@@ -49,8 +49,8 @@ returns-in-Ok-clause-trail g c = λ opened files name e s t rest left told.
     )
 
 pub returns-in-Err-clause-trail : goal.returns-in-Err-clause-trail
-returns-in-Err-clause-trail g c = λ opened files name e s t rest left told.
-    let run = c.serve_pinned_open-stop.ensures.trail opened files name e s t rest left told in (
+returns-in-Err-clause-trail g c = λ opened store name e s t rest left told.
+    let run = c.serve_pinned_open-stop.ensures.trail opened store name e s t rest left told in (
       run.0,
       run.1,
       trail_closed g.D.Disk g.met.D.Disk.only_now opened (g.D.Disk.state (handle_disk c.args.handle)).clock c.serve_pinned_open-stop.new.handle c.in-Err.disk.now _ run.2

@@ -1,27 +1,39 @@
-use Rattle.std.proofs.Common.{◌∙◌, arith}
+use Rattle.std.proofs.Common.{◌∙◌, arith, refl}
 use Rattle.snd_script.specs.Desk.{closed_desk}
 use Rattle.snd_script.specs.Script.{asked_by, written_by}
 use Rattle.snd_script.specs.Serving.{Moment, ShelfStands, is_longer, moment, steps_left}
-use Rattle.snd_script.proofs.Chains.{serves_then, stopped_as, stopped_then}
+use Rattle.snd_script.proofs.Chains.{serves_none, serves_then, stopped_as, stopped_then}
 use Rattle.snd_script.proofs.ShelfCounts.{all_same_then, counted_behind}
-use Rattle.snd_script.proofs.ShelfLeft.{has_files, leaves_shelf_then}
-use Rattle.snd_script.proofs.Tails.{keeps_on, tail_on}
-use Rattle.snd_script.proofs.Uses.{used_in_all, uses_on, without_close}
+use Rattle.snd_script.proofs.ShelfLeft.{has_store, leaves_shelf_same, leaves_shelf_then}
+use Rattle.snd_script.proofs.Tails.{keeps_on, keeps_same, tail_none, tail_on}
+use Rattle.snd_script.proofs.Uses.{used_in_all, uses_on, uses_so_far_none, without_close}
 use Rattle.snd_script.proofs.serving.serve_lines.Goals as goal
+
+pub loop-stop-init : goal.loop-stop-init
+loop-stop-init g c = record {
+  served = λ store s has left. (store, s, has, left, serves_none _ _ _ _ refl refl, refl);
+  given = omega arith;
+  counted = record { shelf = refl; script = refl; out = refl };
+  shelf = leaves_shelf_same g.S.Shelf.state g.S.Shelf.may_leave g.S.Shelf.left_between c.args.shelf.now;
+  tail = λ s left. tail_none _ s _ left;
+  images = λ s left f n told there none. keeps_same g.S.Shelf.state g.S.Shelf.may_leave g.S.Shelf.left_between n c.args.shelf.now;
+  asked = λ s left. uses_so_far_none asked_by _ s _ _ left;
+  written = λ s left. uses_so_far_none written_by _ s _ _ left;
+}
 
 pub loop-stop-preserved : goal.loop-stop-preserved
 loop-stop-preserved g c = record {
-  served = λ files s has left.
-      let so_far = c.loop-stop.invariant.served files s has left in
+  served = λ store s has left.
+      let so_far = c.loop-stop.invariant.served store s has left in
       let m0 : Moment = moment c.args.run.now.lines (g.R.Source.left c.args.script.now) c.args.run.now.refused (g.O.Sink.told c.args.out.now) in
       let m : Moment = moment c.loop-stop.run.lines (g.R.Source.left c.loop-stop.script) c.loop-stop.run.refused (g.O.Sink.told c.loop-stop.out) in
       let m' : Moment = moment c.serve_line.new.run.lines (g.R.Source.left c.serve_line.new.script) c.serve_line.new.run.refused (g.O.Sink.told c.serve_line.new.out) in
       let on = c.in-Ok.ensures.served so_far.0 so_far.1 so_far.2 so_far.3 in (
         on.0,
         on.1,
-        has_files g.S.Shelf.state c.serve_line.new.shelf on.0 on.4,
+        has_store g.S.Shelf.state c.serve_line.new.shelf on.0 _ on.4,
         on.2,
-        serves_then (steps_left (closed_desk files) m0 s) (steps_left (closed_desk so_far.0) m so_far.1) (steps_left (closed_desk on.0) m' on.1) (closed_desk files) (closed_desk so_far.0) (closed_desk on.0) m0 m m' so_far.4 on.3,
+        serves_then (steps_left (closed_desk store) m0 s) (steps_left (closed_desk so_far.0) m so_far.1) (steps_left (closed_desk on.0) m' on.1) (closed_desk store) (closed_desk so_far.0) (closed_desk on.0) m0 m m' so_far.4 on.3,
         ◌∙◌ {a = is_longer m' on.1} {b = is_longer m so_far.1} {c = is_longer m0 s} on.5 so_far.5,
       );
   given = omega (arith, c.loop-stop.invariant.given, c.serve_line.ensures.given);
@@ -43,13 +55,13 @@ loop-stop-preserved g c = record {
 }
 
 pub returns-in-Err-clause-served : goal.returns-in-Err-clause-served
-returns-in-Err-clause-served g c = λ files s has left.
-    let so_far = c.loop-stop.invariant.served files s has left in
+returns-in-Err-clause-served g c = λ store s has left.
+    let so_far = c.loop-stop.invariant.served store s has left in
     let m0 : Moment = moment c.args.run.now.lines (g.R.Source.left c.args.script.now) c.args.run.now.refused (g.O.Sink.told c.args.out.now) in
     let m : Moment = moment c.loop-stop.run.lines (g.R.Source.left c.loop-stop.script) c.loop-stop.run.refused (g.O.Sink.told c.loop-stop.out) in
     let m' : Moment = moment c.serve_line.new.run.lines (g.R.Source.left c.serve_line.new.script) c.serve_line.new.run.refused (g.O.Sink.told c.serve_line.new.out) in
-    stopped_as c.in-Err.stop (is_longer m so_far.1) (is_longer m0 s) (steps_left (closed_desk files) m0 s) (closed_desk files) m0 m' (ShelfStands g.S.Shelf.state c.serve_line.new.shelf) so_far.5
-    (stopped_then c.in-Err.stop (is_longer m so_far.1) (steps_left (closed_desk files) m0 s) (steps_left (closed_desk so_far.0) m so_far.1) (closed_desk files) (closed_desk so_far.0) m0 m m' (ShelfStands g.S.Shelf.state c.serve_line.new.shelf) so_far.4
+    stopped_as c.in-Err.stop (is_longer m so_far.1) (is_longer m0 s) (steps_left (closed_desk store) m0 s) (closed_desk store) m0 m' (ShelfStands g.S.Shelf.state c.serve_line.new.shelf _) so_far.5
+    (stopped_then c.in-Err.stop (is_longer m so_far.1) (steps_left (closed_desk store) m0 s) (steps_left (closed_desk so_far.0) m so_far.1) (closed_desk store) (closed_desk so_far.0) m0 m m' (ShelfStands g.S.Shelf.state c.serve_line.new.shelf _) so_far.4
     (c.in-Err.ensures.served so_far.0 so_far.1 so_far.2 so_far.3))
 
 pub returns-in-Err-clause-counted : goal.returns-in-Err-clause-counted

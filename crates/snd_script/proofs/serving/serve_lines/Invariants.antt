@@ -1,23 +1,23 @@
 use Rattle.std.proofs.Common.{◌≡◌, ◌+◌, ◌≤◌, List, ℕ, Some}
-use Rattle.snd_disk.specs.Shelf.{Files}
-use Rattle.snd_script.specs.Desk.{closed_desk}
+use Rattle.snd_script.specs.Desk.{Store, closed_desk}
 use Rattle.snd_script.specs.Kept.{KeepsByLines, lines_to_serve}
 use Rattle.snd_script.specs.Lines.{to_take}
 use Rattle.snd_script.specs.Script.{asked_by, written_by}
-use Rattle.snd_script.specs.Served.{HasFiles, LeavesShelf, SameCounts, faults_of}
+use Rattle.snd_script.specs.Served.{HasStore, LeavesShelf, SameCounts, faults_of}
 use Rattle.snd_script.specs.Serving.{Serves, is_longer, moment_of, steps_left}
+use Rattle.snd_script.specs.Tapped.{taps_of}
 use Rattle.snd_script.proofs.Uses.{UsesSoFar}
 use Rattle.snd_script.proofs.Tails.{TailSoFar}
 use Rattle.snd_script.proofs.serving.serve_lines.Given as goal
 
 abbrev pub invariant-loop-stop : goal.invariant-loop-stop
 invariant-loop-stop g l = record {
-  served : (files : Files) (s : List ℕ) → HasFiles g.S.Shelf.state l.fn.shelf files → g.R.Source.left l.fn.script ≡ Some s →
-      (files' : Files) × (s' : List ℕ) × HasFiles g.S.Shelf.state l.shelf files' × (g.R.Source.left l.script ≡ Some s')
-      × Serves (steps_left (closed_desk files) (moment_of g.R.Source.left g.O.Sink.told l.fn.run l.fn.script l.fn.out) s)
-      (steps_left (closed_desk files') (moment_of g.R.Source.left g.O.Sink.told l.run l.script l.out) s')
-      (closed_desk files)
-      (closed_desk files')
+  served : (store : Store) (s : List ℕ) → HasStore g.S.Shelf.state l.fn.shelf (taps_of (λ b. (goal.Tap-dyn g b).meter b.1) l.fn.run) store → g.R.Source.left l.fn.script ≡ Some s →
+      (store' : Store) × (s' : List ℕ) × HasStore g.S.Shelf.state l.shelf (taps_of (λ b. (goal.Tap-dyn g b).meter b.1) l.run) store' × (g.R.Source.left l.script ≡ Some s')
+      × Serves (steps_left (closed_desk store) (moment_of g.R.Source.left g.O.Sink.told l.fn.run l.fn.script l.fn.out) s)
+      (steps_left (closed_desk store') (moment_of g.R.Source.left g.O.Sink.told l.run l.script l.out) s')
+      (closed_desk store)
+      (closed_desk store')
       (moment_of g.R.Source.left g.O.Sink.told l.fn.run l.fn.script l.fn.out)
       (moment_of g.R.Source.left g.O.Sink.told l.run l.script l.out)
       × (is_longer (moment_of g.R.Source.left g.O.Sink.told l.run l.script l.out) s'

@@ -2,7 +2,8 @@ use Rattle.snd_script.proofs.session.Session.step.Goals as goal
 
 pub returns : goal.returns
 returns g c =
-    let steps = rw c.as_line.ensures at c.carry_out.ensures in
+    let steps = rw c.as_line.ensures at c.carry_out.ensures.steps in
+    let taps = rw c.as_line.ensures at c.carry_out.ensures.taps in
     record {
       stands = steps.stands;
       said = steps.said;
@@ -10,6 +11,7 @@ returns g c =
       cause = steps.cause;
       memory = steps.memory;
       knows = steps.knows;
+      taps = taps;
       leaves = steps.leaves;
       reads = steps.reads;
       safe = steps.safe;
