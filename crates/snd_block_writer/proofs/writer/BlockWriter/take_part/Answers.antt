@@ -1,0 +1,56 @@
+use Rattle.std.proofs.Common.{rules, ◌≡◌, ◌+◌, ◌++◌, ℕ, ℤ, List, [], refl, sym, subst, ◌∙◌}
+use Rattle.snd_disk.specs.State.{IsWritten}
+use Rattle.snd_block_writer.specs.Writing.{Writing, more_bytes, next_place}
+use Rattle.snd_block_writer.proofs.Given.{block_fits, block_given, block_made, is_full, none_new, same_writing}
+use Rattle.snd_block_writer.proofs.Putting.{none_put, none_written, puts_as, written_as}
+use Rattle.snd_block_writer.proofs.writer.BlockWriter.take_part.Goals as goal
+
+pub returns-then-len-numbers-clause-done : goal.returns-then-len-numbers-clause-done
+returns-then-len-numbers-clause-done g c =
+    let w = c.args.self.now in
+    let none : more_bytes w c.args.part.now ≡ [] = none_new w c.args.part.now (search rules) in
+    let s = g.D.Disk.state c.args.disk.now in
+    subst (λ (l : List ℕ). IsWritten (next_place c.args.start w) l s s) (sym none)
+    (none_written s (next_place c.args.start w) c.requires.there (g.met.D.Disk.size_told c.args.disk.now))
+
+pub returns-then-len-numbers-clause-puts : goal.returns-then-len-numbers-clause-puts
+returns-then-len-numbers-clause-puts g c = none_put g.D.Disk g.met.D.Disk.only_now c.args.disk.now _ _
+
+pub put_block-requires-clause-fits : goal.put_block-requires-clause-fits
+put_block-requires-clause-fits g c =
+    let v : Writing = record { params = c.self.inside.params; blocks = c.self.inside.blocks; indices = c.self.inside.ima; waiting = c.self.inside.waiting.items } in
+    let items : c.try_extend_from_slice.new.self.items ≡ v.waiting ++ c.args.part.now = search rules in
+    let full = is_full v c.args.self.now c.args.part.now c.self.view_is c.try_extend_from_slice.new.self.items c.block_numbers-numbers.result c.len.result items c.requires.room c.block_numbers-numbers.ensures.value c.len.ensures.value c.if-len-numbers.false in
+    block_fits v c.args.self.now c.args.part.now c.self.view_is c.args.start c.next_place-at.result _ c.self.invariant.form full c.next_place-at.ensures c.requires.fits
+
+pub returns-in_err-put_block-clause-puts : goal.returns-in_err-put_block-clause-puts
+returns-in_err-put_block-clause-puts g c =
+    let v : Writing = record { params = c.self.inside.params; blocks = c.self.inside.blocks; indices = c.self.inside.ima; waiting = c.self.inside.waiting.items } in
+    let items : c.try_extend_from_slice.new.self.items ≡ v.waiting ++ c.args.part.now = search rules in
+    let full = is_full v c.args.self.now c.args.part.now c.self.view_is c.try_extend_from_slice.new.self.items c.block_numbers-numbers.result c.len.result items c.requires.room c.block_numbers-numbers.ensures.value c.len.ensures.value c.if-len-numbers.false in
+    let made = block_made v c.args.self.now c.args.part.now c.try_extend_from_slice.new.self.items c.self.view_is c.self.invariant.form full items in
+    puts_as g.D.Disk c.args.disk.now c.put_block.new.disk _ _ _ _ c.next_place-at.ensures made c.put_block.ensures.puts
+
+pub returns-clause-takes : goal.returns-clause-takes
+returns-clause-takes g c =
+    let v : Writing = record { params = c.self.inside.params; blocks = c.self.inside.blocks; indices = c.self.inside.ima; waiting = c.self.inside.waiting.items } in
+    let items : c.try_extend_from_slice.new.self.items ≡ v.waiting ++ c.args.part.now = search rules in
+    let full = is_full v c.args.self.now c.args.part.now c.self.view_is c.try_extend_from_slice.new.self.items c.block_numbers-numbers.result c.len.result items c.requires.room c.block_numbers-numbers.ensures.value c.len.ensures.value c.if-len-numbers.false in
+    same_writing v.params _ _ _ _ _ _ refl c.in_ok-put_block.ensures.indices c.in_ok-put_block.ensures.empty
+    ∙ block_given v c.args.self.now c.args.part.now c.try_extend_from_slice.new.self.items c.self.view_is c.self.invariant.form full items
+
+pub returns-clause-done : goal.returns-clause-done
+returns-clause-done g c =
+    let v : Writing = record { params = c.self.inside.params; blocks = c.self.inside.blocks; indices = c.self.inside.ima; waiting = c.self.inside.waiting.items } in
+    let items : c.try_extend_from_slice.new.self.items ≡ v.waiting ++ c.args.part.now = search rules in
+    let full = is_full v c.args.self.now c.args.part.now c.self.view_is c.try_extend_from_slice.new.self.items c.block_numbers-numbers.result c.len.result items c.requires.room c.block_numbers-numbers.ensures.value c.len.ensures.value c.if-len-numbers.false in
+    let made = block_made v c.args.self.now c.args.part.now c.try_extend_from_slice.new.self.items c.self.view_is c.self.invariant.form full items in
+    written_as (g.D.Disk.state c.args.disk.now) (g.D.Disk.state c.put_block.new.disk) _ _ _ _ c.next_place-at.ensures made c.in_ok-put_block.ensures.done
+
+pub returns-clause-puts : goal.returns-clause-puts
+returns-clause-puts g c =
+    let v : Writing = record { params = c.self.inside.params; blocks = c.self.inside.blocks; indices = c.self.inside.ima; waiting = c.self.inside.waiting.items } in
+    let items : c.try_extend_from_slice.new.self.items ≡ v.waiting ++ c.args.part.now = search rules in
+    let full = is_full v c.args.self.now c.args.part.now c.self.view_is c.try_extend_from_slice.new.self.items c.block_numbers-numbers.result c.len.result items c.requires.room c.block_numbers-numbers.ensures.value c.len.ensures.value c.if-len-numbers.false in
+    let made = block_made v c.args.self.now c.args.part.now c.try_extend_from_slice.new.self.items c.self.view_is c.self.invariant.form full items in
+    puts_as g.D.Disk c.args.disk.now c.put_block.new.disk _ _ _ _ c.next_place-at.ensures made c.put_block.ensures.puts

@@ -1,0 +1,33 @@
+-- How the calls of a writer leave it and the disk. `start` is the place where the data begin.
+use Rattle.std.specs.Prelude.{ℕ, ℤ, ◌+◌, ◌*◌, ◌/◌, List, ◌++◌}
+use Rattle.snd_adpcm.specs.Blocks.{filled}
+use Rattle.snd_disk.specs.Bytes.{over}
+use Rattle.snd_disk.specs.Device.{Tells, WritesAtMost}
+use Rattle.snd_disk.specs.State.{State}
+use Rattle.snd_layout.specs.Blocks.{block_align, block_frames}
+use Rattle.snd_layout.specs.Params.{Parameters}
+use Rattle.snd_block_writer.specs.Coded.{block_numbers, coded, whole}
+use Rattle.snd_block_writer.specs.Writing.{StandsFor, Writing}
+
+-- the writer was given more numbers
+abbrev pub TakesMore : List ℤ → Writing → Writing → Type 0
+TakesMore xs old new = (p : Parameters) (ys : List ℤ) → StandsFor old p ys → StandsFor new p (ys ++ xs)
+
+-- where the disk held the whole blocks of the numbers so far, it holds those of all numbers now
+abbrev pub HoldsMore : {D : Type 0} → (D → State) → ℕ → List ℤ → Writing → D → D → Type 0
+HoldsMore state start xs w old new = (p : Parameters) (ys : List ℤ) (b : List ℕ) → StandsFor w p ys
+    → Tells state old (over b start (coded p (whole p ys))) → Tells state new (over b start (coded p (whole p (ys ++ xs))))
+
+-- the writer was given zeros, up to whole blocks
+abbrev pub FillsUp : Writing → Writing → Type 0
+FillsUp old new = (p : Parameters) (ys : List ℤ) → StandsFor old p ys → StandsFor new p (filled (block_numbers p) ys)
+
+-- .. it holds all blocks now, of which zeros fill the last
+abbrev pub HoldsAll : {D : Type 0} → (D → State) → ℕ → Writing → D → D → Type 0
+HoldsAll state start w old new = (p : Parameters) (ys : List ℤ) (b : List ℕ) → StandsFor w p ys
+    → Tells state old (over b start (coded p (whole p ys))) → Tells state new (over b start (coded p ys))
+
+-- for so many numbers no more is written than the bytes of the blocks that their frames fill, and of one more
+abbrev pub WritesForFrames : {D : Type 0} → (D → State) → ℕ → Writing → D → D → Type 0
+WritesForFrames state numbers w old new =
+    WritesAtMost state ((numbers / w.params.channels / block_frames w.params.codec + 1) * block_align w.params.channels w.params.codec) old new

@@ -1,0 +1,5 @@
+pub mod Calls
+pub mod Coded
+pub mod Puts
+pub mod Tmp
+pub mod Writing

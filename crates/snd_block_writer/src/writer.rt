@@ -1,0 +1,174 @@
+//! A writer of blocks.
+
+ghost use Rattle.std.specs.Prelude.{◌≡◌, ◌+◌, ◌*◌, ◌/◌, ◌<◌, ◌≤◌, ◌^◌, All, OnOk, [], length};
+ghost use Rattle.snd_adpcm.specs.Frames.{Is16Bit};
+ghost use Rattle.snd_disk.specs.Device.{CountsOn, WritesAtMost};
+ghost use Rattle.snd_disk.specs.State.{IsWritten};
+ghost use Rattle.snd_layout.specs.Blocks.{block_align};
+ghost use Rattle.snd_block_writer.specs.Tmp.{AreBlocks};
+ghost use Rattle.snd_block_writer.specs.Calls.{FillsUp, HoldsAll, HoldsMore, TakesMore, WritesForFrames};
+ghost use Rattle.snd_block_writer.specs.Coded.{block_numbers};
+ghost use Rattle.snd_block_writer.specs.Puts.{Puts};
+ghost use Rattle.snd_block_writer.specs.Writing.{KeepsRule, StandsFor, given_more, last_bytes, more_bytes, next_place, place_after};
+
+use crate::block::{fill_up, put_block};
+use arrayvec::ArrayVec;
+use snd_adpcm::ImaWriter;
+use snd_disk::{Disk, Step};
+use snd_layout::Params;
+use std::marker::Model;
+
+/// A writer of the frames of an ADPCM file, front to back.
+#[derive(Drop)]
+pub struct BlockWriter {
+    params: Params,
+    // how many blocks are written
+    blocks: u64,
+    // carries IMA's indices from block to block; Microsoft's codec leaves it as it is
+    ima: ImaWriter,
+    // the numbers of the block that is not whole yet
+    waiting: ArrayVec<i32, 16384>,
+    // where the bytes of a block are made
+    bytes: ArrayVec<u8, 8192>,
+}
+
+impl Model for BlockWriter {
+    ghost use Rattle.snd_block_writer.specs.Writing.{KeepsRule, Writing};
+
+    ghost Value = { Writing };
+
+    ghost view = { λ w. record { params = w.params; blocks = w.blocks; indices = w.ima; waiting = w.waiting.items } };
+
+    ghost invariant = { λ w. KeepsRule (record { params = w.params; blocks = w.blocks; indices = w.ima; waiting = w.waiting.items }) };
+}
+
+impl BlockWriter {
+    /// A writer that has been given nothing.
+    pub fn new(params: Params) -> BlockWriter
+        requires { AreBlocks params }
+        ensures { StandsFor result params [] }
+    {
+        BlockWriter {
+            params,
+            blocks: 0,
+            ima: ImaWriter::new(),
+            waiting: ArrayVec::new(),
+            bytes: ArrayVec::new(),
+        }
+    }
+
+    /// What holds of every writer.
+    pub fn keeps_rule(&self)
+        ensures { KeepsRule self.now }
+    {
+        let _ = &self.params;
+    }
+
+    // The numbers of a block.
+    fn block_numbers(&self) -> usize
+        ensures value { result ≡ block_numbers self.now.params }
+        ensures most { result ≤ 16384 }
+    {
+        usize::from(self.params.channels) * usize::from(self.params.block_frames())
+    }
+
+    // The place of the next block, in a file whose data begin at a place.
+    fn next_place(&self, start: u64) -> u64
+        requires { next_place start self.now < 2 ^ 63 }
+        ensures { result ≡ next_place start self.now }
+    {
+        start + self.blocks * u64::from(self.params.block_align())
+    }
+
+    // How many numbers the block that is not whole yet still takes.
+    fn room(&self) -> usize
+        ensures room { result + length self.now.waiting ≡ block_numbers self.now.params }
+        ensures some { 1 ≤ result }
+    {
+        self.block_numbers() - self.waiting.len()
+    }
+
+    // Takes numbers that all go into the block that is not whole yet, and writes it where it is whole then.
+    fn take_part<D: Disk>(&mut self, disk: &mut D, start: u64, part: &[i32]) -> Result<(), Step>
+        requires room { length self.old.waiting + length part.now ≤ block_numbers self.old.params }
+        requires range { All Is16Bit part.now }
+        requires there { next_place start self.old ≤ (D.state disk.old).size }
+        requires fits { place_after start self.old (length part.now) < 2 ^ 63 }
+        ensures takes { OnOk result (self.new ≡ given_more self.old part.now) }
+        ensures params { self.new.params ≡ self.old.params }
+        ensures done { OnOk result (IsWritten (next_place start self.old) (more_bytes self.old part.now) (D.state disk.old) (D.state disk.new)) }
+        ensures puts { Puts D.Disk (next_place start self.old) (more_bytes self.old part.now) disk.old disk.new }
+        ensures faults { CountsOn D.state disk.old disk.new result }
+    {
+        let numbers = self.block_numbers();
+        let at = self.next_place(start);
+        self.waiting.try_extend_from_slice(part).unwrap();
+        if self.waiting.len() < numbers {
+            return Ok(());
+        }
+        put_block(
+            disk,
+            at,
+            self.params,
+            &mut self.ima,
+            &mut self.waiting,
+            &mut self.bytes,
+        )?;
+        self.blocks += 1;
+        Ok(())
+    }
+
+    /// Takes numbers of 16 bits, frame by frame, and writes each block that becomes whole.
+    pub fn write<D: Disk>(&mut self, disk: &mut D, start: u64, from: &[i32]) -> Result<(), Step>
+        requires range { All Is16Bit from.now }
+        requires there { next_place start self.old ≤ (D.state disk.old).size }
+        requires fits { place_after start self.old (length from.now) < 2 ^ 63 }
+        ensures takes { OnOk result (TakesMore from.now self.old self.new) }
+        ensures holds { OnOk result (HoldsMore D.state start from.now self.old disk.old disk.new) }
+        ensures params { self.new.params ≡ self.old.params }
+        ensures done { OnOk result (IsWritten (next_place start self.old) (more_bytes self.old from.now) (D.state disk.old) (D.state disk.new)) }
+        ensures puts { Puts D.Disk (next_place start self.old) (more_bytes self.old from.now) disk.old disk.new }
+        ensures written { WritesForFrames D.state (length from.now) self.old disk.old disk.new }
+        ensures faults { CountsOn D.state disk.old disk.new result }
+    {
+        self.keeps_rule();
+        let mut done = 0;
+        while done < from.len() {
+            let next = done + self.room().min(from.len() - done);
+            self.take_part(disk, start, &from[done..next])?;
+            done = next;
+        }
+        Ok(())
+    }
+
+    /// Writes the numbers that wait, where there are any, as one more block, which zeros fill.
+    pub fn finish<D: Disk>(&mut self, disk: &mut D, start: u64) -> Result<(), Step>
+        requires there { next_place start self.old ≤ (D.state disk.old).size }
+        requires fits { next_place start self.old + block_align self.old.params.channels self.old.params.codec < 2 ^ 63 }
+        ensures fills { OnOk result (FillsUp self.old self.new) }
+        ensures holds { OnOk result (HoldsAll D.state start self.old disk.old disk.new) }
+        ensures params { self.new.params ≡ self.old.params }
+        ensures done { OnOk result (IsWritten (next_place start self.old) (last_bytes self.old) (D.state disk.old) (D.state disk.new)) }
+        ensures puts { Puts D.Disk (next_place start self.old) (last_bytes self.old) disk.old disk.new }
+        ensures written { WritesAtMost D.state (block_align self.old.params.channels self.old.params.codec) disk.old disk.new }
+        ensures faults { CountsOn D.state disk.old disk.new result }
+    {
+        self.keeps_rule();
+        if self.waiting.is_empty() {
+            return Ok(());
+        }
+        let numbers = self.block_numbers();
+        let at = self.next_place(start);
+        fill_up(&mut self.waiting, numbers);
+        put_block(
+            disk,
+            at,
+            self.params,
+            &mut self.ima,
+            &mut self.waiting,
+            &mut self.bytes,
+        )?;
+        self.blocks += 1;
+        Ok(())
+    }
+}
