@@ -8,7 +8,7 @@ use Rattle.snd_disk.specs.Bytes.{over}
 use Rattle.snd_disk.specs.State.{IsWritten, State}
 use Rattle.snd_layout.specs.Blocks.{block_align}
 use Rattle.snd_layout.specs.Params.{Parameters}
-use Rattle.snd_block_writer.specs.Tmp.{AreBlocks}
+use Rattle.snd_blocks.specs.Calls.{AreBlocks}
 use Rattle.snd_block_writer.specs.Coded.{block_numbers, coded, whole}
 use Rattle.snd_block_writer.specs.Writing.{KeepsRule, StandsFor, Writing, given_more, last_bytes, more_bytes, next_place, padding}
 use Rattle.snd_block_writer.proofs.Given.{length-new, one_new}

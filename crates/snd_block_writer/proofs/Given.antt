@@ -6,7 +6,7 @@ use Rattle.snd_adpcm.specs.Blocks.{Rule, bytes_of_blocks}
 use Rattle.snd_adpcm.specs.Ima.{Indices}
 use Rattle.snd_layout.specs.Blocks.{block_align}
 use Rattle.snd_layout.specs.Params.{Parameters}
-use Rattle.snd_block_writer.specs.Tmp.{AreBlocks}
+use Rattle.snd_blocks.specs.Calls.{AreBlocks}
 use Rattle.snd_block_writer.specs.Coded.{block_numbers}
 use Rattle.snd_block_writer.specs.Writing.{Writing, carried, given_more, more_bytes, new_blocks, next_place, place_after, rule_of}
 use Rattle.snd_block_writer.proofs.Rules.{bytes-front, bytes-more, carried-front, carried-more, length-blocks}

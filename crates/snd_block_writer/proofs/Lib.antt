@@ -1,9 +1,9 @@
 pub mod Filling
 pub mod Given
 pub mod Partly
+pub mod Goods
 pub mod Parts
 pub mod Putting
 pub mod Rules
 pub mod Sizes
 pub mod Standing
-pub mod Tmp

@@ -13,7 +13,7 @@ use Rattle.snd_layout.specs.declared.codec.Codec.{Codec}
 use Rattle.snd_layout.specs.declared.codec.Codec.TheVariants.{Ima, Ms}
 use Rattle.snd_layout.specs.Blocks.{block_align, block_frames}
 use Rattle.snd_layout.specs.Params.{Parameters}
-use Rattle.snd_block_writer.specs.Tmp.{AreBlocks, HasForm}
+use Rattle.snd_blocks.specs.Calls.{AreBlocks, HasForm}
 use Rattle.snd_block_writer.specs.Coded.{block_numbers}
 use Rattle.snd_block_writer.specs.Writing.{block_bytes}
 
@@ -85,7 +85,7 @@ length-bytes_high [] = refl
 length-bytes_high (x ∷ []) = refl
 length-bytes_high (x ∷ y ∷ xs) = omega (arith, length-bytes_high xs)
 
-length-alternating : {X : Type 0} (xs ys : List X) → length xs ≡ length ys → length (alternating xs ys) ≡ 2 * length xs
+pub length-alternating : {X : Type 0} (xs ys : List X) → length xs ≡ length ys → length (alternating xs ys) ≡ 2 * length xs
 length-alternating [] ys e = refl
 length-alternating (x ∷ xs) [] e = absurd (omega arith)
 length-alternating (x ∷ xs) (y ∷ ys) e = omega (arith, length-alternating xs ys (omega arith))

@@ -12,7 +12,7 @@ use Rattle.snd_layout.specs.declared.codec.Codec.{Codec}
 use Rattle.snd_layout.specs.declared.codec.Codec.TheVariants.{Ima, Ms}
 use Rattle.snd_layout.specs.Blocks.{block_align, block_frames}
 use Rattle.snd_layout.specs.Params.{Parameters}
-use Rattle.snd_block_writer.specs.Tmp.{AreBlocks, HasForm}
+use Rattle.snd_blocks.specs.Calls.{AreBlocks, HasForm}
 use Rattle.snd_block_writer.specs.Coded.{block_numbers, blocks_coded, coded, rest, whole, whole_blocks}
 use Rattle.snd_block_writer.specs.Writing.{StandsFor, Writing, block_bytes, carried, given, given_more, last_bytes, more_bytes, new_blocks, next_indices, next_place, padding, rule_of}
 use Rattle.snd_block_writer.proofs.Given.{bytes_in_two, given_in_two, length-new, place_behind, same_writing, some_numbers, writing}

@@ -1,5 +1,4 @@
 pub mod Calls
 pub mod Coded
 pub mod Puts
-pub mod Tmp
 pub mod Writing

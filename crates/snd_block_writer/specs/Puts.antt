@@ -3,7 +3,8 @@ use Rattle.std.specs.Prelude.{◌≡◌, ◌⊎◌, ℕ, ◌+◌, ◌≤◌, Lis
 use Rattle.snd_disk.specs.Device.{GoesOnFrom, Tells, WritesAtMost}
 use Rattle.snd_disk.specs.Runs.{HasAt, IsBeside}
 use Rattle.snd_disk.specs.declared.disk.Disk.{Ghosts}
-use Rattle.snd_block_writer.specs.Tmp.{LeavesEach, StillTells}
+use Rattle.snd_patch.specs.Images.{LeavesEach}
+use Rattle.snd_patch.specs.Steps.{StillTells}
 
 -- x is b while bytes are put over it and behind it, which make it c: each byte is that of b or that of c
 pub record IsPartly (b c x : List ℕ) : Type 0 where

@@ -5,7 +5,7 @@ ghost use Rattle.snd_adpcm.specs.Frames.{Is16Bit};
 ghost use Rattle.snd_disk.specs.Device.{CountsOn};
 ghost use Rattle.snd_disk.specs.State.{IsWritten};
 ghost use Rattle.snd_layout.specs.Blocks.{block_align};
-ghost use Rattle.snd_block_writer.specs.Tmp.{AreBlocks};
+ghost use Rattle.snd_blocks.specs.Calls.{AreBlocks};
 ghost use Rattle.snd_block_writer.specs.Coded.{block_numbers};
 ghost use Rattle.snd_block_writer.specs.Puts.{Puts};
 ghost use Rattle.snd_block_writer.specs.Writing.{rule_of};

@@ -2,7 +2,7 @@ use Rattle.std.proofs.Common.{rules, ◌≡◌, ◌+◌, ◌-◌, ◌≤◌, ℕ
 use Rattle.std.proofs.lemmas.List.{take_all}
 use Rattle.snd_disk.specs.State.{IsWritten}
 use Rattle.snd_layout.specs.Params.{Parameters}
-use Rattle.snd_block_writer.specs.Tmp.{AreBlocks}
+use Rattle.snd_blocks.specs.Calls.{AreBlocks}
 use Rattle.snd_block_writer.specs.Puts.{Puts}
 use Rattle.snd_block_writer.specs.Writing.{Writing, given_more, more_bytes, next_place}
 use Rattle.snd_block_writer.proofs.Parts.{bytes_none, fits_there, given_next, given_none, is_there, puts_all, puts_next, writes_few, written_next}
