@@ -1,7 +1,10 @@
+pub mod Decoded
 pub mod Filling
 pub mod Given
+pub mod Parameters
 pub mod Partly
 pub mod Goods
+pub mod Kept
 pub mod Parts
 pub mod Putting
 pub mod Rules

@@ -17,7 +17,8 @@ use Rattle.snd_block_writer.specs.Coded.{block_numbers, blocks_coded, coded, res
 use Rattle.snd_block_writer.specs.Writing.{StandsFor, Writing, block_bytes, carried, given, given_more, last_bytes, more_bytes, new_blocks, next_indices, next_place, padding, rule_of}
 use Rattle.snd_block_writer.proofs.Given.{bytes_in_two, given_in_two, length-new, place_behind, same_writing, some_numbers, writing}
 use Rattle.snd_block_writer.proofs.Putting.{over_over}
-use Rattle.snd_block_writer.proofs.Rules.{bytes-front}
+use Rattle.snd_block_writer.proofs.Rules.{bytes-front, length-blocks}
+use Rattle.snd_block_writer.proofs.Sizes.{size_of_block}
 
 -- ---- the blocks of a list
 
@@ -63,6 +64,14 @@ whole_filled n xs some =
           ap (λ (m : ℕ). m % n) (let e : length (filled n xs) ≡ length xs = omega (arith, size, pad) in e) ∙ (let e : length xs % n ≡ 0 = omega (arith, none) in e)
     ]
 
+-- the zeros are fewer than a block's numbers
+pub filled_few : (n : ℕ) (xs : List ℤ) → 0 < n → (length xs ≤ length (filled n xs)) × (length (filled n xs) < length xs + n)
+filled_few n xs some =
+    let zeros = (n - length xs % n) % n in
+    let size : length (filled n xs) ≡ length xs + zeros = length-append xs (replicate zeros (pos 0)) ∙ ap (λ (m : ℕ). length xs + m) (length-replicate zeros (pos 0)) in
+    let few : zeros < n = mod-lt (n - length xs % n) some in
+    (omega (arith, size), omega (arith, size, few))
+
 -- ---- what a writer stands for
 
 abbrev fresh : Parameters → Writing
@@ -80,6 +89,23 @@ module _ (p : Parameters) (blocks : AreBlocks p) where
 
   some : 0 < block_numbers p
   some = some_numbers p blocks
+
+  -- all blocks are whole blocks of the filled list
+  pub coded_blocks : (xs : List ℤ) → coded p xs ≡ bytes_of_blocks (rule_of p) n (length (filled n xs) / n) (0, 0) (filled n xs)
+  coded_blocks xs = coded_by p.channels p.codec xs blocks.form
+
+  pub length-coded : (xs : List ℤ) → length (coded p xs) ≡ length (filled n xs) / n * block_align p.channels p.codec
+  length-coded xs =
+      ap length (coded_blocks xs)
+      ∙ length-blocks (rule_of p) n (block_align p.channels p.codec) (λ indices block whole. size_of_block p indices block blocks whole) (length (filled n xs) / n) (0, 0) (filled n xs) (div-mul-le_self (length (filled n xs)) n)
+
+  -- .. of which whole blocks have so many
+  pub length-whole : (xs : List ℤ) → (length (whole p xs) ≡ whole_blocks p xs * n) × (length (coded p (whole p xs)) ≡ whole_blocks p xs * block_align p.channels p.codec)
+  length-whole xs =
+      let count = whole_blocks p xs in
+      let size : length (whole p xs) ≡ count * n = length-take-le (count * n) xs (div-mul-le_self (length xs) n) in
+      let same : length (filled n (whole p xs)) / n ≡ count = ap (λ (l : List ℤ). length l / n) (none_filled n count (whole p xs) some size) ∙ ap (λ (m : ℕ). m / n) size ∙ mul-div_left count some in
+      (size, length-coded (whole p xs) ∙ ap (λ (m : ℕ). m * block_align p.channels p.codec) same)
 
   bytes_of_whole : (count : ℕ) (xs : List ℤ) → length xs ≡ count * n → coded p xs ≡ bytes_of_blocks (rule_of p) n (length xs / n) (0, 0) xs
   bytes_of_whole count xs size =

@@ -1,10 +1,11 @@
--- The data bytes of ADPCM numbers, which stand frame by frame.
+-- The data bytes of ADPCM numbers, which stand frame by frame, and the frames that are read from these.
 use Rattle.std.specs.Prelude.{ℕ, ℤ, ◌*◌, ◌/◌, List, [], length, take, drop}
 use Rattle.snd_adpcm.specs.Laws.{ima_data, ms_data}
 use Rattle.snd_layout.specs.declared.codec.Codec.{Codec}
 use Rattle.snd_layout.specs.declared.codec.Codec.TheVariants.{Ima, Ms}
 use Rattle.snd_layout.specs.Blocks.{block_frames}
 use Rattle.snd_layout.specs.Params.{Parameters}
+use Rattle.snd_blocks.specs.Frames.{blocks_decoded}
 
 -- the blocks of all numbers, behind which zeros fill the last block
 unfoldable pub blocks_coded : ℕ → Codec → List ℤ → List ℕ
@@ -28,3 +29,7 @@ whole p xs = take (whole_blocks p xs * block_numbers p) xs
 
 abbrev pub rest : Parameters → List ℤ → List ℤ
 rest p xs = drop (whole_blocks p xs * block_numbers p) xs
+
+-- the frames that are read from the blocks of numbers, as many as these have
+abbrev pub kept : Parameters → List ℤ → List (List ℤ)
+kept p xs = take (length xs / p.channels) (blocks_decoded p (coded p xs))

@@ -1,4 +1,5 @@
 pub mod Calls
 pub mod Coded
+pub mod Laws
 pub mod Puts
 pub mod Writing

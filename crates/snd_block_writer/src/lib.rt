@@ -2,6 +2,10 @@
 #![tactic(auto)]
 
 mod block;
+pub mod laws;
 mod writer;
 
-pub use writer::BlockWriter;
+pub use writer::{BlockWriter, are_blocks};
+
+#[cfg(test)]
+mod tests;

@@ -1,10 +1,10 @@
 //! A writer of blocks.
 
-ghost use Rattle.std.specs.Prelude.{◌≡◌, ◌+◌, ◌*◌, ◌/◌, ◌<◌, ◌≤◌, ◌^◌, All, OnOk, [], length};
+ghost use Rattle.std.specs.Prelude.{◌≡◌, ◌+◌, ◌*◌, ◌/◌, ◌<◌, ◌≤◌, ◌^◌, All, OnOk, [], length, true};
 ghost use Rattle.snd_adpcm.specs.Frames.{Is16Bit};
 ghost use Rattle.snd_disk.specs.Device.{CountsOn, WritesAtMost};
 ghost use Rattle.snd_disk.specs.State.{IsWritten};
-ghost use Rattle.snd_layout.specs.Blocks.{block_align};
+ghost use Rattle.snd_layout.specs.Blocks.{block_align, is_adpcm};
 ghost use Rattle.snd_blocks.specs.Calls.{AreBlocks};
 ghost use Rattle.snd_block_writer.specs.Calls.{FillsUp, HoldsAll, HoldsMore, TakesMore, WritesForFrames};
 ghost use Rattle.snd_block_writer.specs.Coded.{block_numbers};
@@ -17,6 +17,16 @@ use snd_adpcm::ImaWriter;
 use snd_disk::{Disk, Step};
 use snd_layout::Params;
 use std::marker::Model;
+
+/// What holds of the blocks of good parameters of one or two channels.
+#[tactic(auto, using(crate::proofs::Parameters::are_blocks))]
+pub fn are_blocks(params: &Params)
+    requires few { params.now.channels ≤ 2 }
+    requires blocks { is_adpcm params.now.codec ≡ true }
+    ensures { AreBlocks params.now }
+{
+    params.are_good();
+}
 
 /// A writer of the frames of an ADPCM file, front to back.
 #[derive(Drop)]
@@ -64,6 +74,21 @@ impl BlockWriter {
         let _ = &self.params;
     }
 
+    /// How many whole blocks are written.
+    pub fn blocks(&self) -> u64
+        ensures { result ≡ self.now.blocks }
+    {
+        self.blocks
+    }
+
+    /// How many numbers wait for their block to become whole.
+    pub fn waiting(&self) -> usize
+        ensures value { result ≡ length self.now.waiting }
+        ensures few { result < block_numbers self.now.params }
+    {
+        self.waiting.len()
+    }
+
     // The numbers of a block.
     fn block_numbers(&self) -> usize
         ensures value { result ≡ block_numbers self.now.params }
@@ -73,7 +98,7 @@ impl BlockWriter {
     }
 
     // The place of the next block, in a file whose data begin at a place.
-    fn next_place(&self, start: u64) -> u64
+    pub(crate) fn next_place(&self, start: u64) -> u64
         requires { next_place start self.now < 2 ^ 63 }
         ensures { result ≡ next_place start self.now }
     {

@@ -1,0 +1,21 @@
+//! The laws of blocks that are written, proved of every list of numbers. The functions do nothing: their
+//! contracts are the laws.
+
+ghost use Rattle.snd_block_writer.specs.Laws.{AllAreKept, KeptIsRead, KeptStays, NoneIsBad, WholeIsFront};
+
+/// A block that is written is never bad, and the blocks hold all frames that were given; a file that has
+/// them for its data reads as these frames.
+#[tactic(auto, using(crate::proofs::Kept::none_is_bad, crate::proofs::Kept::all_are_kept, crate::proofs::Kept::kept_is_read))]
+pub fn blocks_are_good()
+    ensures good { NoneIsBad }
+    ensures all { AllAreKept }
+    ensures read { KeptIsRead }
+{}
+
+/// When more is written, the whole blocks stay the front of the data, and so do the frames that are read
+/// from them.
+#[tactic(auto, using(crate::proofs::Kept::whole_is_front, crate::proofs::Kept::kept_stays))]
+pub fn whole_blocks_stay()
+    ensures data_front { WholeIsFront }
+    ensures frames_front { KeptStays }
+{}
