@@ -178,7 +178,7 @@ fn gives(
         return None;
     };
     let (head, behind) = disk.bytes().split_at_checked(5)?;
-    Some(head == b"head." && behind == data)
+    Some(head == b"head.".as_slice() && behind == data)
 }
 
 /// A number of a sound.
@@ -238,14 +238,14 @@ fn ms_blocks_are_those_of_ffmpeg(rt: HostRuntime) {
     assert!(rt; gives(alloc, 2, codec, &[], 2, &[]) == Some(true));
 }
 
-// The second write fails, before it changes a byte.
+// The second write is the fourth call, since the length is asked before each. It fails before it changes a byte.
 #[test]
 fn failing_write_is_told(rt: HostRuntime) {
     let alloc = rt.alloc();
     let mut failing = Vec::new(alloc);
     failing
         .push(FailingCall {
-            number: 5,
+            number: 4,
             sectors: 0,
         })
         .expect(&rt, "memory");
