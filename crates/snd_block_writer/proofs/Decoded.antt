@@ -1,5 +1,5 @@
 -- The frames of blocks that are written.
-use Rattle.std.proofs.Common.{◌≡◌, ◌⊎◌, ◌∙◌, refl, sym, ap, subst, inl, inr, ℕ, ℤ, zero, suc, ◌+◌, ◌-◌, ◌*◌, ◌/◌, ◌%◌, ◌<◌, ◌≤◌, false, ◌||◌, List, [], ◌∷◌, ◌++◌, length, take, drop, arith}
+use Rattle.std.proofs.Common.{◌≡◌, ◌⊎◌, ◌∙◌, refl, sym, ap, inl, inr, ℕ, ℤ, zero, suc, ◌+◌, ◌*◌, ◌/◌, ◌<◌, ◌≤◌, false, List, [], ◌∷◌, ◌++◌, length, take, drop, arith}
 use Rattle.std.specs.List.{flat_map}
 use Rattle.std.proofs.Math.Nat.{add-mul-div_right, mul-div_left, zero-div}
 use Rattle.std.proofs.lemmas.Bool.{cases_Bool}
@@ -7,8 +7,7 @@ use Rattle.std.proofs.lemmas.Grind.{flat_map-append}
 use Rattle.std.proofs.lemmas.List.{append-nil, drop-append-le, length-append, length-drop, length-replicate, length-take-le, take-append-le, take_all}
 use Rattle.std.proofs.lemmas.List.Folds.{list_any-append}
 use Rattle.snd_adpcm.specs.Blocks.{bytes_of_blocks}
-use Rattle.snd_adpcm.specs.Ima.{Indices, ima_bytes}
-use Rattle.snd_adpcm.specs.Microsoft.{ms_bytes}
+use Rattle.snd_adpcm.specs.Ima.{Indices}
 use Rattle.snd_layout.specs.declared.codec.Codec.{Codec}
 use Rattle.snd_layout.specs.declared.codec.Codec.TheVariants.{Ima, Ms}
 use Rattle.snd_layout.specs.Blocks.{block_align, block_frames}
@@ -17,8 +16,8 @@ use Rattle.snd_pcm.specs.Groups.{first_groups, groups}
 use Rattle.snd_pcm.proofs.Series.{length-first_groups}
 use Rattle.snd_blocks.specs.Calls.{AreBlocks, HasForm}
 use Rattle.snd_blocks.specs.Frames.{block_samples, blocks_decoded, frames_of, has_bad, is_bad_block, is_bad_frame}
-use Rattle.snd_block_writer.specs.Coded.{block_numbers, coded}
-use Rattle.snd_block_writer.specs.Writing.{block_bytes, carried, next_indices, rule_of}
+use Rattle.snd_block_writer.specs.Coded.{block_numbers}
+use Rattle.snd_block_writer.specs.Writing.{block_bytes, next_indices, rule_of}
 use Rattle.snd_block_writer.proofs.Goods.{AreIndices, good_ima, good_ms, indices_kept, samples_ima, samples_ms}
 use Rattle.snd_block_writer.proofs.Sizes.{size_of_block}
 

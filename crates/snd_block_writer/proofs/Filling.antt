@@ -1,5 +1,5 @@
 -- Zeros that fill the last block.
-use Rattle.std.proofs.Common.{◌≡◌, ◌∙◌, refl, sym, ap, subst, inl, inr, ℕ, ℤ, pos, Some, ◌+◌, ◌-◌, ◌*◌, ◌%◌, ◌<◌, ◌≤◌, List, [], ◌++◌, length, replicate, arith}
+use Rattle.std.proofs.Common.{◌≡◌, ◌∙◌, sym, ap, subst, inl, inr, ℕ, ℤ, pos, Some, ◌+◌, ◌-◌, ◌*◌, ◌%◌, ◌<◌, ◌≤◌, List, [], ◌++◌, length, replicate, arith}
 use Rattle.std.proofs.Math.Nat.{mod-eq_of_lt, mod_self, zero-mod}
 use Rattle.std.proofs.lemmas.Bool.{cases_lt}
 use Rattle.std.proofs.lemmas.List.{length-replicate}
@@ -10,7 +10,7 @@ use Rattle.snd_layout.specs.Blocks.{block_align}
 use Rattle.snd_layout.specs.Params.{Parameters}
 use Rattle.snd_blocks.specs.Calls.{AreBlocks}
 use Rattle.snd_block_writer.specs.Coded.{block_numbers, coded, whole}
-use Rattle.snd_block_writer.specs.Writing.{KeepsRule, StandsFor, Writing, given_more, last_bytes, more_bytes, next_place, padding}
+use Rattle.snd_block_writer.specs.Writing.{KeepsRule, StandsFor, Writing, given_more, more_bytes, next_place, padding}
 use Rattle.snd_block_writer.proofs.Given.{length-new, one_new}
 use Rattle.snd_block_writer.proofs.Parts.{bytes_none, given_none}
 use Rattle.snd_block_writer.proofs.Standing.{coded_padded, holds_more, padded, stands_more}
@@ -37,20 +37,20 @@ module _ (w : Writing) (rule : KeepsRule w) where
       omega (arith, size, rule.few)
 
   -- nothing waits
-  pub last_none : length w.waiting ≡ 0 → last_bytes w ≡ []
+  pub last_none : length w.waiting ≡ 0 → more_bytes w (padding w) ≡ []
   last_none none = ap (more_bytes w) (padding_none none) ∙ bytes_none w rule
 
   pub given_last_none : length w.waiting ≡ 0 → w ≡ given_more w (padding w)
   given_last_none none = given_none w rule ∙ ap (given_more w) (sym (padding_none none))
 
-  pub last_size : length (last_bytes w) ≤ block_align w.params.channels w.params.codec
+  pub last_size : length (more_bytes w (padding w)) ≤ block_align w.params.channels w.params.codec
   last_size = elim (cases_lt 0 (length w.waiting)) [
     | inl some ↦
         let one = one_new w (length (padding w)) rule.form (is_filled (omega (arith, some))) in
         let align = block_align w.params.channels w.params.codec in
         omega (arith, length-new w (padding w) rule.form, ap (λ (m : ℕ). m * align) one)
     | inr none ↦
-        let nothing : length (last_bytes w) ≡ 0 = ap length (last_none (omega (arith, none))) in
+        let nothing : length (more_bytes w (padding w)) ≡ 0 = ap length (last_none (omega (arith, none))) in
         omega (arith, nothing)
   ]
 
@@ -61,7 +61,7 @@ module _ (w : Writing) (rule : KeepsRule w) where
     pub stands_filled : StandsFor (given_more w (padding w)) p (filled (block_numbers p) ys)
     stands_filled = subst (StandsFor (given_more w (padding w)) p) (padded p form w ys stands) (stands_more p form w (padding w) ys stands)
 
-    pub holds_all : (a b : State) (start : ℕ) (l : List ℕ) → IsWritten (next_place start w) (last_bytes w) a b
+    pub holds_all : (a b : State) (start : ℕ) (l : List ℕ) → IsWritten (next_place start w) (more_bytes w (padding w)) a b
         → a.contents ≡ Some (over l start (coded p (whole p ys))) → b.contents ≡ Some (over l start (coded p ys))
     holds_all a b start l done told =
         holds_more p form a b start w (padding w) ys l stands done told

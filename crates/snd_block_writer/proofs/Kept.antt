@@ -1,5 +1,5 @@
 -- The laws of blocks that are written.
-use Rattle.std.proofs.Common.{◌≡◌, ◌⊎◌, ◌∙◌, refl, sym, ap, inl, inr, ℕ, ℤ, ◌+◌, ◌-◌, ◌*◌, ◌/◌, ◌%◌, ◌<◌, ◌≤◌, List, ◌++◌, length, take, drop, append_assoc, arith}
+use Rattle.std.proofs.Common.{◌≡◌, ◌⊎◌, ◌∙◌, refl, sym, ap, inl, inr, ℕ, ℤ, ◌+◌, ◌-◌, ◌*◌, ◌/◌, ◌<◌, ◌≤◌, List, ◌++◌, length, take, drop, append_assoc, arith}
 use Rattle.std.proofs.Math.Nat.{div-add-mod, div-eq_of_lt-le, div-le_of_le-mul, div-mul-le_self, mul-div_left}
 use Rattle.std.proofs.lemmas.Nat.{le-div}
 use Rattle.std.proofs.lemmas.List.{length-append, length-take-le, places, same_lists, take-take, take_all, take_at}
@@ -7,7 +7,6 @@ use Rattle.snd_adpcm.specs.Blocks.{filled}
 use Rattle.snd_disk.specs.Bytes.{over}
 use Rattle.snd_layout.specs.Blocks.{block_align, block_frames}
 use Rattle.snd_layout.specs.Params.{Parameters, data_bytes}
-use Rattle.snd_layout.specs.Shape.{Shape}
 use Rattle.snd_blocks.specs.Calls.{AreBlocks}
 use Rattle.snd_blocks.specs.Frames.{blocks_decoded, frames_in_blocks, has_bad}
 use Rattle.snd_block_writer.specs.Coded.{block_numbers, coded, kept, whole, whole_blocks}

@@ -1,5 +1,5 @@
 -- What a crash leaves while bytes are put on a disk, call by call.
-use Rattle.std.proofs.Common.{◌≡◌, ◌∙◌, ap, sym, subst, inl, inr, ⊎_elim, ℕ, ◌+◌, ◌-◌, ◌*◌, ◌<◌, ◌≤◌, List, [], ◌∷◌, ◌++◌, length, get_or, Some, arith}
+use Rattle.std.proofs.Common.{◌≡◌, ◌∙◌, sym, subst, inl, inr, ⊎_elim, ℕ, ◌+◌, ◌-◌, ◌<◌, ◌≤◌, List, [], ◌∷◌, ◌++◌, length, get_or, Some, arith}
 use Rattle.std.proofs.lemmas.Bool.{cases_lt}
 use Rattle.std.proofs.lemmas.List.{length-append, places}
 use Rattle.snd_disk.proofs.Lists.{length-over}
@@ -7,12 +7,10 @@ use Rattle.snd_disk.proofs.Sources.{byte_from}
 use Rattle.snd_disk.specs.Bytes.{over}
 use Rattle.snd_disk.specs.Device.{Tells}
 use Rattle.snd_disk.specs.Runs.{ComesFrom, HasAt, IsMade, IsSource, Since}
-use Rattle.snd_disk.specs.State.{State}
 use Rattle.snd_disk.specs.declared.disk.Disk.{Ghosts}
 use Rattle.snd_patch.proofs.Moments.{leaves_by, leaves_made, leaves_then, leaves_weaker}
 use Rattle.snd_patch.proofs.Bytes.{over_beside}
 use Rattle.snd_patch.proofs.Running.{still}
-use Rattle.snd_patch.specs.Images.{LeavesEach}
 use Rattle.snd_block_writer.specs.Puts.{IsPartly, LeavesPartly}
 
 -- bytes are there where they were put

@@ -1,10 +1,9 @@
 -- Bytes put on a disk by one call, and by one after another.
-use Rattle.std.proofs.Common.{◌≡◌, ◌∙◌, ap, sym, subst, refl, inl, inr, ⊎_elim, ℕ, ◌+◌, ◌≤◌, List, [], ◌∷◌, ◌++◌, length, Option, None, Some, option_map, arith}
+use Rattle.std.proofs.Common.{◌≡◌, ◌∙◌, ap, sym, subst, refl, inl, inr, ⊎_elim, ℕ, ◌+◌, ◌≤◌, List, [], ◌++◌, length, Option, None, Some, option_map, arith}
 use Rattle.std.specs.Prelude.{is_some}
-use Rattle.std.proofs.lemmas.List.{append-nil, length-append, places, same_lists}
+use Rattle.std.proofs.lemmas.List.{length-append, places, same_lists}
 use Rattle.snd_disk.specs.Bytes.{over}
 use Rattle.snd_disk.specs.Device.{GoesOnFrom, WritesAtMost}
-use Rattle.snd_disk.specs.Runs.{Since}
 use Rattle.snd_disk.specs.State.{IsBetween, IsMeant, IsWritten, State}
 use Rattle.snd_disk.specs.declared.disk.Disk.{Ghosts}
 use Rattle.snd_disk.proofs.Chains.{goes_on_then}

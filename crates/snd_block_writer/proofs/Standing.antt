@@ -1,5 +1,5 @@
 -- A writer stands for the numbers that it was given, and its blocks are those of the whole list.
-use Rattle.std.proofs.Common.{◌≡◌, ◌∙◌, refl, sym, ap, inl, inr, ℕ, ℤ, pos, zero, suc, ◌+◌, ◌-◌, ◌*◌, ◌/◌, ◌%◌, ◌<◌, ◌≤◌, Some, option_map, List, [], ◌∷◌, ◌++◌, length, take, drop, replicate, arith}
+use Rattle.std.proofs.Common.{◌≡◌, ◌∙◌, refl, sym, ap, inl, inr, ℕ, ℤ, pos, zero, suc, ◌+◌, ◌-◌, ◌*◌, ◌/◌, ◌%◌, ◌<◌, ◌≤◌, Some, option_map, List, [], ◌++◌, length, take, drop, replicate, arith}
 use Rattle.std.proofs.Math.Nat.{div-add-mod, div-mul-le_self, mod-eq-sub-div-mul, mod-eq_of_lt, mod-lt, mod_self, mul-div_left, mul-mod_left}
 use Rattle.std.proofs.lemmas.List.{append-nil, length-append, length-drop, length-replicate, length-take-le, take-append-drop, take_all}
 use Rattle.std.proofs.lemmas.Bool.{cases_lt}
@@ -14,8 +14,8 @@ use Rattle.snd_layout.specs.Blocks.{block_align, block_frames}
 use Rattle.snd_layout.specs.Params.{Parameters}
 use Rattle.snd_blocks.specs.Calls.{AreBlocks, HasForm}
 use Rattle.snd_block_writer.specs.Coded.{block_numbers, blocks_coded, coded, rest, whole, whole_blocks}
-use Rattle.snd_block_writer.specs.Writing.{StandsFor, Writing, block_bytes, carried, given, given_more, last_bytes, more_bytes, new_blocks, next_indices, next_place, padding, rule_of}
-use Rattle.snd_block_writer.proofs.Given.{bytes_in_two, given_in_two, length-new, place_behind, same_writing, some_numbers, writing}
+use Rattle.snd_block_writer.specs.Writing.{StandsFor, Writing, block_bytes, carried, given, given_more, more_bytes, new_blocks, next_indices, next_place, padding, rule_of}
+use Rattle.snd_block_writer.proofs.Given.{bytes_in_two, given_in_two, place_behind, same_writing, some_numbers, writing}
 use Rattle.snd_block_writer.proofs.Putting.{over_over}
 use Rattle.snd_block_writer.proofs.Rules.{bytes-front, length-blocks}
 use Rattle.snd_block_writer.proofs.Sizes.{size_of_block}

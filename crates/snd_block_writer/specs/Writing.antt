@@ -76,18 +76,22 @@ given_more w xs =
 abbrev pub more_bytes : Writing → List ℤ → List ℕ
 more_bytes w xs = bytes_of_blocks (rule_of w.params) (block_numbers w.params) (new_blocks w (length xs)) w.indices (w.waiting ++ xs)
 
--- .. and the bytes of the last block, which zeros fill, where numbers wait
+-- the zeros that fill the last block, where numbers wait
 abbrev pub padding : Writing → List ℤ
 padding w = replicate ((block_numbers w.params - length w.waiting % block_numbers w.params) % block_numbers w.params) (pos 0)
 
-abbrev pub last_bytes : Writing → List ℕ
-last_bytes w = more_bytes w (padding w)
-
 -- ---- places, in a file whose data begin at a place
 
--- that of the next block, and the one behind the blocks that so many numbers more make whole
-abbrev pub next_place : ℕ → Writing → ℕ
-next_place start w = start + w.blocks * block_align w.params.channels w.params.codec
+abbrev pub block_size : Writing → ℕ
+block_size w = block_align w.params.channels w.params.codec
 
+-- that of the next block, and the one behind it
+abbrev pub next_place : ℕ → Writing → ℕ
+next_place start w = start + w.blocks * block_size w
+
+abbrev pub block_end : ℕ → Writing → ℕ
+block_end start w = next_place start w + block_size w
+
+-- the one behind the blocks that so many numbers more make whole
 abbrev pub place_after : ℕ → Writing → ℕ → ℕ
-place_after start w count = start + (w.blocks + new_blocks w count) * block_align w.params.channels w.params.codec
+place_after start w count = start + (w.blocks + new_blocks w count) * block_size w

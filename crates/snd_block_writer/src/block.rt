@@ -19,7 +19,7 @@ use snd_layout::{Codec, Params};
 // Microsoft's codec leaves them.
 #[tactic(auto, unfolding(crate::specs::Writing::block_bytes, crate::specs::Writing::next_indices))]
 fn encode(params: Params, ima: &mut ImaWriter, numbers: &[i32], into: &mut ArrayVec<u8, 8192>)
-    requires blocks { AreBlocks params }
+    requires form { AreBlocks params }
     requires whole { length numbers.now ≡ block_numbers params }
     requires range { All Is16Bit numbers.now }
     ensures bytes { into.new.items ≡ (rule_of params).bytes ima.old numbers.now }
@@ -66,7 +66,7 @@ pub(crate) fn put_block<D: Disk>(
     waiting: &mut ArrayVec<i32, 16384>,
     bytes: &mut ArrayVec<u8, 8192>,
 ) -> Result<(), Step>
-    requires blocks { AreBlocks params }
+    requires form { AreBlocks params }
     requires whole { length waiting.old.items ≡ block_numbers params }
     requires range { All Is16Bit waiting.old.items }
     requires fits { at + block_align params.channels params.codec < 2 ^ 63 }

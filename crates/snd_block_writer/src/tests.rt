@@ -1,9 +1,8 @@
 //! Whole sounds, written in odd pieces, against the blocks that other programs write of them.
 
-ghost use Rattle.std.specs.Prelude.{◌+◌, ◌<◌, ◌≤◌, ◌^◌, All, IsTrue, length};
+ghost use Rattle.std.specs.Prelude.{◌<◌, ◌≤◌, ◌^◌, All, IsTrue, length};
 ghost use Rattle.snd_adpcm.specs.Frames.{Is16Bit};
-ghost use Rattle.snd_layout.specs.Blocks.{block_align};
-ghost use Rattle.snd_block_writer.specs.Writing.{next_place, place_after};
+ghost use Rattle.snd_block_writer.specs.Writing.{block_end, next_place, place_after};
 
 use super::*;
 use snd_disk::{Disk, FailingCall, MemoryDisk, SteadyDisk, Step};
@@ -121,7 +120,7 @@ fn writer_of(channels: u16, codec: Codec) -> Option<BlockWriter> {
 fn may_write<D: Disk>(disk: &mut D, writer: &BlockWriter, count: usize) -> bool
     ensures there { IsTrue result → next_place 5 writer.now ≤ (D.state disk.new).size }
     ensures fits { IsTrue result → place_after 5 writer.now count < 2 ^ 63 }
-    ensures one_fits { IsTrue result → next_place 5 writer.now + block_align writer.now.params.channels writer.now.params.codec < 2 ^ 63 }
+    ensures one_fits { IsTrue result → block_end 5 writer.now < 2 ^ 63 }
 {
     writer.keeps_rule();
     if writer.blocks() > 1000 || count > 10000 {

@@ -1,15 +1,13 @@
 //! A writer of blocks.
 
-ghost use Rattle.std.specs.Prelude.{◌≡◌, ◌+◌, ◌*◌, ◌/◌, ◌<◌, ◌≤◌, ◌^◌, All, OnOk, [], length, true};
+ghost use Rattle.std.specs.Prelude.{◌≡◌, ◌+◌, ◌<◌, ◌≤◌, ◌^◌, All, OnOk, [], length, true};
 ghost use Rattle.snd_adpcm.specs.Frames.{Is16Bit};
 ghost use Rattle.snd_disk.specs.Device.{CountsOn, WritesAtMost};
-ghost use Rattle.snd_disk.specs.State.{IsWritten};
-ghost use Rattle.snd_layout.specs.Blocks.{block_align, is_adpcm};
+ghost use Rattle.snd_layout.specs.Blocks.{is_adpcm};
 ghost use Rattle.snd_blocks.specs.Calls.{AreBlocks};
-ghost use Rattle.snd_block_writer.specs.Calls.{FillsUp, HoldsAll, HoldsMore, TakesMore, WritesForFrames};
+ghost use Rattle.snd_block_writer.specs.Calls.{FillsUp, HoldsAll, HoldsMore, PutsBlocks, TakesMore, WritesBlocks, WritesForFrames};
 ghost use Rattle.snd_block_writer.specs.Coded.{block_numbers};
-ghost use Rattle.snd_block_writer.specs.Puts.{Puts};
-ghost use Rattle.snd_block_writer.specs.Writing.{KeepsRule, StandsFor, given_more, last_bytes, more_bytes, next_place, place_after};
+ghost use Rattle.snd_block_writer.specs.Writing.{KeepsRule, StandsFor, block_end, block_size, given_more, next_place, padding, place_after};
 
 use crate::block::{fill_up, put_block};
 use arrayvec::ArrayVec;
@@ -28,7 +26,11 @@ pub fn are_blocks(params: &Params)
     params.are_good();
 }
 
-/// A writer of the frames of an ADPCM file, front to back.
+/// A writer of the frames of an ADPCM file, from front to back. Blocks reach the disk whole: the numbers of
+/// the last one wait until it is, or until `finish` fills it with zeros.
+///
+/// A contract sees it as a `Writing`, and speaks of all numbers that it was given by `StandsFor`. Once a
+/// call of the disk has failed it stands for none.
 #[derive(Drop)]
 pub struct BlockWriter {
     params: Params,
@@ -53,7 +55,7 @@ impl Model for BlockWriter {
 }
 
 impl BlockWriter {
-    /// A writer that has been given nothing.
+    /// A writer that was given nothing.
     pub fn new(params: Params) -> BlockWriter
         requires { AreBlocks params }
         ensures { StandsFor result params [] }
@@ -74,7 +76,7 @@ impl BlockWriter {
         let _ = &self.params;
     }
 
-    /// How many whole blocks are written.
+    /// How many blocks are written.
     pub fn blocks(&self) -> u64
         ensures { result ≡ self.now.blocks }
     {
@@ -97,20 +99,20 @@ impl BlockWriter {
         usize::from(self.params.channels) * usize::from(self.params.block_frames())
     }
 
-    // The place of the next block, in a file whose data begin at a place.
-    pub(crate) fn next_place(&self, start: u64) -> u64
-        requires { next_place start self.now < 2 ^ 63 }
-        ensures { result ≡ next_place start self.now }
-    {
-        start + self.blocks * u64::from(self.params.block_align())
-    }
-
     // How many numbers the block that is not whole yet still takes.
     fn room(&self) -> usize
         ensures room { result + length self.now.waiting ≡ block_numbers self.now.params }
         ensures some { 1 ≤ result }
     {
         self.block_numbers() - self.waiting.len()
+    }
+
+    // The place of the next block, in a file whose data begin at a place.
+    pub(crate) fn next_place(&self, start: u64) -> u64
+        requires { next_place start self.now < 2 ^ 63 }
+        ensures { result ≡ next_place start self.now }
+    {
+        start + self.blocks * u64::from(self.params.block_align())
     }
 
     // Takes numbers that all go into the block that is not whole yet, and writes it where it is whole then.
@@ -121,8 +123,8 @@ impl BlockWriter {
         requires fits { place_after start self.old (length part.now) < 2 ^ 63 }
         ensures takes { OnOk result (self.new ≡ given_more self.old part.now) }
         ensures params { self.new.params ≡ self.old.params }
-        ensures done { OnOk result (IsWritten (next_place start self.old) (more_bytes self.old part.now) (D.state disk.old) (D.state disk.new)) }
-        ensures puts { Puts D.Disk (next_place start self.old) (more_bytes self.old part.now) disk.old disk.new }
+        ensures done { OnOk result (WritesBlocks D.state start part.now self.old disk.old disk.new) }
+        ensures puts { PutsBlocks D.Disk start part.now self.old disk.old disk.new }
         ensures faults { CountsOn D.state disk.old disk.new result }
     {
         let numbers = self.block_numbers();
@@ -143,7 +145,8 @@ impl BlockWriter {
         Ok(())
     }
 
-    /// Takes numbers of 16 bits, frame by frame, and writes each block that becomes whole.
+    /// Takes numbers of 16 bits, frame by frame, and writes each block that becomes whole, in a file whose
+    /// data begin at a place. Where a call of the disk fails, what stands beside these blocks is as it was.
     pub fn write<D: Disk>(&mut self, disk: &mut D, start: u64, from: &[i32]) -> Result<(), Step>
         requires range { All Is16Bit from.now }
         requires there { next_place start self.old ≤ (D.state disk.old).size }
@@ -151,8 +154,8 @@ impl BlockWriter {
         ensures takes { OnOk result (TakesMore from.now self.old self.new) }
         ensures holds { OnOk result (HoldsMore D.state start from.now self.old disk.old disk.new) }
         ensures params { self.new.params ≡ self.old.params }
-        ensures done { OnOk result (IsWritten (next_place start self.old) (more_bytes self.old from.now) (D.state disk.old) (D.state disk.new)) }
-        ensures puts { Puts D.Disk (next_place start self.old) (more_bytes self.old from.now) disk.old disk.new }
+        ensures done { OnOk result (WritesBlocks D.state start from.now self.old disk.old disk.new) }
+        ensures puts { PutsBlocks D.Disk start from.now self.old disk.old disk.new }
         ensures written { WritesForFrames D.state (length from.now) self.old disk.old disk.new }
         ensures faults { CountsOn D.state disk.old disk.new result }
     {
@@ -166,16 +169,17 @@ impl BlockWriter {
         Ok(())
     }
 
-    /// Writes the numbers that wait, where there are any, as one more block, which zeros fill.
+    /// Writes the numbers that wait as one more block, which zeros fill; where none wait the disk is not
+    /// called.
     pub fn finish<D: Disk>(&mut self, disk: &mut D, start: u64) -> Result<(), Step>
         requires there { next_place start self.old ≤ (D.state disk.old).size }
-        requires fits { next_place start self.old + block_align self.old.params.channels self.old.params.codec < 2 ^ 63 }
+        requires fits { block_end start self.old < 2 ^ 63 }
         ensures fills { OnOk result (FillsUp self.old self.new) }
         ensures holds { OnOk result (HoldsAll D.state start self.old disk.old disk.new) }
         ensures params { self.new.params ≡ self.old.params }
-        ensures done { OnOk result (IsWritten (next_place start self.old) (last_bytes self.old) (D.state disk.old) (D.state disk.new)) }
-        ensures puts { Puts D.Disk (next_place start self.old) (last_bytes self.old) disk.old disk.new }
-        ensures written { WritesAtMost D.state (block_align self.old.params.channels self.old.params.codec) disk.old disk.new }
+        ensures done { OnOk result (WritesBlocks D.state start (padding self.old) self.old disk.old disk.new) }
+        ensures puts { PutsBlocks D.Disk start (padding self.old) self.old disk.old disk.new }
+        ensures written { WritesAtMost D.state (block_size self.old) disk.old disk.new }
         ensures faults { CountsOn D.state disk.old disk.new result }
     {
         self.keeps_rule();

@@ -1,9 +1,7 @@
-use Rattle.std.proofs.Common.{rules, ◌≡◌, ◌+◌, ◌-◌, ◌≤◌, ◌++◌, ℕ, ℤ, List, [], pos, length, replicate, refl, sym, subst, ap, ◌∙◌, arith}
+use Rattle.std.proofs.Common.{rules, ◌≡◌, ◌+◌, ◌≤◌, ◌++◌, [], length, refl, sym, ◌∙◌, arith}
 use Rattle.snd_disk.specs.State.{IsWritten}
-use Rattle.snd_adpcm.specs.Blocks.{filled}
 use Rattle.snd_block_writer.specs.Coded.{block_numbers}
-use Rattle.snd_block_writer.specs.Puts.{Puts}
-use Rattle.snd_block_writer.specs.Writing.{KeepsRule, StandsFor, Writing, given_more, last_bytes, more_bytes, next_place, padding}
+use Rattle.snd_block_writer.specs.Writing.{Writing, more_bytes, next_place, padding}
 use Rattle.snd_block_writer.proofs.Filling.{fills_block, fills_up, given_last_none, holds_all, last_none, last_size, none_waits, some_wait, stands_filled}
 use Rattle.snd_block_writer.proofs.Given.{block_given, block_made, same_writing}
 use Rattle.snd_block_writer.proofs.Putting.{none_put, none_written, puts_as, written_as}
@@ -23,7 +21,7 @@ returns-then-is_empty-clause-done g c =
     let s = g.D.Disk.state c.args.disk.now in
     let at = next_place c.args.start w in
     let none : length w.waiting ≡ 0 = none_waits w _ c.self.view_is (search rules) in
-    written_as s s at at [] (last_bytes w) refl (sym (last_none w c.keeps_rule.ensures none)) (none_written s at c.requires.there (g.met.D.Disk.size_told c.args.disk.now))
+    written_as s s at at [] (more_bytes w (padding w)) refl (sym (last_none w c.keeps_rule.ensures none)) (none_written s at c.requires.there (g.met.D.Disk.size_told c.args.disk.now))
 
 pub returns-then-is_empty-clause-holds : goal.returns-then-is_empty-clause-holds
 returns-then-is_empty-clause-holds g c = λ p ys b stands told.
@@ -84,7 +82,7 @@ returns-clause-holds g c = λ p ys b stands told.
     let made = block_made v w (padding w) c.fill_up.new.numbers.items is c.self.invariant.form full items in
     let s = g.D.Disk.state c.args.disk.now in
     let t = g.D.Disk.state c.put_block.new.disk in
-    let done : IsWritten (next_place c.args.start w) (last_bytes w) s t = written_as s t _ _ _ _ c.next_place-at.ensures made c.in_ok-put_block.ensures.done in
+    let done : IsWritten (next_place c.args.start w) (more_bytes w (padding w)) s t = written_as s t _ _ _ _ c.next_place-at.ensures made c.in_ok-put_block.ensures.done in
     holds_all w rule p ys stands s t c.args.start b done told
 
 pub returns-clause-done : goal.returns-clause-done

@@ -1,4 +1,4 @@
-use Rattle.std.proofs.Common.{rules, ◌≡◌, ◌+◌, ◌++◌, ℕ, ℤ, List, [], refl, sym, subst, ◌∙◌}
+use Rattle.std.proofs.Common.{rules, ◌≡◌, ◌++◌, ℕ, List, [], refl, sym, subst, ◌∙◌}
 use Rattle.snd_disk.specs.State.{IsWritten}
 use Rattle.snd_block_writer.specs.Writing.{Writing, more_bytes, next_place}
 use Rattle.snd_block_writer.proofs.Given.{block_fits, block_given, block_made, is_full, none_new, same_writing}

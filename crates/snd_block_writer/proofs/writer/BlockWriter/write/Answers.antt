@@ -1,7 +1,6 @@
-use Rattle.std.proofs.Common.{rules, ◌≡◌, ◌+◌, ◌-◌, ◌≤◌, ℕ, ℤ, List, [], length, take, drop, refl, sym, subst, ap, ◌∙◌, arith}
+use Rattle.std.proofs.Common.{◌≡◌, ℤ, List, [], take, refl, sym, subst, ap, ◌∙◌, arith}
 use Rattle.std.proofs.lemmas.List.{take_all}
 use Rattle.snd_disk.specs.State.{IsWritten}
-use Rattle.snd_layout.specs.Params.{Parameters}
 use Rattle.snd_blocks.specs.Calls.{AreBlocks}
 use Rattle.snd_block_writer.specs.Puts.{Puts}
 use Rattle.snd_block_writer.specs.Writing.{Writing, given_more, more_bytes, next_place}
