@@ -1,5 +1,5 @@
 -- What a writer knows once it was given more numbers, in two parts.
-use Rattle.std.proofs.Common.{◌≡◌, ◌⊎◌, ◌∙◌, refl, sym, ap, inl, inr, ℕ, ℤ, ◌+◌, ◌*◌, ◌/◌, ◌<◌, ◌≤◌, List, [], ◌++◌, length, take, drop, append_assoc, arith}
+use Rattle.std.proofs.Common.{◌≡◌, ◌⊎◌, ◌∙◌, refl, sym, ap, inl, inr, ℕ, ℤ, ◌+◌, ◌*◌, ◌/◌, ◌<◌, ◌≤◌, List, [], ◌++◌, length, take, drop, max, append_assoc, arith}
 use Rattle.std.proofs.Math.Nat.{add-mul-div_right, div-eq_of_lt, div-eq_of_lt-le, lt-div-mul-add}
 use Rattle.std.proofs.lemmas.List.{append-nil, drop_all, drop-append-le, drop-drop, length-append, length-drop, take_all}
 use Rattle.snd_adpcm.specs.Blocks.{bytes_of_blocks}
@@ -158,3 +158,7 @@ module _ (v w : Writing) (xs : List ℤ) (is : v ≡ w) where
       ap (λ (u : Writing). place_after start u (length xs)) (sym is) ∙ ap (λ (m : ℕ). start + (v.blocks + m) * align) (one_new v (length xs) blocks full) in
       let more : (v.blocks + 1) * align ≡ v.blocks * align + align = omega arith in
       omega (arith, place, end, more, at_is, fits)
+
+-- the blocks that were written end where the next one belongs
+pub is_reached : (start old size : ℕ) (w v : Writing) (xs : List ℤ) → AreBlocks w.params → v ≡ given_more w xs → size ≡ max old (next_place start w + length (more_bytes w xs)) → next_place start v ≤ size
+is_reached start old size w v xs blocks is sized = omega (arith, sized, ap (next_place start) is ∙ place_behind start w xs blocks)

@@ -60,6 +60,7 @@ module _ {D : Type 0} (d : Ghosts D) where
                   two.2 i (⊎_elim (λ lt. inl (omega (arith, lt, is))) (λ le. inr (omega (arith, le, is, sum))) beside)
                   ∙ one.2 i (⊎_elim (λ lt. inl lt) (λ le. inr (omega (arith, le, sum))) beside),
             );
+        longer = omega (arith, first.longer, second.longer);
         tells = record { told = second.tells.told ∙ first.tells.told; name = second.tells.name ∙ first.tells.name };
         leaves = partly_then d at next s t a b c is (λ l told. let one = first.beside l told in (one.0, one.1)) first.leaves second.leaves;
         time = goes_on_then (d.state a).clock (d.state b).clock (d.state c).clock (d.left_between a) (d.left_between b) (d.left_between c) first.time second.time;
@@ -75,6 +76,7 @@ module _ {D : Type 0} (d : Ghosts D) where
         beside = λ l told.
             let one = first.beside l told in
             (one.0, one.1, λ i beside. one.2 i (⊎_elim (λ lt. inl lt) (λ le. inr (omega (arith, le, sum))) beside));
+        longer = first.longer;
         tells = first.tells;
         leaves = partly_more d at s t a b first.leaves;
         time = first.time;
@@ -85,6 +87,7 @@ module _ {D : Type 0} (d : Ghosts D) where
   pub none_put : ((disk : D) (s t : ℕ) (x : List ℕ) → (d.state disk).clock ≤ s → d.left_between disk s t x → d.may_leave disk x) → (a : D) (at : ℕ) (s : List ℕ) → Puts d at s a a
   none_put only_now a at s = record {
     beside = λ l told. (l, told, λ i beside. refl);
+    longer = omega arith;
     tells = record { told = refl; name = refl };
     leaves = none_partly d only_now at s a;
     time = record { later = omega arith; same = λ s t x le left. left; kept = λ s t x left. left };
@@ -93,9 +96,10 @@ module _ {D : Type 0} (d : Ghosts D) where
   }
 
   module _ (a b : D) (at : ℕ) (s : List ℕ) (leaves : LeavesPartly d at s a b) (time : GoesOnFrom d.state d.left_between a b) (written : WritesAtMost d.state (length s) a b) (asked : (d.state b).asked ≡ (d.state a).asked) where
-    pub done_puts : (to : ℕ) → IsMeant to (λ l. over l at s) (d.state a) (d.state b) → Puts d at s a b
-    done_puts to done = record {
+    pub done_puts : (to : ℕ) → (d.state a).size ≤ to → IsMeant to (λ l. over l at s) (d.state a) (d.state b) → Puts d at s a b
+    done_puts to least done = record {
       beside = λ l told. (over l at s, done.contents ∙ ap (option_map (λ x. over x at s)) told, λ i beside. over_beside l at s i beside);
+      longer = omega (arith, least, done.size);
       tells = record { told = ap is_some done.contents ∙ told_mapped (λ l. over l at s) (d.state a).contents; name = done.name };
       leaves = leaves;
       time = time;
@@ -103,9 +107,10 @@ module _ {D : Type 0} (d : Ghosts D) where
       asked = asked;
     }
 
-    pub broken_puts : (to : ℕ) → IsBetween to (λ l. over l at s) (d.state a) (d.state b) → Puts d at s a b
-    broken_puts to broken = record {
+    pub broken_puts : (to : ℕ) → (d.state a).size ≤ to → IsBetween to (λ l. over l at s) (d.state a) (d.state b) → Puts d at s a b
+    broken_puts to least broken = record {
       beside = λ l told. let mixed = broken.contents l told in (mixed.0, mixed.1, λ i beside. mix_beside l at s mixed.0 mixed.2 i beside);
+      longer = ⊎_elim (λ same. omega (arith, same)) (λ end. omega (arith, least, end)) broken.size;
       tells = record { told = told_between (d.state a).contents (d.state b).contents (λ l told. ((broken.contents l told).0, (broken.contents l told).1)) broken.told; name = broken.name };
       leaves = leaves;
       time = time;

@@ -17,9 +17,11 @@ abbrev pub LeavesPartly : {D : Type 0} → Ghosts D → ℕ → List ℕ → D �
 LeavesPartly d at s old new = (b c l : List ℕ) → HasAt c at s → at + length s ≤ length c → Tells d.state old l
     → ((x : List ℕ) → d.may_leave old x → IsPartly b c x) → LeavesEach d old new (IsPartly b c)
 
--- .. and every byte beside them is as it was, at the end too, also where a call failed; no more of them were passed to writes
+-- .. and every byte beside them is as it was, at the end too, also where a call failed; the disk is no shorter, and no more bytes
+-- were passed to writes
 pub record Puts {D : Type 0} (d : Ghosts D) (at : ℕ) (s : List ℕ) (old new : D) : Type 0 where
   pub beside : (b : List ℕ) → Tells d.state old b → (x : List ℕ) × Tells d.state new x × ((i : ℕ) → IsBeside i at (length s) → get_or x i 0 ≡ get_or b i 0)
+  pub longer : (d.state old).size ≤ (d.state new).size
   pub tells : StillTells (d.state old) (d.state new)
   pub leaves : LeavesPartly d at s old new
   pub time : GoesOnFrom d.state d.left_between old new

@@ -123,6 +123,7 @@ impl BlockWriter {
         requires fits { place_after start self.old (length part.now) < 2 ^ 63 }
         ensures takes { OnOk result (self.new ≡ given_more self.old part.now) }
         ensures params { self.new.params ≡ self.old.params }
+        ensures there { next_place start self.new ≤ (D.state disk.new).size }
         ensures done { OnOk result (WritesBlocks D.state start part.now self.old disk.old disk.new) }
         ensures puts { PutsBlocks D.Disk start part.now self.old disk.old disk.new }
         ensures faults { CountsOn D.state disk.old disk.new result }
@@ -151,9 +152,11 @@ impl BlockWriter {
         requires range { All Is16Bit from.now }
         requires there { next_place start self.old ≤ (D.state disk.old).size }
         requires fits { place_after start self.old (length from.now) < 2 ^ 63 }
-        ensures takes { OnOk result (TakesMore from.now self.old self.new) }
+        ensures takes { OnOk result (self.new ≡ given_more self.old from.now) }
+        ensures stands { OnOk result (TakesMore from.now self.old self.new) }
         ensures holds { OnOk result (HoldsMore D.state start from.now self.old disk.old disk.new) }
         ensures params { self.new.params ≡ self.old.params }
+        ensures there { next_place start self.new ≤ (D.state disk.new).size }
         ensures done { OnOk result (WritesBlocks D.state start from.now self.old disk.old disk.new) }
         ensures puts { PutsBlocks D.Disk start from.now self.old disk.old disk.new }
         ensures written { WritesForFrames D.state (length from.now) self.old disk.old disk.new }
@@ -174,9 +177,11 @@ impl BlockWriter {
     pub fn finish<D: Disk>(&mut self, disk: &mut D, start: u64) -> Result<(), Step>
         requires there { next_place start self.old ≤ (D.state disk.old).size }
         requires fits { block_end start self.old < 2 ^ 63 }
-        ensures fills { OnOk result (FillsUp self.old self.new) }
+        ensures takes { OnOk result (self.new ≡ given_more self.old (padding self.old)) }
+        ensures stands { OnOk result (FillsUp self.old self.new) }
         ensures holds { OnOk result (HoldsAll D.state start self.old disk.old disk.new) }
         ensures params { self.new.params ≡ self.old.params }
+        ensures there { next_place start self.new ≤ (D.state disk.new).size }
         ensures done { OnOk result (WritesBlocks D.state start (padding self.old) self.old disk.old disk.new) }
         ensures puts { PutsBlocks D.Disk start (padding self.old) self.old disk.old disk.new }
         ensures written { WritesAtMost D.state (block_size self.old) disk.old disk.new }

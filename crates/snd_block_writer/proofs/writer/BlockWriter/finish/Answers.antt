@@ -3,14 +3,14 @@ use Rattle.snd_disk.specs.State.{IsWritten}
 use Rattle.snd_block_writer.specs.Coded.{block_numbers}
 use Rattle.snd_block_writer.specs.Writing.{Writing, more_bytes, next_place, padding}
 use Rattle.snd_block_writer.proofs.Filling.{fills_block, fills_up, given_last_none, holds_all, last_none, last_size, none_waits, some_wait, stands_filled}
-use Rattle.snd_block_writer.proofs.Given.{block_given, block_made, same_writing}
+use Rattle.snd_block_writer.proofs.Given.{block_given, block_made, is_reached, same_writing}
 use Rattle.snd_block_writer.proofs.Putting.{none_put, none_written, puts_as, written_as}
 use Rattle.snd_block_writer.proofs.writer.BlockWriter.finish.Goals as goal
 
 -- nothing waits
 
-pub returns-then-is_empty-clause-fills : goal.returns-then-is_empty-clause-fills
-returns-then-is_empty-clause-fills g c = λ p ys stands.
+pub returns-then-is_empty-clause-stands : goal.returns-then-is_empty-clause-stands
+returns-then-is_empty-clause-stands g c = λ p ys stands.
     let w = c.args.self.now in
     let none : length w.waiting ≡ 0 = none_waits w _ c.self.view_is (search rules) in
     given_last_none w c.keeps_rule.ensures none ∙ stands_filled w c.keeps_rule.ensures p ys stands
@@ -58,8 +58,8 @@ returns-in_err-put_block-clause-written g c =
     let puts = puts_as g.D.Disk c.args.disk.now c.put_block.new.disk _ _ _ _ c.next_place-at.ensures made c.put_block.ensures.puts in
     record { later = puts.written.later; most = omega (arith, puts.written.most, last_size w rule) }
 
-pub returns-clause-fills : goal.returns-clause-fills
-returns-clause-fills g c = λ p ys stands.
+pub returns-clause-takes : goal.returns-clause-takes
+returns-clause-takes g c =
     let w = c.args.self.now in
     let rule = c.keeps_rule.ensures in
     let v : Writing = record { params = c.self.inside.params; blocks = c.self.inside.blocks; indices = c.self.inside.ima; waiting = c.self.inside.waiting.items } in
@@ -67,8 +67,10 @@ returns-clause-fills g c = λ p ys stands.
     let some : 1 ≤ length w.waiting = some_wait v w is (search rules) in
     let full : length v.waiting + length (padding w) ≡ block_numbers v.params = fills_block v w is rule some in
     let items : c.fill_up.new.numbers.items ≡ v.waiting ++ padding w = fills_up v w is rule some _ c.block_numbers-numbers.result c.block_numbers-numbers.ensures.value (search rules) in
-    let taken = same_writing v.params _ _ _ _ _ _ refl c.in_ok-put_block.ensures.indices c.in_ok-put_block.ensures.empty ∙ block_given v w (padding w) c.fill_up.new.numbers.items is c.self.invariant.form full items in
-    taken ∙ stands_filled w rule p ys stands
+    same_writing v.params _ _ _ _ _ _ refl c.in_ok-put_block.ensures.indices c.in_ok-put_block.ensures.empty ∙ block_given v w (padding w) c.fill_up.new.numbers.items is c.self.invariant.form full items
+
+pub returns-clause-stands : goal.returns-clause-stands
+returns-clause-stands g c = λ p ys stands. returns-clause-takes g c ∙ stands_filled c.args.self.now c.keeps_rule.ensures p ys stands
 
 pub returns-clause-holds : goal.returns-clause-holds
 returns-clause-holds g c = λ p ys b stands told.
@@ -121,3 +123,7 @@ returns-clause-written g c =
     let made = block_made v w (padding w) c.fill_up.new.numbers.items is c.self.invariant.form full items in
     let puts = puts_as g.D.Disk c.args.disk.now c.put_block.new.disk _ _ _ _ c.next_place-at.ensures made c.put_block.ensures.puts in
     record { later = puts.written.later; most = omega (arith, puts.written.most, last_size w rule) }
+
+pub returns-clause-there : goal.returns-clause-there
+returns-clause-there g c =
+    is_reached c.args.start _ _ c.args.self.now _ (padding c.args.self.now) c.keeps_rule.ensures.form (returns-clause-takes g c) (returns-clause-done g c).size

@@ -1,7 +1,8 @@
 use Rattle.std.proofs.Common.{rules, ◌≡◌, ◌++◌, ℕ, List, [], refl, sym, subst, ◌∙◌}
 use Rattle.snd_disk.specs.State.{IsWritten}
+use Rattle.snd_blocks.specs.Calls.{AreBlocks}
 use Rattle.snd_block_writer.specs.Writing.{Writing, more_bytes, next_place}
-use Rattle.snd_block_writer.proofs.Given.{block_fits, block_given, block_made, is_full, none_new, same_writing}
+use Rattle.snd_block_writer.proofs.Given.{block_fits, block_given, block_made, is_full, is_reached, none_new, same_writing}
 use Rattle.snd_block_writer.proofs.Putting.{none_put, none_written, puts_as, written_as}
 use Rattle.snd_block_writer.proofs.writer.BlockWriter.take_part.Goals as goal
 
@@ -54,3 +55,8 @@ returns-clause-puts g c =
     let full = is_full v c.args.self.now c.args.part.now c.self.view_is c.try_extend_from_slice.new.self.items c.block_numbers-numbers.result c.len.result items c.requires.room c.block_numbers-numbers.ensures.value c.len.ensures.value c.if-len-numbers.false in
     let made = block_made v c.args.self.now c.args.part.now c.try_extend_from_slice.new.self.items c.self.view_is c.self.invariant.form full items in
     puts_as g.D.Disk c.args.disk.now c.put_block.new.disk _ _ _ _ c.next_place-at.ensures made c.put_block.ensures.puts
+
+pub returns-clause-there : goal.returns-clause-there
+returns-clause-there g c =
+    let form : AreBlocks c.args.self.now.params = subst (λ (u : Writing). AreBlocks u.params) c.self.view_is c.self.invariant.form in
+    is_reached c.args.start _ _ c.args.self.now _ c.args.part.now form (returns-clause-takes g c) (returns-clause-done g c).size

@@ -4,7 +4,7 @@ use Rattle.snd_disk.specs.State.{IsWritten}
 use Rattle.snd_blocks.specs.Calls.{AreBlocks}
 use Rattle.snd_block_writer.specs.Puts.{Puts}
 use Rattle.snd_block_writer.specs.Writing.{Writing, given_more, more_bytes, next_place}
-use Rattle.snd_block_writer.proofs.Parts.{bytes_none, fits_there, given_next, given_none, is_there, puts_all, puts_next, writes_few, written_next}
+use Rattle.snd_block_writer.proofs.Parts.{bytes_none, fits_there, given_next, given_none, puts_all, puts_next, writes_few, written_next}
 use Rattle.snd_block_writer.proofs.Putting.{none_put, none_written, written_as}
 use Rattle.snd_block_writer.proofs.Standing.{holds_more, stands_more}
 use Rattle.snd_block_writer.proofs.writer.BlockWriter.write.Goals as goal
@@ -18,12 +18,9 @@ loop-done-init g c =
       taken = given_none w c.keeps_rule.ensures;
       done = written_as s s at at [] (more_bytes w []) refl (sym (bytes_none w c.keeps_rule.ensures)) (none_written s at c.requires.there (g.met.D.Disk.size_told c.args.disk.now));
       puts = none_put g.D.Disk g.met.D.Disk.only_now c.args.disk.now at (more_bytes w []);
+      there = c.requires.there;
       calm = refl;
     }
-
-pub take_part-requires-clause-there : goal.take_part-requires-clause-there
-take_part-requires-clause-there g c =
-    is_there c.args.self.now c.keeps_rule.ensures c.args.from.now c.loop-done.done c.min.result c.loop-done.self c.loop-done.invariant.taken c.args.start _ _ c.loop-done.invariant.done.size
 
 pub take_part-requires-clause-fits : goal.take_part-requires-clause-fits
 take_part-requires-clause-fits g c =
@@ -52,12 +49,17 @@ loop-done-preserved g c =
       taken = c.in_ok-take_part.ensures.takes ∙ given_next w rule c.args.from.now done k v is;
       done = written_next w rule c.args.from.now done k v is c.args.start (g.D.Disk.state c.args.disk.now) (g.D.Disk.state c.loop-done.disk) (g.D.Disk.state c.take_part.new.disk) c.loop-done.invariant.done c.in_ok-take_part.ensures.done;
       puts = puts_next w rule c.args.from.now done k v is g.D.Disk c.args.disk.now c.loop-done.disk c.take_part.new.disk c.args.start c.loop-done.invariant.puts c.take_part.ensures.puts;
+      there = c.take_part.ensures.there;
       calm = omega (arith, c.in_ok-take_part.ensures.faults.ok, c.loop-done.invariant.calm);
     }
 
 -- at the end all is taken
 pub returns-clause-takes : goal.returns-clause-takes
-returns-clause-takes g c = λ p ys stands.
+returns-clause-takes g c =
+    c.loop-done.invariant.taken ∙ ap (given_more c.args.self.now) (take_all c.loop-done.done c.args.from.now c.loop-done-test.false)
+
+pub returns-clause-stands : goal.returns-clause-stands
+returns-clause-stands g c = λ p ys stands.
     let w = c.args.self.now in
     let xs = c.args.from.now in
     let all : take c.loop-done.done xs ≡ xs = take_all c.loop-done.done xs c.loop-done-test.false in

@@ -10,6 +10,7 @@ invariant-loop-done g l = record {
   taken : l.self ≡ given_more l.fn.self (take l.done l.from);
   done : IsWritten (next_place l.start l.fn.self) (more_bytes l.fn.self (take l.done l.from)) (g.D.Disk.state l.fn.disk) (g.D.Disk.state l.disk);
   puts : Puts g.D.Disk (next_place l.start l.fn.self) (more_bytes l.fn.self (take l.done l.from)) l.fn.disk l.disk;
+  there : next_place l.start l.self ≤ (g.D.Disk.state l.disk).size;
   calm : (g.D.Disk.state l.disk).faults ≡ (g.D.Disk.state l.fn.disk).faults;
 }
 
