@@ -17,7 +17,7 @@ use Rattle.snd_block_writer.proofs.Partly.{none_partly, partly_more, partly_then
 pub over_over : (b : List ℕ) (at : ℕ) (s t : List ℕ) → over (over b at s) (at + length s) t ≡ over b at (s ++ t)
 over_over b at s t = same_lists _ _ (grind (arith, places)) (λ k d lt. grind (arith, places))
 
-over_none : (b : List ℕ) (at : ℕ) → at ≤ length b → over b at [] ≡ b
+pub over_none : (b : List ℕ) (at : ℕ) → at ≤ length b → over b at [] ≡ b
 over_none b at there = same_lists _ _ (grind (arith, places)) (λ k d lt. grind (arith, places))
 
 mapped_twice : (f g h : List ℕ → List ℕ) (o : Option (List ℕ)) → ((b : List ℕ) → g (f b) ≡ h b) → option_map g (option_map f o) ≡ option_map h o

@@ -1,6 +1,6 @@
 -- A writer stands for the numbers that it was given, and its blocks are those of the whole list.
 use Rattle.std.proofs.Common.{◌≡◌, ◌∙◌, refl, sym, ap, inl, inr, ℕ, ℤ, pos, zero, suc, ◌+◌, ◌-◌, ◌*◌, ◌/◌, ◌%◌, ◌<◌, ◌≤◌, Some, option_map, List, [], ◌++◌, length, take, drop, replicate, arith}
-use Rattle.std.proofs.Math.Nat.{div-add-mod, div-mul-le_self, mod-eq-sub-div-mul, mod-eq_of_lt, mod-lt, mod_self, mul-div_left, mul-mod_left}
+use Rattle.std.proofs.Math.Nat.{div-add-mod, div-mul-le_self, mod-eq-sub-div-mul, mod-eq_of_lt, mod-lt, mod_self, mul-div_left, mul-mod_left, zero-div}
 use Rattle.std.proofs.lemmas.List.{append-nil, length-append, length-drop, length-replicate, length-take-le, take-append-drop, take_all}
 use Rattle.std.proofs.lemmas.Bool.{cases_lt}
 use Rattle.snd_adpcm.specs.Blocks.{Rule, bytes_of_blocks, bytes_of_list, filled}
@@ -145,6 +145,16 @@ module _ (p : Parameters) (blocks : AreBlocks p) where
       ∙ place_behind start (fresh p) ys blocks
       ∙ (let e : next_place start (fresh p) + length (more_bytes (fresh p) ys) ≡ start + length (more_bytes (fresh p) ys) = omega arith in e)
       ∙ ap (λ (l : List ℕ). start + length l) (bytes_fresh ys)
+
+  -- a new writer has written nothing
+  pub none_coded : coded p (whole p []) ≡ []
+  none_coded =
+      let none : length (coded p (whole p [])) ≡ 0 =
+      (length-whole []).1 ∙ ap (λ (m : ℕ). m * block_align p.channels p.codec) (zero-div n) ∙ (let e : 0 * block_align p.channels p.codec ≡ 0 = omega arith in e) in
+      sym (take_all 0 (coded p (whole p [])) (omega (arith, none)))
+
+  pub place_of_whole : (start : ℕ) (w : Writing) (ys : List ℤ) → StandsFor w p ys → next_place start w ≡ start + whole_blocks p ys * block_align p.channels p.codec
+  place_of_whole start w ys stands = place_coded start w ys stands ∙ ap (λ (m : ℕ). start + m) (length-whole ys).1
 
   -- zeros that fill the last block
   pub padded : (w : Writing) (ys : List ℤ) → StandsFor w p ys → ys ++ padding w ≡ filled (block_numbers p) ys

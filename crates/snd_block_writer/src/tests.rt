@@ -1,7 +1,12 @@
 //! Whole sounds, written in odd pieces, against the blocks that other programs write of them.
 
-ghost use Rattle.std.specs.Prelude.{◌<◌, ◌≤◌, ◌^◌, All, IsTrue, length};
+ghost use Rattle.std.specs.Prelude.{◌+◌, ◌*◌, ◌/◌, ◌<◌, ◌≤◌, ◌^◌, ℕ, List, All, IsTrue, OnOk, length};
 ghost use Rattle.snd_adpcm.specs.Frames.{Is16Bit};
+ghost use Rattle.snd_disk.specs.Bytes.{over};
+ghost use Rattle.snd_disk.specs.Device.{Tells};
+ghost use Rattle.snd_layout.specs.Blocks.{block_align};
+ghost use Rattle.snd_blocks.specs.Calls.{AreBlocks};
+ghost use Rattle.snd_block_writer.specs.Coded.{block_numbers, coded};
 ghost use Rattle.snd_block_writer.specs.Writing.{block_end, next_place, place_after};
 
 use super::*;
@@ -132,6 +137,20 @@ fn may_write<D: Disk>(disk: &mut D, writer: &BlockWriter, count: usize) -> bool
     writer.next_place(START) <= size
 }
 
+/// A sound, put on a disk from a place on: a use of the clauses, over every disk.
+fn put_sound<D: Disk>(disk: &mut D, params: Params, start: u64, sound: &[i32]) -> Result<(), Step>
+    requires form { AreBlocks params }
+    requires range { All Is16Bit sound.now }
+    requires there { start ≤ (D.state disk.old).size }
+    requires fits { start + (length sound.now / block_numbers params + 1) * block_align params.channels params.codec < 2 ^ 63 }
+    ensures { OnOk result ((b : List ℕ) → Tells D.state disk.old b → Tells D.state disk.new (over b start (coded params sound.now))) }
+{
+    let mut writer = BlockWriter::new(params);
+    writer.write(disk, start, sound)?;
+    writer.finish(disk, start)?;
+    Ok(())
+}
+
 fn are_16_bit(numbers: &[i32]) -> bool
     ensures { IsTrue result → All Is16Bit numbers.now }
 {
@@ -178,6 +197,22 @@ fn gives(
     };
     let (head, behind) = disk.bytes().split_at_checked(5)?;
     Some(head == b"head.".as_slice() && behind == data)
+}
+
+/// How many bytes a frame of zeros takes.
+fn put_zeros(alloc: Global, codec: Codec) -> Option<usize> {
+    let mut disk = SteadyDisk::new(alloc, Vec::new(alloc)).ok()?;
+    let params = Params::new(2, 8000, codec).ok()?;
+    if params.channels > 2 || !params.codec.is_adpcm() {
+        return None;
+    }
+    are_blocks(&params);
+    let sound = [0; 2];
+    if !are_16_bit(&sound) {
+        return None;
+    }
+    put_sound(&mut disk, params, 0, &sound).ok()?;
+    Some(disk.bytes().len())
 }
 
 /// A number of a sound.
@@ -235,6 +270,7 @@ fn ms_blocks_are_those_of_ffmpeg(rt: HostRuntime) {
     };
     assert!(rt; gives(alloc, 2, codec, &MS_STEREO_SOUND, 6, &MS_STEREO) == Some(true));
     assert!(rt; gives(alloc, 2, codec, &[], 2, &[]) == Some(true));
+    assert!(rt; put_zeros(alloc, codec) == Some(32));
 }
 
 // The second write is the fourth call, since the length is asked before each. It fails before it changes a byte.

@@ -47,16 +47,8 @@ returns-in_err-put_block-clause-puts g c =
 
 pub returns-in_err-put_block-clause-written : goal.returns-in_err-put_block-clause-written
 returns-in_err-put_block-clause-written g c =
-    let w = c.args.self.now in
-    let rule = c.keeps_rule.ensures in
-    let v : Writing = record { params = c.self.inside.params; blocks = c.self.inside.blocks; indices = c.self.inside.ima; waiting = c.self.inside.waiting.items } in
-    let is : v ≡ w = c.self.view_is in
-    let some : 1 ≤ length w.waiting = some_wait v w is (search rules) in
-    let full : length v.waiting + length (padding w) ≡ block_numbers v.params = fills_block v w is rule some in
-    let items : c.fill_up.new.numbers.items ≡ v.waiting ++ padding w = fills_up v w is rule some _ c.block_numbers-numbers.result c.block_numbers-numbers.ensures.value (search rules) in
-    let made = block_made v w (padding w) c.fill_up.new.numbers.items is c.self.invariant.form full items in
-    let puts = puts_as g.D.Disk c.args.disk.now c.put_block.new.disk _ _ _ _ c.next_place-at.ensures made c.put_block.ensures.puts in
-    record { later = puts.written.later; most = omega (arith, puts.written.most, last_size w rule) }
+    let written = (returns-in_err-put_block-clause-puts g c).written in
+    record { later = written.later; most = omega (arith, written.most, last_size c.args.self.now c.keeps_rule.ensures) }
 
 pub returns-clause-takes : goal.returns-clause-takes
 returns-clause-takes g c =
@@ -72,21 +64,6 @@ returns-clause-takes g c =
 pub returns-clause-stands : goal.returns-clause-stands
 returns-clause-stands g c = λ p ys stands. returns-clause-takes g c ∙ stands_filled c.args.self.now c.keeps_rule.ensures p ys stands
 
-pub returns-clause-holds : goal.returns-clause-holds
-returns-clause-holds g c = λ p ys b stands told.
-    let w = c.args.self.now in
-    let rule = c.keeps_rule.ensures in
-    let v : Writing = record { params = c.self.inside.params; blocks = c.self.inside.blocks; indices = c.self.inside.ima; waiting = c.self.inside.waiting.items } in
-    let is : v ≡ w = c.self.view_is in
-    let some : 1 ≤ length w.waiting = some_wait v w is (search rules) in
-    let full : length v.waiting + length (padding w) ≡ block_numbers v.params = fills_block v w is rule some in
-    let items : c.fill_up.new.numbers.items ≡ v.waiting ++ padding w = fills_up v w is rule some _ c.block_numbers-numbers.result c.block_numbers-numbers.ensures.value (search rules) in
-    let made = block_made v w (padding w) c.fill_up.new.numbers.items is c.self.invariant.form full items in
-    let s = g.D.Disk.state c.args.disk.now in
-    let t = g.D.Disk.state c.put_block.new.disk in
-    let done : IsWritten (next_place c.args.start w) (more_bytes w (padding w)) s t = written_as s t _ _ _ _ c.next_place-at.ensures made c.in_ok-put_block.ensures.done in
-    holds_all w rule p ys stands s t c.args.start b done told
-
 pub returns-clause-done : goal.returns-clause-done
 returns-clause-done g c =
     let w = c.args.self.now in
@@ -98,6 +75,10 @@ returns-clause-done g c =
     let items : c.fill_up.new.numbers.items ≡ v.waiting ++ padding w = fills_up v w is rule some _ c.block_numbers-numbers.result c.block_numbers-numbers.ensures.value (search rules) in
     let made = block_made v w (padding w) c.fill_up.new.numbers.items is c.self.invariant.form full items in
     written_as (g.D.Disk.state c.args.disk.now) (g.D.Disk.state c.put_block.new.disk) _ _ _ _ c.next_place-at.ensures made c.in_ok-put_block.ensures.done
+
+pub returns-clause-holds : goal.returns-clause-holds
+returns-clause-holds g c = λ p ys b stands told.
+    holds_all c.args.self.now c.keeps_rule.ensures p ys stands (g.D.Disk.state c.args.disk.now) (g.D.Disk.state c.put_block.new.disk) c.args.start b (returns-clause-done g c) told
 
 pub returns-clause-puts : goal.returns-clause-puts
 returns-clause-puts g c =
@@ -113,16 +94,8 @@ returns-clause-puts g c =
 
 pub returns-clause-written : goal.returns-clause-written
 returns-clause-written g c =
-    let w = c.args.self.now in
-    let rule = c.keeps_rule.ensures in
-    let v : Writing = record { params = c.self.inside.params; blocks = c.self.inside.blocks; indices = c.self.inside.ima; waiting = c.self.inside.waiting.items } in
-    let is : v ≡ w = c.self.view_is in
-    let some : 1 ≤ length w.waiting = some_wait v w is (search rules) in
-    let full : length v.waiting + length (padding w) ≡ block_numbers v.params = fills_block v w is rule some in
-    let items : c.fill_up.new.numbers.items ≡ v.waiting ++ padding w = fills_up v w is rule some _ c.block_numbers-numbers.result c.block_numbers-numbers.ensures.value (search rules) in
-    let made = block_made v w (padding w) c.fill_up.new.numbers.items is c.self.invariant.form full items in
-    let puts = puts_as g.D.Disk c.args.disk.now c.put_block.new.disk _ _ _ _ c.next_place-at.ensures made c.put_block.ensures.puts in
-    record { later = puts.written.later; most = omega (arith, puts.written.most, last_size w rule) }
+    let written = (returns-clause-puts g c).written in
+    record { later = written.later; most = omega (arith, written.most, last_size c.args.self.now c.keeps_rule.ensures) }
 
 pub returns-clause-there : goal.returns-clause-there
 returns-clause-there g c =

@@ -33,9 +33,7 @@ returns-in_err-take_part-clause-puts g c =
 
 pub returns-in_err-take_part-clause-written : goal.returns-in_err-take_part-clause-written
 returns-in_err-take_part-clause-written g c =
-    let puts = puts_all c.args.self.now c.keeps_rule.ensures c.args.from.now c.loop-done.done c.min.result c.loop-done.self c.loop-done.invariant.taken
-    g.D.Disk c.args.disk.now c.loop-done.disk c.take_part.new.disk c.args.start c.loop-done.invariant.puts c.take_part.ensures.puts in
-    writes_few c.args.self.now c.keeps_rule.ensures c.args.from.now _ _ puts.written
+    writes_few c.args.self.now c.keeps_rule.ensures c.args.from.now _ _ (returns-in_err-take_part-clause-puts g c).written
 
 pub loop-done-preserved : goal.loop-done-preserved
 loop-done-preserved g c =
@@ -60,11 +58,8 @@ returns-clause-takes g c =
 
 pub returns-clause-stands : goal.returns-clause-stands
 returns-clause-stands g c = λ p ys stands.
-    let w = c.args.self.now in
-    let xs = c.args.from.now in
-    let all : take c.loop-done.done xs ≡ xs = take_all c.loop-done.done xs c.loop-done-test.false in
     let form : AreBlocks p = subst AreBlocks (ap (λ (u : Writing). u.params) stands) c.keeps_rule.ensures.form in
-    c.loop-done.invariant.taken ∙ ap (given_more w) all ∙ stands_more p form w xs ys stands
+    returns-clause-takes g c ∙ stands_more p form c.args.self.now c.args.from.now ys stands
 
 pub returns-clause-holds : goal.returns-clause-holds
 returns-clause-holds g c = λ p ys b stands told.
