@@ -1,6 +1,6 @@
 -- The laws of blocks that are written.
 use Rattle.std.proofs.Common.{◌≡◌, ◌⊎◌, ◌∙◌, refl, sym, ap, inl, inr, ℕ, ℤ, ◌+◌, ◌-◌, ◌*◌, ◌/◌, ◌<◌, ◌≤◌, List, ◌++◌, length, take, drop, append_assoc, arith}
-use Rattle.std.proofs.Math.Nat.{div-add-mod, div-eq_of_lt-le, div-le_of_le-mul, div-mul-le_self, mul-div_left}
+use Rattle.std.proofs.Math.Nat.{div-add-mod, div-div-eq-div-mul, div-eq_of_lt-le, div-le_of_le-mul, div-mul-le_self, mul-div_left}
 use Rattle.std.proofs.lemmas.Nat.{le-div}
 use Rattle.std.proofs.lemmas.List.{length-append, length-take-le, places, same_lists, take-take, take_all, take_at}
 use Rattle.snd_adpcm.specs.Blocks.{filled}
@@ -10,7 +10,7 @@ use Rattle.snd_layout.specs.Params.{Parameters, data_bytes}
 use Rattle.snd_blocks.specs.Calls.{AreBlocks}
 use Rattle.snd_blocks.specs.Frames.{blocks_decoded, frames_in_blocks, has_bad}
 use Rattle.snd_block_writer.specs.Coded.{block_numbers, coded, kept, whole, whole_blocks}
-use Rattle.snd_block_writer.specs.Laws.{AllAreKept, KeptIsRead, KeptStays, NoneIsBad, WholeIsFront}
+use Rattle.snd_block_writer.specs.Laws.{AllAreKept, KeptIsRead, KeptStays, NoneIsBad, WholeFramesAreKept, WholeIsFront}
 use Rattle.snd_block_writer.specs.Writing.{given, more_bytes, padding}
 use Rattle.snd_block_writer.proofs.Decoded.{count_decoded, decoded_joined, good_blocks, some_channel}
 use Rattle.snd_block_writer.proofs.Given.{some_numbers}
@@ -47,6 +47,19 @@ all_are_kept p xs blocks =
     let least : length xs / p.channels ≤ count * block_frames p.codec = div-le_of_le-mul p.channels (omega (arith, blocks_of_filled p xs blocks, few.0, product)) in
     length-take-le (length xs / p.channels) (blocks_decoded p (coded p xs)) (omega (arith, least, frames))
 
+-- the frames of whole blocks
+frames_of_whole : (p : Parameters) (xs : List ℤ) → AreBlocks p → length (whole p xs) / p.channels ≡ whole_blocks p xs * block_frames p.codec
+frames_of_whole p xs blocks =
+    let channels : 0 < p.channels = let h = some_channel p.channels blocks.channels in omega (arith, h) in
+    let product : whole_blocks p xs * block_numbers p ≡ whole_blocks p xs * block_frames p.codec * p.channels = omega arith in
+    ap (λ (m : ℕ). m / p.channels) ((length-whole p blocks xs).0 ∙ product) ∙ mul-div_left (whole_blocks p xs * block_frames p.codec) channels
+
+pub whole_frames_are_kept : WholeFramesAreKept
+whole_frames_are_kept p xs blocks =
+    all_are_kept p (whole p xs) blocks
+    ∙ frames_of_whole p xs blocks
+    ∙ ap (λ (m : ℕ). m * block_frames p.codec) (sym (div-div-eq-div-mul (length xs) p.channels (block_frames p.codec)))
+
 pub kept_stays : KeptStays
 kept_stays p xs ys blocks =
     let n = block_numbers p in
@@ -55,7 +68,7 @@ kept_stays p xs ys blocks =
     let sizes = length-whole p blocks xs in
     let channels : 0 < p.channels = let h = some_channel p.channels blocks.channels in omega (arith, h) in
     let product : count * n ≡ count * per * p.channels = omega arith in
-    let frames : length (whole p xs) / p.channels ≡ count * per = ap (λ (m : ℕ). m / p.channels) (sizes.0 ∙ product) ∙ mul-div_left (count * per) channels in
+    let frames : length (whole p xs) / p.channels ≡ count * per = frames_of_whole p xs blocks in
     let first = blocks_decoded p (coded p (whole p xs)) in
     let size : length first ≡ count * per = count_decoded p blocks count (coded p (whole p xs)) sizes.1 in
     let front = whole_is_front p xs ys blocks in

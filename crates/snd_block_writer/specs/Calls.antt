@@ -23,14 +23,14 @@ PutsBlocks d start xs w old new = Puts d (next_place start w) (more_bytes w xs) 
 abbrev pub TakesMore : List ℤ → Writing → Writing → Type 0
 TakesMore xs old new = (p : Parameters) (ys : List ℤ) → StandsFor old p ys → StandsFor new p (ys ++ xs)
 
+-- the writer was given zeros, up to whole blocks
+abbrev pub FillsUp : Writing → Writing → Type 0
+FillsUp old new = (p : Parameters) (ys : List ℤ) → StandsFor old p ys → StandsFor new p (filled (block_numbers p) ys)
+
 -- where the disk held the whole blocks of the numbers so far, it holds those of all numbers now
 abbrev pub HoldsMore : {D : Type 0} → (D → State) → ℕ → List ℤ → Writing → D → D → Type 0
 HoldsMore state start xs w old new = (p : Parameters) (ys : List ℤ) (b : List ℕ) → StandsFor w p ys
     → Tells state old (over b start (coded p (whole p ys))) → Tells state new (over b start (coded p (whole p (ys ++ xs))))
-
--- the writer was given zeros, up to whole blocks
-abbrev pub FillsUp : Writing → Writing → Type 0
-FillsUp old new = (p : Parameters) (ys : List ℤ) → StandsFor old p ys → StandsFor new p (filled (block_numbers p) ys)
 
 -- .. it holds all blocks now, of which zeros fill the last
 abbrev pub HoldsAll : {D : Type 0} → (D → State) → ℕ → Writing → D → D → Type 0

@@ -1,17 +1,18 @@
 -- The laws of blocks that are written.
-use Rattle.std.specs.Prelude.{◌≡◌, ℕ, ℤ, ◌/◌, ◌%◌, false, List, ◌++◌, length, take}
+use Rattle.std.specs.Prelude.{◌≡◌, ℕ, ℤ, ◌*◌, ◌/◌, ◌%◌, false, List, ◌++◌, length, take}
 use Rattle.snd_disk.specs.Bytes.{over}
+use Rattle.snd_layout.specs.Blocks.{block_frames}
 use Rattle.snd_layout.specs.Params.{Parameters}
 use Rattle.snd_layout.specs.Shape.{Shape}
 use Rattle.snd_blocks.specs.Calls.{AreBlocks}
 use Rattle.snd_blocks.specs.Frames.{blocks_decoded, frames_in_blocks, has_bad}
 use Rattle.snd_block_writer.specs.Coded.{coded, kept, whole}
 
--- none of their frames is bad
+-- the frames that are read from them: none is bad
 abbrev pub NoneIsBad : Type 0
 NoneIsBad = (p : Parameters) (xs : List ℤ) → AreBlocks p → has_bad (blocks_decoded p (coded p xs)) ≡ false
 
--- the numbers have as many frames as are kept of them
+-- .. and there are as many as the numbers have
 abbrev pub AllAreKept : Type 0
 AllAreKept = (p : Parameters) (xs : List ℤ) → AreBlocks p → length (kept p xs) ≡ length xs / p.channels
 
@@ -23,7 +24,12 @@ WholeIsFront = (p : Parameters) (xs ys : List ℤ) → AreBlocks p → (l : List
 abbrev pub KeptStays : Type 0
 KeptStays = (p : Parameters) (xs ys : List ℤ) → AreBlocks p → kept p (whole p xs) ≡ take (length (whole p xs) / p.channels) (kept p (xs ++ ys))
 
--- a reader of the file finds them
+-- whole blocks keep the greatest multiple of a block's frames that the numbers reach
+abbrev pub WholeFramesAreKept : Type 0
+WholeFramesAreKept = (p : Parameters) (xs : List ℤ) → AreBlocks p
+    → length (kept p (whole p xs)) ≡ length xs / p.channels / block_frames p.codec * block_frames p.codec
+
+-- where a file has the blocks for its data, a reader finds the frames that are kept
 abbrev pub KeptIsRead : Type 0
 KeptIsRead = (b : List ℕ) (s : Shape) (xs : List ℤ) → AreBlocks s.params → length xs % s.params.channels ≡ 0 → s.frames ≡ length xs / s.params.channels
     → frames_in_blocks (over b s.start (coded s.params xs)) s ≡ kept s.params xs

@@ -46,7 +46,7 @@ pub record KeepsRule (w : Writing) : Type 0 where
   pub few : length w.waiting < block_numbers w.params
   pub range : All Is16Bit w.waiting
 
--- what it knows once it was given all these numbers
+-- what it knows once it was given all these numbers, for which it then stands
 abbrev pub given : Parameters → List ℤ → Writing
 given p xs = record {
   params = p;
@@ -58,10 +58,11 @@ given p xs = record {
 abbrev pub StandsFor : Writing → Parameters → List ℤ → Type 0
 StandsFor w p xs = w ≡ given p xs
 
--- .. once it was given more, and the bytes of the blocks that these make whole
+-- how many blocks so many more numbers make whole
 abbrev pub new_blocks : Writing → ℕ → ℕ
 new_blocks w count = (length w.waiting + count) / block_numbers w.params
 
+-- what it knows once it was given more, and the bytes of the blocks that these make whole
 abbrev pub given_more : Writing → List ℤ → Writing
 given_more w xs =
     let n = block_numbers w.params in

@@ -1,4 +1,4 @@
-use Rattle.std.proofs.Common.{◌≡◌, ◌∙◌, sym, ap, ℕ, List, [], ◌++◌, length, Some, arith}
+use Rattle.std.proofs.Common.{◌∙◌, sym, ap, ℕ, List, [], ◌++◌, Some, arith}
 use Rattle.snd_disk.specs.Bytes.{over}
 use Rattle.snd_disk.specs.Device.{Tells}
 use Rattle.snd_block_writer.specs.Coded.{coded, whole}

@@ -1,5 +1,4 @@
 use Rattle.std.proofs.Common.{rules, ◌≡◌, ◌+◌, ◌≤◌, ◌++◌, [], length, refl, sym, ◌∙◌, arith}
-use Rattle.snd_disk.specs.State.{IsWritten}
 use Rattle.snd_block_writer.specs.Coded.{block_numbers}
 use Rattle.snd_block_writer.specs.Writing.{Writing, more_bytes, next_place, padding}
 use Rattle.snd_block_writer.proofs.Filling.{fills_block, fills_up, given_last_none, holds_all, last_none, last_size, none_waits, some_wait, stands_filled}
