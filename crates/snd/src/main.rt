@@ -1,9 +1,13 @@
 //! The program: `snd_app`'s run over the current folder, standard input, output and error.
 #![tactic(auto)]
 
+ghost use Rattle.snd_tools.specs.Shelves.{IsAllIn};
+
 use snd_app::run;
-use snd_disk::{FolderShelf, ReaderSource, WriterSink};
+use snd_disk::{FolderShelf, ReaderSource, Shelf, WriterSink};
 use snd_fields::Words;
+use snd_taps::{Clips, Energy, Peak, Tap};
+use std::alloc::AllocError;
 use std::process::ExitCode;
 use std::{env, io};
 
@@ -20,6 +24,21 @@ fn words_of(rt: &HostRuntime) -> io::Result<Words> {
     Ok(Words::new(list))
 }
 
+/// Runs over the standard streams, with a tap of each kind, and answers the status.
+fn run_words<S: Shelf>(rt: &HostRuntime, shelf: &mut S, words: &Words) -> Result<u8, AllocError>
+    requires { IsAllIn (S.state shelf.old) }
+{
+    let alloc = rt.alloc();
+    let mut taps: Vec<Box<dyn Tap>> = Vec::new(alloc);
+    taps.push(Box::new(alloc, Peak::new())?)?;
+    taps.push(Box::new(alloc, Clips::new())?)?;
+    taps.push(Box::new(alloc, Energy::new())?)?;
+    let mut script = ReaderSource::new(rt.stdin());
+    let mut out = WriterSink::new(rt.stdout());
+    let mut err = WriterSink::new(rt.stderr());
+    Ok(run(alloc, words, shelf, &mut script, &mut out, &mut err, taps))
+}
+
 fn main(rt: HostRuntime) -> ExitCode {
     // first of all, since it keeps the numbers of standard streams that are closed from every file
     let mut shelf = FolderShelf::new(rt);
@@ -31,8 +50,8 @@ fn main(rt: HostRuntime) -> ExitCode {
         }
         Err(_) => Words::new(Vec::new(alloc)),
     };
-    let mut script = ReaderSource::new(rt.stdin());
-    let mut out = WriterSink::new(rt.stdout());
-    let mut err = WriterSink::new(rt.stderr());
-    ExitCode::from(run(alloc, &words, &mut shelf, &mut script, &mut out, &mut err))
+    match run_words(&rt, &mut shelf, &words) {
+        Ok(status) => ExitCode::from(status),
+        Err(_) => ExitCode::from(NO_MEMORY),
+    }
 }

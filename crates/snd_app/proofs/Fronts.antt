@@ -46,12 +46,12 @@ module _ (all left : List Edited) (start desk : Desk) (before after : Option (Li
   taken takes = subst (λ (l : List ℕ). AppendsFront before after l) (texts_are takes.done takes.whole)
       (part_front before after (texts takes.done) (first_text left) (texts_behind left) (no_part before after (texts takes.done) (first_text left) takes.appended))
 
-module _ {S : Type 0} (state : S → ShelfState) (files : Files) (all : List Edited) (before after : Option (List ℕ)) (shelf : S) where
-  pub fault_front : (old new : FaultCounts) (more : Option (List ℕ)) → IsFault state files all old new before after more shelf → AppendsFront before after (texts all)
+module _ {S : Type 0} (state : S → ShelfState) (store : Store) (all : List Edited) (before after : Option (List ℕ)) (shelf : S) where
+  pub fault_front : (old new : FaultCounts) (more : Option (List ℕ)) → IsFault state store all old new before after more shelf → AppendsFront before after (texts all)
   fault_front old new more (inl (calm, rises, quiet, (left, desk, takes, cut, there))) = taken all left _ desk before after takes
   fault_front old new more (inr (inl (calm, same, rises, (step, left, desk, takes, there)))) = taken_part all (step ∷ left) _ desk before after takes
   fault_front old new more (inr (inr (rises, inl (left, desk, takes, there)))) = taken_part all left _ desk before after takes
   fault_front old new more (inr (inr (rises, inr (step, left, desk, takes, there)))) = taken_part all (step ∷ left) _ desk before after takes
 
-  pub memory_front : StopsAtMemory state files all before after shelf → AppendsFront before after (texts all)
+  pub memory_front : StopsAtMemory state store all before after shelf → AppendsFront before after (texts all)
   memory_front (left, desk, takes, there) = taken all left _ desk before after takes

@@ -12,10 +12,11 @@ use Rattle.snd_tags.specs.declared.error.TagError.{TagError}
 use Rattle.snd_lines.specs.declared.refusal.Refusal.TheVariants.{MissingFile, Open}
 use Rattle.snd_words.specs.Asked.{Asked}
 use Rattle.snd_words.specs.Grammar.{asked}
-use Rattle.snd_script.specs.Desk.{closed_desk}
+use Rattle.snd_script.specs.Desk.{closed_desk, stored}
 use Rattle.snd_script.specs.Edit.{Edited}
 use Rattle.snd_script.specs.Pinned.{run_steps, run_too_long}
 use Rattle.snd_script.specs.Script.{any_refused, last_desk, texts}
+use Rattle.snd_taps.specs.declared.tap.TapKind.{TapKind}
 use Rattle.snd_app.specs.declared.look.Found.{Found}
 use Rattle.snd_app.specs.declared.look.Found.TheVariants.{Missing, Refused, Sound}
 use Rattle.snd_app.specs.declared.help.TheConstants.{HELP, VERSION}
@@ -64,13 +65,13 @@ answers all = record { out = texts all; err = []; status = if any_refused all th
 abbrev pub script_outcome : Bool → List Edited → Outcome
 script_outcome longer all = if longer then too_long (answers all) else answers all
 
--- a script, behind the opening of the file of a name that is pinned, where there is one
-abbrev pub outcome_of_script : Option (List ℕ) → Files → List ℕ → Outcome
-outcome_of_script name files text = script_outcome (run_too_long name files text) (run_steps name files text)
+-- a script, behind the opening of the file of a name that is pinned, where there is one, over files and with taps of these kinds
+abbrev pub outcome_of_script : Option (List ℕ) → List TapKind → Files → List ℕ → Outcome
+outcome_of_script name kinds files text = script_outcome (run_too_long name (stored files kinds) text) (run_steps name (stored files kinds) text)
 
 -- .. and it leaves the files of its last step
-abbrev pub files_of_script : Option (List ℕ) → Files → List ℕ → Files
-files_of_script name files text = (last_desk (closed_desk files) (run_steps name files text)).files
+abbrev pub files_of_script : Option (List ℕ) → List TapKind → Files → List ℕ → Files
+files_of_script name kinds files text = (last_desk (closed_desk (stored files kinds)) (run_steps name (stored files kinds) text)).store.files
 
 abbrev pub outcome_of_info : List ℕ → Files → Outcome
 outcome_of_info name files = info name (found_in (files name))
@@ -80,14 +81,14 @@ abbrev pub outcome_of_infos : List (List ℕ) → Files → Outcome
 outcome_of_infos [] files = says []
 outcome_of_infos (name ∷ names) files = and_then (outcome_of_info name files) (outcome_of_infos names files)
 
--- what the words ask for, over these files and with this script to come
-abbrev pub outcome_of : Asked → Files → List ℕ → Outcome
-outcome_of Asked.nothing files text = bad_words
-outcome_of (Asked.info_of names) files text = outcome_of_infos names files
-outcome_of (Asked.script name) files text = outcome_of_script name files text
-outcome_of Asked.help files text = says HELP.now
-outcome_of Asked.version files text = says VERSION.now
-outcome_of (Asked.tool work) files text = outcome_of_work work files
+-- what the words ask for, with taps of these kinds, over these files and with this script to come
+abbrev pub outcome_of : Asked → List TapKind → Files → List ℕ → Outcome
+outcome_of Asked.nothing kinds files text = bad_words
+outcome_of (Asked.info_of names) kinds files text = outcome_of_infos names files
+outcome_of (Asked.script name) kinds files text = outcome_of_script name kinds files text
+outcome_of Asked.help kinds files text = says HELP.now
+outcome_of Asked.version kinds files text = says VERSION.now
+outcome_of (Asked.tool work) kinds files text = outcome_of_work work files
 
 -- whether that is a script; and the name that is pinned in it, where there is one
 abbrev pub is_script : Asked → Bool
@@ -130,14 +131,14 @@ looks_for words = looks_by (asked words)
 abbrev pub names_for : List (List ℕ) → List (List ℕ)
 names_for words = names_by (asked words)
 
-abbrev pub outcome : List (List ℕ) → Files → List ℕ → Outcome
-outcome words files text = outcome_of (asked words) files text
+abbrev pub outcome : List (List ℕ) → List TapKind → Files → List ℕ → Outcome
+outcome words kinds files text = outcome_of (asked words) kinds files text
 
 -- the files that are there afterwards: only a script and a tool change any
-abbrev pub files_of : Asked → Files → List ℕ → Files
-files_of (Asked.script name) files text = files_of_script name files text
-files_of (Asked.tool work) files text = after_work work files
-files_of other files text = files
+abbrev pub files_of : Asked → List TapKind → Files → List ℕ → Files
+files_of (Asked.script name) kinds files text = files_of_script name kinds files text
+files_of (Asked.tool work) kinds files text = after_work work files
+files_of other kinds files text = files
 
-abbrev pub files_after : List (List ℕ) → Files → List ℕ → Files
-files_after words files text = files_of (asked words) files text
+abbrev pub files_after : List (List ℕ) → List TapKind → Files → List ℕ → Files
+files_after words kinds files text = files_of (asked words) kinds files text

@@ -8,9 +8,11 @@ use Rattle.snd_disk.specs.Streams.{AppendsFront}
 use Rattle.snd_disk.specs.declared.shelf.Shelf.{Ghosts as ShelfMeaning}
 use Rattle.snd_disk.specs.declared.streams.Sink.{Ghosts as SinkMeaning}
 use Rattle.snd_disk.specs.declared.streams.Source.{Ghosts as SourceMeaning}
+use Rattle.snd_script.specs.Desk.{Store, stored}
 use Rattle.snd_script.specs.Edit.{Edited}
 use Rattle.snd_script.specs.Pinned.{run_steps}
 use Rattle.snd_script.specs.Served.{FaultCounts, HasFiles, IsDone, IsFault, StopsAtMemory}
+use Rattle.snd_taps.specs.declared.tap.TapKind.{TapKind}
 use Rattle.snd_words.specs.Asked.{Work}
 use Rattle.snd_app.specs.Outcome.{files_of_script, outcome_of_script}
 use Rattle.snd_app.specs.Printed.{Outcome}
@@ -90,21 +92,21 @@ RunsAs s r o e given after shelf script out err shelf' script' out' err' status 
     (HasFiles s.state shelf' (after files text))
 
 -- .. of a script, in which the file of a name is pinned where there is one
-abbrev pub RunsScript : {S D R O E : Type 0} → ShelfMeaning S D → SourceMeaning R → SinkMeaning O → SinkMeaning E → Option (List ℕ) → S → R → O → E → S → R → O → E → ℕ → Type 0
-RunsScript s r o e name shelf script out err shelf' script' out' err' status =
-    RunsAs s r o e (outcome_of_script name) (files_of_script name) shelf script out err shelf' script' out' err' status
+abbrev pub RunsScript : {S D R O E : Type 0} → ShelfMeaning S D → SourceMeaning R → SinkMeaning O → SinkMeaning E → List TapKind → Option (List ℕ) → S → R → O → E → S → R → O → E → ℕ → Type 0
+RunsScript s r o e kinds name shelf script out err shelf' script' out' err' status =
+    RunsAs s r o e (outcome_of_script name kinds) (files_of_script name kinds) shelf script out err shelf' script' out' err' status
 
 -- a script that ends with 3 was served up to a fault; or it was served, and the message that it is too long did not get out. One
 -- that ends with 4 was served up to want of memory.
-abbrev pub IsScriptStop : {S : Type 0} → (S → ShelfState) → Files → List Edited → ℕ → Faults → Faults → Told → Option (List ℕ) → S → Type 0
-IsScriptStop state files all status old new out more shelf' =
-    (status ≡ 3 → IsFault state files all (counts_of old) (counts_of new) out.before out.after more shelf' ⊎ (Rises old.err new.err × IsDone state files all out.before out.after shelf'))
-    × (status ≡ 4 → StopsAtMemory state files all out.before out.after shelf')
+abbrev pub IsScriptStop : {S : Type 0} → (S → ShelfState) → Store → List Edited → ℕ → Faults → Faults → Told → Option (List ℕ) → S → Type 0
+IsScriptStop state store all status old new out more shelf' =
+    (status ≡ 3 → IsFault state store all (counts_of old) (counts_of new) out.before out.after more shelf' ⊎ (Rises old.err new.err × IsDone state store all out.before out.after shelf'))
+    × (status ≡ 4 → StopsAtMemory state store all out.before out.after shelf')
 
-abbrev pub StopsAs : {S D R O E : Type 0} → ShelfMeaning S D → SourceMeaning R → SinkMeaning O → SinkMeaning E → Option (List ℕ) → S → R → O → E → S → R → O → E → ℕ → Type 0
-StopsAs s r o e name shelf script out err shelf' script' out' err' status =
+abbrev pub StopsAs : {S D R O E : Type 0} → ShelfMeaning S D → SourceMeaning R → SinkMeaning O → SinkMeaning E → List TapKind → Option (List ℕ) → S → R → O → E → S → R → O → E → ℕ → Type 0
+StopsAs s r o e kinds name shelf script out err shelf' script' out' err' status =
     (files : Files) (text : List ℕ) → TellsFiles s.state shelf files → r.left script ≡ Some text →
-    IsScriptStop s.state files (run_steps name files text) status (faults_of s r o e shelf script out err) (faults_of s r o e shelf' script' out' err') (told_by o out out') (r.left script') shelf'
+    IsScriptStop s.state (stored files kinds) (run_steps name (stored files kinds) text) status (faults_of s r o e shelf script out err) (faults_of s r o e shelf' script' out' err') (told_by o out out') (r.left script') shelf'
 
 -- a count of faults rises
 abbrev pub FaultRises : {S D R O E : Type 0} → ShelfMeaning S D → SourceMeaning R → SinkMeaning O → SinkMeaning E → S → R → O → E → S → R → O → E → Type 0

@@ -1,6 +1,6 @@
 //! What the program does with its words.
 
-ghost use Rattle.std.specs.Prelude.{◌≡◌, ◌≤◌, ◌+◌, List, ℕ, IfOk, None, Some, [], false, length, true};
+ghost use Rattle.std.specs.Prelude.{◌≡◌, ◌≤◌, ◌+◌, List, ℕ, IfOk, None, Some, [], false, length, map, true};
 ghost use Rattle.snd_disk.specs.Shelf.{KeepsFiles};
 ghost use Rattle.snd_script.specs.Served.{BoundsScript, KeepsUnnamed, LeavesScript, LeavesShelf};
 ghost use Rattle.snd_script.specs.PinnedRun.{named};
@@ -23,6 +23,7 @@ use snd_fields::Words;
 use snd_lines::Refusal;
 use snd_output::Stop;
 use snd_script::{ScriptEnd, serve};
+use snd_taps::Tap;
 use snd_words::{Names, Request, request_of};
 use std::alloc::{AllocError, Global};
 
@@ -114,22 +115,24 @@ fn run_script<S: Shelf, R: Source, O: Sink, E: Sink>(
     script: &mut R,
     out: &mut O,
     err: &mut E,
+    taps: Vec<Box<dyn Tap>>,
 ) -> u8
     requires { IsAllIn (S.state shelf.old) }
-    ensures outcome { RunsScript S.Shelf R.Source O.Sink E.Sink (named pinned.entry)
+    ensures outcome { RunsScript S.Shelf R.Source O.Sink E.Sink (map (λ b. (meter b).kind) taps.items) (named pinned.entry)
         shelf.old script.old out.old err.old shelf.new script.new out.new err.new result }
-    ensures stops { StopsAs S.Shelf R.Source O.Sink E.Sink (named pinned.entry)
+    ensures stops { StopsAs S.Shelf R.Source O.Sink E.Sink (map (λ b. (meter b).kind) taps.items) (named pinned.entry)
         shelf.old script.old out.old err.old shelf.new script.new out.new err.new result }
     ensures fault { result ≡ 3 → FaultRises S.Shelf R.Source O.Sink E.Sink
         shelf.old script.old out.old err.old shelf.new script.new out.new err.new }
     ensures unread { LeavesScript S.state (named pinned.entry) shelf.old script.old script.new }
     ensures taken { R.given script.new ≤ R.given script.old + 16777217 }
     ensures bounds { BoundsScript S.state R.left (named pinned.entry) shelf.old script.old shelf.new }
-    ensures crash { TrailsScript S.Shelf R.Source O.Sink (named pinned.entry) shelf.old script.old out.old shelf.new out.new }
+    ensures crash { TrailsScript S.Shelf R.Source O.Sink (map (λ b. (meter b).kind) taps.items) (named pinned.entry)
+        shelf.old script.old out.old shelf.new out.new }
     ensures leaves { LeavesShelf S.state S.left_between shelf.old shelf.new }
     ensures unnamed { KeepsUnnamed S.state S.may_leave S.left_between R.left (named pinned.entry) shelf.old script.old shelf.new }
 {
-    match serve(alloc, shelf, script, out, pinned) {
+    match serve(alloc, shelf, script, out, taps, pinned) {
         ScriptEnd::Done { refused } => u8::from(refused),
         ScriptEnd::TooLong => put_text(err, b"snd: script too long\n", 2),
         ScriptEnd::Fault => FAULT,
@@ -141,7 +144,7 @@ fn run_script<S: Shelf, R: Source, O: Sink, E: Sink>(
 ///
 /// The words `info NAME..` describe 1 to 64 files, and `script` carries out the commands that come from
 /// `script`, one a line; with `script --auto NAME` the file of the name is open in all of them, and updated
-/// automatically. `convert OPTION.. IN OUT` copies a file into another container or codec. `--help` and
+/// automatically. The boxes of `taps` wait in their order for a script's `tap`. `convert OPTION.. IN OUT` copies a file into another container or codec. `--help` and
 /// `--version` print a text on `out`. Any other words are refused. Beside the
 /// statuses 0, 1 and 2 that the outcome has, 3 says that the shelf, the script or a sink failed, and 4 that
 /// memory ran out.
@@ -152,22 +155,26 @@ pub fn run<S: Shelf, R: Source, O: Sink, E: Sink>(
     script: &mut R,
     out: &mut O,
     err: &mut E,
+    taps: Vec<Box<dyn Tap>>,
 ) -> u8
     requires { IsAllIn (S.state shelf.old) }
 
     // The headline: over files and a script that are told, the run is the outcome of the words, the
     // files and the script, and it leaves the files that these give.
-    ensures headline { RunsAs S.Shelf R.Source O.Sink E.Sink (outcome words.now) (files_after words.now)
+    ensures headline { RunsAs S.Shelf R.Source O.Sink E.Sink
+        (outcome words.now (map (λ b. (meter b).kind) taps.items)) (files_after words.now (map (λ b. (meter b).kind) taps.items))
         shelf.old script.old out.old err.old shelf.new script.new out.new err.new result }
 
     // Its other half: over a shelf, a script and `out` that are told, whatever a crash leaves at any moment
     // of the file that is pinned, where that is synced and fit at the start, opens with its parameters and its
     // further chunks, with the frames of one of two states of the script that follow each other, and with
     // every frame that is not written between these; the states come in their order, as far as `out` shows.
-    ensures crash { TrailsScript S.Shelf R.Source O.Sink (pinned_for words.now) shelf.old script.old out.old shelf.new out.new }
+    ensures crash { TrailsScript S.Shelf R.Source O.Sink (map (λ b. (meter b).kind) taps.items) (pinned_for words.now)
+        shelf.old script.old out.old shelf.new out.new }
 
     // Where a script was not carried out whole: which replies there are, and which files.
-    ensures stops { runs_script words.now ≡ true → StopsAs S.Shelf R.Source O.Sink E.Sink (pinned_for words.now)
+    ensures stops { runs_script words.now ≡ true → StopsAs S.Shelf R.Source O.Sink E.Sink
+        (map (λ b. (meter b).kind) taps.items) (pinned_for words.now)
         shelf.old script.old out.old err.old shelf.new script.new out.new err.new result }
 
     // Words that are refused need no file and no script.
@@ -194,7 +201,7 @@ pub fn run<S: Shelf, R: Source, O: Sink, E: Sink>(
     // that is made, or was refused, as the outcome says.
     ensures others { (name : List ℕ) → output_for words.now ≡ Some name → ChangesOne S.Shelf name shelf.old shelf.new }
     ensures done { (name : List ℕ) → output_for words.now ≡ Some name →
-        DoneAtStream S.state (λ files. files_after words.now files []) shelf.old shelf.new result }
+        DoneAtStream S.state (λ files. files_after words.now (map (λ b. (meter b).kind) taps.items) files []) shelf.old shelf.new result }
 
     // With a script, so does a file that no line opens to be written, and that is not pinned; and no more bytes
     // are asked of the files and written than the lines may.
@@ -203,7 +210,7 @@ pub fn run<S: Shelf, R: Source, O: Sink, E: Sink>(
 {
     match request_of(words) {
         Some(Request::Info(names)) => run_infos(alloc, &names, shelf, out, err),
-        Some(Request::Script(pinned)) => run_script(alloc, pinned, shelf, script, out, err),
+        Some(Request::Script(pinned)) => run_script(alloc, pinned, shelf, script, out, err, taps),
         Some(Request::Help) => put_text(out, HELP.as_bytes(), 0),
         Some(Request::Version) => put_text(out, VERSION.as_bytes(), 0),
         Some(Request::Tool(tool)) => run_tool(alloc, &tool, shelf, out, err),

@@ -5,12 +5,13 @@ use Rattle.snd_disk.specs.Shelf.{Files, SameFiles}
 use Rattle.snd_app.specs.Outcome.{outcome}
 use Rattle.snd_app.specs.Printed.{Outcome}
 use Rattle.snd_app.specs.Run.{Faults, IsRun, Told}
+use Rattle.snd_taps.specs.declared.tap.TapKind.{TapKind}
 use Rattle.snd_rows.specs.declared.memory.Printed.{Printed}
 use Rattle.snd_rows.specs.Memory.{IsPrinted}
 
 -- an outcome depends on the files by their names alone
-pub outcome_same : (f g : Files) → SameFiles f g → (words : List (List ℕ)) (text : List ℕ) → outcome words g text ≡ outcome words f text
-outcome_same f g same words text = ap (λ (h : Files). outcome words h text) (fun_ext same)
+pub outcome_same : (f g : Files) → SameFiles f g → (words : List (List ℕ)) (kinds : List TapKind) (text : List ℕ) → outcome words kinds g text ≡ outcome words kinds f text
+outcome_same f g same words kinds text = ap (λ (h : Files). outcome words kinds h text) (fun_ext same)
 
 -- no name is out where one was put back
 pub none_out : (named out : Bool) → out ≡ false → cond named false out ≡ false

@@ -1,10 +1,11 @@
 ghost use Rattle.std.specs.Prelude.{◌≡◌, IfOk};
 ghost use Rattle.snd_app.specs.Outcome.{outcome};
-ghost use Rattle.snd_rows.specs.Memory.{one_file, IsPrinted};
+ghost use Rattle.snd_rows.specs.Memory.{each_kind, one_file, IsPrinted};
 
 use snd_app::run;
 use snd_disk::{MemoryDisk, MemoryShelf, MemorySink, MemorySource};
 use snd_fields::Words;
+use snd_taps::{Clips, Energy, Peak, Tap};
 use std::alloc::{AllocError, Global};
 
 /// What a run printed, and the status that it answered.
@@ -18,7 +19,8 @@ pub struct Printed {
 /// How many bytes of the script come at a time.
 const PIECE: usize = 4096;
 
-/// Runs the words over a shelf with one file, with streams that do not fail, and a script to come.
+/// Runs the words over a shelf with one file, with streams that do not fail, a script to come, and a tap of each
+/// kind.
 pub fn run_in_memory(
     alloc: Global,
     words: &Words,
@@ -26,7 +28,7 @@ pub fn run_in_memory(
     bytes: Vec<u8>,
     script: Vec<u8>,
 ) -> Result<Printed, AllocError>
-    ensures { IfOk result (IsPrinted (outcome words.now (one_file name.now bytes.items) script.items)) }
+    ensures { IfOk result (IsPrinted (outcome words.now each_kind (one_file name.now bytes.items) script.items)) }
 {
     let disk = MemoryDisk::new(alloc, bytes, Vec::new(alloc))?;
     let mut shelf = MemoryShelf::new(alloc);
@@ -34,7 +36,19 @@ pub fn run_in_memory(
     let mut script = MemorySource::new(script, PIECE, Vec::new(alloc));
     let mut out = MemorySink::new(alloc, Vec::new(alloc));
     let mut err = MemorySink::new(alloc, Vec::new(alloc));
-    let status = run(alloc, words, &mut shelf, &mut script, &mut out, &mut err);
+    let mut taps: Vec<Box<dyn Tap>> = Vec::new(alloc);
+    taps.push(Box::new(alloc, Peak::new())?)?;
+    taps.push(Box::new(alloc, Clips::new())?)?;
+    taps.push(Box::new(alloc, Energy::new())?)?;
+    let status = run(
+        alloc,
+        words,
+        &mut shelf,
+        &mut script,
+        &mut out,
+        &mut err,
+        taps,
+    );
     Ok(Printed {
         out: out.bytes().to_vec(alloc)?,
         err: err.bytes().to_vec(alloc)?,

@@ -216,7 +216,25 @@ static SCRIPTS: [(&str, &str, u8); 12] = [
     ),
     (
         "create au pcm_8 1 1 a\ncreate wave ima 1 8000 a\ntap peak\nget chunks\nseek w 0\n",
-        "error 40 BadCommand\nerror 99 NotBuilt\nerror 99 NotBuilt\nerror 42 NotOpen\nerror 42 NotOpen\n",
+        "error 40 BadCommand\nerror 99 NotBuilt\nerror 42 NotOpen\nerror 42 NotOpen\nerror 42 NotOpen\n",
+        1,
+    ),
+    // each frame that is read is fed to each tap that is on, and one that was dropped never comes back
+    (
+        "open r a.wav\ntap peak\ntap energy\ntap peak\nread 2\nuntap peak\nuntap energy\nuntap peak\ntap peak\n",
+        "ok 2 1 8000 wave pcm_16_le\nok\nok\nerror 46 TapOn\nok 2\n1\n-1\nok peak 2 1\nok energy 2 2\nerror 45 NoSuchTap\nerror 45 NoSuchTap\n",
+        1,
+    ),
+    // at `close` it waits again, and begins anew; a read that is refused feeds none
+    (
+        "open r a.wav\ntap clips\nread 1\nclose\nuntap clips\nopen r a.wav\nuntap clips\ntap clips\nread 1025\nread 1\nread 5\nread 1\nuntap clips\n",
+        "ok 2 1 8000 wave pcm_16_le\nok\nok 1\n1\nok 2\nerror 42 NotOpen\nok 2 1 8000 wave pcm_16_le\nerror 45 NoSuchTap\nok\nerror 40 BadCommand\nok 1\n1\nok 1\n-1\nok 0\nok clips 2 0\n",
+        1,
+    ),
+    // the ends of the range are those of the codec
+    (
+        "create wave pcm_s8 1 8000 b\ncreate au pcm_s8 1 8000 b\nwrite -128 127 5\nclose\nopen r b\ntap clips\ntap peak\nread 3\nuntap clips\nuntap peak\n",
+        "error 18 BadPair\nok 0 1 8000 au pcm_s8\nok 3\nok 3\nok 3 1 8000 au pcm_s8\nok\nok\nok 3\n-128\n127\n5\nok clips 3 2\nok peak 3 128\n",
         1,
     ),
     (
@@ -310,7 +328,15 @@ fn run_failing(
     failing.push(FailingPut { number: put, bytes })?;
     let mut out = MemorySink::new(alloc, failing);
     let mut err = MemorySink::new(alloc, Vec::new(alloc));
-    let status = run(alloc, &words, &mut shelf, &mut script, &mut out, &mut err);
+    let status = run(
+        alloc,
+        &words,
+        &mut shelf,
+        &mut script,
+        &mut out,
+        &mut err,
+        Vec::new(alloc),
+    );
     Ok((status, out.bytes().to_vec(alloc)?))
 }
 

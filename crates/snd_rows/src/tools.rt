@@ -34,7 +34,15 @@ fn run_over<S: Shelf>(
     let mut script = MemorySource::new(Vec::new(alloc), 1, Vec::new(alloc));
     let mut out = MemorySink::new(alloc, Vec::new(alloc));
     let mut err = MemorySink::new(alloc, Vec::new(alloc));
-    let status = run(alloc, &words, shelf, &mut script, &mut out, &mut err);
+    let status = run(
+        alloc,
+        &words,
+        shelf,
+        &mut script,
+        &mut out,
+        &mut err,
+        Vec::new(alloc),
+    );
     Ok((
         out.bytes().to_vec(alloc)?,
         err.bytes().to_vec(alloc)?,

@@ -162,7 +162,15 @@ fn run_over<S: Shelf>(
     })?;
     let mut out = MemorySink::new(alloc, puts);
     let mut err = MemorySink::new(alloc, Vec::new(alloc));
-    let status = run(alloc, &words, shelf, &mut script, &mut out, &mut err);
+    let status = run(
+        alloc,
+        &words,
+        shelf,
+        &mut script,
+        &mut out,
+        &mut err,
+        Vec::new(alloc),
+    );
     Ok((status, out.bytes().to_vec(alloc)?))
 }
 

@@ -34,7 +34,7 @@ returns-in-Some-Info-clause-unnamed g c = λ no_tool f s n told left there none.
 pub returns-in-Some-Script-clause-stops : goal.returns-in-Some-Script-clause-stops
 returns-in-Some-Script-clause-stops g c = λ script.
     let is : Asked.script (named c.in-Some-Script.pinned) ≡ asked c.args.words.now = search rules in
-    subst (λ (a : Asked). StopsAs g.S.Shelf g.R.Source g.O.Sink g.E.Sink (pinned_by a) c.args.shelf.now c.args.script.now c.args.out.now c.args.err.now
+    subst (λ (a : Asked). StopsAs g.S.Shelf g.R.Source g.O.Sink g.E.Sink _ (pinned_by a) c.args.shelf.now c.args.script.now c.args.out.now c.args.err.now
     c.run_script.new.shelf c.run_script.new.script c.run_script.new.out c.run_script.new.err c.run_script.result) is c.run_script.ensures.stops
 
 pub returns-in-Some-Script-clause-bounds : goal.returns-in-Some-Script-clause-bounds
@@ -45,15 +45,15 @@ returns-in-Some-Script-clause-bounds g c = λ script.
 pub returns-in-Some-Script-clause-crash : goal.returns-in-Some-Script-clause-crash
 returns-in-Some-Script-clause-crash g c =
     let is : Asked.script (named c.in-Some-Script.pinned) ≡ asked c.args.words.now = search rules in
-    subst (λ (a : Asked). TrailsScript g.S.Shelf g.R.Source g.O.Sink (pinned_by a) c.args.shelf.now c.args.script.now c.args.out.now c.run_script.new.shelf c.run_script.new.out) is
+    subst (λ (a : Asked). TrailsScript g.S.Shelf g.R.Source g.O.Sink _ (pinned_by a) c.args.shelf.now c.args.script.now c.args.out.now c.run_script.new.shelf c.run_script.new.out) is
     c.run_script.ensures.crash
 
 pub returns-in-Some-Help-clause-headline : goal.returns-in-Some-Help-clause-headline
 returns-in-Some-Help-clause-headline g c = λ files text told left.
     let is : Asked.help ≡ asked c.args.words.now = search rules in
     run_as g.S.Shelf.state c.args.shelf.now c.put_text.result _ _ _ _ files text _ _ is
-    (with_files c.put_text.result _ _ _ _ (outcome_of Asked.help files text) _ (files, told, λ n. refl)
-    (is_put_out c.put_text.result _ _ _ _ (outcome_of Asked.help files text) c.as_bytes.result.now (ap (λ t. record { out = t; err = []; status = 0 }) c.as_bytes.ensures.value) refl refl refl refl c.put_text.ensures))
+    (with_files c.put_text.result _ _ _ _ (outcome_of Asked.help _ files text) _ (files, told, λ n. refl)
+    (is_put_out c.put_text.result _ _ _ _ (outcome_of Asked.help _ files text) c.as_bytes.result.now (ap (λ t. record { out = t; err = []; status = 0 }) c.as_bytes.ensures.value) refl refl refl refl c.put_text.ensures))
 
 pub returns-in-Some-Tool-clause-headline : goal.returns-in-Some-Tool-clause-headline
 returns-in-Some-Tool-clause-headline g c = λ files text told left.
@@ -76,7 +76,7 @@ returns-in-Some-Tool-clause-others g c = λ name named.
 pub returns-in-Some-Tool-clause-done : goal.returns-in-Some-Tool-clause-done
 returns-in-Some-Tool-clause-done g c = λ name named.
     let is : Asked.tool (work_of c.in-Some-Tool.tool) ≡ asked c.args.words.now = search rules in
-    subst (λ (a : Asked). DoneAtStream g.S.Shelf.state (λ files. files_of a files []) c.args.shelf.now c.run_tool.new.shelf c.run_tool.result) is c.run_tool.ensures.done
+    subst (λ (a : Asked). DoneAtStream g.S.Shelf.state (λ files. files_of a _ files []) c.args.shelf.now c.run_tool.new.shelf c.run_tool.result) is c.run_tool.ensures.done
 
 pub returns-in-Some-Tool-clause-unnamed : goal.returns-in-Some-Tool-clause-unnamed
 returns-in-Some-Tool-clause-unnamed g c = λ none.
@@ -88,5 +88,5 @@ pub returns-in-None-clause-headline : goal.returns-in-None-clause-headline
 returns-in-None-clause-headline g c = λ files text told left.
     let is : Asked.nothing ≡ asked c.args.words.now = search rules in
     run_as g.S.Shelf.state c.args.shelf.now c.put_text-in-None.result _ _ _ _ files text _ _ is
-    (with_files c.put_text-in-None.result _ _ _ _ (outcome_of Asked.nothing files text) _ (files, told, λ n. refl)
-    (is_put_err c.put_text-in-None.result _ _ _ _ (outcome_of Asked.nothing files text) 2 _ refl refl refl refl refl c.put_text-in-None.ensures))
+    (with_files c.put_text-in-None.result _ _ _ _ (outcome_of Asked.nothing _ files text) _ (files, told, λ n. refl)
+    (is_put_err c.put_text-in-None.result _ _ _ _ (outcome_of Asked.nothing _ files text) 2 _ refl refl refl refl refl c.put_text-in-None.ensures))
