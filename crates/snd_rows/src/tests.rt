@@ -176,7 +176,7 @@ fn damaged_heads_are_refused(rt: HostRuntime) -> Result<(), Fail> {
 }
 
 /// Scripts over the file above, and what they are answered.
-static SCRIPTS: [(&str, &str, u8); 12] = [
+static SCRIPTS: [(&str, &str, u8); 15] = [
     ("", "", 0),
     ("\n  \n# open r a.wav\n", "", 0),
     (
