@@ -4,13 +4,13 @@ use Rattle.std.proofs.lemmas.Bool.{cases_lt}
 use Rattle.std.proofs.lemmas.Grind.{get_or-set_at}
 use Rattle.std.proofs.lemmas.List.{get_or_append_left, get_or_at, get_or_default, get_or-set_other, length-append}
 use Rattle.snd_disk.specs.declared.disk.Disk.{Ghosts}
-use Rattle.snd_disk.specs.State.{Rises, State}
+use Rattle.snd_disk.specs.State.{Adds, Rises, State}
 use Rattle.snd_output.specs.Appended.{CountsFault}
 use Rattle.snd_output.specs.declared.stop.Stop.{Stop}
 use Rattle.snd_output.specs.declared.stop.Stop.TheVariants.{Fault, Memory}
+use Rattle.snd_tools.proofs.Counts.{rises_on, rises_with}
 use Rattle.snd_interleave.specs.Channels.{AreCalm, AreLater, CountsAdding, CountsInputs, CountsWith, OneRises, faults_of}
-use Rattle.snd_interleave.specs.Opening.{CountsBoth}
-use Rattle.snd_interleave.specs.declared.input.Input.{Input}
+use Rattle.snd_inputs.specs.declared.input.Input.{Input}
 
 pub rises_later : (a b c : ℕ) → a ≤ b → Rises b c → Rises a c
 rises_later a b c later (inl rose) = inl (omega (arith, later, rose))
@@ -155,19 +155,21 @@ module _ {D : Type 0} {ghosts : Ghosts D} (state : D → State) where
           (subst (λ (z : Input D ghosts). Rises (faults_of state (get_or (xs ++ x ∷ []) rises.0 x)) (faults_of state z)) (last_is rises.0 y last) (rises.2 x y)))
     ]
 
-    -- .. whose disk had been opened with no fault
-    pub counts_apart : {T : Type 0} (r : Result T Stop) (d d' : D) (a b : ℕ) → faults_of state x ≡ (state d).faults → d' ≡ y.disk → CountsWith state (xs ++ x ∷ []) (ys ++ y ∷ []) a b r → CountsBoth state xs ys d d' a b r
-    counts_apart r d d' a b opened is counts = subst (λ (e : D). CountsBoth state xs ys d e a b r) (sym is) (by_answer r counts)
-      where
-        by_answer : {T : Type 0} (r : Result T Stop) → CountsWith state (xs ++ x ∷ []) (ys ++ y ∷ []) a b r → CountsBoth state xs ys d y.disk a b r
-        by_answer (Ok t) counts = (front_calm counts.0, last_calm counts.0 ∙ opened, counts.1)
-        by_answer (Err Memory) counts = (front_calm counts.0, last_calm counts.0 ∙ opened, counts.1)
-        by_answer (Err Fault) counts = (
-          front_later counts.0,
-          (let later = last_later counts.0 in omega (arith, later, opened)),
-          counts.1,
-          elim counts.2 [
-            | inl rises ↦ elim (rises_split rises) [ inl front ↦ inl front | inr last ↦ inr (inl (subst (λ (n : ℕ). Rises n (faults_of state y)) opened last)) ]
-            | inr rises ↦ inr (inr rises)
-          ],
-        )
+    -- .. whose disk, that was opened with no fault, comes back to its shelf
+    pub counts_apart : {T : Type 0} (r : Result T Stop) (old mid mid' new : ℕ) → mid ≡ old → faults_of state x ≡ 0 → Adds mid' (faults_of state y) new
+        → CountsWith state (xs ++ x ∷ []) (ys ++ y ∷ []) mid mid' r → CountsWith state xs ys old new r
+    counts_apart (Ok t) old mid mid' new same none adds counts =
+        (front_calm counts.0, (let last = last_calm counts.0 in omega (arith, same, none, last, counts.1, adds.later, adds.most)))
+    counts_apart (Err Memory) old mid mid' new same none adds counts =
+        (front_calm counts.0, (let last = last_calm counts.0 in omega (arith, same, none, last, counts.1, adds.later, adds.most)))
+    counts_apart (Err Fault) old mid mid' new same none adds counts = (
+      front_later counts.0,
+      omega (arith, same, counts.1, adds.later),
+      elim counts.2 [
+        | inl rises ↦ elim (rises_split rises) [
+          | inl front ↦ inl front
+          | inr last ↦ inr (rises_later old mid' new (omega (arith, same, counts.1)) (rises_with mid' (faults_of state y) new (subst (λ (n : ℕ). Rises n (faults_of state y)) none last) adds))
+        ]
+        | inr rises ↦ inr (subst (λ (n : ℕ). Rises n new) same (rises_on mid mid' new counts.1 rises adds.later))
+      ],
+    )

@@ -1,5 +1,5 @@
 -- What is done with inputs that are all open.
-use Rattle.std.proofs.Common.{◌≡◌, ◌∙◌, ap, sym, refl, subst, inl, inr, ℕ, zero, suc, ℤ, Bool, true, false, cond, List, [], ◌∷◌, Option, None, Some, Result, Ok, Err, IfOk, length, arith}
+use Rattle.std.proofs.Common.{◌≡◌, ◌∙◌, ap, sym, refl, subst, inl, inr, ℕ, zero, suc, ℤ, Bool, true, false, cond, List, [], ◌∷◌, Option, None, Some, Result, Ok, Err, length, arith}
 use Rattle.std.proofs.lemmas.Bool.{cases_Bool, eqb-true}
 use Rattle.std.specs.Prelude.{◌==◌}
 use Rattle.snd_disk.specs.declared.disk.Disk.{Ghosts}
@@ -13,15 +13,13 @@ use Rattle.snd_lines.specs.declared.refusal.Refusal.{Refusal}
 use Rattle.snd_lines.specs.declared.refusal.Refusal.TheVariants.{ContainerFull, MixedParams, NotMono}
 use Rattle.snd_modes.specs.Editing.{Editing}
 use Rattle.snd_output.specs.Made.{made_file}
-use Rattle.snd_output.specs.declared.stop.Stop.{Stop}
 use Rattle.snd_tools.proofs.Names.{MakesOnly}
 use Rattle.snd_tools.specs.Done.{Done, Said, files_after, said_of}
-use Rattle.snd_tools.specs.Shelves.{Does, HasFiles, IsDone}
-use Rattle.snd_tools.specs.declared.answer.Answer.{Answer}
+use Rattle.snd_tools.specs.Shelves.{HasFiles}
 use Rattle.snd_interleave.specs.Beside.{longest, side_by_side}
 use Rattle.snd_interleave.specs.Channels.{AreMono, bytes_made, first_of, layouts_of}
 use Rattle.snd_interleave.specs.Interleave.{channels_in, done_as, done_beside, done_if_fit, done_with, first_misfit, is_full, made_of, misfit, misfit_or, planned, shapes_of}
-use Rattle.snd_interleave.specs.declared.input.Input.{Input}
+use Rattle.snd_inputs.specs.declared.input.Input.{Input}
 
 -- ---- the output alone is made
 
@@ -97,9 +95,6 @@ all_mono first (name ∷ names) (x ∷ inputs) many none =
 
 -- ---- and is said
 
-pub done_same : {S : Type 0} (state : S → ShelfState) (new : S) (files : Files) (answer : Answer) (todo todo' : Done) → todo' ≡ todo → IsDone state new answer todo files → IsDone state new answer todo' files
-done_same state new files answer todo todo' is done = subst (λ (d : Done). IsDone state new answer d files) (sym is) done
-
 -- the output was made
 pub output_made : {S : Type 0} (state : S → ShelfState) (new : S) (files : Files) (output : List ℕ) (kind : Kind) (p : Parameters) (es : List Editing) (frames : ℕ)
     → frames ≡ longest (channels_in p.codec es) → is_full kind p (longest (channels_in p.codec es)) ≡ false → HasFiles state new (put files output (Some (bytes_made kind p es)))
@@ -121,8 +116,3 @@ pub refused_as : {S : Type 0} (state : S → ShelfState) (shelf : S) (files : Fi
     → (Said.refused name why ≡ said_of todo) × HasFiles state shelf (files_after todo files)
 refused_as state shelf files name why todo told is =
     subst (λ (d : Done). (Said.refused name why ≡ said_of d) × HasFiles state shelf (files_after d files)) (sym is) (refl, (files, told, λ n. refl))
-
-pub does_so : {S : Type 0} (state : S → ShelfState) (todo : Files → Done) (old new : S) (r : Result Answer Stop) → IfOk r (λ answer. (files : Files) → TellsFiles state old files → IsDone state new answer (todo files) files)
-    → Does state todo old new r
-does_so state todo old new (Ok answer) is = is
-does_so state todo old new (Err stop) is = tt

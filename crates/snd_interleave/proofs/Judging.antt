@@ -8,7 +8,7 @@ use Rattle.snd_layout.specs.declared.codec.Codec.{Codec}
 use Rattle.snd_layout.specs.declared.refusal.OpenRefusal.{OpenRefusal}
 use Rattle.snd_interleave.specs.Channels.{layouts_of}
 use Rattle.snd_interleave.specs.Interleave.{first_misfit, misfit, misfit_or}
-use Rattle.snd_interleave.specs.declared.input.Input.{Input}
+use Rattle.snd_inputs.specs.declared.input.Input.{Input}
 use Rattle.snd_words.proofs.Runs.{drop_get}
 
 -- parameters that are not refused are those that were asked for

@@ -1,10 +1,9 @@
 -- A file that is made of inputs: it may be given all frames once it is begun, and how it ends.
-use Rattle.std.proofs.Common.{◌≡◌, ◌∙◌, ap, sym, subst, refl, inl, inr, ◌⊎◌, ℕ, ◌+◌, ◌≤◌, List, [], true, false, Option, None, Some, Result, Ok, Err, OnOk, arith}
+use Rattle.std.proofs.Common.{◌≡◌, ◌∙◌, ap, sym, subst, inl, inr, ◌⊎◌, ℕ, ◌+◌, ◌≤◌, List, [], true, false, Option, None, Some, Result, Ok, Err, OnOk, arith}
 use Rattle.std.proofs.lemmas.Bool.{ltb-false}
 use Rattle.std.specs.Prelude.{is_some}
 use Rattle.snd_container.proofs.EveryKind.{made}
 use Rattle.snd_disk.specs.declared.disk.Disk.{Ghosts}
-use Rattle.snd_disk.specs.Device.{Tells}
 use Rattle.snd_disk.specs.State.{Rises, State}
 use Rattle.snd_layout.specs.Fit.{fit_refusal}
 use Rattle.snd_layout.specs.Params.{AreParams, Parameters, data_bytes}
@@ -17,10 +16,9 @@ use Rattle.snd_output.proofs.Begun.{new_says}
 use Rattle.snd_output.specs.Appended.{HasRoom, IsAtEnd}
 use Rattle.snd_output.specs.declared.stop.Stop.{Stop}
 use Rattle.snd_output.specs.declared.stop.Stop.TheVariants.{Fault}
-use Rattle.snd_patch.specs.Steps.{StillTells}
 use Rattle.snd_interleave.specs.Channels.{CountsAdding, CountsWith}
 use Rattle.snd_interleave.specs.Interleave.{is_full}
-use Rattle.snd_interleave.specs.declared.input.Input.{Input}
+use Rattle.snd_inputs.specs.declared.input.Input.{Input}
 use Rattle.snd_interleave.proofs.Counts.{counts_broken, counts_unfinished}
 
 -- what is begun has these parameters and no frames, and does not go on behind its data
@@ -65,14 +63,3 @@ module _ {D : Type 0} {ghosts : Ghosts D} (state : D → State) (xs ys : List (I
       none (Err e) left = tt
   counts_not_finished r stop broken left is counts (inr now) =
       subst (λ (s : Stop). CountsWith {T = Unit {0}} state xs ys a b (Err s)) (sym is) (counts_unfinished state xs ys a b c (Unit {0}) r now.0 now.1 counts)
-
--- a disk that told its bytes tells them
-some_too : (o o' : Option (List ℕ)) (b : List ℕ) → is_some o' ≡ is_some o → o ≡ Some b → (b' : List ℕ) × (o' ≡ Some b')
-some_too o (Some b') b same is = (b', refl)
-some_too o None b same is = absurd (let e : false ≡ true = same ∙ ap (λ (x : Option (List ℕ)). is_some x) is in cc)
-
-pub still_told : (old new : State) (b : List ℕ) → StillTells old new → old.contents ≡ Some b → (b' : List ℕ) × (new.contents ≡ Some b')
-still_told old new b still is = some_too old.contents new.contents b still.told is
-
-pub told_as : {E : Type 0} (state : E → State) (d d' : E) (b : List ℕ) → d ≡ d' → Tells state d b → Tells state d' b
-told_as {E = E} state d d' b same told = subst (λ (x : E). Tells state x b) same told

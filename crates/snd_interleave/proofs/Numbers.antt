@@ -15,7 +15,7 @@ use Rattle.snd_pcm.specs.Width.{HasWidth, IsWidth, changed, floor_div}
 use Rattle.snd_interleave.specs.Beside.{FitsChannel, HasChannel, KeepsChannels, frame_at, longest}
 use Rattle.snd_interleave.specs.Channels.{AreNumbersAt, HoldAll, layouts_of, most_frames}
 use Rattle.snd_interleave.specs.Interleave.{channel_in, channels_in, numbers_of, shapes_of}
-use Rattle.snd_interleave.specs.declared.input.Input.{Input}
+use Rattle.snd_inputs.specs.declared.input.Input.{Input}
 use Rattle.snd_interleave.proofs.Lists.{changed_at}
 
 -- ---- widths

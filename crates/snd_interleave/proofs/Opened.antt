@@ -1,24 +1,21 @@
 -- Inputs that are opened one after the other: which names are out, and what is to be done.
-use Rattle.std.proofs.Common.{◌≡◌, ◌∙◌, ap, sym, refl, inl, inr, ◌⊎◌, ℕ, zero, suc, ◌+◌, ◌<◌, ◌≤◌, Bool, true, false, cond, ◌||◌, List, [], ◌∷◌, ◌++◌, Option, None, Some, Result, Ok, Err, length, take, drop, get_or, slice_get, arith}
+use Rattle.std.proofs.Common.{◌≡◌, ◌∙◌, ap, sym, refl, inl, inr, ℕ, zero, suc, ◌+◌, ◌<◌, ◌≤◌, Bool, true, false, cond, ◌||◌, List, [], ◌∷◌, ◌++◌, Option, None, Some, Result, Ok, Err, length, take, drop, get_or, slice_get, arith}
 use Rattle.std.proofs.lemmas.Bool.{cases_lt}
 use Rattle.std.proofs.lemmas.List.{append-nil, append_assoc, drop_all, get_or_append_left, get_or_at, length-append, take-append-le, take_all}
 use Rattle.std.proofs.lemmas.List.Folds.{list_any-append}
 use Rattle.std.proofs.lemmas.Option.{get_or_from_slice_get, slice_get-get_or, slice_get_within}
 use Rattle.std.specs.List.{list_any}
 use Rattle.std.specs.Str.{bytes_eq}
-use Rattle.snd_disk.specs.Shelf.{Files, SameFiles, ShelfState, Stays, put}
-use Rattle.snd_disk.specs.Shelves.{TellsFiles}
+use Rattle.snd_disk.specs.Shelf.{Files, SameFiles, ShelfState, put}
 use Rattle.snd_inputs.specs.Inputs.{input_as, input_before, input_in, inputs_in}
-use Rattle.snd_layout.specs.declared.refusal.OpenRefusal.{OpenRefusal}
 use Rattle.snd_lines.specs.declared.refusal.Refusal.{Refusal}
-use Rattle.snd_lines.specs.declared.refusal.Refusal.TheVariants.{MissingFile, Open, SameName}
+use Rattle.snd_lines.specs.declared.refusal.Refusal.TheVariants.{SameName}
 use Rattle.snd_modes.specs.Editing.{Editing, opening_of}
 use Rattle.snd_tools.proofs.Names.{apart_back, put_beside}
 use Rattle.snd_tools.specs.Done.{Done}
-use Rattle.snd_tools.specs.Shelves.{HasFiles}
 use Rattle.snd_words.specs.Repeats.{first_repeated, is_repeated_at}
 use Rattle.snd_interleave.specs.Interleave.{done_beside, done_if_apart, done_with, interleaved}
-use Rattle.snd_interleave.specs.Opening.{AreApart, AreOut, done_next, done_rest, opened_behind}
+use Rattle.snd_interleave.specs.Opening.{AreApart, AreOut, done_rest, opened_behind}
 use Rattle.snd_words.proofs.Runs.{drop_get, get_drop}
 use Rattle.snd_interleave.proofs.Lists.{found_within, none_found, take_more}
 
@@ -123,39 +120,25 @@ module _ (inputs : List (List ℕ)) (output : List ℕ) where
     rest_next : done_rest inputs output files es ≡ done_with inputs output (opened_behind es (input_before name (input_in (files name)) (inputs_in files (drop (length es + 1) inputs))))
     rest_next = ap (λ (l : List (List ℕ)). done_with inputs output (opened_behind es (inputs_in files l))) (drop_get inputs (length es) name there)
 
-    pub rest_missing : files name ≡ None → done_rest inputs output files es ≡ Done.refuses name MissingFile
-    rest_missing none = rest_next ∙ ap (λ (o : Option (List ℕ)). done_with inputs output (opened_behind es (input_before name (input_in o) (inputs_in files (drop (length es + 1) inputs))))) none
+    -- .. is refused
+    pub rest_refused : (why : Refusal) → input_in (files name) ≡ Err why → done_rest inputs output files es ≡ Done.refuses name why
+    rest_refused why refused = rest_next ∙ ap (λ (r : Result Editing Refusal). done_with inputs output (opened_behind es (input_before name r (inputs_in files (drop (length es + 1) inputs))))) refused
 
-    -- .. is taken out meanwhile
-    pub rest_taken : (apart : AreApart inputs output) (files' : Files) (b : List ℕ) → files name ≡ Some b → SameFiles (put files name None) files' → done_rest inputs output files es ≡ done_next inputs output name files' es b
-    rest_taken apart files' b is out =
+    -- .. or is taken out, and open beside the others
+    pub rest_open : (apart : AreApart inputs output) (files' : Files) (b : List ℕ) (e : Editing) → files name ≡ Some b → SameFiles (put files name None) files' → opening_of b ≡ Ok e
+        → done_rest inputs output files es ≡ done_rest inputs output files' (es ++ e ∷ [])
+    rest_open apart files' b e is out opens =
         rest_next
         ∙ ap (λ (o : Option (List ℕ)). done_with inputs output (opened_behind es (input_before name (input_in o) (inputs_in files (drop (length es + 1) inputs))))) is
         ∙ ap (λ r. done_with inputs output (opened_behind es (input_before name (input_as (opening_of b)) r))) (sym (same_inputs (drop (length es + 1) inputs) files files' same))
+        ∙ ap (λ r. done_with inputs output (opened_behind es (input_before name (input_as r) (inputs_in files' (drop (length es + 1) inputs))))) opens
+        ∙ ap (done_with inputs output) (sym (behind_one es name e (inputs_in files' (drop (length es + 1) inputs))))
+        ∙ ap (λ (n : ℕ). done_with inputs output (opened_behind (es ++ e ∷ []) (inputs_in files' (drop n inputs)))) (sym (length-append es (e ∷ [])))
       where
         same : (i : ℕ) (n : List ℕ) → slice_get (drop (length es + 1) inputs) i ≡ Some n → files' n ≡ files n
         same i n at =
             let later : slice_get inputs (length es + 1 + i) ≡ Some n = sym (get_drop inputs (length es + 1) i (length es + 1 + i) refl) ∙ at in
             out n ∙ put_beside files name n None (later_apart inputs output apart (length es) name there (length es + 1 + i) n (omega arith) later)
-
-  -- the bytes of the next one are opened, or are not
-  pub next_open : (name : List ℕ) (files : Files) (es : List Editing) (b : List ℕ) (e : Editing) → opening_of b ≡ Ok e → done_next inputs output name files es b ≡ done_rest inputs output files (es ++ e ∷ [])
-  next_open name files es b e is =
-      ap (λ r. done_with inputs output (opened_behind es (input_before name (input_as r) (inputs_in files (drop (length es + 1) inputs))))) is
-      ∙ ap (done_with inputs output) (sym (behind_one es name e (inputs_in files (drop (length es + 1) inputs))))
-      ∙ ap (λ (n : ℕ). done_with inputs output (opened_behind (es ++ e ∷ []) (inputs_in files (drop n inputs)))) (sym (length-append es (e ∷ [])))
-
-  pub next_refused : (name : List ℕ) (files : Files) (es : List Editing) (b : List ℕ) (why : OpenRefusal) → opening_of b ≡ Err why → done_next inputs output name files es b ≡ Done.refuses name (Open why)
-  next_refused name files es b why is = ap (λ r. done_with inputs output (opened_behind es (input_before name (input_as r) (inputs_in files (drop (length es + 1) inputs))))) is
-
--- ---- a shelf that handed nothing out
-
-pub stays_same : {S : Type 0} (state : S → ShelfState) (old new : S) (name : List ℕ) → Stays (state old) (state new) name false → (files : Files) → TellsFiles state old files → HasFiles state new files
-stays_same state old new name stays files told = by (stays.files files told)
-  where
-    by : (f' : Files) × ((state new).files ≡ Some f') × (SameFiles files f' ⊎ ((false ≡ true) × (files name ≡ None) × SameFiles (put files name (Some [])) f')) → HasFiles state new files
-    by (f', is, inl same) = (f', is, same)
-    by (f', is, inr (made, none, with_it)) = absurd (cc)
 
 -- ---- where none is open yet
 

@@ -1,5 +1,5 @@
 -- Numbers of files of one channel that are read.
-use Rattle.std.proofs.Common.{◌≡◌, ◌∙◌, ap, sym, subst, inl, inr, ℕ, ◌*◌, ◌/◌, ◌<◌, ◌≤◌, ℤ, pos, List, All, length, take, drop, map, get_or, min, Result, Ok, Err, IfOk, OnOk, arith}
+use Rattle.std.proofs.Common.{◌≡◌, ◌∙◌, ap, sym, subst, inl, inr, ℕ, ◌*◌, ◌/◌, ◌<◌, ◌≤◌, ℤ, pos, List, All, length, take, drop, map, get_or, min, arith}
 use Rattle.std.proofs.lemmas.Bool.{cases_lt}
 use Rattle.std.proofs.lemmas.List.{drop-map, places, take-map}
 use Rattle.snd_layout.specs.declared.codec.Codec.{Codec}
@@ -38,11 +38,3 @@ all_fit P old into count zero fit same zeros k d lt = elim (cases_lt k count) [
 -- the slice had places for them
 pub few_read : (places count channels left : ℕ) → channels ≡ 1 → count ≡ min (places / channels) left → count ≤ places
 few_read places count channels left mono is = let one : count ≡ min (places / 1) left = is ∙ ap (λ (n : ℕ). min (places / n) left) mono in omega (arith, one)
-
-pub if_ok : {T E : Type 0} (r : Result T E) (P Q : T → Type 0) → ((x : T) → P x → Q x) → IfOk r P → IfOk r Q
-if_ok (Ok x) P Q f p = f x p
-if_ok (Err e) P Q f p = p
-
-pub on_ok : {T E : Type 0} (r : Result T E) (P Q : Type 0) → (P → Q) → OnOk r P → OnOk r Q
-on_ok (Ok x) P Q f p = f p
-on_ok (Err e) P Q f p = p

@@ -1,21 +1,24 @@
 -- Inputs that are open side by side, as the code has them. It is said for the proofs alone.
-use Rattle.std.specs.Prelude.{◌≡◌, ◌⊎◌, ℕ, ℤ, pos, ◌+◌, ◌<◌, ◌≤◌, List, [], ◌∷◌, ◌++◌, Option, None, Some, Result, Ok, Err, IfOk, get_or, length, map, max}
+use Rattle.std.specs.Prelude.{◌≡◌, ◌⊎◌, ℕ, ℤ, pos, ◌+◌, ◌<◌, ◌≤◌, List, [], ◌∷◌, ◌++◌, Option, None, Some, Result, Ok, Err, IfOk, OnOk, Vec, get_or, length, map, max}
+use Rattle.std.specs.declared.alloc.Global.{Global}
 use Rattle.snd_chunks.specs.Written.{NewChunk}
 use Rattle.snd_disk.specs.declared.disk.Disk.{Ghosts}
 use Rattle.snd_disk.specs.Device.{OnlyReadsOn, Tells}
 use Rattle.snd_disk.specs.Shelf.{Files, ShelfState, put}
 use Rattle.snd_disk.specs.Shelves.{TellsFiles}
 use Rattle.snd_disk.specs.State.{Rises, State}
+use Rattle.snd_inputs.specs.Copying.{faults_of_file}
+use Rattle.snd_inputs.specs.Opening.{Holds}
+use Rattle.snd_inputs.specs.declared.input.Input.{Input}
 use Rattle.snd_layout.specs.Params.{Parameters}
 use Rattle.snd_layout.specs.Shape.{Shape}
-use Rattle.snd_layout.specs.declared.error.OpenError.{OpenError}
-use Rattle.snd_layout.specs.declared.error.OpenError.TheVariants.{Refused}
+use Rattle.snd_layout.specs.declared.codec.Codec.{Codec}
 use Rattle.snd_layout.specs.declared.kind.Kind.{Kind}
-use Rattle.snd_layout.specs.declared.refusal.OpenRefusal.{OpenRefusal}
 use Rattle.snd_modes.specs.declared.handle.File.{File}
 use Rattle.snd_modes.specs.declared.mode.Mode.{Ghosts as ModeGhosts}
-use Rattle.snd_modes.specs.Editing.{Editing, first_editing, opening_of}
+use Rattle.snd_modes.specs.Editing.{Editing}
 use Rattle.snd_modes.specs.Handle.{Stands, codec_of}
+use Rattle.snd_output.specs.Appended.{CountsFault}
 use Rattle.snd_output.specs.Made.{IsMaking, made_file}
 use Rattle.snd_output.specs.declared.stop.Stop.{Stop}
 use Rattle.snd_output.specs.declared.stop.Stop.TheVariants.{Fault, Memory}
@@ -24,20 +27,13 @@ use Rattle.snd_tools.specs.Shelves.{HasFiles, IsDone}
 use Rattle.snd_tools.specs.declared.answer.Answer.{Answer}
 use Rattle.snd_interleave.specs.Beside.{frames_from, side_by_side}
 use Rattle.snd_interleave.specs.Interleave.{channels_in}
-use Rattle.snd_interleave.specs.declared.input.Input.{Input}
 
 -- ---- one input
 
--- an input whose disk tells what it holds is a file that was opened
-pub record Holds {D : Type 0} {ghosts : Ghosts D} (state : D → State) (input : Input D ghosts) (e : Editing) : Type 0 where
-  pub bytes : Tells state input.disk e.bytes
-  pub opened : e ≡ first_editing e.bytes input.layout
-  pub count : e.shape.frames ≡ length e.frames
-
 -- an input was only read
-pub record Reads {D : Type 0} {ghosts : Ghosts D} (state : D → State) (may_leave : D → List ℕ → Type 0) (left_between : D → ℕ → ℕ → List ℕ → Type 0) (old new : Input D ghosts) : Type 0 where
+pub record Reads {D : Type 0} (ghosts : Ghosts D) (old new : Input D ghosts) : Type 0 where
   pub layout : new.layout ≡ old.layout
-  pub disk : OnlyReadsOn state may_leave left_between old.disk new.disk
+  pub disk : OnlyReadsOn ghosts.state ghosts.may_leave ghosts.left_between old.disk new.disk
 
 abbrev pub faults_of : {D : Type 0} {ghosts : Ghosts D} → (D → State) → Input D ghosts → ℕ
 faults_of state input = (state input.disk).faults
@@ -46,28 +42,15 @@ faults_of state input = (state input.disk).faults
 abbrev pub AreNumbersAt : ℕ → List ℤ → List ℤ → Type 0
 AreNumbersAt place all xs = (j : ℕ) → j < length xs → get_or xs j (pos 0) ≡ get_or all (place + j) (pos 0)
 
--- a disk that was opened, or was not, and why
-abbrev pub disk_back : {D : Type 0} {ghosts : Ghosts D} → Result (Input D ghosts) (OpenError × D) → D
-disk_back (Ok input) = input.disk
-disk_back (Err error) = error.1
-
-abbrev pub error_of : {D : Type 0} {ghosts : Ghosts D} → Result (Input D ghosts) (OpenError × D) → Result (Input D ghosts) OpenError
-error_of (Ok input) = Ok input
-error_of (Err error) = Err error.0
-
-abbrev pub OpensInput : {D : Type 0} {ghosts : Ghosts D} → (D → State) → D → Result (Input D ghosts) (OpenError × D) → Type 0
-OpensInput state disk (Ok input) = (b : List ℕ) → Tells state disk b → (e : Editing) × (opening_of b ≡ Ok e) × Holds state input e
-OpensInput state disk (Err error) = (why : OpenRefusal) (b : List ℕ) → error.0 ≡ Refused why → Tells state disk b → opening_of b ≡ Err why
-
 -- ---- several
 
 pub record HoldAll {D : Type 0} {ghosts : Ghosts D} (state : D → State) (inputs : List (Input D ghosts)) (es : List Editing) : Type 0 where
   pub count : length es ≡ length inputs
   pub each : (k : ℕ) (d : Input D ghosts) (d' : Editing) → k < length inputs → Holds state (get_or inputs k d) (get_or es k d')
 
-pub record ReadAll {D : Type 0} {ghosts : Ghosts D} (state : D → State) (may_leave : D → List ℕ → Type 0) (left_between : D → ℕ → ℕ → List ℕ → Type 0) (old new : List (Input D ghosts)) : Type 0 where
+pub record ReadAll {D : Type 0} (ghosts : Ghosts D) (old new : List (Input D ghosts)) : Type 0 where
   pub count : length new ≡ length old
-  pub each : (k : ℕ) (d d' : Input D ghosts) → k < length old → Reads state may_leave left_between (get_or old k d) (get_or new k d')
+  pub each : (k : ℕ) (d d' : Input D ghosts) → k < length old → Reads ghosts (get_or old k d) (get_or new k d')
 
 -- what they say of themselves
 abbrev pub layouts_of : {D : Type 0} {ghosts : Ghosts D} → List (Input D ghosts) → List Shape
@@ -119,7 +102,31 @@ CountsWith state old new other other' (Ok done) = AreCalm state old new × (othe
 CountsWith state old new other other' (Err Fault) = AreLater state old new × (other ≤ other') × (OneRises state old new ⊎ Rises other other')
 CountsWith state old new other other' (Err Memory) = AreCalm state old new × (other' ≡ other)
 
+-- .. of a shelf, of a disk that is made, or of an open file
+abbrev pub CountsBeside : {D S T : Type 0} {ghosts : Ghosts D} → (D → State) → (S → ShelfState) → List (Input D ghosts) → List (Input D ghosts) → S → S → Result T Stop → Type 0
+CountsBeside state shelf_state old new shelf shelf' result = CountsWith state old new (shelf_state shelf).faults (shelf_state shelf').faults result
+
+abbrev pub CountsAll : {D S T : Type 0} {ghosts : Ghosts D}
+    → (D → State) → (S → ShelfState) → Vec (Input D ghosts) Global → Vec (Input D ghosts) Global → S → S → Result T Stop → Type 0
+CountsAll state shelf_state old new shelf shelf' result = CountsBeside state shelf_state old.items new.items shelf shelf' result
+
+abbrev pub CountsMaking : {D E T : Type 0} {ghosts : Ghosts D} → (D → State) → (E → State) → List (Input D ghosts) → List (Input D ghosts) → E → E → Result T Stop → Type 0
+CountsMaking state state' old new disk disk' result = CountsWith state old new (state' disk).faults (state' disk').faults result
+
+abbrev pub CountsAddingTo : {D E N T : Type 0} {ghosts : Ghosts D} {t : Ghosts E} {n : ModeGhosts N}
+    → (D → State) → (E → State) → List (Input D ghosts) → List (Input D ghosts) → File E N t n → File E N t n → Result T Stop → Type 0
+CountsAddingTo state state' old new to to' result = CountsAdding state old new (faults_of_file state' to) (faults_of_file state' to') result
+
+-- that of an open file alone
+abbrev pub CountsFaultOf : {E N T : Type 0} {t : Ghosts E} {n : ModeGhosts N} → (E → State) → File E N t n → File E N t n → Result T Stop → Type 0
+CountsFaultOf state old new result = CountsFault (faults_of_file state old) (faults_of_file state new) result
+
 -- ---- what is made of them
+
+-- a block has as many frames of the inputs, from one on, as a buffer has places
+abbrev pub HasFrames : {D : Type 0} {ghosts : Ghosts D} → (D → State) → List (Input D ghosts) → Codec → ℕ → List ℤ → List ℤ → Type 0
+HasFrames state inputs codec place buffer block =
+    (es : List Editing) → HoldAll state inputs es → block ≡ frames_from (channels_in codec es) place (length buffer)
 
 -- Where the disks tell what they hold, a file that was being made then has so many frames of the inputs more, from one on.
 abbrev pub Lengthens : {D E N : Type 0} {d : Ghosts D} {t : Ghosts E} {n : ModeGhosts N} → (D → State) → (E → State) → ℕ → ℕ → List (Input D d) → File E N t n → File E N t n → Type 0
@@ -135,9 +142,11 @@ bytes_made kind p es = made_file kind p [] (side_by_side (channels_in p.codec es
 abbrev pub Makes : {D E : Type 0} {d : Ghosts D} → (D → State) → (E → State) → Kind → Parameters → List (Input D d) → E → E → Type 0
 Makes state state' kind p inputs old new = (b : List ℕ) (es : List Editing) → Tells state' old b → HoldAll state inputs es → Tells state' new (bytes_made kind p es)
 
-abbrev pub MakesUnder : {D S : Type 0} {d : Ghosts D} → (D → State) → (S → ShelfState) → List ℕ → Kind → Parameters → List (Input D d) → S → S → Type 0
-MakesUnder state shelf_state name kind p inputs old new =
-    (files : Files) (es : List Editing) → TellsFiles shelf_state old files → HoldAll state inputs es → HasFiles shelf_state new (put files name (Some (bytes_made kind p es)))
+abbrev pub MakesUnder : {D S T R : Type 0} {d : Ghosts D}
+    → (D → State) → (S → ShelfState) → List ℕ → Kind → Parameters → List (Input D d) → S → S → Result T R → Type 0
+MakesUnder state shelf_state name kind p inputs old new result =
+    OnOk result ((files : Files) (es : List Editing) → TellsFiles shelf_state old files → HoldAll state inputs es
+    → HasFiles shelf_state new (put files name (Some (bytes_made kind p es))))
 
 -- what is answered is what is to be done with the inputs that are open, and that is done
 abbrev pub DoesWith : {D S E : Type 0} {d : Ghosts D} → (D → State) → (S → ShelfState) → (Files → List Editing → Done) → List (Input D d) → S → S → Result Answer E → Type 0

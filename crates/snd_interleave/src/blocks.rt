@@ -1,23 +1,20 @@
 //! The frames of inputs side by side, behind those of a file that is made.
 
-ghost use Rattle.std.specs.Prelude.{◌≡◌, ◌≤◌, ◌*◌, None, OnOk, false, is_none, length, List};
+ghost use Rattle.std.specs.Prelude.{◌≡◌, ◌≤◌, ◌*◌, None, OnOk, false, is_none, length};
 ghost use Rattle.snd_container.specs.Sound.{fixed_of};
 ghost use Rattle.snd_disk.specs.Device.{GoesOnFrom};
 ghost use Rattle.snd_modes.specs.Edits.{written_to};
-ghost use Rattle.snd_modes.specs.Editing.{Editing};
 ghost use Rattle.snd_modes.specs.Handle.{StandsAfter, channels_of, codec_of, disk_of, known_of, loan_of};
 ghost use Rattle.snd_modes.specs.Outcomes.{TellsOn};
 ghost use Rattle.snd_modes.specs.Reading.{FitCodec};
 ghost use Rattle.snd_modes.specs.WriteCalls.{MayWrite, known_written};
-ghost use Rattle.snd_output.specs.Appended.{CountsFault, HasRoom, IsAtEnd, longer};
-ghost use Rattle.snd_interleave.specs.Beside.{frames_from};
-ghost use Rattle.snd_interleave.specs.Channels.{AreMono, CountsAdding, CountsInputs, HoldAll, Lengthens, ReadAll};
-ghost use Rattle.snd_interleave.specs.Interleave.{channels_in};
+ghost use Rattle.snd_output.specs.Appended.{HasRoom, IsAtEnd, longer};
+ghost use Rattle.snd_interleave.specs.Channels.{AreMono, CountsAddingTo, CountsFaultOf, CountsInputs, HasFrames, Lengthens, ReadAll};
 
 use crate::channel::{read_numbers, width_in};
-use crate::input::Input;
 use crate::scatter::{put_channel, width_of};
 use snd_disk::Disk;
+use snd_inputs::Input;
 use snd_layout::Codec;
 use snd_modes::{File, Write, WriteError};
 use snd_output::Stop;
@@ -39,10 +36,10 @@ fn fill_block<D: Disk>(
     requires mono { AreMono inputs.old }
     requires linear { is_none (fixed_of codec) ≡ false }
     requires size { length block.old ≡ length buffer.old * length inputs.old }
-    ensures filled { OnOk result ((es : List Editing) → HoldAll D.state inputs.old es → block.new ≡ frames_from (channels_in codec es) place (length buffer.old)) }
+    ensures filled { OnOk result (HasFrames D.state inputs.old codec place buffer.old block.new) }
     ensures in_range { OnOk result (FitCodec codec block.new) }
     ensures faults { CountsInputs D.state inputs.old inputs.new result }
-    ensures reads { ReadAll D.state D.may_leave D.left_between inputs.old inputs.new }
+    ensures reads { ReadAll D.Disk inputs.old inputs.new }
 {
     let channels = inputs.len();
     let width = width_of(codec);
@@ -73,7 +70,7 @@ fn write_all<E: Disk>(to: &mut File<'_, E, Write>, from: &[i32]) -> Result<(), S
     ensures loan { loan_of to.new ≡ loan_of to.old }
     ensures left { OnOk result (known_of to.new ≡ known_written from.now (known_of to.old)) }
     ensures stands { OnOk result (StandsAfter E.state to.old to.new (written_to from.now)) }
-    ensures faults { CountsFault (E.state (disk_of to.old)).faults (E.state (disk_of to.new)).faults result }
+    ensures faults { CountsFaultOf E.state to.old to.new result }
     ensures tells { TellsOn E.state to.old to.new }
     ensures time { GoesOnFrom E.state E.left_between (disk_of to.old) (disk_of to.new) }
 {
@@ -102,8 +99,8 @@ fn add_block<D: Disk, E: Disk>(
     ensures loan { loan_of to.new ≡ loan_of to.old }
     ensures left { OnOk result (known_of to.new ≡ longer (length buffer.old) (known_of to.old)) }
     ensures lengthens { OnOk result (Lengthens D.state E.state place (length buffer.old) inputs.old to.old to.new) }
-    ensures faults { CountsAdding D.state inputs.old inputs.new (E.state (disk_of to.old)).faults (E.state (disk_of to.new)).faults result }
-    ensures reads { ReadAll D.state D.may_leave D.left_between inputs.old inputs.new }
+    ensures faults { CountsAddingTo D.state E.state inputs.old inputs.new to.old to.new result }
+    ensures reads { ReadAll D.Disk inputs.old inputs.new }
     ensures tells { TellsOn E.state to.old to.new }
     ensures time { GoesOnFrom E.state E.left_between (disk_of to.old) (disk_of to.new) }
 {
@@ -130,8 +127,8 @@ pub(crate) fn add_frames<D: Disk, E: Disk>(
     ensures loan { loan_of to.new ≡ loan_of to.old }
     ensures left { OnOk result ((known_of to.new).broken ≡ None) }
     ensures lengthens { OnOk result (Lengthens D.state E.state 0 frames inputs.old to.old to.new) }
-    ensures faults { CountsAdding D.state inputs.old inputs.new (E.state (disk_of to.old)).faults (E.state (disk_of to.new)).faults result }
-    ensures reads { ReadAll D.state D.may_leave D.left_between inputs.old inputs.new }
+    ensures faults { CountsAddingTo D.state E.state inputs.old inputs.new to.old to.new result }
+    ensures reads { ReadAll D.Disk inputs.old inputs.new }
     ensures tells { TellsOn E.state to.old to.new }
     ensures time { GoesOnFrom E.state E.left_between (disk_of to.old) (disk_of to.new) }
 {

@@ -1,24 +1,22 @@
 //! The numbers of one input.
 
-ghost use Rattle.std.specs.Prelude.{◌≡◌, ◌+◌, ◌-◌, ◌<◌, ◌≤◌, ◌^◌, ℕ, [], All, IfOk, None, OnOk, false, get_or, is_none, length, min, pos, take};
+ghost use Rattle.std.specs.Prelude.{◌≡◌, ◌+◌, ◌<◌, ◌≤◌, ◌^◌, ℕ, [], All, IfOk, None, OnOk, false, get_or, is_none, length, pos, take};
 ghost use Rattle.snd_container.specs.Sound.{fixed_of};
 ghost use Rattle.snd_disk.specs.Device.{IfOkTold, OnlyReadsOn};
+ghost use Rattle.snd_inputs.specs.Copying.{OnlyReadsFile};
 ghost use Rattle.snd_layout.specs.Shape.{end, room};
-ghost use Rattle.snd_modes.specs.Editing.{Editing, first_editing};
-ghost use Rattle.snd_modes.specs.Handle.{IfOkStanding, channels_of, codec_of, disk_of, known_of, loan_of};
+ghost use Rattle.snd_modes.specs.Handle.{IfOkStanding, channels_of, codec_of, known_of, loan_of};
 ghost use Rattle.snd_modes.specs.Reading.{FitCodec};
 ghost use Rattle.snd_output.specs.Appended.{CountsFault};
 ghost use Rattle.snd_output.specs.Widths.{width_of};
 ghost use Rattle.snd_pcm.specs.Width.{HasWidth, IsWidth};
-ghost use Rattle.snd_interleave.specs.Channels.{AreNumbersAt, Holds, Reads};
-ghost use Rattle.snd_interleave.specs.Interleave.{numbers_of};
-ghost use Rattle.snd_interleave.specs.Reading.{GivesNumbers};
+ghost use Rattle.snd_interleave.specs.Channels.{CountsFaultOf, Reads, faults_of};
+ghost use Rattle.snd_interleave.specs.Reading.{GivesHeld, GivesLaid, GivesNumbers, HasNumbers, IsCount};
 
-use crate::input::Input;
-use crate::opening::{bare_layout, close_read};
 use crate::scatter::width_of;
 use snd_disk::Disk;
-use snd_layout::Layout;
+use snd_inputs::{Input, close_read};
+use snd_layout::{Layout, PieceList};
 use snd_modes::{File, Read, ReadError, open_laid};
 use snd_output::Stop;
 use std::alloc::Global;
@@ -29,6 +27,27 @@ pub(crate) fn width_in<D: Disk>(input: &Input<D>) -> u8
     ensures is { IsWidth result }
 {
     width_of(input.layout.params.codec)
+}
+
+// What an input says of itself, but for its further chunks, which are not read.
+fn bare_layout(alloc: Global, layout: &Layout) -> Layout
+    ensures { result ≡ record layout.now { pieces = [] } }
+{
+    layout.keeps_rule();
+    Layout {
+        kind: layout.kind,
+        params: layout.params,
+        start: layout.start,
+        frames: layout.frames,
+        declared: layout.declared,
+        inner: layout.inner,
+        outer: layout.outer,
+        side: layout.side,
+        trailing: layout.trailing,
+        unknown_length: layout.unknown_length,
+        reserve: layout.reserve,
+        pieces: PieceList::new(alloc),
+    }
 }
 
 // Reads the numbers of an open file of one channel, from a frame on: as many as the slice has places for,
@@ -42,11 +61,11 @@ fn read_from<D: Disk>(
     requires mono { channels_of file.old ≡ 1 }
     requires within { place ≤ (known_of file.old).shape.frames }
     ensures loan { loan_of file.new ≡ loan_of file.old }
-    ensures count { IfOk result (λ k. k ≡ min (length into.old) ((known_of file.old).shape.frames - place)) }
+    ensures count { IfOk result (IsCount place (known_of file.old).shape.frames (length into.old)) }
     ensures read { IfOkStanding D.state file.old result (GivesNumbers place into.new) }
     ensures in_range { IfOk result (λ k. FitCodec (codec_of file.old) (take k into.new)) }
-    ensures faults { CountsFault (D.state (disk_of file.old)).faults (D.state (disk_of file.new)).faults result }
-    ensures reads { OnlyReadsOn D.state D.may_leave D.left_between (disk_of file.old) (disk_of file.new) }
+    ensures faults { CountsFaultOf D.state file.old file.new result }
+    ensures reads { OnlyReadsFile D.Disk file.old file.new }
 {
     let Ok(()) = file.seek_read(place) else {
         unreachable!()
@@ -71,8 +90,8 @@ fn read_laid<D: Disk>(
     requires no_pieces { layout.pieces ≡ [] }
     requires mono { layout.params.channels ≡ 1 }
     requires within { place ≤ layout.frames }
-    ensures count { IfOk result (λ k. k ≡ min (length into.old) (layout.frames - place)) }
-    ensures read { IfOkTold D.state disk.old result (λ b. GivesNumbers place into.new (first_editing b layout)) }
+    ensures count { IfOk result (IsCount place layout.frames (length into.old)) }
+    ensures read { IfOkTold D.state disk.old result (GivesLaid place into.new layout) }
     ensures in_range { IfOk result (λ k. FitCodec layout.params.codec (take k into.new)) }
     ensures faults { CountsFault (D.state disk.old).faults (D.state disk.new).faults result }
     ensures reads { OnlyReadsOn D.state D.may_leave D.left_between disk.old disk.new }
@@ -92,11 +111,11 @@ fn read_input<D: Disk>(
     into: &mut [i32],
 ) -> Result<usize, Stop>
     requires mono { input.old.layout.params.channels ≡ 1 }
-    ensures count { IfOk result (λ k. k ≡ min (length into.old) (input.old.layout.frames - place)) }
-    ensures read { IfOk result (λ k. (e : Editing) → Holds D.state input.old e → GivesNumbers place into.new e k) }
+    ensures count { IfOk result (IsCount place input.old.layout.frames (length into.old)) }
+    ensures read { IfOk result (GivesHeld D.state input.old place into.new) }
     ensures in_range { IfOk result (λ k. FitCodec input.old.layout.params.codec (take k into.new)) }
-    ensures faults { CountsFault (D.state input.old.disk).faults (D.state input.new.disk).faults result }
-    ensures reads { Reads D.state D.may_leave D.left_between input.old input.new }
+    ensures faults { CountsFault (faults_of D.state input.old) (faults_of D.state input.new) result }
+    ensures reads { Reads D.Disk input.old input.new }
 {
     if place >= input.layout.frames {
         return Ok(0);
@@ -125,10 +144,10 @@ pub(crate) fn read_numbers<D: Disk>(
     into: &mut [i32],
 ) -> Result<(), Stop>
     requires mono { input.old.layout.params.channels ≡ 1 }
-    ensures read { OnOk result ((e : Editing) → Holds D.state input.old e → AreNumbersAt place (numbers_of e) into.new) }
+    ensures read { OnOk result (HasNumbers D.state input.old place into.new) }
     ensures in_range { OnOk result (All (HasWidth (width_of input.old.layout.params.codec)) into.new) }
-    ensures faults { CountsFault (D.state input.old.disk).faults (D.state input.new.disk).faults result }
-    ensures reads { Reads D.state D.may_leave D.left_between input.old input.new }
+    ensures faults { CountsFault (faults_of D.state input.old) (faults_of D.state input.new) result }
+    ensures reads { Reads D.Disk input.old input.new }
 {
     let count = read_input(alloc, input, place, into)?;
     put_zeros(count, into);

@@ -1,20 +1,18 @@
 //! The tool that puts sound files side by side.
 
-ghost use Rattle.std.specs.Prelude.{◌≡◌, ◌+◌, ◌≤◌, Some, false, length, slice_get, take};
+ghost use Rattle.std.specs.Prelude.{◌≡◌, ◌≤◌, false, length, take};
 ghost use Rattle.std.specs.Vec.{vec_len};
-ghost use Rattle.snd_disk.specs.Device.{OnlyReadsOn};
 ghost use Rattle.snd_output.specs.Ends.{CountsStop};
 ghost use Rattle.snd_tools.specs.Shelves.{ChangesOne, Does, IsAllIn};
-ghost use Rattle.snd_interleave.specs.Channels.{CountsWith, DoesWith, ReadAll};
-ghost use Rattle.snd_interleave.specs.Opening.{AreApart, AreOut, CountsBoth, DoesNext, done_next, done_rest};
-ghost use Rattle.snd_interleave.specs.Interleave.{done_beside, interleaved};
+ghost use Rattle.snd_interleave.specs.Channels.{CountsAll, CountsBeside, ReadAll};
+ghost use Rattle.snd_interleave.specs.Opening.{AreApart, AreOut, DoesAll, DoesBeside};
+ghost use Rattle.snd_interleave.specs.Interleave.{interleaved};
 
-use crate::input::Input;
 use crate::judge::{first_misfit, first_of, is_full, most_frames, planned};
 use crate::make::make_under;
-use crate::opening::open_input;
-use snd_disk::{Disk, Shelf, ShelfFault};
-use snd_layout::{OpenError, OpenRefusal};
+use snd_disk::{Disk, Shelf};
+use snd_inputs::{Input, open_input};
+use snd_layout::OpenRefusal;
 use snd_lines::Refusal;
 use snd_output::Stop;
 use snd_tools::Answer;
@@ -30,10 +28,10 @@ fn join<'a, S: Shelf, D: Disk>(
 ) -> Result<Answer<'a>, Stop>
     requires is_in { (S.state shelf.old).out interleaving.now.output.now ≡ false }
     requires all { length inputs.old ≡ length interleaving.now.inputs }
-    ensures done { DoesWith D.state S.state (λ files es. done_beside interleaving.now.inputs interleaving.now.output.now es) inputs.old shelf.old shelf.new result }
+    ensures done { DoesBeside D.state S.state interleaving.now inputs.old shelf.old shelf.new result }
     ensures changes { ChangesOne S.Shelf interleaving.now.output.now shelf.old shelf.new }
-    ensures faults { CountsWith D.state inputs.old inputs.new (S.state shelf.old).faults (S.state shelf.new).faults result }
-    ensures reads { ReadAll D.state D.may_leave D.left_between inputs.old inputs.new }
+    ensures faults { CountsBeside D.state S.state inputs.old inputs.new shelf.old shelf.new result }
+    ensures reads { ReadAll D.Disk inputs.old inputs.new }
 {
     let output = interleaving.output;
     let Some((kind, own)) = first_of(inputs) else {
@@ -59,7 +57,6 @@ fn join<'a, S: Shelf, D: Disk>(
 
 // Opens the inputs that are left, beside those that are open already, and makes the output once all are. Each
 // is held until that is done, and given back.
-#[cycle(opening)]
 fn open_rest<'a, S: Shelf>(
     alloc: Global,
     interleaving: &Interleaving<'a>,
@@ -69,65 +66,30 @@ fn open_rest<'a, S: Shelf>(
     requires apart { AreApart interleaving.now.inputs interleaving.now.output.now }
     requires within { vec_len inputs.old ≤ length interleaving.now.inputs }
     requires out { AreOut (take (vec_len inputs.old) interleaving.now.inputs) (S.state shelf.old) }
-    ensures done { DoesWith S.Disk.state S.state (done_rest interleaving.now.inputs interleaving.now.output.now) inputs.old.items shelf.old shelf.new result }
+    ensures done { DoesAll S.Disk.state S.state interleaving.now inputs.old shelf.old shelf.new result }
     ensures changes { ChangesOne S.Shelf interleaving.now.output.now shelf.old shelf.new }
-    ensures faults { CountsWith S.Disk.state inputs.old.items inputs.new.items (S.state shelf.old).faults (S.state shelf.new).faults result }
-    ensures reads { ReadAll S.Disk.state S.Disk.may_leave S.Disk.left_between inputs.old.items inputs.new.items }
+    ensures faults { CountsAll S.Disk.state S.state inputs.old inputs.new shelf.old shelf.new result }
+    ensures reads { ReadAll S.Disk.Disk inputs.old.items inputs.new.items }
 {
     let Some(name) = interleaving.inputs.get(inputs.len()) else {
         return join(alloc, interleaving, inputs.as_mut_slice(), shelf);
     };
-    let disk = match shelf.take(name, false) {
-        Ok(disk) => disk,
-        Err(ShelfFault::Missing) => return Ok(Answer::Refused(name, Refusal::MissingFile)),
-        Err(ShelfFault::Failed) => return Err(Stop::Fault),
-        Err(ShelfFault::Memory) => return Err(Stop::Memory),
-    };
-    let (answer, disk) = open_next(alloc, interleaving, name, disk, inputs, shelf);
-    shelf.give(name, disk);
-    answer
-}
-
-// .. with the next one, which a disk holds that was taken out. The disk comes back.
-#[cycle(opening)]
-fn open_next<'a, S: Shelf>(
-    alloc: Global,
-    interleaving: &Interleaving<'a>,
-    name: &'a str,
-    disk: S::Disk,
-    inputs: &mut Vec<Input<S::Disk>>,
-    shelf: &mut S,
-) -> (Result<Answer<'a>, Stop>, S::Disk)
-    requires apart { AreApart interleaving.now.inputs interleaving.now.output.now }
-    requires named { slice_get interleaving.now.inputs (vec_len inputs.old) ≡ Some name.now }
-    requires out { AreOut (take (vec_len inputs.old + 1) interleaving.now.inputs) (S.state shelf.old) }
-    ensures done { DoesNext S.Disk.state S.state (done_next interleaving.now.inputs interleaving.now.output.now name.now) inputs.old.items disk shelf.old shelf.new result.0 }
-    ensures changes { ChangesOne S.Shelf interleaving.now.output.now shelf.old shelf.new }
-    ensures faults { CountsBoth S.Disk.state inputs.old.items inputs.new.items disk result.1 (S.state shelf.old).faults (S.state shelf.new).faults result.0 }
-    ensures reads { ReadAll S.Disk.state S.Disk.may_leave S.Disk.left_between inputs.old.items inputs.new.items }
-    ensures disk { OnlyReadsOn S.Disk.state S.Disk.may_leave S.Disk.left_between disk result.1 }
-{
-    let input = match open_input(alloc, disk) {
+    let input = match open_input(alloc, name, shelf)? {
         Ok(input) => input,
-        Err((OpenError::Refused(why), disk)) => {
-            return (Ok(Answer::Refused(name, Refusal::Open(why))), disk);
-        }
-        Err((OpenError::Memory, disk)) => return (Err(Stop::Memory), disk),
-        Err((OpenError::DiskFault(_), disk)) => return (Err(Stop::Fault), disk),
-        Err((OpenError::AdpcmUpdate | OpenError::UnknownLength, disk)) => {
-            return (Err(Stop::Fault), disk);
-        }
+        Err(why) => return Ok(Answer::Refused(name, why)),
     };
     if let Err(failed) = inputs.push(input) {
         let Input { disk, layout: _ } = failed.value;
-        return (Err(Stop::Memory), disk);
+        shelf.give(name, disk);
+        return Err(Stop::Memory);
     }
     let answer = open_rest(alloc, interleaving, inputs, shelf);
     let Some(input) = inputs.pop() else {
         unreachable!()
     };
     let Input { disk, layout: _ } = input;
-    (answer, disk)
+    shelf.give(name, disk);
+    answer
 }
 
 /// Puts sound files of one channel side by side: the output is made, or replaced, whole, with the kind, the

@@ -6,10 +6,9 @@ ghost use Rattle.snd_layout.specs.Fit.{fit_refusal};
 ghost use Rattle.snd_interleave.specs.Channels.{first_of, layouts_of, most_frames};
 ghost use Rattle.snd_interleave.specs.Interleave.{first_misfit, is_full, misfit, planned};
 
-use crate::input::Input;
 use snd_container::fit;
 use snd_disk::Disk;
-use snd_inputs::{bare_room, exceeds_room};
+use snd_inputs::{Input, bare_room, exceeds_room};
 use snd_layout::{Kind, OpenRefusal, Params};
 use snd_lines::Refusal;
 use snd_words::Names;

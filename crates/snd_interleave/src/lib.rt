@@ -3,11 +3,9 @@
 
 mod blocks;
 mod channel;
-mod input;
 mod interleaving;
 mod judge;
 mod make;
-mod opening;
 mod scatter;
 
 pub use interleaving::interleave;

@@ -6,12 +6,12 @@ ghost use Rattle.snd_disk.specs.Device.{GoesOnFrom};
 ghost use Rattle.snd_layout.specs.Fit.{fit_refusal};
 ghost use Rattle.snd_patch.specs.Steps.{StillTells};
 ghost use Rattle.snd_tools.specs.Shelves.{ChangesOne};
-ghost use Rattle.snd_interleave.specs.Channels.{AreMono, CountsWith, Makes, MakesUnder, ReadAll, layouts_of, most_frames};
+ghost use Rattle.snd_interleave.specs.Channels.{AreMono, CountsBeside, CountsMaking, Makes, MakesUnder, ReadAll, layouts_of, most_frames};
 ghost use Rattle.snd_interleave.specs.Interleave.{is_full};
 
 use crate::blocks::add_frames;
-use crate::input::Input;
-use snd_disk::{Disk, Shelf, ShelfFault};
+use snd_disk::{Disk, Shelf};
+use snd_inputs::{Input, take_output};
 use snd_layout::{Kind, Params};
 use snd_output::{Stop, begin, finish};
 use std::alloc::Global;
@@ -32,8 +32,8 @@ fn make<D: Disk, E: Disk>(
     requires all { frames ≡ most_frames (layouts_of inputs.old) }
     requires room { is_full kind params frames ≡ false }
     ensures made { OnOk result (Makes D.state E.state kind params inputs.old disk.old disk.new) }
-    ensures faults { CountsWith D.state inputs.old inputs.new (E.state disk.old).faults (E.state disk.new).faults result }
-    ensures reads { ReadAll D.state D.may_leave D.left_between inputs.old inputs.new }
+    ensures faults { CountsMaking D.state E.state inputs.old inputs.new disk.old disk.new result }
+    ensures reads { ReadAll D.Disk inputs.old inputs.new }
     ensures tells { StillTells (E.state disk.old) (E.state disk.new) }
     ensures time { GoesOnFrom E.state E.left_between disk.old disk.new }
 {
@@ -76,17 +76,12 @@ pub(crate) fn make_under<S: Shelf, D: Disk>(
     requires linear { is_none (fixed_of params.codec) ≡ false }
     requires all { frames ≡ most_frames (layouts_of inputs.old) }
     requires room { is_full kind params frames ≡ false }
-    ensures made { OnOk result (MakesUnder D.state S.state name.now kind params inputs.old shelf.old shelf.new) }
+    ensures made { MakesUnder D.state S.state name.now kind params inputs.old shelf.old shelf.new result }
     ensures changes { ChangesOne S.Shelf name.now shelf.old shelf.new }
-    ensures faults { CountsWith D.state inputs.old inputs.new (S.state shelf.old).faults (S.state shelf.new).faults result }
-    ensures reads { ReadAll D.state D.may_leave D.left_between inputs.old inputs.new }
+    ensures faults { CountsBeside D.state S.state inputs.old inputs.new shelf.old shelf.new result }
+    ensures reads { ReadAll D.Disk inputs.old inputs.new }
 {
-    let mut disk = match shelf.take(name, true) {
-        Ok(disk) => disk,
-        Err(ShelfFault::Failed) => return Err(Stop::Fault),
-        Err(ShelfFault::Memory) => return Err(Stop::Memory),
-        Err(ShelfFault::Missing) => unreachable!(),
-    };
+    let mut disk = take_output(name, shelf)?;
     let made = make(alloc, inputs, kind, params, frames, &mut disk);
     shelf.give(name, disk);
     made

@@ -11,7 +11,7 @@ use Rattle.snd_output.specs.Made.{IsMaking}
 use Rattle.snd_interleave.specs.Beside.{frames_from}
 use Rattle.snd_interleave.specs.Interleave.{channels_in}
 use Rattle.snd_interleave.proofs.Adding.{may_add}
-use Rattle.snd_interleave.proofs.Reading.{on_ok}
+use Rattle.std.proofs.lemmas.Result.{on_ok_weaker}
 use Rattle.snd_interleave.proofs.blocks.add_block.Goals as goal
 
 pub write_all-requires-clause-may : goal.write_all-requires-clause-may
@@ -29,7 +29,7 @@ returns-clause-left g c =
     let block = c.fill_block.new.block in
     let some : 1 ≤ channels_of c.args.to.now = c.made_codec-codec.ensures.some in
     let count : length block ≡ length c.args.buffer.now * channels_of c.args.to.now = c.fill_block.auto.block ∙ c.requires.size ∙ ap (λ (n : ℕ). length c.args.buffer.now * n) (sym c.requires.alike) in
-    on_ok c.write_all.result _ _ (λ is. is ∙ then_longer block (length c.args.buffer.now) to some count c.requires.at_end) c.write_all.ensures.left
+    on_ok_weaker c.write_all.result (λ is. is ∙ then_longer block (length c.args.buffer.now) to some count c.requires.at_end) c.write_all.ensures.left
 
 pub returns-clause-lengthens : goal.returns-clause-lengthens
 returns-clause-lengthens g c =
@@ -39,7 +39,7 @@ returns-clause-lengthens g c =
     let count : length block ≡ length c.args.buffer.now * channels_of c.args.to.now = c.fill_block.auto.block ∙ c.requires.size ∙ ap (λ (n : ℕ). length c.args.buffer.now * n) (sym c.requires.alike) in
     let fit : FitCodec (codec_of c.args.to.now) block = subst (λ (q : Codec). FitCodec q block) c.made_codec-codec.ensures.codec c.in_ok-fill_block.ensures.in_range in
     let may = may_add block (length c.args.buffer.now) to some count c.requires.at_end c.requires.room fit in
-    on_ok c.write_all.result _ _
+    on_ok_weaker c.write_all.result
     (λ stands_on kind p pieces xs es e hold stands making.
     let there : MayWrite block e.shape e.write_place = subst (λ (s : Shape). MayWrite block s e.write_place) stands.shape (subst (λ (n : ℕ). MayWrite block to.shape n) stands.write_place may) in
     let are : block ≡ frames_from (channels_in (codec_of c.args.to.now) es) c.args.place (length c.args.buffer.now) =

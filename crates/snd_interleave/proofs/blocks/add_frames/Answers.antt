@@ -22,14 +22,14 @@ loop-place-init g c = record {
   lengthens = λ kind p pieces xs es e hold stands making. (e, stands, subst (λ (l : List ℤ). IsMaking kind p pieces l e) (sym (append-nil xs)) making);
   calm = calm_itself g.D.Disk.state c.args.inputs.now;
   to_calm = refl;
-  reads = all_unread g.D.Disk.state g.D.Disk.may_leave g.D.Disk.left_between c.args.inputs.now;
+  reads = all_unread g.D.Disk c.args.inputs.now;
   tells = search rules;
   time = search rules;
 }
 
 pub add_block-requires-clause-mono : goal.add_block-requires-clause-mono
 add_block-requires-clause-mono g c =
-    still_mono g.D.Disk.state g.D.Disk.may_leave g.D.Disk.left_between c.args.inputs.now c.loop-place.inputs c.loop-place.invariant.reads c.requires.mono
+    still_mono g.D.Disk c.args.inputs.now c.loop-place.inputs c.loop-place.invariant.reads c.requires.mono
 
 pub add_block-requires-clause-room : goal.add_block-requires-clause-room
 add_block-requires-clause-room g c =
@@ -59,14 +59,14 @@ loop-place-preserved g c =
           let channels = channels_in (codec_of c.args.to.now) es in
           let before = inv.lengthens kind p pieces xs es e hold stands making in
           let so_far : List ℤ = xs ++ frames_from channels 0 n in
-          let still = hold_still g.D.Disk.state g.D.Disk.may_leave g.D.Disk.left_between first now es inv.reads hold in
+          let still = hold_still g.D.Disk first now es inv.reads hold in
           let then = one.lengthens kind p pieces so_far es before.0 still before.1 before.2 in
           let same : so_far ++ frames_from (channels_in (codec_of c.loop-place.to) es) n k ≡ xs ++ frames_from channels 0 (n + c.min-count.result) =
           ap (λ (q : Codec). so_far ++ frames_from (channels_in q es) n k) to_codec ∙ numbers_on channels xs n k ∙ ap (λ (m : ℕ). xs ++ frames_from channels 0 m) sum in
           (then.0, then.1, subst (λ (l : List ℤ). IsMaking kind p pieces l then.0) same then.2);
       calm = calm_then g.D.Disk.state first now new c.loop-place.auto.inputs inv.calm one.faults.0;
       to_calm = one.faults.1 ∙ inv.to_calm;
-      reads = read_then g.D.Disk.state g.D.Disk.may_leave g.D.Disk.left_between first now new inv.reads one.reads;
+      reads = read_then g.D.Disk first now new inv.reads one.reads;
       tells = search rules;
       time = goes_on_then _ _ _ _ _ _ inv.time one.time;
     }
@@ -81,7 +81,7 @@ returns-in_err-add_block-clause-faults g c =
 
 pub returns-in_err-add_block-clause-reads : goal.returns-in_err-add_block-clause-reads
 returns-in_err-add_block-clause-reads g c =
-    read_then g.D.Disk.state g.D.Disk.may_leave g.D.Disk.left_between c.args.inputs.now c.loop-place.inputs c.add_block.new.inputs c.loop-place.invariant.reads c.add_block.ensures.reads
+    read_then g.D.Disk c.args.inputs.now c.loop-place.inputs c.add_block.new.inputs c.loop-place.invariant.reads c.add_block.ensures.reads
 
 pub returns-clause-lengthens : goal.returns-clause-lengthens
 returns-clause-lengthens g c = λ kind p pieces xs es e hold stands making.

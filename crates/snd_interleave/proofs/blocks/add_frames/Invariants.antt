@@ -14,7 +14,7 @@ invariant-loop-place g l = record {
   lengthens : Lengthens g.D.Disk.state g.E.Disk.state 0 l.place l.fn.inputs l.fn.to l.to;
   calm : AreCalm g.D.Disk.state l.fn.inputs l.inputs;
   to_calm : (g.E.Disk.state (disk_of l.to)).faults ≡ (g.E.Disk.state (disk_of l.fn.to)).faults;
-  reads : ReadAll g.D.Disk.state g.D.Disk.may_leave g.D.Disk.left_between l.fn.inputs l.inputs;
+  reads : ReadAll g.D.Disk l.fn.inputs l.inputs;
   tells : TellsOn g.E.Disk.state l.fn.to l.to;
   time : GoesOnFrom g.E.Disk.state g.E.Disk.left_between (disk_of l.fn.to) (disk_of l.to);
 }

@@ -18,13 +18,13 @@ loop-i-init g c = record {
   filled = λ es hold j k below lt. absurd (omega (arith, lt));
   fit = λ j k below lt. absurd (omega (arith, lt));
   calm = calm_itself g.D.Disk.state c.args.inputs.now;
-  reads = all_unread g.D.Disk.state g.D.Disk.may_leave g.D.Disk.left_between c.args.inputs.now;
+  reads = all_unread g.D.Disk c.args.inputs.now;
 }
 
 pub read_numbers-requires : goal.read_numbers-requires
 read_numbers-requires g c =
     let within : c.loop-i.i < length c.loop-i.inputs = omega (arith, c.loop-i-test.true, c.loop-i.auto.inputs) in
-    record { mono = still_mono g.D.Disk.state g.D.Disk.may_leave g.D.Disk.left_between c.args.inputs.now c.loop-i.inputs c.loop-i.invariant.reads c.requires.mono c.loop-i.i c.index-inputs-i.result within }
+    record { mono = still_mono g.D.Disk c.args.inputs.now c.loop-i.inputs c.loop-i.invariant.reads c.requires.mono c.loop-i.i c.index-inputs-i.result within }
 
 pub loop-i-preserved : goal.loop-i-preserved
 loop-i-preserved g c =
@@ -57,10 +57,10 @@ loop-i-preserved g c =
       filled = λ es hold.
           numbers_more n i (length c.args.buffer.now) block block' ys c.loop-i-test.true many put others (λ j k. get_or (frame_at (channels_in codec es) (c.args.place + j)) k (pos 0)) (inv.filled es hold)
           (λ j below.
-          channel_is g.D.Disk.state g.D.Disk.may_leave g.D.Disk.left_between first now codec c.args.place es hold inv.reads i x xs within is got.read j (omega (arith, below, places)));
+          channel_is g.D.Disk first now codec c.args.place es hold inv.reads i x xs within is got.read j (omega (arith, below, places)));
       fit = fit_more n i (length c.args.buffer.now) block block' ys c.loop-i-test.true many put others (HasWidth (width_of codec)) fits inv.fit;
       calm = calm_then g.D.Disk.state first now (set now i y) c.loop-i.auto.inputs inv.calm (counts_one g.D.Disk.state now i x y within is {T = Unit {0}} (Ok (tt {0})) got.faults);
-      reads = read_then g.D.Disk.state g.D.Disk.may_leave g.D.Disk.left_between first now (set now i y) inv.reads (one_read g.D.Disk.state g.D.Disk.may_leave g.D.Disk.left_between now i x y within is got.reads);
+      reads = read_then g.D.Disk first now (set now i y) inv.reads (one_read g.D.Disk now i x y within is got.reads);
     }
 
 pub returns-in_err-read_numbers-clause-faults : goal.returns-in_err-read_numbers-clause-faults
@@ -87,13 +87,13 @@ returns-in_err-read_numbers-clause-reads g c =
     let y = c.read_numbers.new.input in
     let within : i < length now = omega (arith, c.loop-i-test.true, c.loop-i.auto.inputs) in
     let is : x ≡ get_or now i x = get_or_default now i c.index-inputs-i.result x within in
-    read_then g.D.Disk.state g.D.Disk.may_leave g.D.Disk.left_between first now (set now i y) c.loop-i.invariant.reads
-    (one_read g.D.Disk.state g.D.Disk.may_leave g.D.Disk.left_between now i x y within is c.read_numbers.ensures.reads)
+    read_then g.D.Disk first now (set now i y) c.loop-i.invariant.reads
+    (one_read g.D.Disk now i x y within is c.read_numbers.ensures.reads)
 
 pub returns-clause-filled : goal.returns-clause-filled
 returns-clause-filled g c = λ es hold.
     let n = length c.args.inputs.now in
-    block_is g.D.Disk.state g.D.Disk.may_leave g.D.Disk.left_between c.args.inputs.now c.loop-i.inputs c.args.codec c.args.place es hold n (length c.args.buffer.now) c.loop-i.block refl (c.loop-i.auto.block ∙ c.requires.size)
+    block_is g.D.Disk c.args.inputs.now c.loop-i.inputs c.args.codec c.args.place es hold n (length c.args.buffer.now) c.loop-i.block refl (c.loop-i.auto.block ∙ c.requires.size)
     (λ j k below lt. c.loop-i.invariant.filled es hold j k below (omega (arith, lt, c.loop-i-test.false)))
 
 pub returns-clause-in_range : goal.returns-clause-in_range

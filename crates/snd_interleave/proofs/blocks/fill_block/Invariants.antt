@@ -13,5 +13,5 @@ invariant-loop-i g l = record {
       → get_or l.block (j * l.channels + c) (pos 0) ≡ get_or (frame_at (channels_in l.fn.codec es) (l.place + j)) c (pos 0);
   fit : (j c : ℕ) → j < length l.fn.buffer → c < l.i → HasWidth (width_of l.fn.codec) (get_or l.block (j * l.channels + c) (pos 0));
   calm : AreCalm g.D.Disk.state l.fn.inputs l.inputs;
-  reads : ReadAll g.D.Disk.state g.D.Disk.may_leave g.D.Disk.left_between l.fn.inputs l.inputs;
+  reads : ReadAll g.D.Disk l.fn.inputs l.inputs;
 }

@@ -2,12 +2,12 @@ use Rattle.std.proofs.Common.{◌≡◌, ◌∙◌, ap, sym, ℤ, List, drop, ta
 use Rattle.snd_layout.specs.Shape.{Shape}
 use Rattle.snd_modes.specs.Editing.{first_editing}
 use Rattle.snd_interleave.specs.Interleave.{numbers_of}
-use Rattle.snd_interleave.proofs.Reading.{if_ok}
+use Rattle.std.proofs.lemmas.Result.{IfOk-weaker}
 use Rattle.snd_interleave.proofs.channel.read_input.Goals as goal
 
 pub returns-clause-read : goal.returns-clause-read
 returns-clause-read g c =
-    if_ok c.read_laid.result _ _
+    IfOk-weaker c.read_laid.result _ _
     (λ k read e holds.
     let same : numbers_of (first_editing e.bytes c.bare_layout-layout.result) ≡ numbers_of e =
     ap (λ (h : Shape). numbers_of (first_editing e.bytes h)) c.bare_layout-layout.ensures ∙ sym (ap numbers_of holds.opened) in

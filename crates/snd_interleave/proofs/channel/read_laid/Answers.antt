@@ -1,7 +1,7 @@
 use Rattle.snd_modes.specs.Editing.{first_editing}
-use Rattle.snd_interleave.proofs.Reading.{if_ok}
+use Rattle.std.proofs.lemmas.Result.{IfOk-weaker}
 use Rattle.snd_interleave.proofs.channel.read_laid.Goals as goal
 
 pub returns-clause-read : goal.returns-clause-read
 returns-clause-read g c =
-    if_ok c.read_from-count.result _ _ (λ k read b told. read (first_editing b c.args.layout) (c.open_laid-file.ensures.stands b told)) c.read_from-count.ensures.read
+    IfOk-weaker c.read_from-count.result _ _ (λ k read b told. read (first_editing b c.args.layout) (c.open_laid-file.ensures.stands b told)) c.read_from-count.ensures.read

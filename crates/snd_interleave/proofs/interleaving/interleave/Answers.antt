@@ -5,10 +5,11 @@ use Rattle.snd_interleave.specs.Channels.{HoldAll}
 use Rattle.snd_interleave.specs.Interleave.{interleaved}
 use Rattle.snd_interleave.specs.Opening.{done_rest}
 use Rattle.snd_interleave.proofs.Inputs.{hold_none}
-use Rattle.snd_interleave.proofs.Joining.{does_so, done_same, refused_as}
+use Rattle.snd_inputs.proofs.Answering.{does_so, done_same}
+use Rattle.snd_interleave.proofs.Joining.{refused_as}
 use Rattle.snd_interleave.proofs.Lists.{named_at}
 use Rattle.snd_interleave.proofs.Opened.{apart_from_none, none_open, repeated, repeated_within}
-use Rattle.snd_interleave.proofs.Reading.{if_ok}
+use Rattle.std.proofs.lemmas.Result.{IfOk-weaker}
 use Rattle.snd_interleave.proofs.interleaving.interleave.Goals as goal
 
 pub returns-in-Some-clause-done : goal.returns-in-Some-clause-done
@@ -33,7 +34,7 @@ returns-clause-done g c =
     let none : first_repeated (names ++ output ∷ []) ≡ None = search rules in
     let hold : HoldAll g.S.Disk.Disk.state c.new-inputs.result.items [] = subst (λ l. HoldAll g.S.Disk.Disk.state l []) (sym c.new-inputs.ensures.items) (hold_none g.S.Disk.Disk.state) in
     does_so g.S.Shelf.state (interleaved names output) c.args.shelf.now c.open_rest-answer.new.shelf c.open_rest-answer.result
-    (if_ok c.open_rest-answer.result _ _
+    (IfOk-weaker c.open_rest-answer.result _ _
     (λ answer done files told.
     done_same g.S.Shelf.state c.open_rest-answer.new.shelf files answer (done_rest names output files []) (interleaved names output files) (none_open names output files none) (done files [] told hold))
     c.open_rest-answer.ensures.done)

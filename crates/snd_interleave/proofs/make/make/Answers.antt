@@ -8,9 +8,10 @@ use Rattle.snd_output.specs.Made.{made_file}
 use Rattle.snd_interleave.specs.Beside.{frames_from}
 use Rattle.snd_interleave.specs.Channels.{CountsAdding, CountsWith, bytes_made}
 use Rattle.snd_interleave.specs.Interleave.{channels_in}
-use Rattle.snd_interleave.proofs.Making.{begun_at_end, begun_room, counts_not_finished, is_begun, told_as}
+use Rattle.snd_inputs.proofs.Told.{told_as}
+use Rattle.snd_interleave.proofs.Making.{begun_at_end, begun_room, counts_not_finished, is_begun}
 use Rattle.snd_interleave.proofs.Numbers.{most_numbers}
-use Rattle.snd_interleave.proofs.Reading.{on_ok}
+use Rattle.std.proofs.lemmas.Result.{on_ok_weaker}
 use Rattle.snd_interleave.proofs.make.make.Goals as goal
 
 pub add_frames-added-requires-clause-alike : goal.add_frames-added-requires-clause-alike
@@ -26,7 +27,7 @@ add_frames-added-requires-clause-room g c = begun_room c.args.kind c.args.params
 
 pub returns-in-Ok-finish-clause-made : goal.returns-in-Ok-finish-clause-made
 returns-in-Ok-finish-clause-made g c =
-    on_ok c.add_frames-added.result _ _
+    on_ok_weaker c.add_frames-added.result
     (λ lengthens b es tells hold.
     let p = c.args.params in
     let is = is_begun c.args.kind p (known_of c.in-Ok.to) c.are_good.ensures c.requires.fits c.in-Ok.ensures.fresh c.in-Ok.ensures.shape in
