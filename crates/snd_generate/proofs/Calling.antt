@@ -1,6 +1,6 @@
 -- Calls on an open file, one after the other.
-use Rattle.std.proofs.Common.{◌≡◌, ◌∙◌, ap, sym, subst, refl, ℕ, List, true, false, Option, None, Some, Ok, Err}
-use Rattle.std.specs.Prelude.{IfOk, Result, is_some}
+use Rattle.std.proofs.Common.{◌≡◌, ◌∙◌, ap, sym, subst, ℕ, List, Some, Ok, Err}
+use Rattle.std.specs.Prelude.{IfOk, Result}
 use Rattle.snd_disk.specs.Shelf.{Files, ShelfState, put}
 use Rattle.snd_disk.specs.Shelves.{TellsFiles}
 use Rattle.snd_tools.specs.Shelves.{HasFiles}
@@ -40,13 +40,6 @@ module _ {D M : Type 0} {d : Ghosts D} {mode : ModeGhosts M} (state : D → Stat
 -- a disk that comes back tells what it held
 pub told_by : {D : Type 0} (state : D → State) (back disk : D) (b c : List ℕ) → back ≡ disk → c ≡ b → Tells state back b → Tells state disk c
 told_by state back disk b c same is told = subst (λ d. Tells state d c) same (told ∙ ap (λ (l : List ℕ). Some l) (sym is))
-
-some_too : (o o' : Option (List ℕ)) (b : List ℕ) → is_some o' ≡ is_some o → o ≡ Some b → (b' : List ℕ) × (o' ≡ Some b')
-some_too o (Some b') b same is = (b', refl)
-some_too o None b same is = absurd (let e : false ≡ true = same ∙ ap (λ (x : Option (List ℕ)). is_some x) is in cc)
-
-pub tells_on : (old new : State) (b : List ℕ) → StillTells old new → old.contents ≡ Some b → (b' : List ℕ) × (new.contents ≡ Some b')
-tells_on old new b still is = some_too old.contents new.contents b still.told is
 
 -- what is answered over a shelf that tells its files
 pub generates_by : {S : Type 0} (state : S → ShelfState) (g : Generation) (old new : S) (r : Result Summary Stop)

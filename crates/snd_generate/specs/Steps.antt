@@ -1,5 +1,5 @@
 -- The calls of which the parts are made: on a file that is made, on one that is updated, and on one that is read.
-use Rattle.std.specs.Prelude.{◌≡◌, ℕ, ℤ, pos, Bool, true, List, [], ◌++◌, Option, None, Result, Ok, Err, length}
+use Rattle.std.specs.Prelude.{◌≡◌, ℕ, ℤ, pos, Bool, false, true, List, [], ◌++◌, Option, None, Result, Ok, Err, length}
 use Rattle.snd_disk.specs.declared.disk.Disk.{Ghosts}
 use Rattle.snd_disk.specs.declared.disk.Step.{Step}
 use Rattle.snd_disk.specs.Device.{GoesOnFrom}
@@ -15,6 +15,7 @@ use Rattle.snd_modes.specs.Editing.{Editing, frames_read}
 use Rattle.snd_modes.specs.Handle.{Known, Stands, disk_of, known_of}
 use Rattle.snd_modes.specs.Outcomes.{TellsOn}
 use Rattle.snd_modes.specs.Relaid.{shape_with}
+use Rattle.snd_modes.specs.WriteCalls.{MayWrite}
 use Rattle.snd_output.specs.Appended.{read_on}
 use Rattle.snd_output.specs.declared.stop.Stop.{Stop}
 use Rattle.snd_output.specs.declared.stop.Stop.TheVariants.{Fault, Memory}
@@ -26,8 +27,9 @@ use Rattle.snd_taps.specs.Meter.{after_frames, fed}
 use Rattle.snd_taps.specs.Meters.{energy_meter, peak_meter}
 use Rattle.snd_generate.specs.declared.generating.Summary.{Summary}
 use Rattle.snd_generate.specs.declared.summing.Meters.{Meters}
-use Rattle.snd_generate.specs.Edited.{file_of, params}
+use Rattle.snd_generate.specs.Edited.{edited, file_of, frames_kept, params, with_frame}
 use Rattle.snd_generate.specs.Generating.{AreNumbers}
+use Rattle.snd_generate.specs.Numbers.{numbers_from}
 
 -- a file is broken where a call stopped with a fault, and there alone
 abbrev pub IsBrokenBy : {T : Type 0} → Result T Stop → Option Step → Type 0
@@ -42,6 +44,10 @@ pub record Calls {D M T : Type 0} {ghosts : Ghosts D} {mode : ModeGhosts M} (sta
   pub tells : TellsOn state old new
   pub time : GoesOnFrom state left_between (disk_of old) (disk_of new)
 
+-- so many numbers may be written, from the frame to write next on
+abbrev pub MayWriteTo : {D M : Type 0} {ghosts : Ghosts D} {mode : ModeGhosts M} → File D M ghosts mode → List ℤ → Type 0
+MayWriteTo file numbers = MayWrite numbers (known_of file).shape (known_of file).write_place
+
 -- what stops a part whose file does not open: one that is refused is not what was made, which is no fault
 abbrev pub stop_of : OpenError → Stop
 stop_of (DiskFault step) = Fault
@@ -53,6 +59,10 @@ stop_of error = Memory
 abbrev pub Lengthens : {D M : Type 0} {ghosts : Ghosts D} {mode : ModeGhosts M} → (D → State) → List ℤ → File D M ghosts mode → File D M ghosts mode → Type 0
 Lengthens state ys old new = (xs : List ℤ) (e : Editing) → Stands state old e → IsMaking Wave params [] xs e →
     (e' : Editing) × Stands state new e' × IsMaking Wave params [] (xs ++ ys) e'
+
+-- .. as many as a block has, behind a state
+abbrev pub LengthensBy : {D M : Type 0} {ghosts : Ghosts D} {mode : ModeGhosts M} → (D → State) → ℕ → ℕ → File D M ghosts mode → File D M ghosts mode → Type 0
+LengthensBy state count seed old new = Lengthens state (numbers_from count seed) old new
 
 -- ---- a file that is updated
 
@@ -72,6 +82,13 @@ abbrev pub Becomes : {D M : Type 0} {ghosts : Ghosts D} {mode : ModeGhosts M} �
 Becomes state automatic n m change old new = (xs : List ℤ) (e : Editing) → Stands state old e → Holds automatic n xs e →
     (e' : Editing) × Stands state new e' × Holds true m (change xs) e'
 
+-- .. once one of its frames is overwritten, and once it is edited
+abbrev pub Overwrites : {D M : Type 0} {ghosts : Ghosts D} {mode : ModeGhosts M} → (D → State) → ℕ → ℕ → File D M ghosts mode → File D M ghosts mode → Type 0
+Overwrites state n i old new = Becomes state true n n (with_frame n i) old new
+
+abbrev pub EditsFile : {D M : Type 0} {ghosts : Ghosts D} {mode : ModeGhosts M} → (D → State) → ℕ → File D M ghosts mode → File D M ghosts mode → Type 0
+EditsFile state n old new = Becomes state false n (frames_kept n) (edited n) old new
+
 -- ---- a file that is read
 
 -- what meters that were not started say of frames
@@ -88,7 +105,7 @@ abbrev pub FeedsNext : {D M : Type 0} {ghosts : Ghosts D} {mode : ModeGhosts M} 
 FeedsNext state k file old new = (e : Editing) → Stands state file e → FedOn (frames_read e k) old new
 
 -- k frames were read, as many as there are places for, fewer only at the end
-pub record IsReadBy (k places : ℕ) (old new : Known) : Type 0 where
+pub record IsReadBy (places : ℕ) (old new : Known) (k : ℕ) : Type 0 where
   pub count : k ≡ count_read places old
   pub on : new ≡ read_on k old
 

@@ -6,9 +6,8 @@ ghost use Rattle.snd_modes.specs.Edits.{automatic_to, moved_write_to, truncated_
 ghost use Rattle.snd_modes.specs.Handle.{StandsAfter, known_of, loan_of};
 ghost use Rattle.snd_output.specs.Ends.{CountsStop};
 ghost use Rattle.snd_patch.specs.Steps.{StillTells};
-ghost use Rattle.snd_generate.specs.Edited.{edited, frames_kept, with_frame};
 ghost use Rattle.snd_generate.specs.Generating.{Edits};
-ghost use Rattle.snd_generate.specs.Steps.{Becomes, Calls};
+ghost use Rattle.snd_generate.specs.Steps.{Calls, EditsFile, Overwrites};
 
 use crate::writing::{CHANGED, stop_of, write};
 use snd_disk::Disk;
@@ -52,7 +51,7 @@ fn overwrite<E: Disk>(file: &mut File<'_, E, Update>, i: u8, frames: u64) -> Res
     requires quarter { i < 4 }
     requires few { frames ≤ 10000000 }
     ensures loan { loan_of file.new ≡ loan_of file.old }
-    ensures becomes { OnOk result (Becomes E.state true frames frames (with_frame frames i) file.old file.new) }
+    ensures becomes { OnOk result (Overwrites E.state frames i file.old file.new) }
     ensures calls { Calls E.state E.left_between file.old file.new result }
 {
     seek(file, u64::from(i) * frames / 4)?;
@@ -81,7 +80,7 @@ fn edit_file<E: Disk>(file: &mut File<'_, E, Update>, frames: u64) -> Result<(),
     requires working { (known_of file.old).broken ≡ None }
     requires few { frames ≤ 10000000 }
     ensures loan { loan_of file.new ≡ loan_of file.old }
-    ensures becomes { OnOk result (Becomes E.state false frames (frames_kept frames) (edited frames) file.old file.new) }
+    ensures becomes { OnOk result (EditsFile E.state frames file.old file.new) }
     ensures calls { Calls E.state E.left_between file.old file.new result }
 {
     keep_up(file)?;

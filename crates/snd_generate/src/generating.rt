@@ -10,7 +10,8 @@ ghost use Rattle.snd_generate.specs.Generating.{Generates, GeneratesOn, IsAsked}
 use crate::editing::edit;
 use crate::making::make;
 use crate::summing::sum_up;
-use snd_disk::{Disk, Shelf, ShelfFault};
+use snd_disk::{Disk, Shelf};
+use snd_inputs::take_output;
 use snd_output::Stop;
 use snd_words::Generation;
 use std::alloc::Global;
@@ -63,12 +64,7 @@ pub fn generate<S: Shelf>(
     ensures changes { ChangesOne S.Shelf generation.now.name.now shelf.old shelf.new }
     ensures faults { CountsStop (S.state shelf.old).faults (S.state shelf.new).faults result }
 {
-    let mut disk = match shelf.take(generation.name, true) {
-        Ok(disk) => disk,
-        Err(ShelfFault::Failed) => return Err(Stop::Fault),
-        Err(ShelfFault::Memory) => return Err(Stop::Memory),
-        Err(ShelfFault::Missing) => unreachable!(),
-    };
+    let mut disk = take_output(generation.name, shelf)?;
     let summary = generate_on(alloc, generation, &mut disk);
     shelf.give(generation.name, disk);
     summary

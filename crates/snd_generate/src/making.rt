@@ -7,8 +7,8 @@ ghost use Rattle.snd_output.specs.Ends.{CountsStop};
 ghost use Rattle.snd_patch.specs.Steps.{StillTells};
 ghost use Rattle.snd_generate.specs.Edited.{params};
 ghost use Rattle.snd_generate.specs.Generating.{IsAsked, Makes, numbers_of};
-ghost use Rattle.snd_generate.specs.Numbers.{numbers_from, state_after};
-ghost use Rattle.snd_generate.specs.Steps.{Calls, Lengthens};
+ghost use Rattle.snd_generate.specs.Numbers.{state_after};
+ghost use Rattle.snd_generate.specs.Steps.{Calls, Lengthens, LengthensBy};
 
 use crate::numbers::fill;
 use crate::writing::write;
@@ -43,7 +43,7 @@ fn write_block<E: Disk>(
     requires small { state < 2 ^ 32 }
     ensures loan { loan_of file.new ≡ loan_of file.old }
     ensures state { IfOk result (λ s. (s ≡ state_after (length block.old) state) × (s < 2 ^ 32)) }
-    ensures lengthens { OnOk result (Lengthens E.state (numbers_from (length block.old) state) file.old file.new) }
+    ensures lengthens { OnOk result (LengthensBy E.state (length block.old) state file.old file.new) }
     ensures calls { Calls E.state E.left_between file.old file.new result }
 {
     let last = fill(block, state);

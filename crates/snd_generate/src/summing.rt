@@ -2,8 +2,9 @@
 
 ghost use Rattle.std.specs.Prelude.{◌≡◌, ◌≤◌, ◌%◌, IfOk, None, length};
 ghost use Rattle.snd_disk.specs.Device.{OnlyReadsOn};
+ghost use Rattle.snd_inputs.specs.Copying.{CountsFile, OnlyReadsFile};
 ghost use Rattle.snd_modes.specs.Editing.{moved_by};
-ghost use Rattle.snd_modes.specs.Handle.{StandsAfter, channels_of, disk_of, known_of, loan_of};
+ghost use Rattle.snd_modes.specs.Handle.{StandsAfter, channels_of, known_of, loan_of};
 ghost use Rattle.snd_output.specs.Ends.{CountsStop};
 ghost use Rattle.snd_pcm.specs.Groups.{groups};
 ghost use Rattle.snd_generate.specs.Generating.{SumsUp};
@@ -45,12 +46,12 @@ fn feed_block<E: Disk>(
     requires working { (known_of file.old).broken ≡ None }
     requires whole { length block.old % channels_of file.old ≡ 0 }
     ensures loan { loan_of file.new ≡ loan_of file.old }
-    ensures left { IfOk result (λ k. IsReadBy k (length block.old) (known_of file.old) (known_of file.new)) }
+    ensures left { IfOk result (IsReadBy (length block.old) (known_of file.old) (known_of file.new)) }
     ensures stands { IfOk result (λ k. StandsAfter E.state file.old file.new (moved_by k)) }
     ensures fed { IfOk result (λ k. FeedsNext E.state k file.old meters.old meters.new) }
     ensures broken { IsBrokenBy result (known_of file.new).broken }
-    ensures faults { CountsStop (E.state (disk_of file.old)).faults (E.state (disk_of file.new)).faults result }
-    ensures reads { OnlyReadsOn E.state E.may_leave E.left_between (disk_of file.old) (disk_of file.new) }
+    ensures faults { CountsFile E.state file.old file.new result }
+    ensures reads { OnlyReadsFile E.Disk file.old file.new }
 {
     let params = file.params();
     params.are_good();
@@ -72,8 +73,8 @@ fn sum_frames<E: Disk>(file: &mut File<'_, E, Read>) -> Result<Summary, Stop>
     ensures loan { loan_of file.new ≡ loan_of file.old }
     ensures sums { IfOk result (SumsFrames E.state file.old) }
     ensures broken { IsBrokenBy result (known_of file.new).broken }
-    ensures faults { CountsStop (E.state (disk_of file.old)).faults (E.state (disk_of file.new)).faults result }
-    ensures reads { OnlyReadsOn E.state E.may_leave E.left_between (disk_of file.old) (disk_of file.new) }
+    ensures faults { CountsFile E.state file.old file.new result }
+    ensures reads { OnlyReadsFile E.Disk file.old file.new }
 {
     let params = file.params();
     params.are_good();

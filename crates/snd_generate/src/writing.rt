@@ -3,8 +3,7 @@
 ghost use Rattle.std.specs.Prelude.{◌≡◌, None, OnOk};
 ghost use Rattle.snd_modes.specs.Edits.{written_to};
 ghost use Rattle.snd_modes.specs.Handle.{StandsAfter, known_of, loan_of};
-ghost use Rattle.snd_modes.specs.WriteCalls.{MayWrite};
-ghost use Rattle.snd_generate.specs.Steps.{Calls, stop_of};
+ghost use Rattle.snd_generate.specs.Steps.{Calls, MayWriteTo, stop_of};
 
 use snd_disk::Disk;
 use snd_layout::OpenError;
@@ -33,7 +32,7 @@ pub(crate) fn write<E: Disk, M: CanWrite>(
 ) -> Result<(), Stop>
     requires working { (known_of file.old).broken ≡ None }
     ensures loan { loan_of file.new ≡ loan_of file.old }
-    ensures may { OnOk result (MayWrite numbers.now (known_of file.old).shape (known_of file.old).write_place) }
+    ensures may { OnOk result (MayWriteTo file.old numbers.now) }
     ensures stands { OnOk result (StandsAfter E.state file.old file.new (written_to numbers.now)) }
     ensures calls { Calls E.state E.left_between file.old file.new result }
 {
