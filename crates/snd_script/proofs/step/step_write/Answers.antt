@@ -1,9 +1,8 @@
-use Rattle.std.proofs.Common.{◌≡◌, true, ap, ⊎_elim}
+use Rattle.std.proofs.Common.{◌≡◌, true, ap, rules, ⊎_elim}
 use Rattle.snd_script.specs.Desk.{writing}
 use Rattle.snd_script.specs.Tapped.{meter_taps}
 use Rattle.snd_script.proofs.FedTaps.{is_quiet, work_fed}
 use Rattle.snd_script.proofs.step.step_write.Goals as goal
-use Rattle.snd_script.proofs.step.step_write.Goals.{in-SeekWrite, in-SeekWrite-2}
 
 pub returns-in-Tell-clause-taps : goal.returns-in-Tell-clause-taps
 returns-in-Tell-clause-taps g c = work_fed g.D.Disk.state writing c.args.work c.tell.result c.args.file.now (meter_taps (λ b. (goal.Tap-dyn g b).meter b.1) c.args.meters.now) (ap (is_quiet writing) c.in-Tell.is)
@@ -34,7 +33,7 @@ returns-in-SeekRead-clause-taps g c = work_fed g.D.Disk.state writing c.args.wor
 
 pub returns-in-SeekWrite-clause-taps : goal.returns-in-SeekWrite-clause-taps
 returns-in-SeekWrite-clause-taps g c =
-    let quiet : is_quiet writing c.args.work ≡ true = elim c.in-SeekWrite-1.branch [ in-SeekWrite w ↦ ⊎_elim (λ is. ap (is_quiet writing) is) (λ is. ap (is_quiet writing) is) w.in-SeekWrite.is | in-SeekWrite-2 w ↦ ⊎_elim (λ is. ap (is_quiet writing) is) (λ is. ap (is_quiet writing) is) w.in-SeekWrite.is ] in
+    let quiet : is_quiet writing c.args.work ≡ true = search rules in
     work_fed g.D.Disk.state writing c.args.work c.seek_write.result c.args.file.now (meter_taps (λ b. (goal.Tap-dyn g b).meter b.1) c.args.meters.now) quiet
 
 pub returns-in-Open-clause-taps : goal.returns-in-Open-clause-taps
