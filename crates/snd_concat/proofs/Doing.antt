@@ -54,10 +54,6 @@ pub refused_not_ok : {T E : Type 0} (r : Result T E) (why : E) → r ≡ Err why
 refused_not_ok (Ok x) why is ok = absurd (cc)
 refused_not_ok (Err other) why is ok = absurd (cc)
 
-pub seen_refused : (r : Result (List Editing) (List ℕ × Refusal)) (refused : List ℕ × Refusal) → Err refused ≡ all_seen r → r ≡ Err refused
-seen_refused (Ok es) refused is = absurd (cc)
-seen_refused (Err other) refused is = let same : other ≡ refused = cc in ap (λ (x : List ℕ × Refusal). Err x) same
-
 pub seen_sound : (r : Result (List Editing) (List ℕ × Refusal)) (hs : List Shape) → Ok hs ≡ all_seen r → (es : List Editing) × (r ≡ Ok es) × (shapes_of es ≡ hs)
 seen_sound (Ok es) hs is = (es, refl, (let same : shapes_of es ≡ hs = cc in same))
 seen_sound (Err refused) hs is = absurd (cc)

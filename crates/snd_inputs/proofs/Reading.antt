@@ -1,5 +1,5 @@
 -- A shelf of which files are only read: where none was handed out, where one came back as it was, and where one thing follows another.
-use Rattle.std.proofs.Common.{◌≡◌, ℕ, List, [], false, true, None, Some, inl, inr, ◌⊎◌, ◌∙◌, refl, Result, Ok, Err, arith, Bool, cond, ap}
+use Rattle.std.proofs.Common.{◌≡◌, ℕ, List, [], false, true, None, Some, inl, inr, ◌⊎◌, ◌∙◌, refl, arith, Bool, cond, ap}
 use Rattle.snd_disk.proofs.Chains.{keeps_images_then}
 use Rattle.snd_disk.proofs.Names.{same_bytes}
 use Rattle.snd_disk.proofs.Returned.{returned_files, returned_images, returned_out, stayed_images}
@@ -8,13 +8,9 @@ use Rattle.snd_disk.specs.declared.shelf.Shelf.{Ghosts as ShelfMeaning}
 use Rattle.snd_disk.specs.Device.{OnlyReadsOn}
 use Rattle.snd_disk.specs.Shelf.{Files, Gives, KeepsBytes, SameFiles, ShelfState, Stays, Takes, put}
 use Rattle.snd_disk.specs.Shelves.{HandsOut, HandsOutNone, KeepsOthers, TakesBack, TellsFiles}
-use Rattle.snd_disk.specs.State.{Adds, State}
-use Rattle.snd_output.specs.declared.stop.Stop.{Stop}
-use Rattle.snd_output.specs.declared.stop.Stop.TheVariants.{Fault, Memory}
-use Rattle.snd_output.specs.Ends.{CountsStop}
-use Rattle.snd_tools.proofs.Counts.{counts_back}
+use Rattle.snd_disk.specs.State.{State}
 use Rattle.snd_tools.proofs.Left.{kept_changes}
-use Rattle.snd_tools.specs.Shelves.{ChangesOne, CountsOneOf}
+use Rattle.snd_tools.specs.Shelves.{ChangesOne}
 use Rattle.snd_inputs.specs.Looking.{ReadsFiles}
 
 -- a name that was taken out is out
@@ -83,13 +79,3 @@ module _ {S D : Type 0} (s : ShelfMeaning S D) where
       images = returned_images s.state s.may_leave s.left_between name d.state d.may_leave d.left_between old mid new taken given handed back others others' reads.images;
       written = omega (arith, bytes.written, gives.written.later, gives.written.most, reads.written, takes.fresh.1);
     }
-
--- one of two counts rose, where the other stayed
-one_of : {T : Type 0} (old new mid : ℕ) (r : Result T Stop) → CountsStop old new r → CountsOneOf old new mid mid r
-one_of old new mid (Ok x) counts = (counts, refl)
-one_of old new mid (Err Memory) counts = (counts, refl)
-one_of old new mid (Err Fault) counts = (counts.0, omega arith, inl counts.1)
-
--- the count of the disk that came back is added to that of the shelf
-pub counts_back_alone : {T : Type 0} (old mid fresh disk new : ℕ) → mid ≡ old → fresh ≡ 0 → (r : Result T Stop) → CountsStop fresh disk r → Adds mid disk new → CountsStop old new r
-counts_back_alone old mid fresh disk new same none r counts adds = counts_back old mid fresh disk new same none r mid (one_of fresh disk mid r counts) adds

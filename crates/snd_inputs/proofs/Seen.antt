@@ -1,5 +1,5 @@
 -- What is seen of a file that was handed out.
-use Rattle.std.proofs.Common.{◌≡◌, ℕ, List, [], Bool, cond, false, true, Option, Some, unwrap_or, Result, Ok, Err, refl, sym, ◌∙◌, ap, length, subst, arith}
+use Rattle.std.proofs.Common.{◌≡◌, ℕ, List, [], Bool, cond, false, true, Option, Some, unwrap_or, Result, Ok, Err, refl, sym, ◌∙◌, ap, length, arith}
 use Rattle.std.specs.Prelude.{is_none}
 use Rattle.snd_container.specs.Sound.{decoded, fixed_of, layout_of, sound_bytes}
 use Rattle.snd_disk.specs.declared.disk.Disk.{Ghosts}
@@ -63,11 +63,6 @@ module _ (old mid : ShelfState) (files : Files) (name : List ℕ) (disk : State)
 
   pub seen_there : (seen : Result Shape Refusal) → ((b : List ℕ) → disk.contents ≡ Some b → seen ≡ seen_of (input_as (opening_of b))) → seen ≡ seen_of (input_in (files name))
   seen_there seen is = let there = bytes_there in is there.0 there.2 ∙ sym (ap (λ (o : Option (List ℕ)). seen_of (input_in o)) there.1)
-
-  pub within_there : (h : Shape) (b : List ℕ) → ((b : List ℕ) → disk.contents ≡ Some b → disk.size ≡ length b) → files name ≡ Some b → LiesWithin disk.size h → LiesWithin (length b) h
-  within_there h b sized is within =
-      let bytes : disk.contents ≡ Some b = takes.contents files told ∙ ap (λ (o : Option (List ℕ)). Some (unwrap_or o [])) is in
-      subst (λ (n : ℕ). LiesWithin n h) (sized b bytes) within
 
   -- .. so what is opened there is held
   pub held_there : {D : Type 0} {d : Ghosts D} (state : D → State) (input : Input D d) → ((b : List ℕ) → disk.contents ≡ Some b → disk.size ≡ length b)

@@ -56,9 +56,6 @@ put_split at x xs within = let one : suc at ≡ at + 1 = omega arith in set_spli
 pub all_put : {A : Type 0} (P : A → Type 0) (at : ℕ) (x : A) (xs : List A) → All P xs → P x → All P (put_in at x xs)
 all_put P at x xs all is = All-append P (take at xs) (x ∷ drop (at + 1) xs) (All-take P at xs all) (All-cons P x (drop (at + 1) xs) is (All-drop P (at + 1) xs all))
 
-pub few_put : {A : Type 0} (at : ℕ) (x : A) (xs : List A) → at ≤ length xs → length (put_in at x xs) ≤ length xs + 1
-few_put at x xs within = grind (arith, places)
-
 -- the place of the first that passes does not hang on what the others are made of
 pub place_in_map : {A B : Type 0} (f : A → B) (p : B → Bool) (q : A → Bool) (xs : List A) → ((x : A) → p (f x) ≡ q x) → position_or_len p (map f xs) ≡ position_or_len q xs
 place_in_map f p q [] same = refl
