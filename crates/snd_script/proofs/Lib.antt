@@ -27,6 +27,7 @@ pub mod StaysOpen
 pub mod Stepping
 pub mod Tails
 pub mod FedTaps
+pub mod KeptTaps
 pub mod TrailRuns
 pub mod Trails
 pub mod Uses

@@ -2,6 +2,7 @@ pub mod Desk
 pub mod Edit
 pub mod Handled
 pub mod Kept
+pub mod Laws
 pub mod Lines
 pub mod Opened
 pub mod Pinned

@@ -8,6 +8,7 @@ mod closed;
 mod handle;
 mod held;
 mod hex;
+mod laws;
 mod open;
 mod opened;
 mod opening;
@@ -30,5 +31,6 @@ mod text;
 mod work;
 
 pub use handle::{Handle, Reply, StepFault};
+pub use laws::refused_commands_leave_the_taps;
 pub use serving::{ScriptEnd, serve};
 pub use session::Session;

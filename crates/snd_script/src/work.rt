@@ -79,7 +79,7 @@ pub enum Work<'a> {
     Tap(TapKind),
     /// The one of a kind that is on reports, and is dropped.
     Untap(TapKind),
-    /// The command is not built yet.
+    /// Nothing: the codec of a file that is to be made is not built yet.
     NotBuilt,
 }
 
