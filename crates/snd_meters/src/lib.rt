@@ -3,11 +3,9 @@
 
 mod laws;
 mod meters;
-mod report;
 mod slot;
 #[cfg(test)]
 mod tests;
 
 pub use laws::at_most_one_is_on;
 pub use meters::Meters;
-pub use report::push_report;
