@@ -180,6 +180,71 @@ for seed in range(12):
     edited(seed, list(BITS)[seed % 4], 1 + seed % 3)
 
 
+class Taps:
+    """A tap of each kind: the frames that it saw since it was on, None while it waits, and no entry once it is gone."""
+
+    def __init__(self, least, most):
+        self.value = {"peak": lambda xs: max(map(abs, xs), default=0), "clips": lambda xs: sum(x in (least, most) for x in xs), "energy": lambda xs: sum(x * x for x in xs)}
+        self.seen = dict.fromkeys(self.value)
+
+    def start(self, kind):
+        if self.seen.get(kind) is not None:
+            return "error 46 TapOn"
+        if kind not in self.seen:
+            return "error 45 NoSuchTap"
+        self.seen[kind] = []
+        return "ok"
+
+    def stop(self, kind):
+        if self.seen.get(kind) is None:
+            return "error 45 NoSuchTap"
+        saw = self.seen.pop(kind)
+        return f"ok {kind} {len(saw)} {self.value[kind]([x for frame in saw for x in frame])}"
+
+    def feed(self, frames):
+        self.seen = {kind: None if saw is None else saw + frames for kind, saw in self.seen.items()}
+
+    def rest(self):
+        self.seen = dict.fromkeys(self.seen)
+
+
+def metered(seed, codec, channels):
+    """Frames are read and taps begin and end, in two sittings on one file; what each saw is computed beside it."""
+    dice = random.Random(seed)
+    least, most = -(1 << (BITS[codec] - 1)), (1 << (BITS[codec] - 1)) - 1
+    frames = [[dice.choice([least, most, 0, dice.randint(least, most)]) for _ in range(channels)] for _ in range(60)]
+    taps, lines, replies = Taps(least, most), [], []
+    for _ in range(2):
+        lines += ["tap peak", "open r o.wav"]
+        replies += ["error 42 NotOpen", line_of(codec, channels, 48000, 60)]
+        place = 0
+        for _ in range(40):
+            command, kind = dice.choice(["tap", "tap", "untap", "read", "read", "read", "seek r"]), dice.choice(list(taps.value))
+            if command == "read":
+                count = dice.randint(0, 12)
+                got = frames[place:place + count]
+                place += len(got)
+                taps.feed(got)
+                line, reply = f"read {count}", [f"ok {len(got)}"] + [" ".join(map(str, frame)) for frame in got]
+            elif command == "seek r":
+                to = dice.randint(0, 64)
+                line, reply = f"seek r {to}", [f"ok {to}" if to <= 60 else "error 24 SeekRange"]
+                place = to if to <= 60 else place
+            else:
+                line, reply = f"{command} {kind}", [taps.start(kind) if command == "tap" else taps.stop(kind)]
+            lines.append(line)
+            replies += reply
+        lines.append("close")
+        replies.append("ok 60")
+        taps.rest()
+    file = {"o.wav": made(codec, channels, 48000, frames)}
+    run(f"taps {seed}", lines, replies, 1, file, file)
+
+
+for seed in range(12):
+    metered(seed, list(BITS)[seed % 4], 1 + seed % 3)
+
+
 # ---- a file that stays open: its opening and `auto on` are answered before the first line
 
 PINNED = ("script", "--auto", "a.wav")
