@@ -1,10 +1,10 @@
 -- What a script that was served in part has put: a front of all its answers.
 use Rattle.std.proofs.Common.{◌≡◌, inl, inr, ℕ, ◌+◌, ◌≤◌, List, [], ◌∷◌, ◌++◌, Option, Some, length, take, refl, sym, ◌∙◌, ap, subst, append-nil, append_assoc, arith}
 use Rattle.std.proofs.lemmas.List.{places, same_lists, take_all}
-use Rattle.snd_disk.specs.Shelf.{Files, ShelfState}
+use Rattle.snd_disk.specs.Shelf.{ShelfState}
 use Rattle.snd_disk.specs.Streams.{AppendsFront}
 use Rattle.snd_script.proofs.Chains.{texts_append}
-use Rattle.snd_script.specs.Desk.{Desk}
+use Rattle.snd_script.specs.Desk.{Desk, Store}
 use Rattle.snd_script.specs.Edit.{Edited}
 use Rattle.snd_script.specs.Script.{texts}
 use Rattle.snd_script.specs.Served.{Appends, AppendsPart, FaultCounts, IsFault, StopsAtMemory, Takes, TakesPart, first_text}

@@ -2,13 +2,18 @@
 use Rattle.std.proofs.Common.{◌≡◌, inl, inr, ℕ, List, [], true, false, Some, refl, sym, ◌∙◌, ap, subst, append-nil, arith}
 use Rattle.snd_disk.specs.Shelf.{Files, ShelfState}
 use Rattle.snd_disk.specs.Streams.{AppendsFront}
+use Rattle.snd_disk.specs.declared.shelf.Shelf.{Ghosts as ShelfMeaning}
+use Rattle.snd_disk.specs.declared.streams.Sink.{Ghosts as SinkMeaning}
+use Rattle.snd_disk.specs.declared.streams.Source.{Ghosts as SourceMeaning}
 use Rattle.snd_script.specs.Served.{HasFiles}
+use Rattle.snd_script.specs.Trail.{TrailsScript}
 use Rattle.snd_app.specs.declared.look.Found.{Found}
 use Rattle.snd_app.specs.declared.look.Found.TheVariants.{Missing, Refused, Sound}
 use Rattle.snd_words.specs.Asked.{Asked}
-use Rattle.snd_app.specs.Outcome.{files_of, info, is_refused, outcome_of, text_of}
+use Rattle.snd_app.specs.Outcome.{files_of, info, is_refused, outcome_of, pinned_by, text_of}
 use Rattle.snd_app.specs.Printed.{Outcome}
-use Rattle.snd_app.specs.Run.{Appends, Faults, IsOutcome, IsPut, IsRun, PrintsFront, Told}
+use Rattle.snd_app.specs.Run.{Appends, DoneAtStream, Faults, IsOutcome, IsPut, IsRun, PrintsFront, StopsAs, Told}
+use Rattle.snd_taps.specs.declared.tap.TapKind.{TapKind}
 
 -- nothing is put to a sink
 pub none_put : (sink : Told) → sink.after ≡ sink.before → Appends sink []
@@ -62,8 +67,21 @@ module _ (result : ℕ) (old new : Faults) (out err : Told) (o : Outcome) where
   with_files leaves there (inl done) = inl (done.0, done.1, done.2, there)
   with_files leaves there (inr other) = inr other
 
--- the run, told otherwise
+-- what the words ask for, told otherwise
 module _ {S : Type 0} (state : S → ShelfState) (shelf : S) (result : ℕ) (old new : Faults) (out err : Told) (files : Files) (text : List ℕ) where
-  pub run_as : (a a' : Asked) → a ≡ a' → IsRun result (outcome_of a files text) old new out err (HasFiles state shelf (files_of a files text))
-      → IsRun result (outcome_of a' files text) old new out err (HasFiles state shelf (files_of a' files text))
-  run_as a a' is runs = subst (λ (a : Asked). IsRun result (outcome_of a files text) old new out err (HasFiles state shelf (files_of a files text))) is runs
+  pub run_as : (kinds : List TapKind) (a a' : Asked) → a ≡ a' → IsRun result (outcome_of a kinds files text) old new out err (HasFiles state shelf (files_of a kinds files text))
+      → IsRun result (outcome_of a' kinds files text) old new out err (HasFiles state shelf (files_of a' kinds files text))
+  run_as kinds a a' is runs =
+      subst (λ (a : Asked). IsRun result (outcome_of a kinds files text) old new out err (HasFiles state shelf (files_of a kinds files text))) is runs
+
+pub done_by : {S : Type 0} (state : S → ShelfState) (shelf shelf' : S) (result : ℕ) (kinds : List TapKind) (a a' : Asked) → a ≡ a'
+    → DoneAtStream state (λ files. files_of a kinds files []) shelf shelf' result → DoneAtStream state (λ files. files_of a' kinds files []) shelf shelf' result
+done_by state shelf shelf' result kinds a a' is done = subst (λ (x : Asked). DoneAtStream state (λ files. files_of x kinds files []) shelf shelf' result) is done
+
+module _ {S D R O : Type 0} (s : ShelfMeaning S D) (r : SourceMeaning R) (o : SinkMeaning O) (shelf shelf' : S) (script script' : R) (out out' : O) where
+  pub trails_by : (kinds : List TapKind) (a a' : Asked) → a ≡ a' → TrailsScript s r o kinds (pinned_by a) shelf script out shelf' out' → TrailsScript s r o kinds (pinned_by a') shelf script out shelf' out'
+  trails_by kinds a a' is trails = subst (λ (x : Asked). TrailsScript s r o kinds (pinned_by x) shelf script out shelf' out') is trails
+
+  pub stops_by : {E : Type 0} (e : SinkMeaning E) (err err' : E) (status : ℕ) (kinds : List TapKind) (a a' : Asked) → a ≡ a'
+      → StopsAs s r o e kinds (pinned_by a) shelf script out err shelf' script' out' err' status → StopsAs s r o e kinds (pinned_by a') shelf script out err shelf' script' out' err' status
+  stops_by e err err' status kinds a a' is stops = subst (λ (x : Asked). StopsAs s r o e kinds (pinned_by x) shelf script out err shelf' script' out' err' status) is stops

@@ -1,16 +1,17 @@
 -- From a script that was served to the outcome.
-use Rattle.std.proofs.Common.{◌≡◌, inl, inr, ℕ, List, Bool, true, false, Option, refl, sym, ◌∙◌, codes}
+use Rattle.std.proofs.Common.{◌≡◌, inl, inr, ℕ, List, Bool, true, false, Option, refl, sym, ◌∙◌, ap, codes}
+use Rattle.std.specs.Prelude.{if◌then◌else◌}
 use Rattle.snd_disk.specs.Shelf.{ShelfState}
 use Rattle.snd_disk.specs.Streams.{AppendsFront}
 use Rattle.snd_script.specs.Desk.{Store, closed_desk}
 use Rattle.snd_script.specs.Edit.{Edited}
 use Rattle.snd_script.specs.Script.{last_desk, texts}
 use Rattle.snd_script.specs.Served.{HasFiles, IsDone, IsFault, IsServed, SameCounts, StopsAtMemory}
-use Rattle.snd_script.specs.declared.serving.ScriptEnd.TheVariants.{TooLong, Fault}
+use Rattle.snd_script.specs.declared.serving.ScriptEnd.TheVariants.{Done, TooLong, Fault}
 use Rattle.snd_app.specs.Outcome.{script_outcome}
 use Rattle.snd_app.specs.Run.{AnyRises, Faults, IsPut, IsRun, IsScriptStop, PrintsFront, Told, counts_of}
 use Rattle.snd_app.proofs.Fronts.{fault_front, memory_front, whole_front}
-use Rattle.snd_app.proofs.Outcomes.{no_front}
+use Rattle.snd_app.proofs.Outcomes.{no_front, none_put}
 
 module _ {S : Type 0} (state : S → ShelfState) (store : Store) (all : List Edited) (old new : Faults) (out err : Told) (more : Option (List ℕ)) (shelf : S) where
   abbrev Left : Type 0
@@ -26,6 +27,17 @@ module _ {S : Type 0} (state : S → ShelfState) (store : Store) (all : List Edi
   prints_front : (longer : Bool) → err.after ≡ err.before → AppendsFront out.before out.after (texts all) → PrintsFront (script_outcome longer all) out err
   prints_front true same front = record { on_out = front; on_err = no_front err _ same }
   prints_front false same front = record { on_out = front; on_err = no_front err _ same }
+
+  -- it was served whole
+  pub done_is : (refused : Bool) (status : ℕ) (longer : Bool) → status ≡ (if refused then 1 else 0) → err.after ≡ err.before → new.err ≡ old.err
+      → IsServed state store longer all (Done refused) (counts_of old) (counts_of new) out.before out.after more shelf → IsRun status (script_outcome longer all) old new out err Left
+  done_is refused status true is same calm (whole, said, counts, done) = absurd (cc)
+  done_is refused status false is same calm (whole, said, counts, done) = inl (
+    is ∙ ap (λ (b : Bool). if b then 1 else 0) said,
+    record { shelf = counts.shelf; script = counts.script; out = counts.out; err = calm },
+    record { on_out = done.appended; on_err = none_put err same },
+    done.files,
+  )
 
   -- it is too long, and the message on this is put to `err`
   said_or_not : (status : ℕ) → SameCounts (counts_of old) (counts_of new) → IsDone state store all out.before out.after shelf → IsPut status 2 (codes "snd: script too long\n") old.err new.err err

@@ -7,7 +7,7 @@ use Rattle.snd_app.specs.Outcome.{files_of, outcome_of, output_by, pinned_by}
 use Rattle.snd_app.specs.Run.{DoneAtStream, StopsAs}
 use Rattle.snd_app.specs.Tools.{made_by}
 use Rattle.snd_app.proofs.Left.{changed_leaves, kept_leaves}
-use Rattle.snd_app.proofs.Outcomes.{is_put_err, is_put_out, run_as, with_files}
+use Rattle.snd_app.proofs.Outcomes.{done_by, is_put_err, is_put_out, run_as, stops_by, trails_by, with_files}
 use Rattle.snd_script.proofs.ShelfLeft.{some_of}
 use Rattle.snd_script.specs.PinnedRun.{named}
 use Rattle.snd_script.specs.Served.{BoundsScript}
@@ -17,7 +17,7 @@ use Rattle.snd_app.proofs.program.run.Goals as goal
 pub returns-in-Some-Info-clause-headline : goal.returns-in-Some-Info-clause-headline
 returns-in-Some-Info-clause-headline g c = λ files text told left.
     let is : Asked.info_of c.in-Some-Info.names ≡ asked c.args.words.now = search rules in
-    run_as g.S.Shelf.state _ c.run_infos.result _ _ _ _ files text _ _ is (c.run_infos.ensures.outcome files (g.R.Source.faults c.args.script.now) told)
+    run_as g.S.Shelf.state _ c.run_infos.result _ _ _ _ files text _ _ _ is (c.run_infos.ensures.outcome files (g.R.Source.faults c.args.script.now) told)
 
 pub returns-in-Some-Info-clause-fault : goal.returns-in-Some-Info-clause-fault
 returns-in-Some-Info-clause-fault g c = λ is. c.run_infos.ensures.fault is (g.R.Source.faults c.args.script.now)
@@ -34,8 +34,8 @@ returns-in-Some-Info-clause-unnamed g c = λ no_tool f s n told left there none.
 pub returns-in-Some-Script-clause-stops : goal.returns-in-Some-Script-clause-stops
 returns-in-Some-Script-clause-stops g c = λ script.
     let is : Asked.script (named c.in-Some-Script.pinned) ≡ asked c.args.words.now = search rules in
-    subst (λ (a : Asked). StopsAs g.S.Shelf g.R.Source g.O.Sink g.E.Sink _ (pinned_by a) c.args.shelf.now c.args.script.now c.args.out.now c.args.err.now
-    c.run_script.new.shelf c.run_script.new.script c.run_script.new.out c.run_script.new.err c.run_script.result) is c.run_script.ensures.stops
+    stops_by g.S.Shelf g.R.Source g.O.Sink c.args.shelf.now c.run_script.new.shelf c.args.script.now c.run_script.new.script c.args.out.now c.run_script.new.out g.E.Sink c.args.err.now c.run_script.new.err c.run_script.result
+    _ (Asked.script (named c.in-Some-Script.pinned)) (asked c.args.words.now) is c.run_script.ensures.stops
 
 pub returns-in-Some-Script-clause-bounds : goal.returns-in-Some-Script-clause-bounds
 returns-in-Some-Script-clause-bounds g c = λ script.
@@ -45,20 +45,32 @@ returns-in-Some-Script-clause-bounds g c = λ script.
 pub returns-in-Some-Script-clause-crash : goal.returns-in-Some-Script-clause-crash
 returns-in-Some-Script-clause-crash g c =
     let is : Asked.script (named c.in-Some-Script.pinned) ≡ asked c.args.words.now = search rules in
-    subst (λ (a : Asked). TrailsScript g.S.Shelf g.R.Source g.O.Sink _ (pinned_by a) c.args.shelf.now c.args.script.now c.args.out.now c.run_script.new.shelf c.run_script.new.out) is
-    c.run_script.ensures.crash
+    trails_by g.S.Shelf g.R.Source g.O.Sink c.args.shelf.now c.run_script.new.shelf c.args.script.now c.run_script.new.script c.args.out.now c.run_script.new.out
+    _ (Asked.script (named c.in-Some-Script.pinned)) (asked c.args.words.now) is c.run_script.ensures.crash
+
+pub returns-in-Some-Script-clause-headline : goal.returns-in-Some-Script-clause-headline
+returns-in-Some-Script-clause-headline g c = λ files text told left.
+    let is : Asked.script (named c.in-Some-Script.pinned) ≡ asked c.args.words.now = search rules in
+    run_as g.S.Shelf.state c.run_script.new.shelf c.run_script.result _ _ _ _ files text _ _ _ is (c.run_script.ensures.outcome files text told left)
 
 pub returns-in-Some-Help-clause-headline : goal.returns-in-Some-Help-clause-headline
 returns-in-Some-Help-clause-headline g c = λ files text told left.
     let is : Asked.help ≡ asked c.args.words.now = search rules in
-    run_as g.S.Shelf.state c.args.shelf.now c.put_text.result _ _ _ _ files text _ _ is
-    (with_files c.put_text.result _ _ _ _ (outcome_of Asked.help _ files text) _ (files, told, λ n. refl)
-    (is_put_out c.put_text.result _ _ _ _ (outcome_of Asked.help _ files text) c.as_bytes.result.now (ap (λ t. record { out = t; err = []; status = 0 }) c.as_bytes.ensures.value) refl refl refl refl c.put_text.ensures))
+    run_as g.S.Shelf.state c.args.shelf.now c.put_text.result _ _ _ _ files text _ _ _ is
+    (with_files c.put_text.result _ _ _ _ (outcome_of Asked.help [] files text) _ (files, told, λ n. refl)
+    (is_put_out c.put_text.result _ _ _ _ (outcome_of Asked.help [] files text) c.as_bytes.result.now (ap (λ t. record { out = t; err = []; status = 0 }) c.as_bytes.ensures.value) refl refl refl refl c.put_text.ensures))
+
+pub returns-in-Some-Version-clause-headline : goal.returns-in-Some-Version-clause-headline
+returns-in-Some-Version-clause-headline g c = λ files text told left.
+    let is : Asked.version ≡ asked c.args.words.now = search rules in
+    run_as g.S.Shelf.state c.args.shelf.now c.put_text-in-Some-Version.result _ _ _ _ files text _ _ _ is
+    (with_files c.put_text-in-Some-Version.result _ _ _ _ (outcome_of Asked.version [] files text) _ (files, told, λ n. refl)
+    (is_put_out c.put_text-in-Some-Version.result _ _ _ _ (outcome_of Asked.version [] files text) c.as_bytes-in-Some-Version.result.now (ap (λ t. record { out = t; err = []; status = 0 }) c.as_bytes-in-Some-Version.ensures.value) refl refl refl refl c.put_text-in-Some-Version.ensures))
 
 pub returns-in-Some-Tool-clause-headline : goal.returns-in-Some-Tool-clause-headline
 returns-in-Some-Tool-clause-headline g c = λ files text told left.
     let is : Asked.tool (work_of c.in-Some-Tool.tool) ≡ asked c.args.words.now = search rules in
-    run_as g.S.Shelf.state _ c.run_tool.result _ _ _ _ files text _ _ is (c.run_tool.ensures.outcome files (g.R.Source.faults c.args.script.now) told)
+    run_as g.S.Shelf.state _ c.run_tool.result _ _ _ _ files text _ _ _ is (c.run_tool.ensures.outcome files (g.R.Source.faults c.args.script.now) told)
 
 pub returns-in-Some-Tool-clause-fault : goal.returns-in-Some-Tool-clause-fault
 returns-in-Some-Tool-clause-fault g c = λ is. c.run_tool.ensures.fault is (g.R.Source.faults c.args.script.now)
@@ -76,7 +88,7 @@ returns-in-Some-Tool-clause-others g c = λ name named.
 pub returns-in-Some-Tool-clause-done : goal.returns-in-Some-Tool-clause-done
 returns-in-Some-Tool-clause-done g c = λ name named.
     let is : Asked.tool (work_of c.in-Some-Tool.tool) ≡ asked c.args.words.now = search rules in
-    subst (λ (a : Asked). DoneAtStream g.S.Shelf.state (λ files. files_of a _ files []) c.args.shelf.now c.run_tool.new.shelf c.run_tool.result) is c.run_tool.ensures.done
+    done_by g.S.Shelf.state c.args.shelf.now c.run_tool.new.shelf c.run_tool.result _ (Asked.tool (work_of c.in-Some-Tool.tool)) (asked c.args.words.now) is c.run_tool.ensures.done
 
 pub returns-in-Some-Tool-clause-unnamed : goal.returns-in-Some-Tool-clause-unnamed
 returns-in-Some-Tool-clause-unnamed g c = λ none.
@@ -87,6 +99,6 @@ returns-in-Some-Tool-clause-unnamed g c = λ none.
 pub returns-in-None-clause-headline : goal.returns-in-None-clause-headline
 returns-in-None-clause-headline g c = λ files text told left.
     let is : Asked.nothing ≡ asked c.args.words.now = search rules in
-    run_as g.S.Shelf.state c.args.shelf.now c.put_text-in-None.result _ _ _ _ files text _ _ is
-    (with_files c.put_text-in-None.result _ _ _ _ (outcome_of Asked.nothing _ files text) _ (files, told, λ n. refl)
-    (is_put_err c.put_text-in-None.result _ _ _ _ (outcome_of Asked.nothing _ files text) 2 _ refl refl refl refl refl c.put_text-in-None.ensures))
+    run_as g.S.Shelf.state c.args.shelf.now c.put_text-in-None.result _ _ _ _ files text _ _ _ is
+    (with_files c.put_text-in-None.result _ _ _ _ (outcome_of Asked.nothing [] files text) _ (files, told, λ n. refl)
+    (is_put_err c.put_text-in-None.result _ _ _ _ (outcome_of Asked.nothing [] files text) 2 _ refl refl refl refl refl c.put_text-in-None.ensures))

@@ -1,10 +1,14 @@
-use Rattle.std.proofs.Common.{refl}
+use Rattle.std.proofs.Common.{refl, rules}
 use Rattle.snd_script.specs.Desk.{stored}
 use Rattle.snd_script.specs.Pinned.{run_steps, run_too_long}
 use Rattle.snd_script.specs.PinnedRun.{named}
 use Rattle.snd_app.specs.Run.{told_by}
-use Rattle.snd_app.proofs.Scripts.{fault_is, fault_stops, memory_is, too_long_is, too_long_stops}
+use Rattle.snd_app.proofs.Scripts.{done_is, fault_is, fault_stops, memory_is, too_long_is, too_long_stops}
 use Rattle.snd_app.proofs.program.run_script.Goals as goal
+
+pub returns-in-Done-clause-outcome : goal.returns-in-Done-clause-outcome
+returns-in-Done-clause-outcome g c = λ files text told left.
+    done_is g.S.Shelf.state (stored files _) (run_steps (named c.args.pinned) (stored files _) text) _ _ _ _ (g.R.Source.left c.serve.new.script) _ c.in-Done.refused _ (run_too_long (named c.args.pinned) (stored files _) text) (search rules) refl refl (c.in-Done.ensures.served files text told left)
 
 pub returns-in-TooLong-clause-outcome : goal.returns-in-TooLong-clause-outcome
 returns-in-TooLong-clause-outcome g c = λ files text told left.
