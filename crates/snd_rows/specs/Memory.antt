@@ -1,17 +1,11 @@
 -- A run over one file in memory.
-use Rattle.std.specs.Prelude.{◌≡◌, ◌⊎◌, ℕ, List, [], ◌∷◌, Some, None}
+use Rattle.std.specs.Prelude.{◌≡◌, ◌⊎◌, ℕ, List, Some, None}
 use Rattle.snd_disk.specs.Shelf.{Files, put}
 use Rattle.snd_app.specs.Printed.{Outcome}
-use Rattle.snd_taps.specs.declared.tap.TapKind.{TapKind}
-use Rattle.snd_taps.specs.declared.tap.TapKind.TheVariants.{Peak, Clips, Energy}
 use Rattle.snd_rows.specs.declared.memory.Printed.{Printed}
 
 abbrev pub one_file : List ℕ → List ℕ → Files
 one_file name bytes = put (λ n. None) name (Some bytes)
-
--- a tap of each kind, in this order
-abbrev pub each_kind : List TapKind
-each_kind = Peak ∷ Clips ∷ Energy ∷ []
 
 -- what was printed is the outcome, or the run stopped at a fault or for want of memory
 abbrev pub IsPrinted : Outcome → Printed → Type 0

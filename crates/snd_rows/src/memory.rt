@@ -1,11 +1,11 @@
-ghost use Rattle.std.specs.Prelude.{◌≡◌, IfOk};
+ghost use Rattle.std.specs.Prelude.{◌≡◌, IfOk, map};
 ghost use Rattle.snd_app.specs.Outcome.{outcome};
-ghost use Rattle.snd_rows.specs.Memory.{each_kind, one_file, IsPrinted};
+ghost use Rattle.snd_rows.specs.Memory.{one_file, IsPrinted};
 
 use snd_app::run;
 use snd_disk::{MemoryDisk, MemoryShelf, MemorySink, MemorySource};
 use snd_fields::Words;
-use snd_taps::{Clips, Energy, Peak, Tap};
+use snd_taps::Tap;
 use std::alloc::{AllocError, Global};
 
 /// What a run printed, and the status that it answered.
@@ -19,16 +19,17 @@ pub struct Printed {
 /// How many bytes of the script come at a time.
 const PIECE: usize = 4096;
 
-/// Runs the words over a shelf with one file, with streams that do not fail, a script to come, and a tap of each
-/// kind.
+/// Runs the words over a shelf with one file, with streams that do not fail, a script to come, and
+/// these taps.
 pub fn run_in_memory(
     alloc: Global,
     words: &Words,
     name: &str,
     bytes: Vec<u8>,
     script: Vec<u8>,
+    taps: Vec<Box<dyn Tap>>,
 ) -> Result<Printed, AllocError>
-    ensures { IfOk result (IsPrinted (outcome words.now each_kind (one_file name.now bytes.items) script.items)) }
+    ensures { IfOk result (IsPrinted (outcome words.now (map (λ b. (meter b).kind) taps.items) (one_file name.now bytes.items) script.items)) }
 {
     let disk = MemoryDisk::new(alloc, bytes, Vec::new(alloc))?;
     let mut shelf = MemoryShelf::new(alloc);
@@ -36,10 +37,6 @@ pub fn run_in_memory(
     let mut script = MemorySource::new(script, PIECE, Vec::new(alloc));
     let mut out = MemorySink::new(alloc, Vec::new(alloc));
     let mut err = MemorySink::new(alloc, Vec::new(alloc));
-    let mut taps: Vec<Box<dyn Tap>> = Vec::new(alloc);
-    taps.push(Box::new(alloc, Peak::new())?)?;
-    taps.push(Box::new(alloc, Clips::new())?)?;
-    taps.push(Box::new(alloc, Energy::new())?)?;
     let status = run(
         alloc,
         words,

@@ -2,6 +2,7 @@ use crate::{Printed, run_in_memory};
 use snd_app::run;
 use snd_disk::{FailingCall, FailingPut, MemoryDisk, MemoryShelf, MemorySink, MemorySource};
 use snd_fields::Words;
+use snd_taps::{Clips, Energy, Peak, Tap};
 use std::alloc::{AllocError, Global};
 use std::test::Fail;
 
@@ -20,7 +21,8 @@ pub fn words_of(alloc: Global, words: &[&str]) -> Result<Words, AllocError> {
     Ok(Words::new(list))
 }
 
-/// What `words` print over a shelf that holds these bytes as `a.wav`, with a script to come.
+/// What `words` print over a shelf that holds these bytes as `a.wav`, with a script to come and a tap of each
+/// kind.
 pub fn printed(
     alloc: Global,
     words: &[&str],
@@ -28,12 +30,17 @@ pub fn printed(
     script: &[u8],
 ) -> Result<Printed, AllocError> {
     let words = words_of(alloc, words)?;
+    let mut taps: Vec<Box<dyn Tap>> = Vec::new(alloc);
+    taps.push(Box::new(alloc, Peak::new())?)?;
+    taps.push(Box::new(alloc, Clips::new())?)?;
+    taps.push(Box::new(alloc, Energy::new())?)?;
     run_in_memory(
         alloc,
         &words,
         "a.wav",
         bytes.to_vec(alloc)?,
         script.to_vec(alloc)?,
+        taps,
     )
 }
 

@@ -4,19 +4,19 @@ use Rattle.snd_disk.specs.Shelf.{ShelfState}
 use Rattle.snd_disk.specs.State.{State}
 use Rattle.snd_app.specs.Outcome.{outcome}
 use Rattle.snd_app.specs.Printed.{Outcome}
-use Rattle.snd_rows.specs.Memory.{each_kind, one_file, IsPrinted}
+use Rattle.snd_rows.specs.Memory.{one_file, IsPrinted}
 use Rattle.snd_rows.proofs.Runs.{none_out, outcome_same, printed}
 use Rattle.snd_rows.specs.declared.memory.Printed.{Printed}
 use Rattle.snd_rows.proofs.memory.run_in_memory.Goals as goal
 
 pub returns : goal.returns
-returns c =
+returns g c =
     let there = c.in_ok-put.ensures.put c.args.bytes.items (ap (λ (s : State). s.contents) c.in_ok-disk.ensures.told) (λ n. None) (ap (λ (s : ShelfState). s.files) c.new-shelf.ensures.state) in
     let p : Printed = record { out = c.in_ok-to_vec.field-0; err = c.in_ok-to_vec-2.field-0; status = c.run-status.result } in
     let out : p.out.items ≡ c.bytes.result.now = search rules in
     let err : p.err.items ≡ c.bytes-2.result.now = search rules in
-    subst (λ (o : Outcome). IsPrinted o p) (outcome_same (one_file c.args.name.now c.args.bytes.items) there.0 there.2 c.args.words.now each_kind c.args.script.items)
-    (printed (outcome c.args.words.now each_kind there.0 c.args.script.items) _ _ _ _ _ p c.bytes.result.now c.bytes-2.result.now c.new-out.ensures.told c.new-err.ensures.told c.bytes.ensures c.bytes-2.ensures out err (c.run-status.ensures.headline there.0 c.args.script.items there.1 c.new-script.ensures.left))
+    subst (λ (o : Outcome). IsPrinted o p) (outcome_same (one_file c.args.name.now c.args.bytes.items) there.0 there.2 c.args.words.now _ c.args.script.items)
+    (printed (outcome c.args.words.now _ there.0 c.args.script.items) _ _ _ _ _ p c.bytes.result.now c.bytes-2.result.now c.new-out.ensures.told c.new-err.ensures.told c.bytes.ensures c.bytes-2.ensures out err (c.run-status.ensures.headline there.0 c.args.script.items there.1 c.new-script.ensures.left))
 
 pub run-status-requires : goal.run-status-requires
-run-status-requires c = λ n. c.in_ok-put.ensures.out n ∙ none_out (bytes_eq n c.args.name.now) _ (ap (λ (s : ShelfState). s.out n) c.new-shelf.ensures.state)
+run-status-requires g c = λ n. c.in_ok-put.ensures.out n ∙ none_out (bytes_eq n c.args.name.now) _ (ap (λ (s : ShelfState). s.out n) c.new-shelf.ensures.state)
