@@ -36,20 +36,6 @@ module _ {X : Type 0} (k : ℕ) where
       ∙ ap (λ (l : List X). take k xs ∷ first_groups k (m + n) l) (drop-append-le k xs ys fits)
       ∙ ap (λ (l : List (List X)). take k xs ∷ l) (groups_joined m n (drop k xs) ys (omega (arith, length-drop k xs, size, more)))
 
-no_bad_front : (k : ℕ) (xs : List ℤ) → 1 ≤ k → k ≤ length xs → is_bad_frame (take k xs) ≡ false
-no_bad_front zero xs some room = absurd (omega arith)
-no_bad_front (suc k) [] some room = absurd (omega arith)
-no_bad_front (suc k) (x ∷ xs) some room = refl
-
--- groups of at least one number are no bad frames
-no_bad_groups : (k n : ℕ) (xs : List ℤ) → 1 ≤ k → k * n ≤ length xs → has_bad (first_groups k n xs) ≡ false
-no_bad_groups k zero xs some room = refl
-no_bad_groups k (suc n) xs some room =
-    let more : k * suc n ≡ k + k * n = omega arith in
-    let first : is_bad_frame (take k xs) ≡ false = no_bad_front k xs some (omega arith) in
-    let others = no_bad_groups k n (drop k xs) some (omega (arith, length-drop k xs)) in
-    rw (first, others) refl
-
 count_frames : (p : Parameters) (block : List ℕ) → length (frames_of p block) ≡ block_frames p.codec
 count_frames p block = elim (cases_Bool (is_bad_block p.channels p.codec block)) [
   | inl bad ↦ rw bad (length-replicate (block_frames p.codec) [])

@@ -1,5 +1,6 @@
 -- The sounds of files.
-use Rattle.std.proofs.Common.{◌≡◌, ◌∙◌, ap, refl, ℕ, ◌+◌, ◌-◌, ◌*◌, ◌/◌, ◌<◌, ◌≤◌, true, List, [], ◌∷◌, None, Result, Ok, Err, inl, inr, length, take, drop, arith}
+use Rattle.std.proofs.Common.{◌≡◌, ◌∙◌, ap, refl, ℕ, ◌+◌, ◌-◌, ◌*◌, ◌/◌, ◌<◌, ◌≤◌, Bool, cond, true, List, [], ◌∷◌, None, Result, Ok, Err, inl, inr, length, take, drop, arith}
+use Rattle.std.specs.Prelude.{is_none}
 use Rattle.std.specs.List.{flat_map}
 use Rattle.std.proofs.Math.Nat.{mul-div_left, lt-div-mul-add}
 use Rattle.std.proofs.lemmas.Bool.{cases_Bool}
@@ -11,10 +12,10 @@ use Rattle.snd_layout.specs.Blocks.{block_align, block_frames, is_adpcm}
 use Rattle.snd_layout.specs.Shape.{Shape, end}
 use Rattle.snd_pcm.specs.Groups.{groups}
 use Rattle.snd_pcm.proofs.Series.{length-first_groups}
-use Rattle.snd_container.specs.Sound.{Sound, fixed_of, layout_of, sound_in}
+use Rattle.snd_container.specs.Sound.{Sound, decoded, fixed_of, layout_of, sound_bytes, sound_in}
 use Rattle.snd_blocks.specs.Calls.{AreBlocks}
-use Rattle.snd_blocks.specs.Frames.{frames_in_blocks, frames_of}
-use Rattle.snd_blocks.specs.Sound.{BlocksAreCounted, FixedSoundsStay, sound_in_any}
+use Rattle.snd_blocks.specs.Frames.{blocks_decoded, frames_in_blocks, frames_of}
+use Rattle.snd_blocks.specs.Sound.{BlocksAreCounted, FixedSoundsStay, FramesAreInBlocks, decode, frames_in, sound_in_any}
 use Rattle.snd_blocks.proofs.BlockFrames.{count_frames}
 use Rattle.snd_blocks.proofs.Parameters.{keeps_blocks}
 
@@ -47,11 +48,18 @@ not_fixed (Ima align per_block) is = refl
 not_fixed (Ms align per_block) is = refl
 not_fixed _ is = absurd (cc)
 
+pub frames_are_in_blocks : FramesAreInBlocks
+unfolding frames_in_blocks
+frames_are_in_blocks b s is = ap (λ (t : Bool). cond t (take s.frames (blocks_decoded s.params (sound_bytes b s))) (decoded s.params (sound_bytes b s))) is
+
 fixed_sound : (b : List ℕ) (r : Result Shape OpenRefusal) (sound : Sound) → sound_in b r ≡ Ok sound → sound_in_any b r ≡ Ok sound
 fixed_sound b (Err refusal) sound is = is
 fixed_sound b (Ok s) sound is = elim (cases_Bool (is_adpcm s.params.codec)) [
   | inl blocks ↦ absurd (let h = rw (not_fixed s.params.codec blocks) at is in cc)
-  | inr none ↦ rw none is
+  | inr none ↦ elim (cases_Bool (is_none (fixed_of s.params.codec))) [
+    | inl law ↦ absurd (let h = rw law at is in cc)
+    | inr other ↦ let given = rw other at is in rw none given
+  ]
 ]
 
 pub fixed_sounds_stay : FixedSoundsStay

@@ -1,6 +1,6 @@
 mod Parameters
 mod Places
-mod BlockFrames
+pub mod BlockFrames
 mod ReadSpans
 pub mod Counted
 mod Checked

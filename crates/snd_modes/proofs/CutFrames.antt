@@ -5,6 +5,7 @@ use Rattle.std.proofs.Math.Nat.{mul-div_cancel_left}
 use Rattle.std.proofs.lemmas.List.{length-drop, length-take-le}
 use Rattle.snd_layout.specs.Params.{data_bytes}
 use Rattle.snd_layout.specs.Shape.{KeepsRule, Shape, end, room}
+use Rattle.snd_blocks.specs.Sound.{decode, frames_in}
 use Rattle.snd_container.specs.Sound.{decoded, decoded_as, fixed_of, sound_bytes}
 use Rattle.snd_layout.specs.Container.{HasRoomFor}
 use Rattle.snd_disk.specs.Bytes.{over}
@@ -20,6 +21,7 @@ use Rattle.snd_container.specs.declared.fixed.Fixed.{Fixed}
 use Rattle.snd_container.proofs.FixedSamples.{byte_count_pos, length-samples}
 use Rattle.snd_modes.specs.Handle.{Known}
 use Rattle.snd_modes.specs.WriteCalls.{known_cut, known_sealed}
+use Rattle.snd_modes.proofs.FixedFrames.{frames_fixed}
 use Rattle.snd_modes.proofs.Overwritten.{data_stay}
 use Rattle.snd_modes.proofs.Rooms.{may_count, not_adpcm}
 use Rattle.snd_modes.proofs.Sealing.{ends_before}
@@ -51,9 +53,11 @@ cut_decoded_as b h n (Some form) is linear rule some within fits fits' long =
 
 pub cut_decoded : (b : List ℕ) (h : Shape) (n : ℕ) → is_none (fixed_of h.params.codec) ≡ false → KeepsRule h → 1 ≤ h.params.channels → n ≤ h.frames
     → end h h.frames ≤ length b → end h n ≤ length (shrunk b h n)
-    → take n (decoded h.params (sound_bytes b h)) ≡ decoded h.params (sound_bytes (shrunk b h n) (counted h n))
+    → take n (frames_in b h) ≡ frames_in (shrunk b h n) (counted h n)
 cut_decoded b h n linear rule some within fits long =
-    cut_decoded_as b h n (fixed_of h.params.codec) refl linear rule some within fits (omega (arith, fits, ends_before h n h.frames linear within)) long
+    ap (take n) (frames_fixed b h linear)
+    ∙ cut_decoded_as b h n (fixed_of h.params.codec) refl linear rule some within fits (omega (arith, fits, ends_before h n h.frames linear within)) long
+    ∙ sym (frames_fixed (shrunk b h n) (counted h n) linear)
 
 -- fewer frames than there are have room
 pub may_count_fewer : (h : Shape) (n : ℕ) → KeepsRule h → is_none (fixed_of h.params.codec) ≡ false → h.unknown_length ≡ false → h.start + room h + 8 ≤ 2 ^ 63 → n ≤ h.frames → HasRoomFor h n × (end h n + 8 ≤ 2 ^ 63)
@@ -75,8 +79,8 @@ pub off_same : (b : List ℕ) (h : Shape) (n : ℕ) → SameBesideFields h n b (
 off_same b h n = λ i lt out. take_before (over_closing b h n) (closed_end h n) i (omega (arith, lt)) ∙ closing_same b h n i lt out
 
 pub off_decoded : (b : List ℕ) (h : Shape) → KeepsRule h → end h h.frames ≤ length b → end h h.frames ≤ length (cut_off b h h.frames)
-    → decoded h.params (sound_bytes b h) ≡ decoded h.params (sound_bytes (cut_off b h h.frames) h)
-off_decoded b h rule fits long = sym (ap (decoded h.params) (data_stay h h.frames b (cut_off b h h.frames) rule fits long (off_same b h h.frames)))
+    → frames_in b h ≡ frames_in (cut_off b h h.frames) h
+off_decoded b h rule fits long = sym (ap (decode h.params h.frames) (data_stay h h.frames b (cut_off b h h.frames) rule fits long (off_same b h h.frames)))
 
 pub closed_free : (h : Shape) (n : ℕ) → closed_end (record h { trailing = false }) n ≡ closed_end h n
 closed_free h n = ap (λ (l : List ℕ). end h n + length l) (free h h.frames h.declared false n).closing

@@ -4,7 +4,7 @@ use Rattle.std.specs.Prelude.{Result, is_none, nat_le, nat_lt}
 use Rattle.std.proofs.lemmas.Bool.{cases_Bool, cond_both}
 use Rattle.std.proofs.lemmas.List.{length-take}
 use Rattle.snd_container.specs.Laws.{FileSays}
-use Rattle.snd_container.specs.Sound.{layout_of, fixed_of}
+use Rattle.snd_container.specs.Sound.{decoded, layout_of, fixed_of, sound_bytes}
 use Rattle.snd_container.specs.Values.{closed_end, closing}
 use Rattle.snd_disk.proofs.Lists.{length-over}
 use Rattle.snd_fields.specs.Laws.{IsByte}
@@ -23,7 +23,8 @@ use Rattle.snd_modes.specs.Laws.{AutomaticReadsBack, HoldsFrames, IsEdited, Open
 use Rattle.snd_modes.specs.Updating.{updating_as, updating_of}
 use Rattle.snd_modes.proofs.FileRules.{lies_in}
 use Rattle.snd_modes.proofs.Opened.{update_ok}
-use Rattle.snd_modes.proofs.Opening.{count_opened, opening_ok}
+use Rattle.snd_modes.proofs.FixedFrames.{count_opened, frames_fixed, is_fixed}
+use Rattle.snd_modes.proofs.Opening.{opening_ok}
 use Rattle.snd_modes.proofs.Rooms.{not_adpcm}
 use Rattle.snd_modes.proofs.SealedFrames.{sealed_decoded, sealed_no_less}
 use Rattle.snd_modes.proofs.ImageFields.{fields_lie_apart, recounted}
@@ -127,7 +128,6 @@ module _ (file : List ℕ) (head : Shape) (bytes : All IsByte file) (opened : Fi
 pub record Begins (b : List ℕ) (e : Editing) : Type 0 where
   pub layout : Shape
   pub opened : layout_of b ≡ Ok layout
-  pub linear : is_none (fixed_of layout.params.codec) ≡ false
   pub is : first_editing b layout ≡ e
 
 module _ (b : List ℕ) (e : Editing) where
@@ -137,27 +137,21 @@ module _ (b : List ℕ) (e : Editing) where
     where
       by_layout : (r : Result Shape OpenRefusal) → layout_of b ≡ r → opening_as b r ≡ Ok e → Begins b e
       by_layout (Err refusal) found given = absurd (cc)
-      by_layout (Ok s) found given = elim (cases_Bool (is_none (fixed_of s.params.codec))) [
-        | inl law ↦ absurd (let h = rw law at given in cc)
-        | inr other ↦ let same : ◌≡◌ {A = Result Editing OpenRefusal} (Ok (first_editing b s)) (Ok e) = rw other at given in record { layout = s; opened = found; linear = other; is = cc }
-      ]
+      by_layout (Ok s) found given = let same : ◌≡◌ {A = Result Editing OpenRefusal} (Ok (first_editing b s)) (Ok e) = given in record { layout = s; opened = found; is = cc }
 
-  pub updating_begins : updating_of b ≡ Ok e → (from : Begins b e) × (from.layout.unknown_length ≡ false)
+  pub updating_begins : updating_of b ≡ Ok e → (from : Begins b e) × (is_adpcm from.layout.params.codec ≡ false) × (from.layout.unknown_length ≡ false)
   unfolding updating_of
   updating_begins is = by_layout (layout_of b) refl is
     where
-      by_layout : (r : Result Shape OpenRefusal) → layout_of b ≡ r → updating_as b r ≡ Ok e → (from : Begins b e) × (from.layout.unknown_length ≡ false)
+      by_layout : (r : Result Shape OpenRefusal) → layout_of b ≡ r → updating_as b r ≡ Ok e → (from : Begins b e) × (is_adpcm from.layout.params.codec ≡ false) × (from.layout.unknown_length ≡ false)
       by_layout (Err refusal) found given = absurd (cc)
       by_layout (Ok s) found given = elim (cases_Bool (is_adpcm s.params.codec)) [
         | inl blocks ↦ absurd (let h = rw blocks at given in cc)
         | inr whole ↦ elim (cases_Bool s.unknown_length) [
           | inl open_end ↦ absurd (let h = rw (whole, open_end) at given in cc)
-          | inr known ↦ elim (cases_Bool (is_none (fixed_of s.params.codec))) [
-            | inl law ↦ absurd (let h = rw (whole, known, law) at given in cc)
-            | inr other ↦
-                let same : ◌≡◌ {A = Result Editing OpenError} (Ok (first_editing b s)) (Ok e) = sym (update_ok b s found whole known other) ∙ is in
-                (record { layout = s; opened = found; linear = other; is = cc }, known)
-          ]
+          | inr known ↦
+              let same : ◌≡◌ {A = Result Editing OpenError} (Ok (first_editing b s)) (Ok e) = sym (update_ok b s found whole known) ∙ is in
+              (record { layout = s; opened = found; is = cc }, whole, known)
         ]
       ]
 
@@ -188,14 +182,14 @@ module _ (b : List ℕ) (s : Shape) (bytes : All IsByte b) (opened : layout_of b
   }
 
 pub opened_holds_frames : OpenedHoldsFrames
-opened_holds_frames b e bytes is =
+opened_holds_frames b e bytes is linear =
     let from = opening_begins b e is in
-    subst HoldsFrames from.is (first_holds b from.layout bytes from.opened from.linear)
+    subst HoldsFrames from.is (first_holds b from.layout bytes from.opened (subst (λ (g : Editing). is_none (fixed_of g.shape.params.codec) ≡ false) (sym from.is) linear))
 
 pub updated_is_edited : UpdatedIsEdited
 updated_is_edited b e bytes is =
     let from = updating_begins b e is in
-    subst (IsEdited b) from.0.is (first_is_edited b from.0.layout bytes from.0.opened from.0.linear from.1)
+    subst (IsEdited b) from.0.is (first_is_edited b from.0.layout bytes from.0.opened (is_fixed from.0.layout.params.codec from.1) from.2)
 
 -- ---- the file sealed
 
@@ -208,6 +202,10 @@ module _ (file : List ℕ) (e : Editing) (ed : IsEdited file e) where
 
   pub is_linear : is_none (fixed_of h.params.codec) ≡ false
   is_linear = ap (λ (s : Shape). is_none (fixed_of s.params.codec)) ed.shape ∙ ed.linear
+
+  -- its frames are those of its bytes
+  pub now_decoded : e.frames ≡ decoded h.params (sound_bytes e.bytes h)
+  now_decoded = ed.holds.sound ∙ frames_fixed e.bytes h is_linear
 
   pub is_known : h.unknown_length ≡ false
   is_known = ap (λ (s : Shape). s.unknown_length) ed.shape ∙ ed.known
@@ -272,8 +270,8 @@ opens_again file e ed says =
     let first : first_editing e.bytes s ≡ as_opened (going_on t e) = ap (λ l. record (as_opened (going_on t e)) { frames = l }) (sym ed.holds.sound) in
     record {
       goes_on = t;
-      opens = opening_ok e.bytes s says.told linear ∙ ap (λ (g : Editing). Ok g) first;
-      updates = update_ok e.bytes s says.told (not_adpcm e.shape.params.codec linear) (is_known file e ed) linear ∙ ap (λ (g : Editing). Ok g) first;
+      opens = opening_ok e.bytes s says.told ∙ ap (λ (g : Editing). Ok g) first;
+      updates = update_ok e.bytes s says.told (not_adpcm e.shape.params.codec linear) (is_known file e ed) ∙ ap (λ (g : Editing). Ok g) first;
       same = says.same;
     }
 

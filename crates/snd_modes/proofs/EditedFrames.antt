@@ -7,6 +7,7 @@ use Rattle.std.proofs.lemmas.List.{length-drop, length-map, length-take-le, plac
 use Rattle.snd_disk.proofs.Lists.{length-over}
 use Rattle.snd_layout.specs.Params.{Parameters, data_bytes}
 use Rattle.snd_layout.specs.Shape.{KeepsRule, Shape, end}
+use Rattle.snd_blocks.specs.Sound.{frames_in}
 use Rattle.snd_container.specs.Sound.{decoded, decoded_as, fixed_of, kept_as, kept_numbers, sound_bytes}
 use Rattle.snd_container.proofs.EveryKind.{free}
 use Rattle.snd_container.specs.Values.{closed_end}
@@ -22,6 +23,8 @@ use Rattle.snd_modes.specs.Edits.{closed_behind, coded, count_written, over_data
 use Rattle.snd_modes.specs.Handle.{Known}
 use Rattle.snd_modes.specs.Reading.{FitCodec, bytes_of_frames}
 use Rattle.snd_modes.specs.WriteCalls.{known_written}
+use Rattle.snd_modes.proofs.FixedFrames.{frames_fixed}
+use Rattle.snd_modes.proofs.Ranges.{in_form}
 use Rattle.snd_modes.proofs.Overwritten.{data_put, data_stay, groups_put, samples_put}
 use Rattle.snd_modes.proofs.Sealing.{coded_is, end_is, ends_before, length-coded}
 use Rattle.snd_modes.proofs.SoundFrames.{linear_align, linear_bytes}
@@ -124,10 +127,10 @@ written_decoded automatic h b place k xs None is linear rule some fits within co
 written_decoded automatic h b place k xs (Some form) is linear rule some fits within count fit long =
     let n = count_written h place k in
     let y = over_data b h place xs in
-    let size = size_written h form b place k xs is some fits within count (fit form is) in
+    let size = size_written h form b place k xs is some fits within count (in_form h.params.codec form xs is fit) in
     let long' : end h n ≤ length y = omega (arith, size, length-over b (end h place) (coded h.params xs), fits) in
     ap (decoded h.params) (data_stay h n y (written_bytes automatic b h place n xs) rule long' long (closed_where automatic y h n rule))
-    ∙ decoded_over h form b place k xs is some fits within count (fit form is)
+    ∙ decoded_over h form b place k xs is some fits within count (in_form h.params.codec form xs is fit)
 
 -- ---- the bytes of frames
 
@@ -186,18 +189,23 @@ sound_where : (automatic : Bool) (h : Shape) (n : ℕ) (x : List ℕ) → shape_
 sound_where true h n x = refl
 sound_where false h n x = refl
 
+linear_where : (automatic : Bool) (h : Shape) (n : ℕ) → is_none (fixed_of h.params.codec) ≡ false → is_none (fixed_of (written_shape automatic h n).params.codec) ≡ false
+linear_where true h n linear = linear
+linear_where false h n linear = linear
+
 frames_where : (automatic : Bool) (h : Shape) (n : ℕ) → (written_shape automatic h n).frames ≡ n
 frames_where true h n = refl
 frames_where false h n = refl
 
-pub written_sound : (e : Editing) (k : ℕ) (xs : List ℤ) → CanPut e.shape e.bytes e.write_place k xs → e.frames ≡ decoded e.shape.params (sound_bytes e.bytes e.shape)
+pub written_sound : (e : Editing) (k : ℕ) (xs : List ℤ) → CanPut e.shape e.bytes e.write_place k xs → e.frames ≡ frames_in e.bytes e.shape
     → end e.shape (count_written e.shape e.write_place k) ≤ length (written_bytes e.automatic e.bytes e.shape e.write_place (count_written e.shape e.write_place k) xs)
-    → (written_frames k xs e).frames ≡ decoded (written_frames k xs e).shape.params (sound_bytes (written_frames k xs e).bytes (written_frames k xs e).shape)
+    → (written_frames k xs e).frames ≡ frames_in (written_frames k xs e).bytes (written_frames k xs e).shape
 written_sound e k xs can sound long =
     let n = count_written e.shape e.write_place k in
-    ap (λ l. put_frames l e.write_place (groups e.shape.params.channels (kept_numbers e.shape.params xs))) sound
+    ap (λ l. put_frames l e.write_place (groups e.shape.params.channels (kept_numbers e.shape.params xs))) (sound ∙ frames_fixed e.bytes e.shape can.linear)
     ∙ sym (written_decoded e.automatic e.shape e.bytes e.write_place k xs (fixed_of e.shape.params.codec) refl can.linear can.rule can.some can.fits can.within can.whole can.fit long)
     ∙ sym (sound_where e.automatic e.shape n (written_bytes e.automatic e.bytes e.shape e.write_place n xs))
+    ∙ sym (frames_fixed (written_frames k xs e).bytes (written_frames k xs e).shape (linear_where e.automatic e.shape n can.linear))
 
 pub written_count : (e : Editing) (k : ℕ) (xs : List ℤ) → CanPut e.shape e.bytes e.write_place k xs → e.shape.frames ≡ length e.frames
     → (written_frames k xs e).shape.frames ≡ length (written_frames k xs e).frames

@@ -12,6 +12,7 @@ use Rattle.snd_modes.specs.Edits.{sealed_to}
 use Rattle.snd_modes.specs.Laws.{IsEdited, SealedSound}
 use Rattle.snd_layout.specs.Container.{KeepsHead}
 use Rattle.snd_modes.proofs.EditedFiles.{lies_under, sealed_is_edited, sealed_told}
+use Rattle.snd_modes.proofs.FixedFrames.{frames_fixed}
 use Rattle.snd_modes.proofs.KeptPieces.{SameTail, pieces_stay}
 use Rattle.snd_modes.proofs.Rooms.{not_adpcm}
 
@@ -48,7 +49,7 @@ sealed_sound file e ed =
       record { kind = head.kind; params = head.params; frames = decoded head.params (sound_bytes file head); pieces = map (kept_of file) head.pieces },
       sound_by file head then.opened then.linear,
       sound_by x s (sealed_told file e ed) linear
-          ∙ ap (sound_with x s) (sym then.holds.sound)
+          ∙ ap (sound_with x s) (sym (then.holds.sound ∙ frames_fixed x s linear))
           ∙ ap (λ (h : Shape). sound_with x h e.frames) then.shape
           ∙ ap (λ (l : List Kept). Ok (record { kind = head.kind; params = head.params; frames = e.frames; pieces = l })) (edited_pieces file (sealed_to e) then),
     )

@@ -9,6 +9,7 @@ pub mod EditedFrames
 pub mod EditedSounds
 pub mod EditedSteps
 pub mod FileRules
+pub mod FixedFrames
 pub mod FramesPut
 pub mod HeadBytes
 pub mod HeadLaws
@@ -29,6 +30,7 @@ pub mod PartlyPut
 pub mod PartlyWritten
 pub mod PutBlocks
 pub mod PutHeads
+pub mod Ranges
 pub mod ReadBodies
 pub mod Rf64Heads
 pub mod Rooms

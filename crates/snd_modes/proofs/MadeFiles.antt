@@ -27,7 +27,7 @@ begins kind p e good fits linear is =
     let new = made kind p good fits in
     let same : first_editing b s ≡ e = cc in
     let linear_too : is_none (fixed_of s.params.codec) ≡ false = ap (λ (q : Parameters). is_none (fixed_of q.codec)) new.params ∙ linear in
-    (new.bytes (not_adpcm p.codec linear), update_ok b s new.told (not_adpcm s.params.codec linear_too) new.known linear_too ∙ ap (λ (g : Editing). Ok g) same)
+    (new.bytes (not_adpcm p.codec linear), update_ok b s new.told (not_adpcm s.params.codec linear_too) new.known ∙ ap (λ (g : Editing). Ok g) same)
 
 pub made_is_updated : MadeIsUpdated
 unfolding making_of

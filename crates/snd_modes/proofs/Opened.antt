@@ -1,6 +1,5 @@
 -- What opening a file to be updated gives.
 use Rattle.std.proofs.Common.{◌≡◌, ◌∙◌, ap, refl, ℕ, List, true, false, cond, Ok, Err}
-use Rattle.std.specs.Prelude.{is_none}
 use Rattle.snd_disk.specs.Device.{Tells}
 use Rattle.snd_disk.specs.State.{State}
 use Rattle.snd_layout.specs.Blocks.{is_adpcm}
@@ -9,13 +8,12 @@ use Rattle.snd_layout.specs.Shape.{Shape}
 use Rattle.snd_layout.specs.declared.error.OpenError.{OpenError}
 use Rattle.snd_layout.specs.declared.error.OpenError.TheVariants.{Refused, AdpcmUpdate, UnknownLength, DiskFault, Memory}
 use Rattle.snd_layout.specs.declared.refusal.OpenRefusal.{OpenRefusal}
-use Rattle.snd_layout.specs.declared.refusal.OpenRefusal.TheVariants.{NotBuilt}
-use Rattle.snd_container.specs.Sound.{layout_of, fixed_of}
+use Rattle.snd_container.specs.Sound.{layout_of}
 use Rattle.snd_modes.specs.Editing.{first_editing}
 use Rattle.snd_modes.specs.Updating.{RefusesUpdate, updating_as, updating_of}
 
 pub updating_by : (b : List ℕ) (s : Shape) → layout_of b ≡ Ok s
-    → updating_of b ≡ cond (is_adpcm s.params.codec) (Err AdpcmUpdate) (cond s.unknown_length (Err UnknownLength) (cond (is_none (fixed_of s.params.codec)) (Err (Refused NotBuilt)) (Ok (first_editing b s))))
+    → updating_of b ≡ cond (is_adpcm s.params.codec) (Err AdpcmUpdate) (cond s.unknown_length (Err UnknownLength) (Ok (first_editing b s)))
 unfolding updating_of
 updating_by b s is = ap (updating_as b) is
 
@@ -38,8 +36,5 @@ module _ (b : List ℕ) (s : Shape) (is : layout_of b ≡ Ok s) where
   pub update_open : is_adpcm s.params.codec ≡ false → s.unknown_length ≡ true → updating_of b ≡ Err UnknownLength
   update_open blocks open_end = updating_by b s is ∙ simp (blocks, open_end)
 
-  pub update_law : is_adpcm s.params.codec ≡ false → s.unknown_length ≡ false → is_none (fixed_of s.params.codec) ≡ true → updating_of b ≡ Err (Refused NotBuilt)
-  update_law blocks open_end law = updating_by b s is ∙ simp (blocks, open_end, law)
-
-  pub update_ok : is_adpcm s.params.codec ≡ false → s.unknown_length ≡ false → is_none (fixed_of s.params.codec) ≡ false → updating_of b ≡ Ok (first_editing b s)
-  update_ok blocks open_end linear = updating_by b s is ∙ simp (blocks, open_end, linear)
+  pub update_ok : is_adpcm s.params.codec ≡ false → s.unknown_length ≡ false → updating_of b ≡ Ok (first_editing b s)
+  update_ok blocks open_end = updating_by b s is ∙ simp (blocks, open_end)

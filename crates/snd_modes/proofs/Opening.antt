@@ -1,10 +1,10 @@
 -- What opening a file gives, and what its frames are.
-use Rattle.std.proofs.Common.{◌≡◌, ◌∙◌, ap, sym, refl, ℕ, ◌*◌, ◌≤◌, List, Bool, true, false, Option, None, Some, Ok, Err, length, take, drop, arith, if◌then◌else◌}
+use Rattle.std.proofs.Common.{◌≡◌, ◌∙◌, ap, sym, refl, ℕ, ◌*◌, ◌≤◌, List, true, false, Option, None, Some, Ok, Err, length, take, drop, arith}
 use Rattle.std.specs.Prelude.{is_none}
 use Rattle.snd_layout.specs.declared.refusal.OpenRefusal.{OpenRefusal}
-use Rattle.snd_layout.specs.declared.refusal.OpenRefusal.TheVariants.{NotBuilt}
 use Rattle.snd_layout.specs.Params.{data_bytes}
 use Rattle.snd_layout.specs.Shape.{Shape, end}
+use Rattle.snd_blocks.specs.Sound.{frames_in}
 use Rattle.snd_pcm.specs.Groups.{groups}
 use Rattle.snd_container.specs.Fixed.{byte_count, samples}
 use Rattle.snd_container.specs.declared.fixed.Fixed.{Fixed}
@@ -12,17 +12,13 @@ use Rattle.snd_container.specs.Sound.{decoded, decoded_as, layout_of, fixed_of, 
 use Rattle.snd_modes.specs.Editing.{Editing, first_editing, frames_read, opening_as, opening_of}
 use Rattle.snd_modes.proofs.SoundFrames.{count_frames, linear_bytes}
 
-pub opening_ok : (b : List ℕ) (s : Shape) → layout_of b ≡ Ok s → is_none (fixed_of s.params.codec) ≡ false → opening_of b ≡ Ok (first_editing b s)
+pub opening_ok : (b : List ℕ) (s : Shape) → layout_of b ≡ Ok s → opening_of b ≡ Ok (first_editing b s)
 unfolding opening_of
-opening_ok b s is linear = ap (opening_as b) is ∙ ap (λ (t : Bool). if t then Err NotBuilt else Ok (first_editing b s)) linear
+opening_ok b s is = ap (opening_as b) is
 
 pub opening_refused : (b : List ℕ) (r : OpenRefusal) → layout_of b ≡ Err r → opening_of b ≡ Err r
 unfolding opening_of
 opening_refused b r is = ap (opening_as b) is
-
-pub opening_not_built : (b : List ℕ) (s : Shape) → layout_of b ≡ Ok s → is_none (fixed_of s.params.codec) ≡ true → opening_of b ≡ Err NotBuilt
-unfolding opening_of
-opening_not_built b s is other = ap (opening_as b) is ∙ ap (λ (t : Bool). if t then Err NotBuilt else Ok (first_editing b s)) other
 
 count_as : (b : List ℕ) (s : Shape) (o : Option Fixed) → fixed_of s.params.codec ≡ o → is_none o ≡ false → 1 ≤ s.params.channels → end s s.frames ≤ length b
     → s.frames ≡ length (decoded s.params (sound_bytes b s))
@@ -34,14 +30,14 @@ count_as b s (Some form) is linear some fits =
     ∙ count_frames form b s.start s.frames s.params.channels (omega (arith, fits, size)) (omega (arith, some)))
 
 -- the frames that a layout counts are those that its bytes give
-pub count_opened : (b : List ℕ) (s : Shape) → is_none (fixed_of s.params.codec) ≡ false → 1 ≤ s.params.channels → end s s.frames ≤ length b
+pub count_decoded : (b : List ℕ) (s : Shape) → is_none (fixed_of s.params.codec) ≡ false → 1 ≤ s.params.channels → end s s.frames ≤ length b
     → s.frames ≡ length (decoded s.params (sound_bytes b s))
-count_opened b s linear some fits = count_as b s (fixed_of s.params.codec) refl linear some fits
+count_decoded b s linear some fits = count_as b s (fixed_of s.params.codec) refl linear some fits
 
 -- the frames of an editing state are those that its bytes give
-pub frames_of_bytes : (e : Editing) (s : Shape) (place k : ℕ) → s ≡ e.shape → place ≡ e.place → e.frames ≡ decoded e.shape.params (sound_bytes e.bytes e.shape)
-    → take k (drop place (decoded s.params (sound_bytes e.bytes s))) ≡ frames_read e k
+pub frames_of_bytes : (e : Editing) (s : Shape) (place k : ℕ) → s ≡ e.shape → place ≡ e.place → e.frames ≡ frames_in e.bytes e.shape
+    → take k (drop place (frames_in e.bytes s)) ≡ frames_read e k
 frames_of_bytes e s place k shape at sound =
-    ap (λ (x : Shape). take k (drop place (decoded x.params (sound_bytes e.bytes x)))) shape
-    ∙ ap (λ (m : ℕ). take k (drop m (decoded e.shape.params (sound_bytes e.bytes e.shape)))) at
+    ap (λ (x : Shape). take k (drop place (frames_in e.bytes x))) shape
+    ∙ ap (λ (m : ℕ). take k (drop m (frames_in e.bytes e.shape))) at
     ∙ ap (λ l. take k (drop e.place l)) (sym sound)

@@ -25,7 +25,7 @@ use Rattle.snd_modes.specs.Laws.{IsEdited}
 use Rattle.snd_modes.specs.Safe.{IsFit, IsSafe, IsSized}
 use Rattle.snd_modes.proofs.CutFrames.{front_decoded, may_count_fewer}
 use Rattle.snd_modes.proofs.EditedSteps.{few_declared}
-use Rattle.snd_modes.proofs.EditedFiles.{is_known, is_linear, longer_closed, room_ends, some_channel}
+use Rattle.snd_modes.proofs.EditedFiles.{is_known, is_linear, longer_closed, now_decoded, room_ends, some_channel}
 use Rattle.snd_modes.proofs.ImageFields.{fewer_inner, fewer_outer, fields_lie_apart, new_before, old_before, old_some_before, old_some_through, old_through}
 use Rattle.snd_modes.proofs.ImageFrames.{HasFrames, form_of, frames_in}
 use Rattle.snd_modes.proofs.ImageLayouts.{HoldsOld, closed_declared, declared_less, declared_more, inner_whole, new_count, old_count, outer_whole, reach_new, reach_old, reach_sized, still_holds}
@@ -81,7 +81,7 @@ module _ (opened : List ℕ) (e : Editing) (ed : IsEdited opened e) (fit : IsFit
         there = held;
         tail = λ goes_on. absurd (cc);
       } in
-      safe_old opened e x h.frames h.declared says e' (ap (decoded h.params) (data_stay h h.frames b x ed.rule ed.holds.held held same) ∙ sym ed.holds.sound)
+      safe_old opened e x h.frames h.declared says e' (ap (decoded h.params) (data_stay h h.frames b x ed.rule ed.holds.held held same) ∙ sym (now_decoded opened e ed))
 
   -- that say a new one
   module _ (n : ℕ) (within : n ≤ h.frames) (held : end h n ≤ length x) (same : SameBesideFields h n b x) (inner : HasNew (inner_value h n) x h.inner) (reach : outer_reach h x ≤ closed_end h n) where
@@ -94,7 +94,7 @@ module _ (opened : List ℕ) (e : Editing) (ed : IsEdited opened e) (fit : IsFit
     frames_new : frames_in h n x ≡ take n e.frames
     frames_new =
         let fits : end h n ≤ length b = omega (arith, ends_before h n h.frames has.linear within, ed.holds.held) in
-        ap (decoded h.params) (data_stay h n b x ed.rule fits held same) ∙ first_frames h has n b within ed.holds.held fits ∙ sym (ap (take n) ed.holds.sound)
+        ap (decoded h.params) (data_stay h n b x ed.rule fits held same) ∙ first_frames h has n b within ed.holds.held fits ∙ sym (ap (take n) (now_decoded opened e ed))
 
     new_image : (e' : Editing) → e'.frames ≡ take n e.frames → IsSafe e e' x
     new_image e' frames = safe_new opened e x n (data_bytes h.params n) says_new e' (frames_new ∙ sym frames)
@@ -254,4 +254,4 @@ voice_cut_safe opened e ed fit goes_on voc x e' cutting =
       tail = λ is. inl voc;
     } in
     safe_old opened e x h.frames h.declared says e'
-    (ap (decoded h.params) (data_stay h h.frames b x ed.rule ed.holds.held held (λ i lt out. cutting.before i lt)) ∙ sym ed.holds.sound)
+    (ap (decoded h.params) (data_stay h h.frames b x ed.rule ed.holds.held held (λ i lt out. cutting.before i lt)) ∙ sym (now_decoded opened e ed))

@@ -12,11 +12,11 @@ use Rattle.snd_modes.specs.Editing.{Editing}
 use Rattle.snd_modes.specs.Laws.{IsEdited}
 use Rattle.snd_layout.specs.Container.{KeepsHead}
 use Rattle.snd_modes.specs.Safe.{IsSafe, IsUnwritten, acknowledged, chunks_of, frame_at}
-use Rattle.snd_modes.proofs.EditedFiles.{is_linear, some_channel}
+use Rattle.snd_modes.proofs.EditedFiles.{is_linear, now_decoded, some_channel}
 use Rattle.snd_modes.proofs.EditedSounds.{edited_pieces, image_pieces, sound_by}
 use Rattle.snd_modes.proofs.ImageFrames.{frames_in}
 use Rattle.snd_modes.proofs.KeptPieces.{SameTail}
-use Rattle.snd_modes.proofs.Opening.{count_opened}
+use Rattle.snd_modes.proofs.Opening.{count_decoded}
 use Rattle.snd_modes.proofs.ImageFields.{recounted}
 
 -- what an image says that has the layout of an edited file, but for the frames and the declared length: its head and, where it
@@ -39,7 +39,7 @@ module _ (opened : List ℕ) (e : Editing) (x : List ℕ) (n d : ℕ) (says : Im
   frames = frames_in h n x
 
   count_is : length frames ≡ n
-  count_is = sym (count_opened x (recounted h n d) (is_linear opened e ed) (some_channel opened e ed) says.there)
+  count_is = sym (count_decoded x (recounted h n d) (is_linear opened e ed) (some_channel opened e ed) says.there)
 
   pieces_are : map (kept_of x) h.pieces ≡ chunks_of e
   pieces_are =
@@ -164,4 +164,4 @@ safe_across opened e g e' x ed of_g same safe =
 pub at_rest : (opened : List ℕ) (e : Editing) → IsEdited opened e → FileSays e.bytes e.shape → IsSafe e e e.bytes
 at_rest opened e ed told =
     safe_old opened e e.bytes e.shape.frames e.shape.declared
-    (record { edited = ed; told = told; kept = λ i lt out. refl; there = ed.holds.held; tail = λ goes_on. inr (refl, λ i behind. refl) }) e (sym ed.holds.sound)
+    (record { edited = ed; told = told; kept = λ i lt out. refl; there = ed.holds.held; tail = λ goes_on. inr (refl, λ i behind. refl) }) e (sym (now_decoded opened e ed))

@@ -18,7 +18,7 @@ use Rattle.snd_modes.specs.Laws.{IsEdited}
 use Rattle.snd_modes.specs.Safe.{IsFit, IsPartly, IsSafe, IsSized, acknowledged, frame_at}
 use Rattle.snd_modes.specs.WriteCalls.{MayWrite}
 use Rattle.snd_modes.proofs.AreBytes.{bytes_coded, bytes_over, bytes_shut}
-use Rattle.snd_modes.proofs.EditedFiles.{is_known, is_linear, room_ends, some_channel}
+use Rattle.snd_modes.proofs.EditedFiles.{is_known, is_linear, now_decoded, room_ends, some_channel}
 use Rattle.snd_modes.proofs.EditedSteps.{grows, shut_before, shut_behind, shut_longer, shut_size, then_edited}
 use Rattle.snd_modes.proofs.ImageFrames.{HasFrames, frames_in, same_frame, same_mixed}
 use Rattle.snd_modes.proofs.ImageFields.{old_before, old_some_before, old_some_through, old_through}
@@ -68,7 +68,7 @@ module _ (opened : List ℕ) (e : Editing) (ed : IsEdited opened e) (fit : IsFit
 
   -- the frames that are meant
   frames_are : new.frames ≡ frames_in h n c
-  frames_are = (then_edited opened e ed xs may false).holds.sound
+  frames_are = now_decoded opened _ (then_edited opened e ed xs may false)
 
   count : n ≡ acknowledged new
   count = (then_edited opened e ed xs may false).holds.count
@@ -77,7 +77,7 @@ module _ (opened : List ℕ) (e : Editing) (ed : IsEdited opened e) (fit : IsFit
   there = (then_edited opened e ed xs may false).holds.held
 
   old_frames : (i : ℕ) → frame_at e.frames i ≡ frame_at (frames_in h h.frames b) i
-  old_frames i = ap (λ (l : List (List ℤ)). frame_at l i) ed.holds.sound
+  old_frames i = ap (λ (l : List (List ℤ)). frame_at l i) (now_decoded opened e ed)
 
   new_frames : (i : ℕ) → frame_at new.frames i ≡ frame_at (frames_in h n c) i
   new_frames i = ap (λ (l : List (List ℤ)). frame_at l i) frames_are

@@ -3,7 +3,7 @@ use Rattle.std.proofs.Common.{◌≡◌, ◌∙◌, ap, sym, subst, inl, inr, �
 use Rattle.std.proofs.lemmas.Bool.{cases_Bool}
 use Rattle.snd_layout.specs.Params.{data_bytes}
 use Rattle.snd_layout.specs.Shape.{KeepsRule, Shape, end}
-use Rattle.snd_container.specs.Sound.{decoded, sound_bytes}
+use Rattle.snd_blocks.specs.Sound.{decode, frames_in}
 use Rattle.snd_patch.specs.Sealed.{counted, sealed, sealed_size}
 use Rattle.snd_container.specs.Values.{closed_end}
 use Rattle.snd_patch.proofs.Lists.{sealed_keeps}
@@ -11,8 +11,8 @@ use Rattle.snd_modes.proofs.EditedFrames.{closed_counted}
 use Rattle.snd_modes.proofs.Overwritten.{data_stay}
 
 pub sealed_decoded : (b : List ℕ) (h : Shape) → KeepsRule h → end h h.frames ≤ length b → end h h.frames ≤ length (sealed b h h.frames)
-    → decoded h.params (sound_bytes b h) ≡ decoded h.params (sound_bytes (sealed b h h.frames) (counted h h.frames))
-sealed_decoded b h rule fits long = sym (ap (decoded h.params) (data_stay h h.frames b (sealed b h h.frames) rule fits long (sealed_keeps b h h.frames rule)))
+    → frames_in b h ≡ frames_in (sealed b h h.frames) (counted h h.frames)
+sealed_decoded b h rule fits long = sym (ap (decode h.params h.frames) (data_stay h h.frames b (sealed b h h.frames) rule fits long (sealed_keeps b h h.frames rule)))
 
 pub sealed_no_less : (size : ℕ) (h : Shape) (n : ℕ) → size ≤ sealed_size size h n
 sealed_no_less size h n = elim (cases_Bool h.trailing) [

@@ -1,8 +1,9 @@
 -- How a call leaves what an open file knows, by what was done: read, sought, refused or broken. Each cause is exact.
-use Rattle.std.specs.Prelude.{◌≡◌, ◌≢◌, ℕ, ◌+◌, ◌-◌, ◌/◌, ◌%◌, ◌<◌, ◌≤◌, None, Some, min, Result, Ok, Err}
+use Rattle.std.specs.Prelude.{◌≡◌, ◌≢◌, ℕ, ◌+◌, ◌-◌, ◌/◌, ◌%◌, ◌<◌, ◌≤◌, true, None, Some, min, Result, Ok, Err}
 use Rattle.snd_disk.specs.declared.disk.Disk.{Ghosts}
 use Rattle.snd_disk.specs.Device.{AsksAtMost}
 use Rattle.snd_disk.specs.State.{Rises, State}
+use Rattle.snd_layout.specs.Blocks.{is_adpcm}
 use Rattle.snd_modes.specs.declared.error.ReadError.{ReadError}
 use Rattle.snd_modes.specs.declared.error.ReadError.TheVariants as read
 use Rattle.snd_modes.specs.declared.error.SeekError.{SeekError}
@@ -10,7 +11,7 @@ use Rattle.snd_modes.specs.declared.error.SeekError.TheVariants as seek
 use Rattle.snd_modes.specs.declared.handle.File.{File}
 use Rattle.snd_modes.specs.declared.mode.Mode.{Ghosts as ModeGhosts}
 use Rattle.snd_modes.specs.Handle.{Known, disk_of, known_of}
-use Rattle.snd_modes.specs.Reading.{bytes_of_frames}
+use Rattle.snd_modes.specs.Reading.{bytes_to_read}
 
 -- frames can be read into a slice of so many places: no disk call has failed, and the places are for whole frames
 pub record IsReady (places : ℕ) (known : Known) : Type 0 where
@@ -21,20 +22,29 @@ pub record IsReady (places : ℕ) (known : Known) : Type 0 where
 abbrev pub count_read : ℕ → Known → ℕ
 count_read places known = min (places / known.shape.params.channels) (known.shape.frames - known.place)
 
--- for them at most this is asked of the disk: the bytes of as many frames as there are places for, and 16384
+-- for them at most their bytes are asked of the disk, and in ADPCM those of the blocks that they may stand in
 abbrev pub AsksForFrames : {D M : Type 0} {ghosts : Ghosts D} {mode : ModeGhosts M} → (D → State) → ℕ → File D M ghosts mode → File D M ghosts mode → Type 0
 AsksForFrames state places old new =
     let known = known_of old in
-    AsksAtMost state (bytes_of_frames known.shape.params (places / known.shape.params.channels) + 16384) (disk_of old) (disk_of new)
+    AsksAtMost state (bytes_to_read known.shape.params (count_read places known)) (disk_of old) (disk_of new)
 
--- A read moves the place by the frames that were read. A disk call that fails breaks the file. A refused read changes nothing.
+-- A read moves the place by the frames that were read. A disk call that fails breaks the file. A refused read changes nothing. Blocks
+-- are bad in ADPCM alone.
 abbrev pub ReadLeaves : ℕ → Known → Known → Result ℕ ReadError → Type 0
 ReadLeaves places old new (Ok count) =
     IsReady places old × (count ≡ count_read places old) × (new ≡ record old { place = old.place + count })
 ReadLeaves places old new (Err (read.Broken step)) = (old.broken ≡ Some step) × (new ≡ old)
 ReadLeaves places old new (Err read.PartFrame) = (old.broken ≡ None) × (places % old.shape.params.channels ≢ 0) × (new ≡ old)
-ReadLeaves places old new (Err read.BadBlock) = ⊥
+ReadLeaves places old new (Err read.BadBlock) = IsReady places old × (is_adpcm old.shape.params.codec ≡ true) × (new ≡ old)
 ReadLeaves places old new (Err (read.DiskFault step)) = IsReady places old × (new ≡ record old { broken = Some step })
+
+-- All blocks are read, and nothing changes, but that a disk call that fails breaks the file.
+abbrev pub CheckLeaves : {T : Type 0} → Known → Known → Result T ReadError → Type 0
+CheckLeaves old new (Ok done) = (old.broken ≡ None) × (new ≡ old)
+CheckLeaves old new (Err (read.Broken step)) = (old.broken ≡ Some step) × (new ≡ old)
+CheckLeaves old new (Err read.PartFrame) = ⊥
+CheckLeaves old new (Err read.BadBlock) = (old.broken ≡ None) × (is_adpcm old.shape.params.codec ≡ true) × (new ≡ old)
+CheckLeaves old new (Err (read.DiskFault step)) = (old.broken ≡ None) × (new ≡ record old { broken = Some step })
 
 -- the count of faults rises where the answer is a fault of the disk, and there alone
 abbrev pub CountsReading : {D T : Type 0} → (D → State) → D → D → Result T ReadError → Type 0

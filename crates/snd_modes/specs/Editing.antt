@@ -1,10 +1,10 @@
 -- An open file, as whoever reads and writes it sees it: its bytes, what they say, its frames, and the frames to read and to
 -- write next. The code keeps none of the frames.
-use Rattle.std.specs.Prelude.{ℕ, ℤ, Bool, false, ◌+◌, ◌-◌, List, Result, Ok, Err, length, take, drop, min, is_none, if◌then◌else◌}
+use Rattle.std.specs.Prelude.{ℕ, ℤ, Bool, false, ◌+◌, ◌-◌, List, Result, Ok, Err, length, take, drop, min}
 use Rattle.snd_layout.specs.declared.refusal.OpenRefusal.{OpenRefusal}
-use Rattle.snd_layout.specs.declared.refusal.OpenRefusal.TheVariants.{NotBuilt}
 use Rattle.snd_layout.specs.Shape.{Shape}
-use Rattle.snd_container.specs.Sound.{decoded, layout_of, fixed_of, sound_bytes}
+use Rattle.snd_container.specs.Sound.{layout_of}
+use Rattle.snd_blocks.specs.Sound.{frames_in}
 
 pub record Editing : Type 0 where
   pub bytes : List ℕ
@@ -23,17 +23,16 @@ abbrev pub first_editing : List ℕ → Shape → Editing
 first_editing b s = record {
   bytes = b;
   shape = s;
-  frames = decoded s.params (sound_bytes b s);
+  frames = frames_in b s;
   place = 0;
   write_place = 0;
   automatic = false;
   written = false;
 }
 
--- codecs with a fixed number of bytes a sample are opened; ADPCM is not built yet
 abbrev pub opening_as : List ℕ → Result Shape OpenRefusal → Result Editing OpenRefusal
 opening_as b (Err refusal) = Err refusal
-opening_as b (Ok s) = if is_none (fixed_of s.params.codec) then Err NotBuilt else Ok (first_editing b s)
+opening_as b (Ok s) = Ok (first_editing b s)
 
 -- what opening a file of these bytes gives, or the first reason why it is not opened
 unfoldable pub opening_of : List ℕ → Result Editing OpenRefusal

@@ -6,7 +6,7 @@ use Rattle.snd_disk.specs.declared.disk.Step.{Step}
 use Rattle.snd_disk.specs.State.{State}
 use Rattle.snd_layout.specs.declared.codec.Codec.{Codec}
 use Rattle.snd_layout.specs.Shape.{Shape}
-use Rattle.snd_container.specs.Sound.{decoded, sound_bytes}
+use Rattle.snd_blocks.specs.Sound.{frames_in}
 use Rattle.snd_modes.specs.declared.handle.File.{File}
 use Rattle.snd_modes.specs.declared.mode.Mode.{Ghosts as ModeGhosts}
 use Rattle.snd_modes.specs.Editing.{Editing}
@@ -61,7 +61,7 @@ pub record Stands {D M : Type 0} {ghosts : Ghosts D} {mode : ModeGhosts M} (stat
   pub write_place : (known_of file).write_place ≡ e.write_place
   pub automatic : (known_of file).automatic ≡ e.automatic
   pub written : (known_of file).written ≡ e.written
-  pub sound : e.frames ≡ decoded e.shape.params (sound_bytes e.bytes e.shape)
+  pub sound : e.frames ≡ frames_in e.bytes e.shape
   pub count : e.shape.frames ≡ length e.frames
 
 -- what a call that succeeds answers is right by the editing state for which the handle stands

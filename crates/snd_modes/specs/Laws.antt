@@ -3,7 +3,8 @@
 use Rattle.std.specs.Prelude.{◌≡◌, ◌⊎◌, ℕ, ℤ, ◌+◌, ◌<◌, ◌≤◌, Bool, true, false, List, All, Ok, get_or, is_none, length, max}
 use Rattle.snd_container.specs.Made.{new_file}
 use Rattle.snd_container.specs.Laws.{FileSays}
-use Rattle.snd_container.specs.Sound.{Sound, decoded, layout_of, fixed_of, sound_bytes, sound_of}
+use Rattle.snd_blocks.specs.Sound.{frames_in}
+use Rattle.snd_container.specs.Sound.{Sound, layout_of, fixed_of, sound_of}
 use Rattle.snd_fields.specs.Laws.{IsByte}
 use Rattle.snd_layout.specs.Params.{AreParams, Parameters, data_bytes}
 use Rattle.snd_layout.specs.Shape.{KeepsRule, Shape, end, room}
@@ -20,7 +21,7 @@ use Rattle.snd_modes.specs.WriteCalls.{MayWrite, SeekWriteLeaves, TrimLeaves, Tr
 
 -- The frames are those that the bytes give; these are all there, and as many as the layout says; the places are among them.
 pub record HoldsFrames (e : Editing) : Type 0 where
-  pub sound : e.frames ≡ decoded e.shape.params (sound_bytes e.bytes e.shape)
+  pub sound : e.frames ≡ frames_in e.bytes e.shape
   pub count : e.shape.frames ≡ length e.frames
   pub held : end e.shape e.shape.frames ≤ length e.bytes
   pub placed : e.place ≤ e.shape.frames
@@ -53,8 +54,9 @@ pub record IsEdited (file : List ℕ) (e : Editing) : Type 0 where
 
 -- ---- where editing begins
 
+-- where its samples have a fixed number of bytes
 abbrev pub OpenedHoldsFrames : Type 0
-OpenedHoldsFrames = (b : List ℕ) (e : Editing) → All IsByte b → opening_of b ≡ Ok e → HoldsFrames e
+OpenedHoldsFrames = (b : List ℕ) (e : Editing) → All IsByte b → opening_of b ≡ Ok e → is_none (fixed_of e.shape.params.codec) ≡ false → HoldsFrames e
 
 abbrev pub UpdatedIsEdited : Type 0
 UpdatedIsEdited = (b : List ℕ) (e : Editing) → All IsByte b → updating_of b ≡ Ok e → IsEdited b e

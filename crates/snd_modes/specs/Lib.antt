@@ -1,3 +1,4 @@
+pub mod Caching
 pub mod Calls
 pub mod Chunks
 pub mod Closing

@@ -1,5 +1,5 @@
 -- A file that is opened to be updated in place.
-use Rattle.std.specs.Prelude.{◌≡◌, ℕ, ◌≤◌, List, Result, Ok, Err, is_none, if◌then◌else◌}
+use Rattle.std.specs.Prelude.{◌≡◌, ℕ, ◌≤◌, List, Result, Ok, Err, if◌then◌else◌}
 use Rattle.snd_disk.specs.declared.disk.Disk.{Ghosts}
 use Rattle.snd_disk.specs.Device.{Tells}
 use Rattle.snd_disk.specs.State.{Rises, State}
@@ -8,8 +8,7 @@ use Rattle.snd_layout.specs.Shape.{Shape}
 use Rattle.snd_layout.specs.declared.error.OpenError.{OpenError}
 use Rattle.snd_layout.specs.declared.error.OpenError.TheVariants.{Refused, AdpcmUpdate, UnknownLength, DiskFault, Memory}
 use Rattle.snd_layout.specs.declared.refusal.OpenRefusal.{OpenRefusal}
-use Rattle.snd_layout.specs.declared.refusal.OpenRefusal.TheVariants.{NotBuilt}
-use Rattle.snd_container.specs.Sound.{layout_of, fixed_of}
+use Rattle.snd_container.specs.Sound.{layout_of}
 use Rattle.snd_modes.specs.declared.handle.File.{File}
 use Rattle.snd_modes.specs.declared.mode.Mode.{Ghosts as ModeGhosts}
 use Rattle.snd_modes.specs.Editing.{Editing, first_editing}
@@ -20,8 +19,7 @@ abbrev pub updating_as : List ℕ → Result Shape OpenRefusal → Result Editin
 updating_as b (Err refusal) = Err (Refused refusal)
 updating_as b (Ok s) =
     if is_adpcm s.params.codec then Err AdpcmUpdate
-    else (if s.unknown_length then Err UnknownLength
-    else (if is_none (fixed_of s.params.codec) then Err (Refused NotBuilt) else Ok (first_editing b s)))
+    else (if s.unknown_length then Err UnknownLength else Ok (first_editing b s))
 
 -- what opening a file of these bytes to be updated gives, or the first reason why it is not opened
 unfoldable pub updating_of : List ℕ → Result Editing OpenError

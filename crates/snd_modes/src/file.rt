@@ -1,21 +1,24 @@
 //! The calls of an open file.
 
-ghost use Rattle.std.specs.Prelude.{◌≡◌, true, IfOk, OnOk, length};
-ghost use Rattle.snd_disk.specs.Device.{GoesOnFrom, IsStable, OnlyReadsOn, WritesAtMost};
+ghost use Rattle.std.specs.Prelude.{◌≡◌, true, false, IfOk, OnOk, length};
+ghost use Rattle.snd_disk.specs.Device.{AsksAtMost, GoesOnFrom, IsStable, OnlyReadsOn, WritesAtMost};
+ghost use Rattle.snd_blocks.specs.Frames.{has_bad};
+ghost use Rattle.snd_layout.specs.Params.{data_bytes};
 ghost use Rattle.snd_patch.specs.Steps.{KeepsBeside, StillTells};
-ghost use Rattle.snd_modes.specs.Calls.{AsksForFrames, CountsReading, ReadLeaves, SeekLeaves};
+ghost use Rattle.snd_modes.specs.Calls.{AsksForFrames, CheckLeaves, CountsReading, ReadLeaves, SeekLeaves, count_read};
 ghost use Rattle.snd_modes.specs.Chunks.{GivesChunksBack};
 ghost use Rattle.snd_modes.specs.Closing.{ClosesFile, IsCloseCause};
-ghost use Rattle.snd_modes.specs.Editing.{state_read, state_sought};
+ghost use Rattle.snd_modes.specs.Editing.{frames_read, state_read, state_sought};
 ghost use Rattle.snd_modes.specs.Handle.{IfOkStanding, StandsAfter, channels_of, codec_of, disk_of, known_of, loan_of};
 ghost use Rattle.snd_modes.specs.Loans.{disk_back, loan_back};
-ghost use Rattle.snd_modes.specs.Reading.{FitCodec, GivesFrames, front_of, rest_of};
+ghost use Rattle.snd_modes.specs.Reading.{FindsBad, FitCodec, GivesFrames, front_of, rest_of};
 ghost use Rattle.snd_modes.specs.Rest.{ClosesSafely};
 
 use crate::error::{DiskFault, ReadError, SeekError};
-use crate::frames::{channels_of, frames_ahead, read_from};
+use crate::frames::{channels_of, check_any, frames_ahead, read_any};
 use crate::handle::File;
 use crate::mode::{CanRead, Mode};
+use snd_blocks::BlockError;
 use snd_disk::Disk;
 use snd_layout::{Kind, Params};
 use snd_patch::seal;
@@ -74,6 +77,7 @@ impl<'d, D: Disk, M: Mode> File<'d, D, M> {
             written: _,
             broken,
             block: _,
+            cache: _,
             mode: _,
         } = self;
         if let Some(step) = broken {
@@ -96,12 +100,14 @@ impl<'d, D: Disk, M: CanRead> File<'d, D, M> {
     /// how many frames were read; the place moves by that number, and the rest of the slice stays.
     ///
     /// `Broken` where a call of the disk failed before; then `PartFrame` exactly where the slice does not
-    /// have places for whole frames; these leave all as it was. `DiskFault` where a call of the disk failed
-    /// now: the place stays, and from then on the file is broken.
+    /// have places for whole frames, and `BadBlock` exactly where the block of one of the wanted frames has a
+    /// bad head, in ADPCM; these leave all as it was, but for the slice after `BadBlock`. `DiskFault` where a
+    /// call of the disk failed now: the place stays, and from then on the file is broken.
     pub fn read_frames(&mut self, into: &mut [i32]) -> Result<usize, ReadError>
         ensures loan { loan_of self.new ≡ loan_of self.old }
         ensures left { ReadLeaves (length into.old) (known_of self.old) (known_of self.new) result }
         ensures read { IfOkStanding D.state self.old result (GivesFrames (channels_of self.old) into.new) }
+        ensures bad { FindsBad D.state (λ e. frames_read e (count_read (length into.old) (known_of self.old))) self.old result }
         ensures in_range { IfOk result (λ k. FitCodec (codec_of self.old) (front_of self.old k into.new)) }
         ensures rest { IfOk result (λ k. rest_of self.old k into.new ≡ rest_of self.old k into.old) }
         ensures stands { StandsAfter D.state self.old self.new (state_read result) }
@@ -118,19 +124,50 @@ impl<'d, D: Disk, M: CanRead> File<'d, D, M> {
         }
         let count = frames_ahead(&self.layout, self.read_place, into.len() / channels);
         let wanted = &mut into[..count * channels];
-        match read_from(
+        match read_any(
             self.disk,
             &self.layout,
             self.read_place,
             count,
             wanted,
             &mut self.block,
+            &mut self.cache,
         ) {
             Ok(()) => {
                 self.read_place += count as u64;
                 Ok(count)
             }
-            Err(step) => {
+            Err(BlockError::BadBlock) => Err(ReadError::BadBlock),
+            Err(BlockError::DiskFault(step)) => {
+                self.broken = Some(step);
+                Err(ReadError::DiskFault(step))
+            }
+        }
+    }
+
+    /// Reads all blocks of an ADPCM file that have counted frames, whatever the frame to read next. Of a file
+    /// of another codec nothing is read. It takes no memory.
+    ///
+    /// `Broken` where a call of the disk failed before; then `BadBlock` exactly where one of the blocks has a
+    /// bad head: these leave all as it was. `DiskFault` where a call of the disk failed first: from then on the
+    /// file is broken.
+    pub fn check_blocks(&mut self) -> Result<(), ReadError>
+        ensures loan { loan_of self.new ≡ loan_of self.old }
+        ensures left { CheckLeaves (known_of self.old) (known_of self.new) result }
+        ensures good { IfOkStanding D.state self.old result (λ e _. has_bad e.frames ≡ false) }
+        ensures bad { FindsBad D.state (λ e. e.frames) self.old result }
+        ensures stands { StandsAfter D.state self.old self.new (λ e. e) }
+        ensures faults { CountsReading D.state (disk_of self.old) (disk_of self.new) result }
+        ensures reads { OnlyReadsOn D.state D.may_leave D.left_between (disk_of self.old) (disk_of self.new) }
+        ensures asked { AsksAtMost D.state (data_bytes (known_of self.old).shape.params (known_of self.old).shape.frames) (disk_of self.old) (disk_of self.new) }
+    {
+        if let Some(step) = self.broken {
+            return Err(ReadError::Broken(step));
+        }
+        match check_any(self.disk, &self.layout) {
+            Ok(()) => Ok(()),
+            Err(BlockError::BadBlock) => Err(ReadError::BadBlock),
+            Err(BlockError::DiskFault(step)) => {
                 self.broken = Some(step);
                 Err(ReadError::DiskFault(step))
             }

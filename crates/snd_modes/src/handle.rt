@@ -1,16 +1,19 @@
 //! The handle of one open file.
 
-ghost use Rattle.std.specs.Prelude.{◌≡◌, ◌≢◌, ◌+◌, ◌≤◌, ◌^◌, None, All, false, true, is_none};
+ghost use Rattle.std.specs.Prelude.{◌≡◌, ◌≢◌, ◌+◌, ◌≤◌, ◌^◌, None, All, false, true, is_none, is_some};
 ghost use Rattle.snd_container.specs.Sound.{fixed_of};
+ghost use Rattle.snd_layout.specs.Blocks.{is_adpcm};
 ghost use Rattle.snd_layout.specs.Opened.{EndsIn};
 ghost use Rattle.snd_layout.specs.Params.{data_bytes};
 ghost use Rattle.snd_layout.specs.Shape.{end, room};
 ghost use Rattle.snd_layout.specs.declared.kind.Kind.TheVariants.{Voc};
 ghost use Rattle.snd_container.specs.Values.{closed_end};
+ghost use Rattle.snd_modes.specs.Caching.{CachesIn};
 ghost use Rattle.snd_modes.specs.Heads.{HasHead};
 
 use crate::mode::Mode;
 use crate::writes::BLOCK_BYTES;
+use snd_blocks::BlockCache;
 use snd_disk::{Disk, Step};
 use snd_layout::Layout;
 use std::marker::PhantomData;
@@ -30,11 +33,15 @@ pub struct File<'d, D: Disk, M: Mode> {
     pub(crate) broken: Option<Step>,
     // where samples are made as they are tested, and read: here, since it is cleared where it is made
     pub(crate) block: [u8; BLOCK_BYTES],
+    // of a file of ADPCM, which is read by blocks, the one that was read last
+    pub(crate) cache: Option<Box<BlockCache>>,
     pub(crate) mode: PhantomData<M>,
     ghost stands: { broken ≡ None → end layout layout.frames ≤ (D.state disk.now).size },
     ghost placed: { read_place ≤ layout.frames },
     ghost write_placed: { write_place ≤ layout.frames },
-    ghost linear: { is_none (fixed_of layout.params.codec) ≡ false },
+    ghost linear: { M.WRITES ≡ true → is_none (fixed_of layout.params.codec) ≡ false },
+    ghost blocks: { is_some cache ≡ is_adpcm layout.params.codec },
+    ghost cached: { M.WRITES ≡ false → CachesIn D.state disk.now layout cache },
     ghost room_ends: { layout.start + room layout + 8 ≤ 2 ^ 63 },
     ghost sized: { M.WRITES ≡ true → layout.unknown_length ≡ false },
     ghost pieces_held: { M.WRITES ≡ false → broken ≡ None → All (EndsIn (D.state disk.now).size) layout.pieces },

@@ -52,5 +52,5 @@ pub fn create<'d, D: Disk>(
         Ok(layout) => layout,
         Err(error) => return Err((error, disk)),
     };
-    Ok(at_first_frame(disk, layout))
+    Ok(at_first_frame(disk, layout, None))
 }

@@ -7,13 +7,13 @@ ghost use Rattle.snd_modes.specs.Loans.{answer_of, disk_after, loan_after};
 ghost use Rattle.snd_modes.specs.Rest.{OpensAtRest};
 ghost use Rattle.snd_modes.specs.Updating.{CountsUpdating, UpdatesFile};
 
-use crate::codec::{form_of, is_adpcm};
+use crate::codec::is_adpcm;
 use crate::handle::File;
 use crate::mode::Update;
 use crate::open::at_first_frame;
 use snd_container::open_layout;
 use snd_disk::Disk;
-use snd_layout::{OpenError, OpenRefusal};
+use snd_layout::OpenError;
 use std::alloc::Global;
 
 /// Opens a sound file to be read and updated in place, at its first frame. It asks at most 16384 bytes of
@@ -21,8 +21,8 @@ use std::alloc::Global;
 ///
 /// The answer is `Refused` with the first reason, by number, for which the file is not opened; then
 /// `AdpcmUpdate` exactly where its samples stand in blocks, and `UnknownLength` exactly where its head
-/// does not say its length; `NotBuilt` where its codec is a law; `DiskFault` where a call of the disk
-/// failed; `Memory` where there is none. The disk comes back with it.
+/// does not say its length; `DiskFault` where a call of the disk failed; `Memory` where there is none. The
+/// disk comes back with it.
 ///
 /// Where a crash leaves the disk's contents alone, these hold all the data that their head declares, and the
 /// field that decides the count lies in one sector, the file is at rest, as `File::set_auto` says.
@@ -48,8 +48,5 @@ pub fn open_update<'d, D: Disk>(
     if layout.unknown_length {
         return Err((OpenError::UnknownLength, disk));
     }
-    if form_of(&layout).is_none() {
-        return Err((OpenError::Refused(OpenRefusal::NotBuilt), disk));
-    }
-    Ok(at_first_frame(disk, layout))
+    Ok(at_first_frame(disk, layout, None))
 }

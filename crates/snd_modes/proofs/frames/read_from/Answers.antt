@@ -4,6 +4,8 @@ use Rattle.snd_layout.specs.Shape.{end}
 use Rattle.snd_pcm.specs.Groups.{first_groups}
 use Rattle.snd_container.specs.Fixed.{byte_count, samples}
 use Rattle.snd_container.specs.Sound.{fixed_of}
+use Rattle.snd_modes.proofs.FixedFrames.{frames_fixed}
+use Rattle.snd_modes.proofs.Ranges.{fits_form}
 use Rattle.snd_modes.proofs.SoundFrames.{frame_bytes, frames_told, linear_bytes, span_fits}
 use Rattle.snd_modes.proofs.frames.read_from.Goals as goal
 
@@ -30,6 +32,7 @@ returns-clause-told g c = λ b told.
     ∙ ap (λ (m : ℕ). first_groups channels c.args.count (samples form (take (w * m) (drop c.place_of.result b)))) room
     ∙ ap (λ (m : ℕ). first_groups channels c.args.count (samples form (take (w * (channels * c.args.count)) (drop m b)))) c.place_of.ensures
     ∙ frames_told b s form c.args.place c.args.count is c.in-Some.ensures.params.some_channel c.requires.within fits
+    ∙ ap (λ l. take c.args.count (drop c.args.place l)) (sym (frames_fixed b s c.requires.linear))
 
 pub returns-clause-asked : goal.returns-clause-asked
 returns-clause-asked g c =
@@ -42,3 +45,6 @@ returns-in_err-read_run-clause-asked g c =
     let s = c.args.layout.now in
     let all = frame_bytes s.params.codec c.in-Some.form s.params.channels c.args.count (length c.args.into.now) (sym c.in-Some.ensures.form) c.requires.room in
     record { later = c.read_run.ensures.asked.later; most = omega (arith, all, c.read_run.ensures.asked.most) }
+
+pub returns-clause-in_range : goal.returns-clause-in_range
+returns-clause-in_range g c = fits_form c.args.layout.now.params.codec c.in-Some.form c.read_run.new.into (sym c.in-Some.ensures.form) c.in_ok-read_run.ensures.in_range

@@ -1,4 +1,4 @@
-use Rattle.std.proofs.Common.{rules, ◌≡◌, ◌∙◌, ap, sym, Err, Ok, Some, None, ℕ, true, false, List, [], option_map, arith}
+use Rattle.std.proofs.Common.{rules, ◌≡◌, ◌∙◌, ap, sym, refl, Err, Ok, Some, None, ℕ, true, false, List, [], option_map, arith}
 use Rattle.std.specs.Prelude.{is_none}
 use Rattle.snd_container.specs.Made.{new_file, new_shape}
 use Rattle.snd_container.specs.Sound.{fixed_of}
@@ -8,6 +8,7 @@ use Rattle.snd_layout.specs.declared.refusal.OpenRefusal.{OpenRefusal}
 use Rattle.snd_layout.specs.declared.refusal.OpenRefusal.TheVariants.{NotBuilt}
 use Rattle.snd_modes.specs.Editing.{first_editing}
 use Rattle.snd_modes.proofs.NewFiles.{ends_at_start, is_new, making_blocks, making_ok, making_refused, never_refused, no_refusal}
+use Rattle.snd_modes.proofs.Rooms.{not_adpcm}
 use Rattle.snd_modes.proofs.making.create.Goals as goal
 
 pub returns-clause-made : goal.returns-clause-made
@@ -61,7 +62,7 @@ at_first_frame-requires-clause-held g c =
     omega (arith, ends_at_start s linear' new.frames, new.start, c.in-Ok.ensures.laid.size)
 
 pub at_first_frame-requires-clause-linear : goal.at_first_frame-requires-clause-linear
-at_first_frame-requires-clause-linear g c =
+at_first_frame-requires-clause-linear g c = λ writes.
     let made : c.in-Ok.layout ≡ new_shape c.args.kind c.args.params = search rules in
     let linear : is_none (fixed_of c.args.params.codec) ≡ false = search rules in
     let fits : fit_refusal c.args.kind c.args.params ≡ None = search rules in
@@ -83,3 +84,6 @@ at_first_frame-requires-clause-sized g c = λ writes.
 
 pub at_first_frame-requires-clause-headed : goal.at_first_frame-requires-clause-headed
 at_first_frame-requires-clause-headed g c = λ makes holds. ∣ (c.args.params, [], c.in-Ok.ensures.head) ∣₁
+
+pub at_first_frame-requires-clause-blocks : goal.at_first_frame-requires-clause-blocks
+at_first_frame-requires-clause-blocks g c = sym (not_adpcm c.in-Ok.layout.params.codec (at_first_frame-requires-clause-linear g c refl))

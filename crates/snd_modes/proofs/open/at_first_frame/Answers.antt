@@ -1,6 +1,7 @@
 use Rattle.std.proofs.Common.{refl, arith, ◌≤◌, length}
 use Rattle.snd_layout.specs.Shape.{end}
-use Rattle.snd_modes.proofs.Opening.{count_opened}
+use Rattle.snd_layout.specs.Blocks.{is_adpcm}
+use Rattle.snd_modes.proofs.FixedFrames.{count_any}
 use Rattle.snd_modes.proofs.open.at_first_frame.Goals as goal
 
 pub returns-clause-stands : goal.returns-clause-stands
@@ -15,5 +16,5 @@ returns-clause-stands g c = λ b told.
       automatic = refl;
       written = refl;
       sound = refl;
-      count = count_opened b layout c.requires.linear c.keeps_rules.ensures.params.some_channel fits;
+      count = count_any b layout c.keeps_rules.ensures.rule c.keeps_rules.ensures.params fits (is_adpcm layout.params.codec) refl;
     }

@@ -1,10 +1,9 @@
 use Rattle.std.proofs.Common.{rules, ◌≡◌, ◌∙◌, true, false}
-use Rattle.std.specs.Prelude.{is_none}
-use Rattle.snd_container.specs.Sound.{fixed_of}
 use Rattle.snd_layout.specs.Blocks.{is_adpcm}
 use Rattle.snd_modes.specs.Editing.{first_editing}
+use Rattle.snd_modes.proofs.FixedFrames.{is_fixed}
 use Rattle.snd_modes.proofs.LeftSafe.{opens_at_rest}
-use Rattle.snd_modes.proofs.Opened.{refused_update, update_adpcm, update_law, update_ok, update_open}
+use Rattle.snd_modes.proofs.Opened.{refused_update, update_adpcm, update_ok, update_open}
 use Rattle.snd_modes.proofs.updating.open_update.Goals as goal
 
 pub returns-in-Err-clause-opened : goal.returns-in-Err-clause-opened
@@ -21,22 +20,19 @@ returns-then-layout-clause-opened g c = λ b told.
     let open_end : c.in-Ok.layout.unknown_length ≡ true = search rules in
     update_open b c.in-Ok.layout (c.in-Ok.ensures.opened b told) blocks open_end
 
-pub returns-then-is_none-clause-opened : goal.returns-then-is_none-clause-opened
-returns-then-is_none-clause-opened g c = λ b told.
-    let blocks : is_adpcm c.in-Ok.layout.params.codec ≡ false = search rules in
-    let closed_end : c.in-Ok.layout.unknown_length ≡ false = search rules in
-    let law : is_none (fixed_of c.in-Ok.layout.params.codec) ≡ true = search rules in
-    update_law b c.in-Ok.layout (c.in-Ok.ensures.opened b told) blocks closed_end law
-
 pub returns-clause-opened : goal.returns-clause-opened
 returns-clause-opened g c = λ b told.
     let blocks : is_adpcm c.in-Ok.layout.params.codec ≡ false = search rules in
-    let closed_end : c.in-Ok.layout.unknown_length ≡ false = search rules in
-    let linear : is_none (fixed_of c.in-Ok.layout.params.codec) ≡ false = search rules in (
+    let closed_end : c.in-Ok.layout.unknown_length ≡ false = search rules in (
       first_editing b c.in-Ok.layout,
-      update_ok b c.in-Ok.layout (c.in-Ok.ensures.opened b told) blocks closed_end linear,
+      update_ok b c.in-Ok.layout (c.in-Ok.ensures.opened b told) blocks closed_end,
       c.at_first_frame.ensures.stands b (c.open_layout.ensures.reads.keeps.contents ∙ told),
     )
 
 pub returns-clause-rests : goal.returns-clause-rests
 returns-clause-rests g c = opens_at_rest g.D.Disk c.args.disk.now _ (returns-clause-opened g c) (search rules)
+
+pub at_first_frame-requires-clause-linear : goal.at_first_frame-requires-clause-linear
+at_first_frame-requires-clause-linear g c = λ writes.
+    let blocks : is_adpcm c.in-Ok.layout.params.codec ≡ false = search rules in
+    is_fixed c.in-Ok.layout.params.codec blocks

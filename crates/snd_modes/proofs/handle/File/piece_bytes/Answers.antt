@@ -4,6 +4,7 @@ use Rattle.std.proofs.lemmas.List.{length-take-le}
 use Rattle.snd_layout.specs.Opened.{EndsIn}
 use Rattle.snd_layout.specs.declared.piece.Piece.{Piece}
 use Rattle.snd_modes.specs.Pieces.{body_of, first_piece, has_name}
+use Rattle.snd_modes.proofs.FixedFrames.{broken_is, still_cached}
 use Rattle.snd_modes.proofs.KindHeads.{head_same}
 use Rattle.snd_modes.proofs.ReadBodies.{all_read, found_has, whole_body, written_back}
 use Rattle.snd_modes.proofs.handle.File.piece_bytes.Goals as goal
@@ -18,6 +19,8 @@ invariant_of-self g c =
       placed = file.placed;
       write_placed = file.write_placed;
       linear = file.linear;
+      blocks = file.blocks;
+      cached = λ reads. still_cached state file.disk.now c.read_front.new.disk file.layout file.cache keeps.contents (file.cached reads);
       room_ends = file.room_ends;
       sized = file.sized;
       pieces_held = λ reads working. subst (λ (n : ℕ). All (EndsIn n) file.layout.pieces) (sym keeps.size) (file.pieces_held reads working);
@@ -51,3 +54,22 @@ returns-in-Ok-clause-whole g c = λ reads.
     let given : length c.truncate.new.self.items ≡ piece.len =
     ap length (c.truncate.ensures.items ∙ written_back n c.in_ok-body.body.len c.read_front.new.into _ (omega (arith, c.in_ok-body.ensures.len, all)) (omega (arith, c.read_front.auto.into, len, all))) ∙ length-take-le n c.read_front.new.into (omega (arith, all, len, c.read_front.auto.into)) ∙ all in
     subst (λ (o : Option Piece). IfSome o (λ p. length c.truncate.new.self.items ≡ p.len)) (sym found) given
+
+pub invariant_of-self-in-Err : goal.invariant_of-self-in-Err
+invariant_of-self-in-Err g c =
+    let state = g.D.Disk.state in
+    let file = c.args.self.now in
+    record {
+      stands = λ working. broken_is _ working;
+      placed = file.placed;
+      write_placed = file.write_placed;
+      linear = file.linear;
+      blocks = file.blocks;
+      cached = λ reads. still_cached state file.disk.now c.read_front.new.disk file.layout file.cache c.read_front.ensures.reads.keeps.contents (file.cached reads);
+      room_ends = file.room_ends;
+      sized = file.sized;
+      pieces_held = λ reads working. broken_is _ working;
+      headed = λ makes empty working. broken_is _ working;
+      counted = λ automatic working. broken_is _ working;
+      closed = λ automatic working. broken_is _ working;
+    }

@@ -5,6 +5,7 @@ use Rattle.snd_layout.specs.Opened.{EndsIn}
 use Rattle.snd_layout.specs.Shape.{Shape}
 use Rattle.snd_layout.specs.declared.piece.Piece.{Piece}
 use Rattle.snd_modes.specs.Pieces.{HasFront, body_of}
+use Rattle.snd_modes.proofs.FixedFrames.{broken_is, still_cached}
 use Rattle.snd_modes.proofs.KindHeads.{head_same}
 use Rattle.snd_modes.proofs.ReadBodies.{all_read, front_read, got_has, rest_stays}
 use Rattle.snd_modes.proofs.handle.File.piece_read.Goals as goal
@@ -19,6 +20,8 @@ invariant_of-self g c =
       placed = file.placed;
       write_placed = file.write_placed;
       linear = file.linear;
+      blocks = file.blocks;
+      cached = λ reads. still_cached state file.disk.now c.read_front.new.disk file.layout file.cache keeps.contents (file.cached reads);
       room_ends = file.room_ends;
       sized = file.sized;
       pieces_held = λ reads working. subst (λ (n : ℕ). All (EndsIn n) file.layout.pieces) (sym keeps.size) (file.pieces_held reads working);
@@ -65,3 +68,22 @@ returns-in-Ok-clause-whole g c = λ reads.
     let ends : EndsIn size piece = got_has (EndsIn size) c.args.self.now.layout.pieces c.args.place piece (c.args.self.now.pieces_held reads working) found in
     let all : c.in-Ok.read ≡ k = all_read piece size k c.in-Ok.read ends (omega (arith, most)) (omega (arith, c.in-Ok.ensures.count, short)) in
     subst (λ (o : Option Piece). IfSome o (λ p. c.in-Ok.read ≡ min (length into) p.len)) (sym found) (omega (arith, all, most))
+
+pub invariant_of-self-in-Err : goal.invariant_of-self-in-Err
+invariant_of-self-in-Err g c =
+    let state = g.D.Disk.state in
+    let file = c.args.self.now in
+    record {
+      stands = λ working. broken_is _ working;
+      placed = file.placed;
+      write_placed = file.write_placed;
+      linear = file.linear;
+      blocks = file.blocks;
+      cached = λ reads. still_cached state file.disk.now c.read_front.new.disk file.layout file.cache c.read_front.ensures.reads.keeps.contents (file.cached reads);
+      room_ends = file.room_ends;
+      sized = file.sized;
+      pieces_held = λ reads working. broken_is _ working;
+      headed = λ makes empty working. broken_is _ working;
+      counted = λ automatic working. broken_is _ working;
+      closed = λ automatic working. broken_is _ working;
+    }

@@ -29,7 +29,7 @@ returns-in-Ok-clause-stands g c = λ e stands.
     let told = g.met.D.Disk.size_told c.args.self.now.disk.now e.bytes stands.bytes in
     let can : CanPut h e.bytes place (length xs / h.params.channels) xs = record {
       rule = c.end_of_write.ensures.rule;
-      linear = c.args.self.now.linear;
+      linear = c.args.self.now.linear g.met.M.CanWrite.writes;
       some = c.end_of_write.ensures.some;
       fits = omega (arith, told, c.args.self.now.stands working);
       within = c.args.self.now.write_placed;
@@ -104,7 +104,7 @@ invariant_of-self-in-Ok-clause-headed g c = λ makes empty working.
     let none : count ≡ 0 = omega (arith, ltb-false 0 count unwritten.1) in
     let whole = whole_frames (length xs) h.params.channels count c.end_of_write.ensures.some c.in_ok-next.ensures.ready.frames.whole (omega (arith, c.in_ok-next.ensures.value)) in
     let bytes : bytes_of_frames h.params 0 ≡ 0 = omega arith in
-    let size : length (coded h.params xs) ≡ 0 = coded_size h.params xs count file.linear whole ∙ ap (bytes_of_frames h.params) none ∙ bytes in
+    let size : length (coded h.params xs) ≡ 0 = coded_size h.params xs count (file.linear g.met.M.CanWrite.writes) whole ∙ ap (bytes_of_frames h.params) none ∙ bytes in
     written_head (state file.disk.now) (state c.write_over.new.disk) h c.write_over.new.layout c.end_of_write.ensures.rule (file.headed makes unwritten.0 before) (g.met.D.Disk.size_told file.disk.now)
     file.automatic file.write_place (count_written h file.write_place count) xs file.write_placed (ap (count_written h file.write_place) none) (nil_from_length (coded h.params xs) size)
     c.in-Ok.ensures.layout c.in-Ok.ensures.grows c.in-Ok.ensures.contents

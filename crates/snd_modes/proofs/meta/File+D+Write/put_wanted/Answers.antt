@@ -3,6 +3,7 @@ use Rattle.std.specs.Prelude.{is_none, is_some}
 use Rattle.std.proofs.lemmas.Bool.{cases_lt}
 use Rattle.snd_container.specs.Put.{HoldsHead}
 use Rattle.snd_container.specs.Sound.{fixed_of, layout_of}
+use Rattle.snd_layout.specs.Blocks.{is_adpcm}
 use Rattle.snd_layout.specs.Params.{Parameters}
 use Rattle.snd_layout.specs.Shape.{Shape, end}
 use Rattle.snd_wave.specs.Heads.{new_piece, with_piece}
@@ -77,14 +78,24 @@ invariant_of-self-clause-write_placed g c =
     omega (arith, file.write_placed, was.frames)
 
 pub invariant_of-self-clause-linear : goal.invariant_of-self-clause-linear
-invariant_of-self-clause-linear g c =
+invariant_of-self-clause-linear g c = λ writes.
     let state = g.D.Disk.state in
     let file = c.args.self.now in
     let may = c.in_ok-may_put.ensures.may in
     let holds = c.requires.held may.held in
     let head = file.headed refl may.untouched.empty may.untouched.working holds in
     let put = put_head (state file.disk.now) (state c.put_ruled.new.disk) file.layout c.put_ruled.new.layout c.args.wanted.place (new_piece c.args.id.0 c.args.body.now) holds (told_head (state file.disk.now) file.layout holds head) c.in-Ok.ensures.put in
-    ap (λ (p : Parameters). is_none (fixed_of p.codec)) put.params ∙ file.linear
+    ap (λ (p : Parameters). is_none (fixed_of p.codec)) put.params ∙ file.linear refl
+
+pub invariant_of-self-clause-blocks : goal.invariant_of-self-clause-blocks
+invariant_of-self-clause-blocks g c =
+    let state = g.D.Disk.state in
+    let file = c.args.self.now in
+    let may = c.in_ok-may_put.ensures.may in
+    let holds = c.requires.held may.held in
+    let head = file.headed refl may.untouched.empty may.untouched.working holds in
+    let put = put_head (state file.disk.now) (state c.put_ruled.new.disk) file.layout c.put_ruled.new.layout c.args.wanted.place (new_piece c.args.id.0 c.args.body.now) holds (told_head (state file.disk.now) file.layout holds head) c.in-Ok.ensures.put in
+    file.blocks ∙ sym (ap (λ (p : Parameters). is_adpcm p.codec) put.params)
 
 pub invariant_of-self-clause-room_ends : goal.invariant_of-self-clause-room_ends
 invariant_of-self-clause-room_ends g c =
@@ -158,7 +169,7 @@ returns-in-Ok-clause-stands g c = λ e stands.
     let size = g.met.D.Disk.size_told c.put_ruled.new.disk after.bytes bytes in
     let ends : end h h.frames ≡ (state c.put_ruled.new.disk).size = ap (end h) bare.frames ∙ bare.ends in
     let none : length e.frames ≡ 0 = omega (arith, stands.count, was.frames, ap (λ (s : Shape). s.frames) stands.shape) in
-    let linear : is_none (fixed_of h.params.codec) ≡ false = ap (λ (p : Parameters). is_none (fixed_of p.codec)) put.params ∙ file.linear in
+    let linear : is_none (fixed_of h.params.codec) ≡ false = ap (λ (p : Parameters). is_none (fixed_of p.codec)) put.params ∙ file.linear refl in
     record {
       bytes = bytes;
       shape = shape;
@@ -197,6 +208,6 @@ returns-in-Ok-clause-begins g c = λ e is.
     let held = ap holds_pieces put.kind ∙ holds in
     let bare = bare_head (state c.put_ruled.new.disk) h held c.in-Ok.ensures.rule ∣ c.in-Ok.ensures.head ∣₁ in
     let opened : layout_of e.bytes ≡ Ok h = head_opens (state c.put_ruled.new.disk) h e.bytes held c.in-Ok.ensures.head is.bytes in
-    let linear : is_none (fixed_of h.params.codec) ≡ false = ap (λ (p : Parameters). is_none (fixed_of p.codec)) put.params ∙ file.linear in
+    let linear : is_none (fixed_of h.params.codec) ≡ false = ap (λ (p : Parameters). is_none (fixed_of p.codec)) put.params ∙ file.linear refl in
     begins_again e (subst (λ (s : Shape). layout_of e.bytes ≡ Ok s) is.shape opened) (subst (λ (s : Shape). is_none (fixed_of s.params.codec) ≡ false) is.shape linear) (subst (λ (s : Shape). s.unknown_length ≡ false) is.shape bare.known) is.sound
     (omega (arith, file.placed, was.frames, is.place)) (omega (arith, file.write_placed, was.frames, is.write_place)) (sym is.automatic ∙ may.untouched.by_hand) (sym is.written ∙ may.untouched.empty)

@@ -1,0 +1,9 @@
+use Rattle.std.proofs.Common.{rules, ◌≡◌, true, false, arith}
+use Rattle.snd_layout.specs.Blocks.{is_adpcm}
+use Rattle.snd_modes.proofs.FixedFrames.{good_read}
+use Rattle.snd_modes.proofs.frames.read_any.Goals as goal
+
+pub returns-in_ok-read_from-in-None-clause-good : goal.returns-in_ok-read_from-in-None-clause-good
+returns-in_ok-read_from-in-None-clause-good g c = λ b told.
+    let s = c.args.layout.now in
+    good_read b s c.args.place c.args.count c.read_from.new.into c.keeps_rules.ensures.params.some_channel (omega (arith, c.requires.room, c.read_from.auto.into)) (c.in_ok-read_from-in-None.ensures.told b told)
