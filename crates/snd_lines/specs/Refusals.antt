@@ -2,7 +2,7 @@
 use Rattle.std.specs.Prelude.{ℕ, List, codes}
 use Rattle.snd_layout.specs.Names.{refusal_name as open_name, refusal_number as open_number}
 use Rattle.snd_lines.specs.declared.refusal.Refusal.{Refusal}
-use Rattle.snd_lines.specs.declared.refusal.Refusal.TheVariants.{Open, AdpcmUpdate, UnknownLength, PartFrame, SampleRange, SeekRange, TrailingData, ContainerFull, Straddle, FramesWritten, ReservedChunk, NoChunks, ChunkTooLarge, AutoOn, NoSuchChunk, BadCommand, LineTooLong, NotOpen, AlreadyOpen, WrongMode, NoSuchTap, TapOn, SameName, MixedParams, NotMono, UnknownSuffix, MissingFile, BadInfo, BadCue, BadBext, TextTooLong, Pinned, NotBuilt}
+use Rattle.snd_lines.specs.declared.refusal.Refusal.TheVariants.{Open, AdpcmUpdate, UnknownLength, PartFrame, SampleRange, SeekRange, TrailingData, ContainerFull, Straddle, FramesWritten, ReservedChunk, NoChunks, ChunkTooLarge, AutoOn, NoSuchChunk, BadBlock, BadCommand, LineTooLong, NotOpen, AlreadyOpen, WrongMode, NoSuchTap, TapOn, SameName, MixedParams, NotMono, UnknownSuffix, MissingFile, BadInfo, BadCue, BadBext, TextTooLong, Pinned, NotBuilt}
 
 abbrev pub refusal_number : Refusal → ℕ
 refusal_number (Open refusal) = open_number refusal
@@ -20,6 +20,7 @@ refusal_number NoChunks = 30
 refusal_number ChunkTooLarge = 31
 refusal_number AutoOn = 32
 refusal_number NoSuchChunk = 34
+refusal_number BadBlock = 35
 refusal_number BadCommand = 40
 refusal_number LineTooLong = 41
 refusal_number NotOpen = 42
@@ -55,6 +56,7 @@ refusal_name NoChunks = codes "NoChunks"
 refusal_name ChunkTooLarge = codes "ChunkTooLarge"
 refusal_name AutoOn = codes "AutoOn"
 refusal_name NoSuchChunk = codes "NoSuchChunk"
+refusal_name BadBlock = codes "BadBlock"
 refusal_name BadCommand = codes "BadCommand"
 refusal_name LineTooLong = codes "LineTooLong"
 refusal_name NotOpen = codes "NotOpen"

@@ -38,6 +38,8 @@ pub enum Refusal {
     AutoOn,
     /// There is no such chunk.
     NoSuchChunk,
+    /// A block of ADPCM that holds a wanted frame has a bad head.
+    BadBlock,
     /// The line has the form of no command.
     BadCommand,
     /// The line has more than 4096 bytes.
@@ -97,6 +99,7 @@ impl Refusal {
             Refusal::ChunkTooLarge => 31,
             Refusal::AutoOn => 32,
             Refusal::NoSuchChunk => 34,
+            Refusal::BadBlock => 35,
             Refusal::BadCommand => 40,
             Refusal::LineTooLong => 41,
             Refusal::NotOpen => 42,
@@ -138,6 +141,7 @@ impl Refusal {
             Refusal::ChunkTooLarge => "ChunkTooLarge",
             Refusal::AutoOn => "AutoOn",
             Refusal::NoSuchChunk => "NoSuchChunk",
+            Refusal::BadBlock => "BadBlock",
             Refusal::BadCommand => "BadCommand",
             Refusal::LineTooLong => "LineTooLong",
             Refusal::NotOpen => "NotOpen",
