@@ -2,9 +2,8 @@
 use Rattle.std.proofs.Common.{◌≡◌, ◌⊎◌, ◌∙◌, refl, sym, ap, inl, inr, ℕ, ℤ, zero, suc, ◌+◌, ◌*◌, ◌/◌, ◌<◌, ◌≤◌, false, List, [], ◌∷◌, ◌++◌, length, take, drop, arith}
 use Rattle.std.specs.List.{flat_map}
 use Rattle.std.proofs.Math.Nat.{add-mul-div_right, mul-div_left, zero-div}
-use Rattle.std.proofs.lemmas.Bool.{cases_Bool}
 use Rattle.std.proofs.lemmas.Grind.{flat_map-append}
-use Rattle.std.proofs.lemmas.List.{append-nil, drop-append-le, length-append, length-drop, length-replicate, length-take-le, take-append-le, take_all}
+use Rattle.std.proofs.lemmas.List.{append-nil, length-append, length-drop, length-take-le, take_all}
 use Rattle.std.proofs.lemmas.List.Folds.{list_any-append}
 use Rattle.snd_adpcm.specs.Blocks.{bytes_of_blocks}
 use Rattle.snd_adpcm.specs.Ima.{Indices}
@@ -16,31 +15,13 @@ use Rattle.snd_pcm.specs.Groups.{first_groups, groups}
 use Rattle.snd_pcm.proofs.Series.{length-first_groups}
 use Rattle.snd_blocks.specs.Calls.{AreBlocks, HasForm}
 use Rattle.snd_blocks.specs.Frames.{block_samples, blocks_decoded, frames_of, has_bad, is_bad_block, is_bad_frame}
+use Rattle.snd_blocks.proofs.BlockFrames.{count_frames, groups_joined, no_bad_groups}
 use Rattle.snd_block_writer.specs.Coded.{block_numbers}
 use Rattle.snd_block_writer.specs.Writing.{block_bytes, next_indices, rule_of}
 use Rattle.snd_block_writer.proofs.Goods.{AreIndices, good_ima, good_ms, indices_kept, samples_ima, samples_ms}
 use Rattle.snd_block_writer.proofs.Sizes.{size_of_block}
 
--- ---- groups
-
-module _ {X : Type 0} (k : ℕ) where
-  -- those of two parts
-  groups_joined : (m n : ℕ) (xs ys : List X) → length xs ≡ m * k → first_groups k (m + n) (xs ++ ys) ≡ first_groups k m xs ++ first_groups k n ys
-  groups_joined zero n [] ys size = ap (λ (i : ℕ). first_groups k i ys) (let e : 0 + n ≡ n = omega arith in e)
-  groups_joined zero n (x ∷ xs) ys size = absurd (omega arith)
-  groups_joined (suc m) n xs ys size =
-      let more : suc m * k ≡ k + m * k = omega arith in
-      let fits : k ≤ length xs = omega (arith, size, more) in
-      ap (λ (i : ℕ). first_groups k i (xs ++ ys)) (let e : suc m + n ≡ suc (m + n) = omega arith in e)
-      ∙ ap (λ (l : List X). l ∷ first_groups k (m + n) (drop k (xs ++ ys))) (take-append-le k xs ys fits)
-      ∙ ap (λ (l : List X). take k xs ∷ first_groups k (m + n) l) (drop-append-le k xs ys fits)
-      ∙ ap (λ (l : List (List X)). take k xs ∷ l) (groups_joined m n (drop k xs) ys (omega (arith, length-drop k xs, size, more)))
-
-count_frames : (p : Parameters) (block : List ℕ) → length (frames_of p block) ≡ block_frames p.codec
-count_frames p block = elim (cases_Bool (is_bad_block p.channels p.codec block)) [
-  | inl bad ↦ rw bad (length-replicate (block_frames p.codec) [])
-  | inr good ↦ rw good (length-first_groups p.channels (block_frames p.codec) (block_samples p.channels p.codec block))
-]
+-- ---- pieces of one length
 
 count_pieces : {X Y : Type 0} (f : X → List Y) (m : ℕ) → ((x : X) → length (f x) ≡ m) → (xs : List X) → length (flat_map f xs) ≡ length xs * m
 count_pieces f m same [] = omega arith
@@ -101,7 +82,7 @@ module _ (p : Parameters) (blocks : AreBlocks p) where
       ∙ add-mul-div_right (length ys) a positive ∙ (let e : length ys / align + a ≡ a + length ys / align = omega arith in e) in
       let two : length xs / align ≡ a = ap (λ (m : ℕ). m / align) size ∙ mul-div_left a positive in
       ap (λ (m : ℕ). flat_map f (first_groups align m (xs ++ ys))) one
-      ∙ ap (flat_map f) (groups_joined align a (length ys / align) xs ys size)
+      ∙ ap (flat_map f) (groups_joined align a (length ys / align) xs ys (size ∙ (let e : a * align ≡ align * a = omega arith in e)))
       ∙ flat_map-append f (first_groups align a xs) (groups align ys)
       ∙ ap (λ (m : ℕ). flat_map f (first_groups align m xs) ++ blocks_decoded p ys) (sym two)
 
