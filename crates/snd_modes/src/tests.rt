@@ -70,6 +70,14 @@ static APPENDING: [(Act, Option<u64>); 3] = [
     (Act::Write(&[5]), Some(3)),
 ];
 
+// A file of two equal blocks of IMA ADPCM. The frames of each are those that SoX 14.4.2 reads from it.
+static IMA: [u8; 76] =
+    *b"RIFF\x44\0\0\0WAVEfmt \x14\0\0\0\x11\0\x01\0\x40\x1f\0\0\xc7\x1b\0\0\x08\0\x04\0\x02\0\x09\0fact\x04\0\0\0\x12\0\0\0data\x10\0\0\0\0\0\0\0\x77\x0f\0\0\0\0\0\0\x77\x0f\0\0";
+
+// .. and of two blocks of Microsoft ADPCM, of which the second has a predictor above 6.
+static BAD_MS: [u8; 106] =
+    *b"RIFF\x62\0\0\0WAVEfmt \x32\0\0\0\x02\0\x01\0\x40\x1f\0\0\x80\x3e\0\0\x08\0\x04\0\x20\0\x04\0\x07\0\0\x01\0\0\0\x02\0\xff\0\0\0\0\xc0\0\x40\0\xf0\0\0\0\xcc\x01\x30\xff\x88\x01\x18\xfffact\x04\0\0\0\x08\0\0\0data\x10\0\0\0\0\x10\0\x64\0\x32\0\x1f\x07\x10\0\x64\0\x32\0\x1f";
+
 fn answer_to<M: CanShrink>(file: &mut File<'_, SteadyDisk, M>, call: Act) -> Option<u64> {
     let done = match call {
         Act::Seek(to) => file.seek_write(to).is_ok(),
@@ -301,5 +309,43 @@ fn pieces_are_added_by_kind(rt: HostRuntime) -> Result<(), Fail> {
     );
     let refused = make_with_chunk(alloc, &mut disk, Kind::Voc, Codec::U8);
     assert!(rt; refused == Some(Err(PieceError::NoChunks)));
+    Ok(())
+}
+
+/// Whether a read of as many frames gives these, of one channel.
+fn gives(file: &mut File<'_, SteadyDisk, Read>, frames: &[i32]) -> bool {
+    let mut into = [7; 11];
+    let Some(wanted) = into.get_mut(..frames.len()) else {
+        return false;
+    };
+    matches!(file.read_frames(wanted), Ok(count) if count == frames.len())
+        && into.starts_with(frames)
+}
+
+/// The first file is read across its blocks. In the other a bad block leaves the place where it was.
+#[test]
+fn blocks_are_read(rt: HostRuntime) -> Result<(), Fail> {
+    let alloc = rt.alloc();
+    let mut disk = SteadyDisk::new(alloc, IMA.to_vec(alloc)?)?;
+    let Ok(mut file) = open_read(alloc, &mut disk) else {
+        assert!(rt; false);
+        return Ok(());
+    };
+    assert!(rt; gives(&mut file, &[0, 11, 41, -22, -13, -5, 2]));
+    assert!(rt; gives(&mut file, &[8, 14, 0, 11, 41, -22, -13, -5, 2, 8, 14]));
+    assert!(rt; file.check_blocks().is_ok());
+    assert!(rt; file.close().is_ok());
+    let mut disk = SteadyDisk::new(alloc, BAD_MS.to_vec(alloc)?)?;
+    let Ok(mut file) = open_read(alloc, &mut disk) else {
+        assert!(rt; false);
+        return Ok(());
+    };
+    assert!(rt; gives(&mut file, &[50]));
+    let mut into = [7; 4];
+    let bad = file.read_frames(&mut into);
+    assert!(rt; matches!(bad, Err(ReadError::BadBlock)));
+    assert!(rt; matches!(file.check_blocks(), Err(ReadError::BadBlock)));
+    assert!(rt; gives(&mut file, &[100, 116, 100]));
+    assert!(rt; file.close().is_ok());
     Ok(())
 }

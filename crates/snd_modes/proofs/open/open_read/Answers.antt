@@ -8,7 +8,7 @@ returns-in-Err-clause-opened g c = λ r b is told. opening_refused b r (c.in-Err
 
 pub returns-in-Ok-cache_for-clause-opened : goal.returns-in-Ok-cache_for-clause-opened
 returns-in-Ok-cache_for-clause-opened g c = λ b told. (
-      first_editing b c.in-Ok.layout,
-      opening_ok b c.in-Ok.layout (c.in-Ok.ensures.opened b told),
-      c.at_first_frame.ensures.stands b (c.open_layout.ensures.reads.keeps.contents ∙ told),
-    )
+  first_editing b c.in-Ok.layout,
+  opening_ok b c.in-Ok.layout (c.in-Ok.ensures.opened b told),
+  c.at_first_frame.ensures.stands b (c.open_layout.ensures.reads.keeps.contents ∙ told),
+)
