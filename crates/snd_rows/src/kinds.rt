@@ -17,10 +17,7 @@ struct Row {
     status: u8,
 }
 
-/// What a script answers that opens, reads and closes a file of a codec that is not decoded yet.
-const NOT_BUILT: &str = "error 99 NotBuilt\nerror 42 NotOpen\nerror 42 NotOpen\n";
-
-static ROWS: [Row; 22] = [
+static ROWS: [Row; 23] = [
     // 8 bits, one channel
     Row {
         format: b"\x01\0\x01\0\x64\0\0\0\x64\0\0\0\x01\0\x08\0",
@@ -187,36 +184,45 @@ static ROWS: [Row; 22] = [
     Row {
         format: b"\x11\0\x01\0\x64\0\0\0\x58\0\0\0\x08\0\x04\0\x02\0\x09\0",
         fact: Some(9),
-        data: b"\0\0\0\0\0\0\0\0",
+        data: b"d\0\x05\0\x17\x8f\x20\xc3",
         described: "name a.wav\nkind wave\ncodec ima\nchannels 1\nrate 100\nframes 9\nduration 00:00:00.090\n",
-        read: NOT_BUILT,
-        status: 1,
+        read: "ok 9 1 100 wave ima\nok 9\n100\n122\n131\n90\n84\n89\n114\n145\n107\nok 9\n",
+        status: 0,
     },
     // IMA ADPCM in blocks of 9 frames, two channels
     Row {
         format: b"\x11\0\x02\0\x64\0\0\0\xb1\0\0\0\x10\0\x04\0\x02\0\x09\0",
         fact: Some(9),
-        data: b"\0\0\0\0\0\0\0\0\0\0\0\0\0\0\0\0",
+        data: b"\x9c\xff\x07\0\x05\0\0\0\x17\x8f\x20\xc3q\x08\xf2<",
         described: "name a.wav\nkind wave\ncodec ima\nchannels 2\nrate 100\nframes 9\nduration 00:00:00.090\n",
-        read: NOT_BUILT,
-        status: 1,
+        read: "ok 9 2 100 wave ima\nok 9\n-100 5\n-75 6\n-65 17\n-117 15\n-124 16\n-118 23\n-87 1\n-49 -27\n-95 -2\nok 9\n",
+        status: 0,
     },
     // Microsoft ADPCM in blocks of 4 frames, one channel
     Row {
         format: b"\x02\0\x01\0\x64\0\0\0\xc8\0\0\0\x08\0\x04\0\x20\0\x04\0\x07\0\0\x01\0\0\0\x02\0\xff\0\0\0\0\xc0\0\x40\0\xf0\0\0\0\xcc\x01\x30\xff\x88\x01\x18\xff",
         fact: Some(8),
-        data: b"\0\x10\0\x01\0\x02\0\0\0\x10\0\x01\0\x02\0\0",
+        data: b"\x01\x10\0\x01\0\x02\0~\x02\x10\0\x01\0\x02\09",
         described: "name a.wav\nkind wave\ncodec ms\nchannels 1\nrate 100\nframes 8\nduration 00:00:00.080\n",
-        read: NOT_BUILT,
-        status: 1,
+        read: "ok 8 1 100 wave ms\nok 8\n2\n1\n112\n147\n2\n1\n48\n-112\nok 8\n",
+        status: 0,
     },
     // Microsoft ADPCM in blocks of 4 frames, two channels
     Row {
         format: b"\x02\0\x02\0\x64\0\0\0\x90\x01\0\0\x10\0\x04\0\x20\0\x04\0\x07\0\0\x01\0\0\0\x02\0\xff\0\0\0\0\xc0\0\x40\0\xf0\0\0\0\xcc\x01\x30\xff\x88\x01\x18\xff",
         fact: Some(8),
-        data: b"\0\0\x10\0\x10\0\x01\0\x01\0\x02\0\x02\0\0\0\0\0\x10\0\x10\0\x01\0\x01\0\x02\0\x02\0\0\0",
+        data: b"\x01\x02\x10\0\x20\0\x01\0\xff\xff\x02\0\xfd\xff~,\0\0\x10\0\x10\0\x01\0\x01\0\x02\0\x02\0\x13\xf8",
         described: "name a.wav\nkind wave\ncodec ms\nchannels 2\nrate 100\nframes 8\nduration 00:00:00.080\n",
-        read: NOT_BUILT,
+        read: "ok 8 2 100 wave ms\nok 8\n2 -3\n1 -1\n112 -64\n299 -112\n2 2\n1 1\n17 49\n1 -79\nok 8\n",
+        status: 0,
+    },
+    // the second of two blocks of IMA ADPCM begins with an index above 88, which no program writes
+    Row {
+        format: b"\x11\0\x01\0\x64\0\0\0\x58\0\0\0\x08\0\x04\0\x02\0\x09\0",
+        fact: Some(18),
+        data: b"d\0\x05\0\x17\x8f\x20\xc3d\0Y\0\x17\x8f\x20\xc3",
+        described: "name a.wav\nkind wave\ncodec ima\nchannels 1\nrate 100\nframes 18\nduration 00:00:00.180\n",
+        read: "ok 18 1 100 wave ima\nerror 35 BadBlock\nok 18\n",
         status: 1,
     },
 ];
