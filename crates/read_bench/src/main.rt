@@ -1,11 +1,13 @@
 //! Reads all frames of a file and folds them into a checksum, for measuring: `read_bench NAME`. It
-//! prints the number of frames, and the sum of all samples in 64 bits.
+//! prints the number of frames, and the sum of all samples in 64 bits. Where a block of ADPCM is bad it
+//! prints nothing and ends with 4.
 #![tactic(auto)]
 
 ghost use Rattle.std.specs.Prelude.{◌≡◌};
+ghost use Rattle.snd_modes.specs.Handle.{disk_of, loan_of};
 
 use snd_disk::{Disk, FolderShelf, Shelf};
-use snd_modes::open_read;
+use snd_modes::{File, Read, ReadError, open_read};
 use std::alloc::Global;
 use std::env;
 use std::io::{self, Write};
@@ -21,6 +23,13 @@ struct Folded {
     sum: i64,
 }
 
+/// Why a file is not folded.
+#[derive(Clone, Copy)]
+enum Stop {
+    Failed,
+    BadBlock,
+}
+
 /// The sum of at most 65536 samples, in lanes of 32 bits: that of what stands above the lowest 16 bits, and
 /// the sum's own lowest 32 bits, which together tell it.
 fn sum_of(samples: &[i32]) -> i64 {
@@ -34,17 +43,11 @@ fn sum_of(samples: &[i32]) -> i64 {
     i64::from(high) * 65536 + i64::from(rest)
 }
 
-/// Folds the frames of the file that a disk holds.
-fn fold_file<D: Disk>(alloc: Global, disk: &mut D) -> Option<Folded>
-    ensures { (D.state disk.new).name ≡ (D.state disk.old).name }
+/// Folds all frames of an open file.
+fn fold_frames<D: Disk>(file: &mut File<'_, D, Read>) -> Result<Folded, Stop>
+    ensures loan { loan_of file.new ≡ loan_of file.old }
+    ensures name { (D.state (disk_of file.new)).name ≡ (D.state (disk_of file.old)).name }
 {
-    let mut file = match open_read(alloc, disk) {
-        Ok(file) => file,
-        Err((_, back)) => {
-            let _ = back;
-            return None;
-        }
-    };
     let channels = usize::from(file.params().channels).max(1);
     let mut block = [0; BLOCK];
     let whole = BLOCK / channels * channels;
@@ -52,8 +55,10 @@ fn fold_file<D: Disk>(alloc: Global, disk: &mut D) -> Option<Folded>
     let mut left = frames;
     let mut sum = 0i64;
     while left > 0 {
-        let Ok(count) = file.read_frames(&mut block[..whole]) else {
-            break;
+        let count = match file.read_frames(&mut block[..whole]) {
+            Ok(count) => count,
+            Err(ReadError::BadBlock) => return Err(Stop::BadBlock),
+            Err(_) => return Err(Stop::Failed),
         };
         if count == 0 {
             break;
@@ -61,15 +66,29 @@ fn fold_file<D: Disk>(alloc: Global, disk: &mut D) -> Option<Folded>
         sum = sum.wrapping_add(sum_of(&block[..count.saturating_mul(channels).min(BLOCK)]));
         left = left.saturating_sub(count as u64);
     }
-    let closed = file.close();
-    match closed {
+    Ok(Folded { frames, sum })
+}
+
+/// Folds the frames of the file that a disk holds.
+fn fold_file<D: Disk>(alloc: Global, disk: &mut D) -> Result<Folded, Stop>
+    ensures { (D.state disk.new).name ≡ (D.state disk.old).name }
+{
+    let mut file = match open_read(alloc, disk) {
+        Ok(file) => file,
+        Err((_, back)) => {
+            let _ = back;
+            return Err(Stop::Failed);
+        }
+    };
+    let folded = fold_frames(&mut file);
+    match file.close() {
         Ok(back) => {
             let _ = back;
-            Some(Folded { frames, sum })
+            folded
         }
         Err((_, back)) => {
             let _ = back;
-            None
+            Err(Stop::Failed)
         }
     }
 }
@@ -92,8 +111,10 @@ fn main(rt: HostRuntime) -> ExitCode {
     };
     let folded = fold_file(alloc, &mut disk);
     shelf.give(name.as_str(), disk);
-    let Some(folded) = folded else {
-        return ExitCode::from(1);
+    let folded = match folded {
+        Ok(folded) => folded,
+        Err(Stop::Failed) => return ExitCode::from(1),
+        Err(Stop::BadBlock) => return ExitCode::from(4),
     };
     match print(&mut out, folded) {
         Ok(()) => ExitCode::from(0),
