@@ -12,7 +12,7 @@ ghost use Rattle.snd_generate.specs.Steps.{FedOn, FeedsNext, IsBrokenBy, IsReadB
 
 use crate::generating::Summary;
 use crate::making::BLOCK;
-use crate::writing::stop_of;
+use crate::writing::{CHANGED, stop_of};
 use snd_disk::Disk;
 use snd_modes::{File, Read, ReadError, open_read};
 use snd_output::Stop;
@@ -62,7 +62,8 @@ fn feed_block<E: Disk>(
             Ok(count)
         }
         Err(ReadError::DiskFault(_)) => Err(Stop::Fault),
-        Err(_) => unreachable!(),
+        Err(ReadError::BadBlock) => Err(CHANGED),
+        Err(ReadError::Broken(_) | ReadError::PartFrame) => unreachable!(),
     }
 }
 

@@ -15,5 +15,5 @@ returns-in-Ok-clause-fed g c = λ e stands.
     let some : 1 ≤ channels_of c.args.file.now = search rules in
     let fits = count_fits (known_of c.args.file.now) (length c.args.block.now) k some c.requires.whole c.in-Ok.ensures.left.1 in
     let turned : k * q ≡ k * channels_of c.args.file.now = ap (λ (n : ℕ). k * n) same in
-    let all = front_groups q k xs (omega (arith, same, some)) (omega (arith, turned, fits.1, c.read_frames.auto.into)) ∙ ap (λ (n : ℕ). first_groups n k xs) same ∙ c.in-Ok.ensures.read e stands in
+    let all = front_groups q k xs (omega (arith, same, some)) (omega (arith, turned, fits.1, c.read_frames.auto.into)) ∙ ap (λ (n : ℕ). first_groups n k xs) same ∙ (c.in-Ok.ensures.read e stands).frames in
     subst (λ (l : List (List ℤ)). FedOn l c.args.meters.now c.feed.new.self) all c.feed.ensures
