@@ -1,22 +1,27 @@
 -- Frames of one file that are put behind those of another, a block at a time.
-use Rattle.std.proofs.Common.{◌≡◌, ◌∙◌, ap, sym, subst, refl, inl, inr, ⊎_elim, ℕ, ◌+◌, ◌-◌, ◌*◌, ◌/◌, ◌%◌, ◌<◌, ◌≤◌, ℤ, Bool, true, false, ◌||◌, List, ◌++◌, length, take, drop, min, arith}
+use Rattle.std.proofs.Common.{◌≡◌, ◌≢◌, ◌∙◌, ap, sym, subst, refl, inl, inr, ⊎_elim, ℕ, ◌+◌, ◌-◌, ◌*◌, ◌/◌, ◌%◌, ◌<◌, ◌≤◌, ℤ, Bool, true, false, cond, ◌||◌, List, ◌++◌, None, Some, length, take, drop, min, arith}
 use Rattle.std.proofs.Math.Nat.{mul-div_cancel_left, mul-le-mul_left, mul-mod_right}
 use Rattle.std.specs.Prelude.{Err, Result, is_none, nat_lt}
 use Rattle.std.proofs.lemmas.Bool.{cases_lt, le-ltb, lt-ltb}
 use Rattle.std.proofs.lemmas.List.{append-nil, append_assoc, length-map, length-take-le, map-append}
 use Rattle.snd_container.specs.Sound.{fixed_of}
 use Rattle.snd_disk.specs.State.{AtMost, Rises}
+use Rattle.snd_layout.specs.Blocks.{block_align, block_frames}
 use Rattle.snd_layout.specs.Params.{Parameters, data_bytes}
 use Rattle.snd_layout.specs.Shape.{Shape, end, room}
 use Rattle.snd_layout.specs.declared.codec.Codec.{Codec}
 use Rattle.snd_pcm.specs.Groups.{first_groups}
 use Rattle.snd_pcm.specs.Width.{changed}
-use Rattle.snd_modes.specs.Calls.{count_read}
+use Rattle.snd_disk.specs.declared.disk.Step.{Step}
+use Rattle.snd_modes.specs.declared.error.ReadError.{ReadError}
+use Rattle.snd_modes.specs.declared.error.ReadError.TheVariants.{BadBlock, Broken, DiskFault, PartFrame}
+use Rattle.snd_modes.specs.Calls.{IsReady, ReadLeaves, count_read}
 use Rattle.snd_modes.specs.Editing.{Editing, frames_read, moved_by}
 use Rattle.snd_modes.specs.Edits.{count_written, written_shape}
 use Rattle.snd_modes.specs.Handle.{Known}
-use Rattle.snd_modes.specs.Reading.{FitCodec, bytes_of_frames}
+use Rattle.snd_modes.specs.Reading.{FitCodec, bytes_of_frames, bytes_to_read}
 use Rattle.snd_modes.specs.WriteCalls.{MayWrite, known_written}
+use Rattle.snd_modes.proofs.Rooms.{not_adpcm}
 use Rattle.snd_modes.proofs.Sealing.{ends_before}
 use Rattle.snd_output.specs.declared.stop.Stop.{Stop}
 use Rattle.snd_output.specs.declared.stop.Stop.TheVariants.{Fault, Memory}
@@ -193,6 +198,7 @@ may_go_on from to j may within =
     let rest : to.shape.frames + j + (from.shape.frames - (from.place + j)) ≡ to.shape.frames + left_in from = omega (arith, within) in
     record {
       working = may.working;
+      linear = may.linear;
       at_end = record { working = may.at_end.working; by_hand = may.at_end.by_hand; free = may.at_end.free; behind = omega (arith, may.at_end.behind) };
       alike = may.alike;
       in_room = subst (λ (m : ℕ). data_bytes to.shape.params m ≤ room to.shape) (sym rest) may.in_room;
@@ -233,99 +239,56 @@ failed_later T U old mid new old' mid' new' Fault result is calm calm' counts =
     )
 failed_later T U old mid new old' mid' new' Memory result is calm calm' counts = absurd counts
 
--- ---- how often the file that is read is called
+-- a file that is ready, and whose frames stand in no blocks, is read but for a fault
+pub never_bad : (places : ℕ) (old new : Known) (result : Result ℕ ReadError) (error : ReadError) → IsReady places old → is_none (fixed_of old.shape.params.codec) ≡ false
+    → ReadLeaves places old new result → result ≡ Err error → ((step : Step) → error ≢ DiskFault step) → ⊥
+never_bad places old new result error ready linear left is other = by_error error (subst (ReadLeaves places old new) is left) other
+  where
+    by_error : (why : ReadError) → ReadLeaves places old new (Err why) → ((step : Step) → why ≢ DiskFault step) → ⊥
+    by_error (Broken step) leaves none = let e : None ≡ Some step = sym ready.working ∙ leaves.0 in cc
+    by_error PartFrame leaves none = leaves.1 ready.whole
+    by_error BadBlock leaves none = let e : true ≡ false = sym leaves.1 ∙ not_adpcm old.shape.params.codec linear in cc
+    by_error (DiskFault step) leaves none = none step refl
 
--- so many calls were made, while k frames of those left were read, and in the last call so many: each but the last two filled a block of q frames
-pub record HasCalled (q left k last n : ℕ) : Type 0 where
-  pub most : n * q ≤ k + 2 * q
-  pub going : 0 < last → n * q ≤ k + q
-  pub full : k < left → n * q ≤ k
+-- ---- what is asked of the file that is read
 
-pub called_none : (q left p last : ℕ) → HasCalled q left (p - p) last 0
-called_none q left p last =
-    let none : 0 * q ≡ 0 = omega arith in
-    record { most = omega (arith, none); going = λ lt. omega (arith, none); full = λ lt. omega (arith, none) }
+-- for frames that stand in no blocks their bytes
+reads_frames : (p : Parameters) (k : ℕ) → is_none (fixed_of p.codec) ≡ false → bytes_to_read p k ≡ bytes_of_frames p k
+reads_frames p k linear =
+    let align = block_align p.channels p.codec in
+    ap (λ (t : Bool). cond t ((k / block_frames p.codec + 2) * align) (k * align)) (not_adpcm p.codec linear)
 
-pub called_next : (q left k last n c next : ℕ) → 0 < last → k ≤ left → c ≡ min q (left - k) → next ≡ k + c → HasCalled q left k last n → HasCalled q left next c (n + 1)
-called_next q left k last n c next some within is sum called =
-    let times : (n + 1) * q ≡ n * q + q = omega arith in
-    record {
-      most = omega (arith, times, sum, called.going some);
-      going = λ more. let before : k < left = omega (arith, more, is) in omega (arith, times, sum, called.full before);
-      full = λ lt. let before : k < left = omega (arith, lt, sum) in omega (arith, times, sum, is, lt, called.full before);
-    }
+pub asked_none : (p : Parameters) (place asked : ℕ) → AtMost asked (bytes_of_frames p (place - place)) asked
+asked_none p place asked = record { later = omega arith; most = omega arith }
 
--- they are few
-few_of : (q left n : ℕ) → 1 ≤ q → n * q ≤ left + 2 * q → n ≤ left / q + 2
-few_of q left n one most = elim (cases_lt (left / q + 2) n) [
-  | inl more ↦
-      let w = left / q in
-      let all : left ≡ q * w + left % q = omega (arith, one) in
-      let below : left % q < q = omega (arith, one) in
-      let least : q * (w + 3) ≤ q * n = mul-le-mul_left q (let e : w + 3 ≤ n = omega (arith, more) in e) in
-      let sum : q * (w + 3) ≡ q * w + 3 * q = omega arith in
-      let turned : q * n ≡ n * q = omega arith in
-      absurd (omega (arith, all, below, least, sum, turned, most))
-  | inr le ↦ le
-]
+-- after the bytes of j frames those of k more, by a file with the same parameters
+pub asked_on : (now : Known) (p : Parameters) (j k i old mid new : ℕ) → is_none (fixed_of p.codec) ≡ false → now.shape.params ≡ p → i ≡ j + k
+    → AtMost old (bytes_of_frames p j) mid → AtMost mid (bytes_to_read now.shape.params k) new → AtMost old (bytes_of_frames p i) new
+asked_on now p j k i old mid new linear same is before asked =
+    let align = block_align p.channels p.codec in
+    let times : (j + k) * align ≡ j * align + k * align = omega arith in
+    let read : bytes_to_read now.shape.params k ≡ k * align = ap (λ (q : Parameters). bytes_to_read q k) same ∙ reads_frames p k linear in
+    let both : AtMost old (bytes_of_frames p (j + k)) new =
+    record { later = omega (arith, before.later, asked.later); most = omega (arith, times, read, before.most, asked.most) } in
+    subst (λ (n : ℕ). AtMost old (bytes_of_frames p n) new) (sym is) both
 
-pub few_calls : (q left k last n : ℕ) → 1 ≤ q → k ≤ left → HasCalled q left k last n → n ≤ left / q + 2
-few_calls q left k last n one within called = few_of q left n one (omega (arith, within, called.most))
+-- .. which are all in the end
+pub asked_all : (p : Parameters) (k left old new : ℕ) → k ≡ left → AtMost old (bytes_of_frames p k) new → AtMost old (bytes_of_frames p left) new
+asked_all p k left old new all asked = subst (λ (n : ℕ). AtMost old (bytes_of_frames p n) new) all asked
 
-pub one_call_more : (q left k last n : ℕ) → 1 ≤ q → k ≤ left → 0 < last → HasCalled q left k last n → n + 1 ≤ left / q + 2
-one_call_more q left k last n one within some called =
-    let times : (n + 1) * q ≡ n * q + q = omega arith in
-    few_of q left (n + 1) one (omega (arith, times, within, called.going some))
-
-pub asked_most : (old new n m b : ℕ) → n ≤ m → AtMost old (n * b) new → AtMost old (m * b) new
-asked_most old new n m b few asked =
-    let times : b * n ≤ b * m = mul-le-mul_left b few in
-    let turned : b * n ≡ n * b = omega arith in
-    let turned' : b * m ≡ m * b = omega arith in
-    record { later = asked.later; most = omega (arith, times, turned, turned', asked.most) }
-
-pub asked_next : (old mid new n b : ℕ) → AtMost old (n * b) mid → AtMost mid b new → AtMost old ((n + 1) * b) new
-asked_next old mid new n b before asked =
-    let times : (n + 1) * b ≡ n * b + b = omega arith in
-    record { later = omega (arith, before.later, asked.later); most = omega (arith, times, before.most, asked.most) }
-
--- the whole frames of a block are as many as it has places for
-pub per_block_same : (n c : ℕ) → 1 ≤ c → (n - n % c) / c ≡ n / c
-per_block_same n c some =
-    let same : n - n % c ≡ c * (n / c) = omega (arith, some) in
-    ap (λ (i : ℕ). i / c) same ∙ mul-div_cancel_left (n / c) (let e : 0 < c = omega (arith, some) in e)
-
--- ---- .. and what was asked of its disk
-
-abbrev pub CallsSoFar : ℕ → ℕ → ℕ → ℕ → ℕ → Parameters → ℕ → ℕ → Type 0
-CallsSoFar places c left k last p old new =
-    (n : ℕ) × HasCalled (places / c) left k last n × AtMost old (n * (bytes_of_frames p (places / c) + 16384)) new
-
--- the bytes of frames with the same parameters
-pub asks_same : (places : ℕ) (one other : Known) (old new : ℕ) → one.shape.params ≡ other.shape.params → AtMost old (bytes_of_frames one.shape.params (places / one.shape.params.channels) + 16384) new
-    → AtMost old (bytes_of_frames other.shape.params (places / other.shape.params.channels) + 16384) new
-asks_same places one other old new same asked = subst (λ (p : Parameters). AtMost old (bytes_of_frames p (places / p.channels) + 16384) new) same asked
-
-pub calls_none : (places c left place last : ℕ) (p : Parameters) (asked : ℕ) → CallsSoFar places c left (place - place) last p asked asked
-calls_none places c left place last p asked =
-    let none : 0 * (bytes_of_frames p (places / c) + 16384) ≡ 0 = omega arith in
-    (0, called_none (places / c) left place last, record { later = omega arith; most = omega (arith, none) })
-
-module _ (places c left k last : ℕ) (p : Parameters) (old mid new : ℕ) (some : 0 < last) (within : k ≤ left) (so_far : CallsSoFar places c left k last p old mid) (asked : AtMost mid (bytes_of_frames p (places / c) + 16384) new) where
-  pub calls_next : (places' count next : ℕ) → places' ≡ places → count ≡ min (places / c) (left - k) → next ≡ k + count → CallsSoFar places' c left next count p old new
-  calls_next places' count next same is sum =
-      subst (λ (m : ℕ). CallsSoFar m c left next count p old new) (sym same)
-      (so_far.0 + 1, called_next (places / c) left k last so_far.0 count next some within is sum so_far.1, asked_next old mid new so_far.0 (bytes_of_frames p (places / c) + 16384) so_far.2 asked)
-
-  -- also where the last call failed
-  pub calls_failed : (block : ℕ) → 1 ≤ places / c → places / c ≡ block / c → AtMost old ((left / (block / c) + 2) * (bytes_of_frames p (block / c) + 16384)) new
-  calls_failed block one same =
-      let b = bytes_of_frames p (places / c) + 16384 in
-      subst (λ (q : ℕ). AtMost old ((left / q + 2) * (bytes_of_frames p q + 16384)) new) same
-      (asked_most old new (so_far.0 + 1) (left / (places / c) + 2) b (one_call_more (places / c) left k last so_far.0 one within some so_far.1) (asked_next old mid new so_far.0 b so_far.2 asked))
-
-pub calls_end : (places c left k last : ℕ) (p : Parameters) (old new block : ℕ) → k ≤ left → 1 ≤ places / c → places / c ≡ block / c → CallsSoFar places c left k last p old new
-    → AtMost old ((left / (block / c) + 2) * (bytes_of_frames p (block / c) + 16384)) new
-calls_end places c left k last p old new block within one same so_far =
-    subst (λ (q : ℕ). AtMost old ((left / q + 2) * (bytes_of_frames p q + 16384)) new) same
-    (asked_most old new so_far.0 (left / (places / c) + 2) (bytes_of_frames p (places / c) + 16384) (few_calls (places / c) left k last so_far.0 one within so_far.1) so_far.2)
+-- also where the last call failed
+pub asked_failed : (now : Known) (p : Parameters) (places left j old mid new : ℕ) → is_none (fixed_of p.codec) ≡ false → now.shape.params ≡ p → left_in now ≡ left - j → j ≤ left
+    → AtMost old (bytes_of_frames p j) mid → AtMost mid (bytes_to_read now.shape.params (count_read places now)) new → AtMost old (bytes_of_frames p left) new
+asked_failed now p places left j old mid new linear same ahead within before asked =
+    let k = count_read places now in
+    let align = block_align p.channels p.codec in
+    let few : k ≤ left_in now = least (places / now.shape.params.channels) (left_in now) in
+    let all : j + k ≤ left = omega (arith, few, ahead, within) in
+    let times : align * (j + k) ≤ align * left = mul-le-mul_left align all in
+    let turned : align * (j + k) ≡ (j + k) * align = omega arith in
+    let turned' : align * left ≡ left * align = omega arith in
+    let some = asked_on now p j k (j + k) old mid new linear same refl before asked in
+    record { later = some.later; most = omega (arith, times, turned, turned', some.most) }
+  where
+    least : (q l : ℕ) → min q l ≤ l
+    least q l = omega arith

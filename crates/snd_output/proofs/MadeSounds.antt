@@ -15,8 +15,9 @@ use Rattle.snd_modes.specs.Edits.{coded, coded_as, sealed_to}
 use Rattle.snd_modes.specs.Reading.{FitCodec}
 use Rattle.snd_modes.specs.Relaid.{head_with, shape_with}
 use Rattle.snd_layout.specs.declared.refusal.OpenRefusal.{OpenRefusal}
-use Rattle.snd_modes.proofs.EditedFiles.{is_linear, sealed_is_edited, sealed_told}
+use Rattle.snd_modes.proofs.EditedFiles.{is_linear, now_decoded, sealed_is_edited, sealed_told}
 use Rattle.snd_modes.proofs.EditedSounds.{edited_pieces, sound_by, sound_with}
+use Rattle.snd_modes.proofs.Ranges.{in_form}
 use Rattle.snd_output.specs.Laws.{MadeHasSound}
 use Rattle.snd_output.specs.Made.{IsMaking, closing_so_far, frame_count, kept_chunk, made_sound}
 use Rattle.snd_output.proofs.Bytes.{coded_data}
@@ -25,7 +26,7 @@ use Rattle.snd_output.proofs.Finished.{linear, sealed_is_made, whole}
 -- the bytes of numbers stand for those that are kept of them
 decoded_coded_as : (p : Parameters) (xs : List ℤ) (o : Option Fixed) → fixed_of p.codec ≡ o → is_none o ≡ false → FitCodec p.codec xs → decoded_as o p.channels (coded_as o xs) ≡ groups p.channels (kept_as o xs)
 decoded_coded_as p xs None is linear fit = absurd (cc)
-decoded_coded_as p xs (Some form) is linear fit = ap (groups p.channels) (numbers_are_kept form xs (fit form is))
+decoded_coded_as p xs (Some form) is linear fit = ap (groups p.channels) (numbers_are_kept form xs (in_form p.codec form xs is fit))
 
 pub decoded_coded : (p : Parameters) (xs : List ℤ) → is_none (fixed_of p.codec) ≡ false → FitCodec p.codec xs → decoded p (coded p xs) ≡ groups p.channels (kept_numbers p xs)
 decoded_coded p xs linear fit = decoded_coded_as p xs (fixed_of p.codec) refl linear fit
@@ -55,7 +56,7 @@ module _ (kind : Kind) (p : Parameters) (pieces : List NewChunk) (xs : List ℤ)
 
   pub frames_are : e.frames ≡ groups p.channels (kept_numbers p xs)
   frames_are =
-      m.edited.holds.sound
+      now_decoded head e m.edited
       ∙ ap (λ (s : Shape). decoded s.params (sound_bytes e.bytes e.shape)) m.shape
       ∙ ap (λ (q : Parameters). decoded q (sound_bytes e.bytes e.shape)) m.params
       ∙ ap (decoded p) sound_is
@@ -76,7 +77,7 @@ module _ (kind : Kind) (p : Parameters) (pieces : List NewChunk) (xs : List ℤ)
       let then = sealed_is_edited head e m.edited in
       let s = (sealed_to e).shape in
       let made = λ (k : Kind) (q : Parameters) (frames : List (List ℤ)) (kept : List Kept). ◌≡◌ {A = Result Sound OpenRefusal} (sound_of x) (Ok (record { kind = k; params = q; frames = frames; pieces = kept })) in
-      let first : sound_of x ≡ sound_with x s e.frames = sound_by x s (sealed_told head e m.edited) (is_linear head e m.edited) ∙ ap (sound_with x s) (sym then.holds.sound) in
+      let first : sound_of x ≡ sound_with x s e.frames = sound_by x s (sealed_told head e m.edited) (is_linear head e m.edited) ∙ ap (sound_with x s) (sym (now_decoded head (sealed_to e) then)) in
       let second : made says.kind says.params e.frames (map (kept_of x) says.pieces) = first ∙ ap (λ (h : Shape). sound_with x h e.frames) m.shape in
       let third : made kind says.params e.frames (map (kept_of x) says.pieces) = subst (λ (k : Kind). made k says.params e.frames (map (kept_of x) says.pieces)) m.kind_is second in
       let fourth : made kind p e.frames (map (kept_of x) says.pieces) = subst (λ (q : Parameters). made kind q e.frames (map (kept_of x) says.pieces)) m.params third in

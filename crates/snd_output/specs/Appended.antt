@@ -1,6 +1,7 @@
 -- How the frames of one file are put behind those of another.
-use Rattle.std.specs.Prelude.{◌≡◌, ◌⊎◌, ℕ, ◌+◌, ◌-◌, ◌*◌, ◌/◌, ◌≤◌, false, ◌||◌, List, ℤ, ◌++◌, None, Result, Ok, Err, drop, take, nat_lt, is_some, true}
+use Rattle.std.specs.Prelude.{◌≡◌, ◌⊎◌, ℕ, ◌+◌, ◌-◌, ◌≤◌, false, ◌||◌, List, ℤ, ◌++◌, None, Result, Ok, Err, drop, take, nat_lt, is_none, is_some, true}
 use Rattle.snd_chunks.specs.Written.{NewChunk}
+use Rattle.snd_container.specs.Sound.{fixed_of}
 use Rattle.snd_disk.specs.declared.disk.Disk.{Ghosts}
 use Rattle.snd_disk.specs.Device.{AsksAtMost}
 use Rattle.snd_disk.specs.State.{Rises, State}
@@ -43,9 +44,10 @@ pub record IsAtEnd (k : Known) : Type 0 where
 abbrev pub HasRoom : ℕ → Shape → Type 0
 HasRoom n h = data_bytes h.params (h.frames + n) ≤ room h
 
--- the frames that are left in one file may be put behind those of another
+-- the frames that are left in one file, which do not stand in blocks, may be put behind those of another
 pub record MayAppend (from to : Known) : Type 0 where
   pub working : from.broken ≡ None
+  pub linear : is_none (fixed_of from.shape.params.codec) ≡ false
   pub at_end : IsAtEnd to
   pub alike : from.shape.params.channels ≡ to.shape.params.channels
   pub in_room : HasRoom (left_in from) to.shape
@@ -67,13 +69,11 @@ CountsEither old new old' new' (Ok done) = (new ≡ old) × (new' ≡ old')
 CountsEither old new old' new' (Err Fault) = (old ≤ new) × (old' ≤ new') × (Rises old new ⊎ Rises old' new')
 CountsEither old new old' new' (Err Memory) = ⊥
 
--- For as many blocks as hold the frames that are left, and for two more, this is asked of the disk at most: the bytes of the
--- frames that a block has places for, and 16384.
-abbrev pub AsksForBlocks : {D M : Type 0} {ghosts : Ghosts D} {mode : ModeGhosts M} → (D → State) → ℕ → File D M ghosts mode → File D M ghosts mode → Type 0
-AsksForBlocks state places old new =
+-- for the frames that are left at most their bytes are asked of the disk
+abbrev pub AsksForLeft : {D M : Type 0} {ghosts : Ghosts D} {mode : ModeGhosts M} → (D → State) → File D M ghosts mode → File D M ghosts mode → Type 0
+AsksForLeft state old new =
     let known = known_of old in
-    let per_block = places / known.shape.params.channels in
-    AsksAtMost state ((left_in known / per_block + 2) * (bytes_of_frames known.shape.params per_block + 16384)) (disk_of old) (disk_of new)
+    AsksAtMost state (bytes_of_frames known.shape.params (left_in known)) (disk_of old) (disk_of new)
 
 -- ---- what files hold
 

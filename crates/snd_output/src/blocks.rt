@@ -1,13 +1,13 @@
 //! The frames of one file, behind those of another.
 
-ghost use Rattle.std.specs.Prelude.{◌≡◌, ◌≤◌, ◌%◌, IfOk, OnOk, false, is_none, length};
+ghost use Rattle.std.specs.Prelude.{◌≡◌, ◌≤◌, ◌%◌, IfOk, OnOk, false, is_none, length, true};
 ghost use Rattle.snd_container.specs.Sound.{fixed_of};
 ghost use Rattle.snd_disk.specs.Device.{GoesOnFrom, OnlyReadsOn};
 ghost use Rattle.snd_modes.specs.Calls.{AsksForFrames, count_read};
 ghost use Rattle.snd_modes.specs.Handle.{StandsAfter, channels_of, codec_of, disk_of, known_of, loan_of};
 ghost use Rattle.snd_modes.specs.Editing.{moved_by};
 ghost use Rattle.snd_modes.specs.Outcomes.{AsksNothing, TellsOn};
-ghost use Rattle.snd_output.specs.Appended.{AppendLeaves, AsksForBlocks, CountsEither, Lengthens, MayAppend, left_in, next_numbers, numbers_left};
+ghost use Rattle.snd_output.specs.Appended.{AppendLeaves, AsksForLeft, CountsEither, Lengthens, MayAppend, left_in, next_numbers, numbers_left};
 
 use crate::steps::{read_some, write_all};
 use crate::stop::Stop;
@@ -16,12 +16,12 @@ use snd_disk::Disk;
 use snd_layout::Codec;
 use snd_modes::{File, Mode, Read, Write};
 
-// How many numbers a frame of a file has, and their codec, which is not ADPCM.
+// How many numbers a frame of a file has, and their codec: not ADPCM where the file is written.
 fn numbers_of<D: Disk, M: Mode>(file: &File<'_, D, M>) -> (usize, Codec)
     ensures channels { result.0 ≡ channels_of file.now }
     ensures some { 1 ≤ result.0 }
     ensures codec { result.1 ≡ codec_of file.now }
-    ensures linear { is_none (fixed_of result.1) ≡ false }
+    ensures linear { M.WRITES ≡ true → is_none (fixed_of result.1) ≡ false }
 {
     let params = file.params();
     params.are_good();
@@ -62,8 +62,8 @@ fn append_block<D: Disk, E: Disk>(
 /// Puts the frames that are left in one file, from the one to read next on, behind those of another, a
 /// block at a time. Where the codecs have numbers of different widths, each number is changed: a wider
 /// one is a multiple by a power of two, a narrower one is divided by it and rounded toward minus infinity.
-/// What the block held is lost; it has places for one frame at least. It takes no memory, and asks the disk
-/// that is read for at most as many blocks as hold the frames, and two more.
+/// What the block held is lost; it has places for one frame at least. The codec of the file that is read is
+/// not ADPCM. It takes no memory, and asks the disk that is read for at most the bytes of the frames.
 ///
 /// The answer is `Fault` where a call of one of the two disks failed: from then on its file is broken.
 pub fn append<D: Disk, E: Disk>(
@@ -81,7 +81,7 @@ pub fn append<D: Disk, E: Disk>(
     ensures reads { OnlyReadsOn D.state D.may_leave D.left_between (disk_of from.old) (disk_of from.new) }
     ensures tells { TellsOn E.state to.old to.new }
     ensures time { GoesOnFrom E.state E.left_between (disk_of to.old) (disk_of to.new) }
-    ensures asked { AsksForBlocks D.state (length block.old) from.old from.new }
+    ensures asked { AsksForLeft D.state from.old from.new }
     ensures to_asked { AsksNothing E.state to.old to.new }
 {
     let (channels, _) = numbers_of(from);

@@ -1,6 +1,7 @@
 //! Frames that are read, and frames that are written, where nothing but the disk can fail.
 
-ghost use Rattle.std.specs.Prelude.{◌≡◌, ◌+◌, ◌*◌, ◌/◌, ◌%◌, ◌≤◌, IfOk, MatchResult, None, Some, OnOk, length, min, is_some, true};
+ghost use Rattle.std.specs.Prelude.{◌≡◌, ◌+◌, ◌*◌, ◌/◌, ◌%◌, ◌≤◌, IfOk, MatchResult, None, Some, OnOk, length, min, false, is_none, is_some, true};
+ghost use Rattle.snd_container.specs.Sound.{fixed_of};
 ghost use Rattle.snd_disk.specs.Device.{GoesOnFrom, OnlyReadsOn};
 ghost use Rattle.snd_modes.specs.Edits.{written_to};
 ghost use Rattle.snd_modes.specs.Handle.{IfOkStanding, StandsAfter, channels_of, codec_of, disk_of, known_of, loan_of};
@@ -15,12 +16,14 @@ use crate::stop::Stop;
 use snd_disk::Disk;
 use snd_modes::{File, Read, ReadError, Write, WriteError};
 
-// Reads frames, as many as the slice has places for, fewer only at the end.
+// Reads frames, as many as the slice has places for, fewer only at the end. They stand in no blocks, of
+// which one might be bad.
 pub(crate) fn read_some<D: Disk>(
     from: &mut File<'_, D, Read>,
     into: &mut [i32],
 ) -> Result<usize, Stop>
-    requires { IsReady (length into.old) (known_of from.old) }
+    requires ready { IsReady (length into.old) (known_of from.old) }
+    requires linear { is_none (fixed_of (codec_of from.old)) ≡ false }
     ensures loan { loan_of from.new ≡ loan_of from.old }
     ensures count { IfOk result (λ k. k ≡ count_read (length into.old) (known_of from.old)) }
     ensures left { MatchResult result (λ k. known_of from.new ≡ read_on k (known_of from.old)) (λ stop. is_some (known_of from.new).broken ≡ true) }

@@ -1,7 +1,6 @@
 //! Numbers of one codec as numbers of another.
 
-ghost use Rattle.std.specs.Prelude.{◌≡◌, All, false, is_none};
-ghost use Rattle.snd_container.specs.Sound.{fixed_of};
+ghost use Rattle.std.specs.Prelude.{◌≡◌, All};
 ghost use Rattle.snd_modes.specs.Reading.{FitCodec};
 ghost use Rattle.snd_pcm.specs.Width.{HasWidth, IsWidth};
 ghost use Rattle.snd_output.specs.Widths.{change_numbers, changed_all, width_of};
@@ -37,8 +36,7 @@ fn change_all(from: u8, to: u8, numbers: &mut [i32])
 
 // Changes numbers of one codec to numbers of another.
 pub(crate) fn change_numbers(from: Codec, to: Codec, numbers: &mut [i32])
-    requires linear { is_none (fixed_of from) ≡ false }
-    requires in_range { FitCodec from numbers.old }
+    requires { FitCodec from numbers.old }
     ensures changed { numbers.new ≡ change_numbers from to numbers.old }
     ensures in_range { FitCodec to numbers.new }
 {

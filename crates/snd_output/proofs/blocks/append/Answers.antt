@@ -1,4 +1,4 @@
-use Rattle.std.proofs.Common.{rules, ◌≡◌, ◌∙◌, ap, sym, subst, refl, ℕ, ◌+◌, ◌-◌, ◌/◌, ◌%◌, ◌≤◌, min, ℤ, List, ◌++◌, length, take, arith}
+use Rattle.std.proofs.Common.{rules, ◌≡◌, ◌∙◌, ap, sym, subst, refl, ℕ, ◌+◌, ◌-◌, ◌%◌, ◌≤◌, ℤ, List, ◌++◌, length, take, arith}
 use Rattle.std.proofs.lemmas.List.{length-take-le}
 use Rattle.snd_disk.proofs.Chains.{goes_on_then, only_reads_then}
 use Rattle.snd_layout.specs.Shape.{Shape}
@@ -9,7 +9,7 @@ use Rattle.snd_modes.specs.Handle.{Known, Stands, channels_of, codec_of, known_o
 use Rattle.snd_output.specs.Appended.{left_in, longer, next_numbers, read_on}
 use Rattle.snd_output.specs.Made.{IsMaking}
 use Rattle.snd_output.specs.Widths.{change_numbers}
-use Rattle.snd_output.proofs.Appending.{all_numbers, asks_same, calls_end, calls_failed, calls_next, calls_none, count_fits, longer_none, longer_twice, moved_none, moved_twice, none_left, numbers_none, numbers_twice, one_fits, per_block_same, read_none, read_twice, whole_places}
+use Rattle.snd_output.proofs.Appending.{all_numbers, asked_all, asked_failed, asked_none, asked_on, count_fits, longer_none, longer_twice, moved_none, moved_twice, none_left, numbers_none, numbers_twice, read_none, read_twice, whole_places}
 use Rattle.snd_output.proofs.blocks.append.Goals as goal
 
 pub loop-count-init : goal.loop-count-init
@@ -40,8 +40,7 @@ loop-count-init g c =
       to_asked = refl;
       some = omega (arith, size, places.0, is);
       whole = ap (λ (m : ℕ). m % channels_of c.args.from.now) size ∙ ap (λ (m : ℕ). (n - n % q) % m) (sym is) ∙ places.1;
-      per_block = ap (λ (m : ℕ). m / channels_of c.args.from.now) size ∙ subst (λ (m : ℕ). (n - n % q) / m ≡ n / m) is (per_block_same n q c.numbers_of-channels.ensures.some);
-      asked = calls_none _ _ _ from.place _ from.shape.params _;
+      asked = asked_none from.shape.params from.place _;
     }
 
 pub loop-count-preserved : goal.loop-count-preserved
@@ -94,13 +93,7 @@ loop-count-preserved g c =
       to_asked = one.to_asked ∙ inv.to_asked;
       some = omega (arith, c.append_block.auto.block, inv.some);
       whole = ap (λ (n : ℕ). n % channels_of c.args.from.now) c.append_block.auto.block ∙ inv.whole;
-      per_block = ap (λ (n : ℕ). n / channels_of c.args.from.now) c.append_block.auto.block ∙ inv.per_block;
-      asked =
-          let ahead : left_in now ≡ left_in first - j = omega (arith, here, frames, inv.within) in
-          let is : count ≡ min (places / first.shape.params.channels) (left_in first - j) =
-          one.count ∙ ap (λ (m : ℕ). min (places / m) (left_in now)) channels ∙ ap (λ (m : ℕ). min (places / first.shape.params.channels) m) ahead in
-          calls_next places first.shape.params.channels (left_in first) j c.loop-count.count first.shape.params _ _ _ (omega (arith, c.loop-count-test.true)) inv.within inv.asked
-          (asks_same places now first _ _ (ap (λ (k : Known). k.shape.params) inv.read) one.asked) (length c.append_block.new.block) count i c.append_block.auto.block is sum;
+      asked = asked_on now first.shape.params j (count_read places now) i _ _ _ c.requires.may.linear (ap (λ (k : Known). k.shape.params) inv.read) (omega (arith, sum, one.count)) inv.asked one.asked;
     }
 
 pub returns-clause-lengthens : goal.returns-clause-lengthens
@@ -117,15 +110,17 @@ returns-clause-lengthens g c = λ kind p pieces xs r e reads stands making.
 pub returns-clause-asked : goal.returns-clause-asked
 returns-clause-asked g c =
     let inv = c.loop-count.invariant in
-    let some : 1 ≤ channels_of c.args.from.now = omega (arith, c.numbers_of-channels.ensures.channels, c.numbers_of-channels.ensures.some) in
-    calls_end _ _ _ _ _ (known_of c.args.from.now).shape.params _ _ _ inv.within (one_fits (length c.loop-count.whole) (channels_of c.args.from.now) some inv.some) inv.per_block inv.asked
+    let first = known_of c.args.from.now in
+    asked_all first.shape.params ((known_of c.loop-count.from).place - first.place) (left_in first) _ _ (inv.ended (omega (arith, c.loop-count-test.false))) inv.asked
 
 pub returns-in_err-count-clause-asked : goal.returns-in_err-count-clause-asked
 returns-in_err-count-clause-asked g c =
     let inv = c.loop-count.invariant in
     let first = known_of c.args.from.now in
-    let places = length c.loop-count.whole in
-    let some : 1 ≤ channels_of c.args.from.now = omega (arith, c.numbers_of-channels.ensures.channels, c.numbers_of-channels.ensures.some) in
-    calls_failed places first.shape.params.channels (left_in first) _ c.loop-count.count first.shape.params _ _ _ (omega (arith, c.loop-count-test.true)) inv.within inv.asked
-    (asks_same places (known_of c.loop-count.from) first _ _ (ap (λ (k : Known). k.shape.params) inv.read) c.in_err-count.ensures.asked)
-    (length c.args.block.now) (one_fits places (channels_of c.args.from.now) some inv.some) inv.per_block
+    let now = known_of c.loop-count.from in
+    let j = now.place - first.place in
+    let here : now.place ≡ first.place + j = ap (λ (k : Known). k.place) inv.read in
+    let frames : now.shape.frames ≡ first.shape.frames = ap (λ (k : Known). k.shape.frames) inv.read in
+    let ahead : left_in now ≡ left_in first - j = omega (arith, here, frames, inv.within) in
+    asked_failed now first.shape.params (length c.loop-count.whole) (left_in first) j _ _ _ c.requires.may.linear (ap (λ (k : Known). k.shape.params) inv.read) ahead inv.within
+    inv.asked c.in_err-count.ensures.asked

@@ -1,4 +1,4 @@
-use Rattle.std.proofs.Common.{rules, ◌≡◌, ◌∙◌, ap, sym, subst, ℕ, ◌%◌, ℤ, List, ◌++◌, length}
+use Rattle.std.proofs.Common.{rules, ◌≡◌, ◌∙◌, ap, sym, subst, refl, ℕ, ◌%◌, ℤ, List, ◌++◌, length}
 use Rattle.snd_modes.specs.Calls.{count_read}
 use Rattle.snd_layout.specs.Shape.{Shape}
 use Rattle.snd_modes.specs.Edits.{written_to}
@@ -21,7 +21,7 @@ write_all-requires-clause-may g c =
     let is : c.in_ok-count.count ≡ count_read (length c.read_some.new.into) from = c.in_ok-count.ensures.count ∙ sym (ap (λ (n : ℕ). count_read n from) c.read_some.auto.into) in
     block_may from (known_of c.args.to.now) c.in_ok-count.count c.numbers_of-channels.result.0 c.read_some.new.into c.change_numbers.new.numbers c.numbers_of-channels.result.1 c.numbers_of-wanted.result.1
     c.requires.may whole is c.numbers_of-channels.ensures.channels c.numbers_of-channels.ensures.some c.change_numbers.ensures.changed
-    c.numbers_of-wanted.ensures.codec c.change_numbers.ensures.in_range c.numbers_of-wanted.ensures.linear
+    c.numbers_of-wanted.ensures.codec c.change_numbers.ensures.in_range (c.numbers_of-wanted.ensures.linear refl)
 
 pub returns-in_err-write_all-clause-faults : goal.returns-in_err-write_all-clause-faults
 returns-in_err-write_all-clause-faults g c =
@@ -49,11 +49,11 @@ returns-clause-lengthens g c = λ kind p pieces xs r e reads stands making.
     let may : MayWrite ys to.shape to.write_place =
     block_may from to c.in_ok-count.count c.numbers_of-channels.result.0 c.read_some.new.into ys c.numbers_of-channels.result.1 c.numbers_of-wanted.result.1
     c.requires.may whole is c.numbers_of-channels.ensures.channels c.numbers_of-channels.ensures.some c.change_numbers.ensures.changed
-    c.numbers_of-wanted.ensures.codec c.change_numbers.ensures.in_range c.numbers_of-wanted.ensures.linear in
+    c.numbers_of-wanted.ensures.codec c.change_numbers.ensures.in_range (c.numbers_of-wanted.ensures.linear refl) in
     let there : MayWrite ys e.shape e.write_place = subst (λ (s : Shape). MayWrite ys s e.write_place) stands.shape (subst (λ (n : ℕ). MayWrite ys to.shape n) stands.write_place may) in
     let are = block_is from to c.in_ok-count.count c.numbers_of-channels.result.0 c.read_some.new.into ys c.numbers_of-channels.result.1 c.numbers_of-wanted.result.1
     c.requires.may whole is c.numbers_of-channels.ensures.channels c.numbers_of-channels.ensures.some c.change_numbers.ensures.changed
-    r c.numbers_of-channels.ensures.codec c.numbers_of-wanted.ensures.codec (c.in_ok-count.ensures.read r reads) in (
+    r c.numbers_of-channels.ensures.codec c.numbers_of-wanted.ensures.codec (c.in_ok-count.ensures.read r reads).frames in (
       written_to ys e,
       c.in_ok-write_all.ensures.stands e stands,
       subst (λ (l : List ℤ). IsMaking kind p pieces (xs ++ l) (written_to ys e)) are (written_is_making kind p pieces xs ys e making there),

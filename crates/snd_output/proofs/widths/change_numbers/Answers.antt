@@ -7,7 +7,7 @@ use Rattle.snd_output.proofs.widths.change_numbers.Goals as goal
 
 pub change_all-requires-clause-in_range : goal.change_all-requires-clause-in_range
 change_all-requires-clause-in_range c =
-    subst (λ (w : ℕ). All (HasWidth w) c.args.numbers.now) (sym c.width_of-old.ensures.value) (fits_width c.args.from c.args.numbers.now c.requires.linear c.requires.in_range)
+    subst (λ (w : ℕ). All (HasWidth w) c.args.numbers.now) (sym c.width_of-old.ensures.value) (fits_width c.args.from c.args.numbers.now c.requires)
 
 pub returns-then-old-new-clause-in_range : goal.returns-then-old-new-clause-in_range
 returns-then-old-new-clause-in_range c =
@@ -23,4 +23,4 @@ pub returns-else-old-new-clause-in_range : goal.returns-else-old-new-clause-in_r
 returns-else-old-new-clause-in_range c =
     let xs = c.args.numbers.now in
     let same : width_of c.args.from ≡ width_of c.args.to = search rules in
-    width_fits c.args.to xs (subst (λ (w : ℕ). All (HasWidth w) xs) same (fits_width c.args.from xs c.requires.linear c.requires.in_range))
+    width_fits c.args.to xs (subst (λ (w : ℕ). All (HasWidth w) xs) same (fits_width c.args.from xs c.requires))
