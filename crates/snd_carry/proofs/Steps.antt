@@ -6,7 +6,8 @@ use Rattle.std.proofs.lemmas.Bool.{cases_Bool}
 use Rattle.std.specs.Prelude.{is_none, map, slice_get}
 use Rattle.snd_chunks.specs.Written.{NewChunk}
 use Rattle.snd_container.specs.Made.{new_file, new_shape}
-use Rattle.snd_container.specs.Sound.{decoded, fixed_of, sound_bytes}
+use Rattle.snd_blocks.specs.Sound.{frames_in}
+use Rattle.snd_container.specs.Sound.{fixed_of}
 use Rattle.snd_disk.specs.declared.disk.Disk.{Ghosts}
 use Rattle.snd_disk.specs.State.{State}
 use Rattle.snd_layout.specs.Fit.{fit_refusal}
@@ -72,7 +73,7 @@ made_none kind p e meta made count =
     let shape : e.shape ≡ shape_with kind p [] = ap (λ (x : Editing). x.shape) first ∙ new_says kind p in
     let few : length e.frames ≡ 0 = sym count ∙ ap (λ (s : Shape). s.frames) shape ∙ (says_of kind p [] meta).frames in
     let none : e.frames ≡ [] = nil_from_length e.frames few in
-    let framed : decoded (new_shape kind p).params (sound_bytes (new_file kind p) (new_shape kind p)) ≡ [] = sym (ap (λ (x : Editing). x.frames) first) ∙ none in
+    let framed : frames_in (new_file kind p) (new_shape kind p) ≡ [] = sym (ap (λ (x : Editing). x.frames) first) ∙ none in
     first ∙ ap (λ (l : List (List ℤ)). record (first_editing (new_file kind p) (new_shape kind p)) { frames = l }) framed
     ∙ ap (λ (b : List ℕ). record (made_with kind p []) { bytes = b; shape = new_shape kind p }) (new_head kind p)
     ∙ ap (λ (s : Shape). record (made_with kind p []) { shape = s }) (new_says kind p)

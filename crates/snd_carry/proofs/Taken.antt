@@ -4,7 +4,7 @@ use Rattle.std.proofs.lemmas.List.{append-nil, length-replicate, places, same_li
 use Rattle.std.proofs.lemmas.List.Elements.{All-append, All-cons, All-filter, All-head, All-nil, All-tail, All-take, filter-append}
 use Rattle.std.proofs.lemmas.List.Sums.{sum_by-take-le, sum_by_push}
 use Rattle.std.proofs.lemmas.Option.{get_or_from_slice_get, slice_get_within}
-use Rattle.std.proofs.lemmas.Bool.{and_parts, leb-true}
+use Rattle.std.proofs.lemmas.Bool.{and_parts, leb-true, not-true}
 use Rattle.std.specs.List.{filter}
 use Rattle.std.specs.Prelude.{map, slice_get}
 use Rattle.snd_chunks.proofs.WrittenChunks.{length-chunk_bytes, length-chunks_bytes}
@@ -15,6 +15,7 @@ use Rattle.snd_layout.specs.Opened.{EndsIn}
 use Rattle.snd_layout.specs.declared.piece.Piece.{Piece}
 use Rattle.snd_room.specs.Room.{chunk_size}
 use Rattle.snd_wave.specs.Written.{chunk_read}
+use Rattle.snd_modes.specs.Heads.{is_wave_own}
 use Rattle.snd_modes.specs.Relaid.{outline}
 use Rattle.snd_carry.specs.Carried.{TakesBytes, body_bytes, carried_pieces, is_carried}
 
@@ -132,6 +133,9 @@ sized_none = record { counted = refl; sized = refl; few = omega arith; fours = A
 
 pub small : (p : Piece) → is_carried p ≡ true → p.len ≤ 65536
 small p is = leb-true _ _ (and_parts _ _ is).0
+
+pub not_own : (p : Piece) → is_carried p ≡ true → is_wave_own p.id.0 ≡ false
+not_own p is = not-true (is_wave_own p.id.0) (and_parts _ _ is).1
 
 pub sized_more : (taken : List Piece) (p : Piece) (count size more n : ℕ) → IsSized taken count size → is_carried p ≡ true → IsFour p → more ≡ count + 1 → n ≡ size + chunk_size p.len → IsSized (taken ++ p ∷ []) more n
 sized_more taken p count size more n was is four one bytes = record {

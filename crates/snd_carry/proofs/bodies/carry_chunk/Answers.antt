@@ -1,4 +1,4 @@
-use Rattle.std.proofs.Common.{rules, ◌≡◌, ◌∙◌, ap, sym, subst, ℕ, false, List, [], ◌∷◌, ◌++◌, All, length, arith}
+use Rattle.std.proofs.Common.{◌≡◌, ◌∙◌, ap, sym, subst, ℕ, List, [], ◌∷◌, ◌++◌, All, length, arith}
 use Rattle.std.proofs.lemmas.List.{length-map}
 use Rattle.std.proofs.lemmas.Result.{on_ok_weaker}
 use Rattle.snd_fields.specs.Laws.{IsByte}
@@ -6,11 +6,10 @@ use Rattle.snd_layout.specs.Shape.{Shape}
 use Rattle.snd_wave.specs.Heads.{new_piece}
 use Rattle.snd_wave.specs.Written.{chunk_read}
 use Rattle.snd_modes.specs.Handle.{known_of}
-use Rattle.snd_modes.specs.Heads.{is_wave_own}
 use Rattle.snd_modes.specs.Pieces.{body_of}
 use Rattle.snd_modes.specs.Relaid.{pieces_held}
 use Rattle.snd_carry.proofs.Heads.{outline_put, put_last}
-use Rattle.snd_carry.proofs.Taken.{small}
+use Rattle.snd_carry.proofs.Taken.{not_own, small}
 use Rattle.snd_carry.proofs.bodies.carry_chunk.Goals as goal
 
 pub returns-clause-known : goal.returns-clause-known
@@ -33,10 +32,9 @@ pub returns-clause-chunk : goal.returns-clause-chunk
 returns-clause-chunk g c =
     on_ok_weaker c.put_chunk.result
     (λ known e stands.
-    let other : is_wave_own c.args.piece.id.0 ≡ false = search rules in
     let body : c.in_ok-body.body.items ≡ body_of e.bytes c.args.piece = c.in_ok-body.ensures.body e stands in
     record {
-      may = record { four = c.requires.four; other = other; few = omega (arith, sym (ap length body) ∙ c.in_ok-body.ensures.size, small c.args.piece c.requires.carried) };
+      may = record { four = c.requires.four; other = not_own c.args.piece c.requires.carried; few = omega (arith, sym (ap length body) ∙ c.in_ok-body.ensures.size, small c.args.piece c.requires.carried) };
       id = c.requires.id;
       body = subst (All IsByte) body c.in_ok-body.ensures.bytes;
     })
