@@ -4,6 +4,7 @@ ghost use Rattle.std.specs.Prelude.{◌≡◌, true, false, IfOk, OnOk, length};
 ghost use Rattle.snd_disk.specs.Device.{AsksAtMost, GoesOnFrom, IsStable, OnlyReadsOn, WritesAtMost};
 ghost use Rattle.snd_blocks.specs.Frames.{has_bad};
 ghost use Rattle.snd_layout.specs.Params.{data_bytes};
+ghost use Rattle.snd_layout.specs.Shape.{KeepsRule};
 ghost use Rattle.snd_patch.specs.Steps.{KeepsBeside, StillTells};
 ghost use Rattle.snd_modes.specs.Calls.{AsksForFrames, CheckLeaves, CountsReading, ReadLeaves, SeekLeaves, count_read};
 ghost use Rattle.snd_modes.specs.Chunks.{GivesChunksBack};
@@ -43,6 +44,13 @@ impl<'d, D: Disk, M: Mode> File<'d, D, M> {
         ensures { result ≡ (known_of self.now).shape.kind }
     {
         self.layout.kind
+    }
+
+    /// What holds of what every open file says of itself, whatever stands on its disk.
+    pub fn keeps_rule(&self)
+        ensures { KeepsRule (known_of self.now).shape }
+    {
+        self.layout.keeps_rule();
     }
 
     /// Gives the disk back. In a mode that writes, the file is sealed first, as `update_now` does; else the
