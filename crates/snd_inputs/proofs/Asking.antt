@@ -1,15 +1,10 @@
--- What is asked to copy the frames of a file, a block at a time.
-use Rattle.std.proofs.Common.{◌≡◌, ◌∙◌, ap, sym, subst, refl, ℕ, ◌+◌, ◌*◌, ◌/◌, ◌<◌, ◌≤◌, Bool, cond, true, false, List, [], ◌∷◌, ◌++◌, Option, None, Some, length, take, drop, length-append, arith}
+-- What is asked to copy the frames of files.
+use Rattle.std.proofs.Common.{◌≡◌, ◌∙◌, ap, sym, subst, refl, ℕ, ◌+◌, ◌*◌, ◌≤◌, Bool, cond, true, false, List, [], ◌∷◌, ◌++◌, Option, None, Some, length, take, drop, length-append, arith}
 use Rattle.std.proofs.lemmas.List.{take-append-drop, take_more}
 use Rattle.std.proofs.lemmas.Option.{get_or_from_slice_get, slice_get_within}
 use Rattle.std.specs.Str.{bytes_eq}
-use Rattle.std.proofs.Math.Nat.{div-mul-le_self, lt-div-mul-add, mul-le-mul, mul-le-mul_left, mul-le-mul_right}
-use Rattle.std.specs.Prelude.{is_none, slice_get}
-use Rattle.snd_container.proofs.FixedSamples.{byte_count_pos}
-use Rattle.snd_container.specs.Fixed.{byte_count}
-use Rattle.snd_container.specs.Sound.{fixed_of}
-use Rattle.snd_container.specs.declared.fixed.Fixed.{Fixed}
-use Rattle.snd_container.specs.declared.fixed.Fixed.TheVariants.{Linear, MuLaw, ALaw}
+use Rattle.std.proofs.Math.Nat.{mul-le-mul_left, mul-le-mul_right}
+use Rattle.std.specs.Prelude.{slice_get}
 use Rattle.snd_disk.specs.Device.{Tells}
 use Rattle.snd_disk.specs.Shelf.{Files, Gives, KeepsFiles, Puts, SameFiles, ShelfState, put}
 use Rattle.snd_disk.specs.State.{Adds, AtMost}
@@ -21,47 +16,9 @@ use Rattle.snd_inputs.specs.Looking.{AsksToLook}
 use Rattle.snd_inputs.specs.Opening.{IsOpen, IsUnread}
 use Rattle.snd_inputs.specs.declared.input.Input.{Input}
 use Rattle.snd_layout.specs.Shape.{Shape, end}
-use Rattle.snd_layout.specs.Params.{AreParams, Parameters}
-use Rattle.snd_modes.proofs.SoundFrames.{linear_align}
 use Rattle.snd_modes.specs.Handle.{Known}
 use Rattle.snd_modes.specs.Reading.{bytes_of_frames}
 use Rattle.snd_output.specs.Appended.{left_in}
-use Rattle.snd_pcm.specs.declared.linear.Linear.TheVariants.{U8, S8, S16, S24, S32}
-
-byte_count_few : (form : Fixed) → byte_count form ≤ 4
-byte_count_few (Linear U8) = omega arith
-byte_count_few (Linear S8) = omega arith
-byte_count_few (Linear (S16 order)) = omega arith
-byte_count_few (Linear (S24 order)) = omega arith
-byte_count_few (Linear (S32 order)) = omega arith
-byte_count_few MuLaw = omega arith
-byte_count_few ALaw = omega arith
-
--- blocks of 16384 numbers, as far as whole frames go, of c numbers of w bytes each
-blocks : (left c w : ℕ) → 1 ≤ c → c ≤ 256 → 1 ≤ w → w ≤ 4 → (left / (16384 / c) + 2) * ((16384 / c) * (w * c) + 16384) ≤ 3 * (left * (w * c)) + 163840
-blocks left c w some few least most =
-    let p : ℕ = 16384 / c in
-    let q : ℕ = left / p in
-    let more : 16384 < p * c + c = lt-div-mul-add some in
-    let high : p * c ≤ 16384 = div-mul-le_self 16384 c in
-    let wide : p * (1 * c) ≤ p * (w * c) = mul-le-mul_left p (mul-le-mul_right c least) in
-    let block : w * (p * c) ≤ 4 * 16384 = mul-le-mul most high in
-    let each : p * (w * c) + 16384 ≤ 3 * (p * (w * c)) = omega (arith, more, few, wide) in
-    let all : q * (p * (w * c) + 16384) ≤ q * (3 * (p * (w * c))) = mul-le-mul_left q each in
-    let frames : (q * p) * (w * c) ≤ left * (w * c) = mul-le-mul_right (w * c) (div-mul-le_self left p) in
-    omega (arith, all, frames, block)
-
-form_of : (o : Option Fixed) → is_none o ≡ false → (form : Fixed) × (o ≡ Some form)
-form_of None is = absurd (cc)
-form_of (Some form) is = (form, refl)
-
-pub to_copy : (p : Parameters) (left : ℕ) → is_none (fixed_of p.codec) ≡ false → AreParams p
-    → (left / (16384 / p.channels) + 2) * (bytes_of_frames p (16384 / p.channels) + 16384) ≤ 3 * bytes_of_frames p left + 163840
-to_copy p left linear good =
-    let form = form_of (fixed_of p.codec) linear in
-    let align = linear_align p.codec form.0 p.channels form.1 in
-    subst (λ (a : ℕ). (left / (16384 / p.channels) + 2) * ((16384 / p.channels) * a + 16384) ≤ 3 * (left * a) + 163840) (sym align)
-    (blocks left p.channels (byte_count form.0) good.some_channel good.most_channels (byte_count_pos form.0) (byte_count_few form.0))
 
 -- one thing is asked behind another, and no more than so much in all
 pub asks_then : (a b c m n all : ℕ) → AtMost a m b → AtMost b n c → m + n ≤ all → AtMost a all c
@@ -71,16 +28,10 @@ pub asks_less : (a b m n : ℕ) → m ≤ n → AtMost a m b → AtMost a n b
 asks_less a b m n le was = record { later = was.later; most = omega (arith, was.most, le) }
 
 -- so that of a file that is unread no more is asked for all its frames
-pub asks_to_copy : (k : Known) (places a b : ℕ) {p : Parameters} → is_none (fixed_of p.codec) ≡ false → AreParams p → p ≡ k.shape.params → IsUnread k → places ≡ 16384
-    → AtMost a ((left_in k / (places / k.shape.params.channels) + 2) * (bytes_of_frames k.shape.params (places / k.shape.params.channels) + 16384)) b
-    → AtMost a (0 + 3 * bytes_of_frames k.shape.params k.shape.frames + 163840) b
-asks_to_copy k places a b linear good same unread size was =
-    let h : Parameters = k.shape.params in
-    let codec : is_none (fixed_of h.codec) ≡ false = subst (λ (q : Parameters). is_none (fixed_of q.codec) ≡ false) same linear in
+pub asks_to_copy : (k : Known) (a b : ℕ) → IsUnread k → AtMost a (bytes_of_frames k.shape.params (left_in k)) b → AtMost a (0 + bytes_of_frames k.shape.params k.shape.frames) b
+asks_to_copy k a b unread was =
     let first : left_in k ≡ k.shape.frames = omega (arith, unread.first) in
-    let blocks : AtMost a ((left_in k / (16384 / h.channels) + 2) * (bytes_of_frames h (16384 / h.channels) + 16384)) b =
-    subst (λ (n : ℕ). AtMost a ((left_in k / (n / h.channels) + 2) * (bytes_of_frames h (n / h.channels) + 16384)) b) size was in
-    asks_less _ _ _ _ (omega (arith, to_copy h (left_in k) codec (subst AreParams same good), ap (λ (n : ℕ). bytes_of_frames h n) first)) blocks
+    asks_less _ _ _ _ (omega (arith, ap (λ (n : ℕ). bytes_of_frames k.shape.params n) first)) was
 
 -- ---- the files of names
 
@@ -169,7 +120,7 @@ module _ {S D : Type 0} (s : ShelfMeaning S D) (d : Ghosts D) (old mid new : S) 
     (from_is : from ≡ input.disk) (to_is : given ≡ to) (gives : Gives (s.state mid) (s.state new) name (d.state given)) where
   -- the frames of the file of a name are copied, which was opened, and is given back
   pub asks_whole : (h : Shape) → h ≡ input.layout → ((b : List ℕ) → Tells d.state input.disk b → (d.state input.disk).size ≡ length b)
-      → AtMost (d.state from).asked (0 + 3 * bytes_of_frames h.params h.frames + 163840) (d.state to).asked → AsksForEach 3 180224 s.state (name ∷ []) old new
+      → AtMost (d.state from).asked (0 + bytes_of_frames h.params h.frames) (d.state to).asked → AsksForEach 1 16384 s.state (name ∷ []) old new
   asks_whole h shape told_size copies files told =
       let found = opens.opened files told in
       let size : (d.state input.disk).size ≡ length found.0 = told_size found.0 found.3.bytes in

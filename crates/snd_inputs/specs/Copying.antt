@@ -1,5 +1,5 @@
 -- What holds of two things of which one call reads the one and changes the other: files that are open, disks and shelves.
-use Rattle.std.specs.Prelude.{◌≡◌, ℕ, ◌+◌, ◌*◌, Result}
+use Rattle.std.specs.Prelude.{◌≡◌, ℕ, ◌+◌, Result}
 use Rattle.snd_disk.specs.declared.disk.Disk.{Ghosts}
 use Rattle.snd_disk.specs.Device.{AsksAtMost, GoesOnFrom, OnlyReadsOn}
 use Rattle.snd_disk.specs.Shelf.{ShelfState}
@@ -54,9 +54,8 @@ pub record CopiesInto {D E M N T : Type 0} {m : ModeGhosts M} {n : ModeGhosts N}
   pub tells : TellsOn t.state to to'
   pub time : GoesOnFrom t.state t.left_between (disk_of to) (disk_of to')
 
--- Beside so many bytes of chunks this is asked of a file at most to copy its frames, in blocks of 16384 numbers, to which it comes
--- that each read asks at most 16384 bytes more.
+-- beside so many bytes of chunks no more is asked of a file to copy its frames than their bytes
 abbrev pub AsksToCopy : {D M : Type 0} {d : Ghosts D} {m : ModeGhosts M} → (D → State) → ℕ → File D M d m → File D M d m → Type 0
 AsksToCopy state chunks old new =
     let known = known_of old in
-    AsksAtMost state (chunks + 3 * bytes_of_frames known.shape.params known.shape.frames + 163840) (disk_of old) (disk_of new)
+    AsksAtMost state (chunks + bytes_of_frames known.shape.params known.shape.frames) (disk_of old) (disk_of new)

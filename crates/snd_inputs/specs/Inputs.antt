@@ -1,14 +1,16 @@
 -- The files that a tool reads, by their names.
-use Rattle.std.specs.Prelude.{ℕ, List, [], ◌∷◌, Option, Some, None, Result, Ok, Err}
+use Rattle.std.specs.Prelude.{ℕ, List, [], ◌∷◌, Option, Some, None, Result, Ok, Err, if◌then◌else◌}
 use Rattle.snd_disk.specs.Shelf.{Files}
+use Rattle.snd_layout.specs.Blocks.{is_adpcm}
 use Rattle.snd_layout.specs.declared.refusal.OpenRefusal.{OpenRefusal}
+use Rattle.snd_layout.specs.declared.refusal.OpenRefusal.TheVariants.{NotBuilt}
 use Rattle.snd_lines.specs.declared.refusal.Refusal.{Refusal}
 use Rattle.snd_lines.specs.declared.refusal.Refusal.TheVariants.{MissingFile, Open}
 use Rattle.snd_modes.specs.Editing.{Editing, opening_of}
 
--- a file as it is opened to be read; or why it is not
+-- a file as it is opened to be read; or why it is not: tools do not read ADPCM yet
 abbrev pub input_as : Result Editing OpenRefusal → Result Editing Refusal
-input_as (Ok e) = Ok e
+input_as (Ok e) = if is_adpcm e.shape.params.codec then Err (Open NotBuilt) else Ok e
 input_as (Err why) = Err (Open why)
 
 -- .. where it may be missing

@@ -9,7 +9,7 @@ use snd_disk::Disk;
 use snd_layout::Layout;
 
 /// A file that was taken out to be read: its disk, and what it says of itself. Its frames and its chunks lie
-/// within the disk, and its codec is not ADPCM: `open_laid` opens it.
+/// within the disk, and its codec is not ADPCM, which tools do not read yet: `open_laid` opens it.
 pub struct Input<D: Disk> {
     pub disk: D,
     pub layout: Layout,

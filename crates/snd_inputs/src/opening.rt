@@ -1,6 +1,6 @@
 //! How a file is opened to be read, and closed.
 
-ghost use Rattle.std.specs.Prelude.{◌≡◌, false, is_none};
+ghost use Rattle.std.specs.Prelude.{◌≡◌, false, is_none, true};
 ghost use Rattle.snd_container.specs.Sound.{fixed_of};
 ghost use Rattle.snd_disk.specs.Device.{AsksAtMost, OnlyReadsOn};
 ghost use Rattle.snd_layout.specs.Params.{AreParams};
@@ -74,11 +74,11 @@ pub fn open_input<S: Shelf>(
     }
 }
 
-/// The parameters of a file that is open, whose codec is not ADPCM.
+/// The parameters of a file that is open: where it is written their codec is not ADPCM.
 pub fn params_of<D: Disk, M: Mode>(file: &File<'_, D, M>) -> Params
     ensures params { result ≡ (known_of file.now).shape.params }
     ensures good { AreParams result }
-    ensures linear { is_none (fixed_of result.codec) ≡ false }
+    ensures linear { M.WRITES ≡ true → is_none (fixed_of result.codec) ≡ false }
 {
     let params = file.params();
     params.are_good();
