@@ -20,4 +20,4 @@ AsksForEach m n state names old new =
 
 -- .. as a tool may that reads them whole
 abbrev pub AsksForFiles : {S : Type 0} → (S → ShelfState) → List (List ℕ) → S → S → Type 0
-AsksForFiles state names old new = AsksForEach 8 262144 state names old new
+AsksForFiles state names old new = AsksForEach 2 49152 state names old new
