@@ -16,7 +16,6 @@ use Rattle.snd_inputs.specs.Opening.{IsOpen}
 use Rattle.snd_inputs.specs.declared.input.Input.{Input}
 use Rattle.snd_layout.specs.Shape.{Shape, end}
 use Rattle.snd_layout.specs.declared.refusal.OpenRefusal.{OpenRefusal}
-use Rattle.snd_layout.specs.declared.refusal.OpenRefusal.TheVariants.{NotBuilt}
 use Rattle.snd_modes.specs.Editing.{Editing, first_editing, opening_as, opening_of}
 use Rattle.snd_modes.specs.Heads.{holds_meta}
 use Rattle.snd_modes.specs.Reading.{bytes_of_frames}
@@ -33,18 +32,11 @@ bodies_from plan h both =
 
 -- a file that is opened has the layout in which it begins
 module _ (b : List ℕ) (h : Shape) where
-  by_codec : (s : Shape) → opening_as b (Ok s) ≡ Ok (first_editing b h) → s ≡ h
-  by_codec s is = elim (cases_Bool (is_none (fixed_of s.params.codec))) [
-    | inl blocks ↦ absurd (let e : ◌≡◌ {A = Result Editing OpenRefusal} (Err NotBuilt) (Ok (first_editing b h)) = rw blocks at is in cc)
-    | inr linear ↦
-        let same : ◌≡◌ {A = Result Editing OpenRefusal} (Ok (first_editing b s)) (Ok (first_editing b h)) = rw linear at is in
-        let first : first_editing b s ≡ first_editing b h = cc in
-        ap (λ (e : Editing). e.shape) first
-  ]
-
   by_layout : (r : Result Shape OpenRefusal) → layout_of b ≡ r → opening_as b r ≡ Ok (first_editing b h) → layout_of b ≡ Ok h
   by_layout (Err why) laid is = absurd (cc)
-  by_layout (Ok s) laid is = laid ∙ ap (λ (x : Shape). Ok x) (by_codec s is)
+  by_layout (Ok s) laid is =
+      let first : first_editing b s ≡ first_editing b h = cc in
+      laid ∙ ap (λ (e : Editing). Ok e.shape) first
 
   pub laid_as : opening_of b ≡ Ok (first_editing b h) → layout_of b ≡ Ok h
   unfolding opening_of
@@ -60,28 +52,26 @@ module _ (b : List ℕ) (h : Shape) where
         omega (arith, is)
   ]
 
-  -- so that no more is asked of it, also to open it, than eight times its bytes, and 262144
+  -- so that no more is asked of it, also to open it, than twice its bytes, and 49152
   pub asked_whole : (files : Files) (name : List ℕ) (old opened copied mid new : ℕ) → files name ≡ Some b → opening_of b ≡ Ok (first_editing b h) → is_none (fixed_of h.params.codec) ≡ false
-      → end h h.frames ≤ length b → opened ≤ 16384 → AtMost opened (bodies_in h + 3 * bytes_of_frames h.params h.frames + 163840) copied → mid ≡ old → Adds mid copied new
-      → AtMost old (8 * sizes_of files (name ∷ []) + 262144 * 1) new
+      → end h h.frames ≤ length b → opened ≤ 16384 → AtMost opened (bodies_in h + bytes_of_frames h.params h.frames) copied → mid ≡ old → Adds mid copied new
+      → AtMost old (2 * sizes_of files (name ∷ []) + 49152 * 1) new
   asked_whole files name old opened copied mid new there is linear within first copies same adds =
       let size : sizes_of files (name ∷ []) ≡ length b + 0 = rw there refl in
       let frames : bytes_of_frames h.params h.frames ≤ length b = omega (arith, align_bytes h.params linear h.frames, within) in
-      let most : bodies_in h + 3 * bytes_of_frames h.params h.frames ≤ 4 * length b = omega (arith, bodies_within (laid_as is), frames) in
+      let most : bodies_in h + bytes_of_frames h.params h.frames ≤ 2 * length b = omega (arith, bodies_within (laid_as is), frames) in
       record { later = omega (arith, same, adds.later); most = omega (arith, same, adds.most, copies.most, first, most, size) }
 
 -- .. of the file of a name that is open, and whose disk is given back
 module _ {S D : Type 0} (s : ShelfMeaning S D) (d : Ghosts D) (old mid mid' new : S) (input : Input D d) (from to given : D) (name : List ℕ) (opens : IsOpen s d name old mid input)
     (from_is : from ≡ input.disk) (to_is : given ≡ to) (gives : Gives (s.state mid') (s.state new) name (d.state given)) (unasked : (s.state mid').asked ≡ (s.state mid).asked) where
-  pub asked_held : (h : Shape) → h ≡ input.layout → ((b : List ℕ) → Tells d.state input.disk b → (d.state input.disk).size ≡ length b)
-      → AtMost (d.state from).asked (bodies_in h + 3 * bytes_of_frames h.params h.frames + 163840) (d.state to).asked → AsksForFiles s.state (name ∷ []) old new
-  asked_held h shape told_size copies files told =
+  pub asked_held : ((b : List ℕ) → Tells d.state input.disk b → (d.state input.disk).size ≡ length b)
+      → AtMost (d.state from).asked (bodies_in input.layout + bytes_of_frames input.layout.params input.layout.frames) (d.state to).asked → AsksForFiles s.state (name ∷ []) old new
+  asked_held told_size copied files told =
       let found = opens.opened files told in
       let size : (d.state input.disk).size ≡ length found.0 = told_size found.0 found.3.bytes in
       let first : (d.state from).asked ≤ 16384 = omega (arith, ap (λ (x : D). (d.state x).asked) from_is, opens.asked) in
       let adds : Adds (s.state mid').asked (d.state to).asked (s.state new).asked = subst (λ (y : D). Adds (s.state mid').asked (d.state y).asked (s.state new).asked) to_is gives.asked in
       let within : end input.layout input.layout.frames ≤ length found.0 = omega (arith, input.held, size) in
-      let copied : AtMost (d.state from).asked (bodies_in input.layout + 3 * bytes_of_frames input.layout.params input.layout.frames + 163840) (d.state to).asked =
-      subst (λ (l : Shape). AtMost (d.state from).asked (bodies_in l + 3 * bytes_of_frames l.params l.frames + 163840) (d.state to).asked) shape copies in
       asked_whole found.0 input.layout files name (s.state old).asked (d.state from).asked (d.state to).asked (s.state mid').asked (s.state new).asked found.1 found.2 input.linear within first copied
       (unasked ∙ opens.out.bytes.asked) adds

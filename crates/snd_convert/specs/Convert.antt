@@ -9,8 +9,10 @@ use Rattle.snd_layout.specs.Params.{data_bytes}
 use Rattle.snd_layout.specs.Shape.{room}
 use Rattle.snd_layout.specs.declared.kind.Kind.{Kind}
 use Rattle.snd_layout.specs.declared.refusal.OpenRefusal.{OpenRefusal}
-use Rattle.snd_lines.specs.declared.refusal.Refusal.TheVariants.{ContainerFull, MissingFile, Open, SameName, UnknownSuffix}
-use Rattle.snd_modes.specs.Editing.{Editing, opening_of}
+use Rattle.snd_inputs.specs.Inputs.{input_in}
+use Rattle.snd_lines.specs.declared.refusal.Refusal.{Refusal}
+use Rattle.snd_lines.specs.declared.refusal.Refusal.TheVariants.{ContainerFull, Open, SameName, UnknownSuffix}
+use Rattle.snd_modes.specs.Editing.{Editing}
 use Rattle.snd_modes.specs.Heads.{holds_meta}
 use Rattle.snd_modes.specs.Relaid.{shape_with}
 use Rattle.snd_output.specs.Made.{made_file}
@@ -46,17 +48,13 @@ abbrev pub done_by_plan : Converting → Editing → Result Planned OpenRefusal 
 done_by_plan c e (Err why) = Done.refuses c.output (Open why)
 done_by_plan c e (Ok plan) = made_of c plan e
 
-abbrev pub done_with : Converting → Kind → Result Editing OpenRefusal → Done
-done_with c kind (Err why) = Done.refuses c.input (Open why)
+abbrev pub done_with : Converting → Kind → Result Editing Refusal → Done
+done_with c kind (Err why) = Done.refuses c.input why
 done_with c kind (Ok e) = done_by_plan c e (planned c kind e.shape.params)
-
-abbrev pub done_from : Converting → Kind → Option (List ℕ) → Done
-done_from c kind None = Done.refuses c.input MissingFile
-done_from c kind (Some b) = done_with c kind (opening_of b)
 
 abbrev pub done_into : Converting → Option Kind → Files → Done
 done_into c None files = Done.refuses c.output UnknownSuffix
-done_into c (Some kind) files = done_from c kind (files c.input)
+done_into c (Some kind) files = done_with c kind (input_in (files c.input))
 
 abbrev pub converted : Converting → Files → Done
 converted c files = if bytes_eq c.input c.output then Done.refuses c.output SameName else done_into c (kind_by_suffix c.output) files

@@ -1,5 +1,5 @@
 -- A file that is made of an open one, as the code does it: what is asked of the two, and what comes of it.
-use Rattle.std.specs.Prelude.{◌≡◌, ℕ, ℤ, Bool, List, [], Some, Result, Ok, IfOk, OnOk, map, nat_lt, if◌then◌else◌}
+use Rattle.std.specs.Prelude.{◌≡◌, ℕ, ℤ, ◌+◌, Bool, List, [], Some, Result, Ok, IfOk, OnOk, map, nat_lt, if◌then◌else◌}
 use Rattle.snd_carry.specs.Carried.{body_bytes, carried_pieces}
 use Rattle.snd_inputs.specs.Copying.{AsksToCopy}
 use Rattle.snd_chunks.specs.Written.{NewChunk}
@@ -13,10 +13,11 @@ use Rattle.snd_layout.specs.Shape.{Shape, room}
 use Rattle.snd_layout.specs.declared.kind.Kind.{Kind}
 use Rattle.snd_modes.specs.declared.handle.File.{File}
 use Rattle.snd_modes.specs.declared.mode.Mode.{Ghosts as ModeGhosts}
-use Rattle.snd_modes.specs.Editing.{Editing}
+use Rattle.snd_modes.specs.Editing.{Editing, first_editing}
 use Rattle.snd_modes.specs.Handle.{Known, Stands, disk_of, known_of}
 use Rattle.snd_modes.specs.Heads.{holds_meta}
 use Rattle.snd_modes.specs.Making.{making_of}
+use Rattle.snd_modes.specs.Reading.{bytes_of_frames}
 use Rattle.snd_modes.specs.Relaid.{outline, shape_with}
 use Rattle.snd_output.specs.Made.{IsMaking}
 use Rattle.snd_tools.specs.Shelves.{HasFiles, IsDone}
@@ -94,6 +95,13 @@ Converts state shelf_state conversion kind file old new result =
     IfOk result (λ answer. (files : Files) (e : Editing) → TellsFiles shelf_state old files → Stands state file e
     → IsDone shelf_state new answer (done_by_plan c e (planned c kind e.shape.params)) files)
 
+-- .. in that of a disk, by its layout
+abbrev pub ConvertsLaid : {D S E : Type 0} → (D → State) → (S → ShelfState) → Conversion → Kind → D → Shape → S → S → Result Answer E → Type 0
+ConvertsLaid state shelf_state conversion kind disk layout old new result =
+    let c = asked_of conversion in
+    IfOk result (λ answer. (files : Files) (b : List ℕ) → TellsFiles shelf_state old files → Tells state disk b
+    → IsDone shelf_state new answer (done_by_plan c (first_editing b layout) (planned c kind layout.params)) files)
+
 -- the bodies of the chunks that may go with the frames of a file: none of a kind that has no such chunks
 abbrev pub bodies_in : Shape → ℕ
 bodies_in h = if holds_meta h.kind then body_bytes (carried_pieces h.pieces) else 0
@@ -104,3 +112,7 @@ AsksToCarry state old new = AsksAtMost state (bodies_in (known_of old).shape) (d
 -- so many bytes are asked at most of a file that is converted, with its chunks
 abbrev pub AsksToConvert : {D M : Type 0} {d : Ghosts D} {m : ModeGhosts M} → (D → State) → File D M d m → File D M d m → Type 0
 AsksToConvert state old new = AsksToCopy state (bodies_in (known_of old).shape) old new
+
+-- .. or of the disk of one, by its layout
+abbrev pub AsksToConvertLaid : {D : Type 0} → (D → State) → Shape → D → D → Type 0
+AsksToConvertLaid state layout old new = AsksAtMost state (bodies_in layout + bytes_of_frames layout.params layout.frames) old new

@@ -1,16 +1,19 @@
 //! The tool that copies a file into another container or codec.
 
-ghost use Rattle.std.specs.Prelude.{◌≡◌, ◌∷◌, [], None, false, is_none};
+ghost use Rattle.std.specs.Prelude.{◌≡◌, ◌+◌, ◌≤◌, ◌^◌, ◌∷◌, [], All, None, false, is_none};
 ghost use Rattle.snd_container.specs.Sound.{fixed_of};
+ghost use Rattle.snd_disk.specs.Device.{OnlyReadsOn};
 ghost use Rattle.snd_inputs.specs.Asking.{AsksForFiles};
-ghost use Rattle.snd_inputs.specs.Copying.{CountsFileAndShelf, OnlyReadsFile};
+ghost use Rattle.snd_inputs.specs.Copying.{CountsDiskAndShelf, CountsFileAndShelf, OnlyReadsFile};
 ghost use Rattle.snd_inputs.specs.Opening.{IsUnread};
 ghost use Rattle.snd_layout.specs.Fit.{fit_refusal};
+ghost use Rattle.snd_layout.specs.Opened.{EndsIn};
+ghost use Rattle.snd_layout.specs.Shape.{end, room};
 ghost use Rattle.snd_modes.specs.Handle.{channels_of, known_of, loan_of};
 ghost use Rattle.snd_output.specs.Ends.{CountsStop};
 ghost use Rattle.snd_tools.specs.Shelves.{ChangesOne, Does, IsAllIn};
 ghost use Rattle.snd_convert.specs.Convert.{converted};
-ghost use Rattle.snd_convert.specs.Making.{AsksToConvert, Converts, DoesBy, MakesUnder, TellsFull, is_full_by};
+ghost use Rattle.snd_convert.specs.Making.{AsksToConvert, AsksToConvertLaid, Converts, ConvertsLaid, DoesBy, MakesUnder, TellsFull, is_full_by};
 ghost use Rattle.snd_convert.specs.Planning.{asked_of, planned_by};
 
 use crate::chunks::chunks_size;
@@ -18,7 +21,7 @@ use crate::make::make;
 use crate::plan::{Plan, plan_of};
 use snd_disk::{Disk, Shelf};
 use snd_inputs::{Input, close_read, open_input, take_output};
-use snd_layout::Kind;
+use snd_layout::{Kind, Layout};
 use snd_lines::Refusal;
 use snd_modes::{File, Read, open_laid};
 use snd_output::Stop;
@@ -123,6 +126,40 @@ fn convert_file<'a, S: Shelf, D: Disk>(
     }
 }
 
+// .. the file on a disk, by its layout.
+fn convert_laid<'a, S: Shelf, D: Disk>(
+    alloc: Global,
+    conversion: &Conversion<'a>,
+    kind: Kind,
+    disk: &mut D,
+    layout: Layout,
+    shelf: &mut S,
+) -> Result<Answer<'a>, Stop>
+    requires is_in { (S.state shelf.old).out conversion.now.output.now ≡ false }
+    requires held { end layout layout.frames ≤ (D.state disk.old).size }
+    requires linear { is_none (fixed_of layout.params.codec) ≡ false }
+    requires room_ends { layout.start + room layout + 8 ≤ 2 ^ 63 }
+    requires pieces_held { All (EndsIn (D.state disk.old).size) layout.pieces }
+    ensures done { ConvertsLaid D.state S.state conversion.now kind disk.old layout shelf.old shelf.new result }
+    ensures changes { ChangesOne S.Shelf conversion.now.output.now shelf.old shelf.new }
+    ensures faults { CountsDiskAndShelf D.state S.state disk.old disk.new shelf.old shelf.new result }
+    ensures reads { OnlyReadsOn D.state D.may_leave D.left_between disk.old disk.new }
+    ensures asked { AsksToConvertLaid D.state layout disk.old disk.new }
+    ensures unasked { (S.state shelf.new).asked ≡ (S.state shelf.old).asked }
+{
+    let mut file = match open_laid(alloc, disk, layout) {
+        Ok(file) => file,
+        Err((_, back)) => {
+            let _ = back;
+            return Err(Stop::Memory);
+        }
+    };
+    let answer = convert_file(alloc, conversion, kind, &mut file, shelf);
+    let back = close_read(file);
+    let _ = back;
+    answer
+}
+
 /// Copies a sound file into another container or codec: see the README and the manual page for what a
 /// conversion may ask. The output is made, or replaced, whole, with the input's frames, each number in the
 /// width of the output's codec. Each other file is as before, whatever comes.
@@ -136,7 +173,7 @@ fn convert_file<'a, S: Shelf, D: Disk>(
 /// chunks, has no room for the data.
 ///
 /// `Fault` where a call of the shelf or of a disk failed, and `Memory` where there is none: then the output
-/// may stand there in part. No more bytes are asked than eight times the input has, and 262144.
+/// may stand there in part. No more bytes are asked than twice the input has, and 49152.
 pub fn convert<'a, S: Shelf>(
     alloc: Global,
     conversion: &Conversion<'a>,
@@ -159,10 +196,7 @@ pub fn convert<'a, S: Shelf>(
         Err(why) => return Ok(Answer::Refused(conversion.input, why)),
     };
     let Input { mut disk, layout } = input;
-    let mut file = open_laid(&mut disk, layout);
-    let answer = convert_file(alloc, conversion, kind, &mut file, shelf);
-    let back = close_read(file);
-    let _ = back;
+    let answer = convert_laid(alloc, conversion, kind, &mut disk, layout, shelf);
     shelf.give(conversion.input, disk);
     answer
 }

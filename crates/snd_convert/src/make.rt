@@ -7,7 +7,7 @@ ghost use Rattle.snd_inputs.specs.Copying.{CopiesInto, CountsFileAndDisk, OnlyRe
 ghost use Rattle.snd_inputs.specs.Opening.{IsUnread};
 ghost use Rattle.snd_layout.specs.Fit.{fit_refusal};
 ghost use Rattle.snd_layout.specs.Params.{AreParams};
-ghost use Rattle.snd_modes.specs.Handle.{IsFresh, channels_of, codec_of, known_of, loan_of};
+ghost use Rattle.snd_modes.specs.Handle.{IsFresh, channels_of, known_of, loan_of};
 ghost use Rattle.snd_modes.specs.Outcomes.{AsksNothing};
 ghost use Rattle.snd_modes.specs.Relaid.{shape_with};
 ghost use Rattle.snd_patch.specs.Steps.{StillTells};
@@ -23,15 +23,6 @@ use std::alloc::Global;
 
 /// The numbers that are held at once.
 const BLOCK: usize = 16384;
-
-// What holds of the parameters of a file that is open.
-fn are_good<D: Disk>(file: &File<'_, D, Read>)
-    ensures linear { is_none (fixed_of (codec_of file.now)) ≡ false }
-    ensures params { AreParams (known_of file.now).shape.params }
-{
-    let params = file.params();
-    params.are_good();
-}
 
 // Puts the chunks that go with them, and all frames, into a file that was begun by a plan.
 fn fill<D: Disk, E: Disk>(
@@ -52,7 +43,6 @@ fn fill<D: Disk, E: Disk>(
     ensures asked { AsksToConvert D.state from.old from.new }
     ensures unasked { AsksNothing E.state to.old to.new }
 {
-    are_good(from);
     carry(alloc, plan, from, to)?;
     let mut block = [0; BLOCK];
     append(from, to, &mut block)

@@ -1,4 +1,4 @@
-use Rattle.std.proofs.Common.{◌≡◌, ◌∙◌, false, Ok, Some, rules, subst, sym}
+use Rattle.std.proofs.Common.{◌≡◌, false, Ok, Err, Some, refl, rules, subst}
 use Rattle.std.proofs.lemmas.Result.{IfOk-weaker}
 use Rattle.std.specs.Str.{bytes_eq}
 use Rattle.snd_inputs.proofs.Answering.{does_so, done_same, refused_as}
@@ -12,7 +12,7 @@ use Rattle.snd_convert.specs.Convert.{converted, done_by_plan}
 use Rattle.snd_convert.specs.Plan.{planned}
 use Rattle.snd_convert.specs.Planning.{asked_of}
 use Rattle.snd_convert.proofs.Asking.{asked_held}
-use Rattle.snd_convert.proofs.Doing.{converted_as, converted_refused, makes_by_plan}
+use Rattle.snd_convert.proofs.Doing.{converted_as, converted_is, makes_by_plan}
 use Rattle.snd_convert.proofs.converting.convert.Goals as goal
 
 pub returns-in_err-input-clause-changes : goal.returns-in_err-input-clause-changes
@@ -25,15 +25,15 @@ returns-in-Err-clause-done g c = λ files told.
     let suffix : kind_by_suffix asked.output ≡ Some c.in-Some.kind = search rules in
     let looks = subst (λ r. OpensInput g.S.Shelf g.S.Disk.Disk asked.input c.args.shelf.now c.open_input.new.shelf (Ok r)) c.in-Err.is c.in_ok-input.ensures.opened in
     refused_as g.S.Shelf.state c.open_input.new.shelf files asked.input c.in-Err.why (converted asked files) (looks.0.reads.files files told)
-    (converted_refused asked files c.in-Some.kind c.in-Err.why apart suffix (looks.1 files told))
+    (converted_is asked files c.in-Some.kind (Err c.in-Err.why) apart suffix (looks.1 files told))
 
 pub returns-in-Err-clause-changes : goal.returns-in-Err-clause-changes
 returns-in-Err-clause-changes g c =
     let looks = subst (λ r. OpensInput g.S.Shelf g.S.Disk.Disk c.args.conversion.now.input.now c.args.shelf.now c.open_input.new.shelf (Ok r)) c.in-Err.is c.in_ok-input.ensures.opened in
     reads_changes g.S.Shelf c.args.conversion.now.output.now _ _ looks.0.reads
 
-pub convert_file-answer-requires-clause-is_in : goal.convert_file-answer-requires-clause-is_in
-convert_file-answer-requires-clause-is_in g c =
+pub convert_laid-answer-requires-clause-is_in : goal.convert_laid-answer-requires-clause-is_in
+convert_laid-answer-requires-clause-is_in g c =
     let input = c.args.conversion.now.input.now in
     let output = c.args.conversion.now.output.now in
     let apart : bytes_eq input output ≡ false = search rules in
@@ -49,20 +49,20 @@ returns-clause-done g c =
     let suffix : kind_by_suffix asked.output ≡ Some kind = search rules in
     let opens : IsOpen g.S.Shelf g.S.Disk.Disk asked.input c.args.shelf.now c.open_input.new.shelf c.in-Ok.input =
     subst (λ r. OpensInput g.S.Shelf g.S.Disk.Disk asked.input c.args.shelf.now c.open_input.new.shelf (Ok r)) c.in-Ok.is c.in_ok-input.ensures.opened in
-    does_so g.S.Shelf.state (converted asked) c.args.shelf.now c.give.new.self c.convert_file-answer.result
-    (IfOk-weaker c.convert_file-answer.result _ _
+    does_so g.S.Shelf.state (converted asked) c.args.shelf.now c.give.new.self c.convert_laid-answer.result
+    (IfOk-weaker c.convert_laid-answer.result _ _
     (λ answer done files told.
     let found = opens.opened files told in
     let out = opens.out.takes.files files told in
     let e = first_editing found.0 c.in-Ok.input.layout in
     let todo = done_by_plan asked e (planned asked kind e.shape.params) in
-    let d = done out.0 e out.1 (c.open_laid-file.ensures.stands found.0 found.3.bytes) in
-    done_same g.S.Shelf.state c.give.new.self files answer todo (converted asked files) (converted_as asked files kind found.0 e apart suffix found.1 found.2) (
+    let d = done out.0 found.0 out.1 found.3.bytes in
+    done_same g.S.Shelf.state c.give.new.self files answer todo (converted asked files) (converted_as asked files kind found.0 c.in-Ok.input.layout apart suffix found.1 c.in-Ok.input.linear found.2) (
       d.0,
-      held_done g.S.Shelf g.S.Disk.Disk c.args.shelf.now c.open_input.new.shelf c.convert_file-answer.new.shelf c.give.new.self c.in-Ok.input _ _ _ asked.input opens c.open_laid-file.ensures.same_disk (sym (search rules) ∙ c.close_read-back.ensures.same_disk) c.convert_file-answer.ensures.reads c.give.ensures.given asked.output apart
+      held_done g.S.Shelf g.S.Disk.Disk c.args.shelf.now c.open_input.new.shelf c.convert_laid-answer.new.shelf c.give.new.self c.in-Ok.input _ _ _ asked.input opens refl refl c.convert_laid-answer.ensures.reads c.give.ensures.given asked.output apart
           todo files told (makes_by_plan asked e (planned asked kind e.shape.params)) d.1,
     ))
-    c.convert_file-answer.ensures.done)
+    c.convert_laid-answer.ensures.done)
 
 pub returns-clause-changes : goal.returns-clause-changes
 returns-clause-changes g c =
@@ -71,21 +71,21 @@ returns-clause-changes g c =
     let apart : bytes_eq input output ≡ false = search rules in
     let opens : IsOpen g.S.Shelf g.S.Disk.Disk input c.args.shelf.now c.open_input.new.shelf c.in-Ok.input =
     subst (λ r. OpensInput g.S.Shelf g.S.Disk.Disk input c.args.shelf.now c.open_input.new.shelf (Ok r)) c.in-Ok.is c.in_ok-input.ensures.opened in
-    held_one g.S.Shelf g.S.Disk.Disk c.args.shelf.now c.open_input.new.shelf c.convert_file-answer.new.shelf c.give.new.self c.in-Ok.input _ _ _ input opens c.open_laid-file.ensures.same_disk (sym (search rules) ∙ c.close_read-back.ensures.same_disk) c.convert_file-answer.ensures.reads c.give.ensures.given output apart
-    c.give.ensures.images c.give.ensures.others c.convert_file-answer.ensures.changes (c.requires.back input)
+    held_one g.S.Shelf g.S.Disk.Disk c.args.shelf.now c.open_input.new.shelf c.convert_laid-answer.new.shelf c.give.new.self c.in-Ok.input _ _ _ input opens refl refl c.convert_laid-answer.ensures.reads c.give.ensures.given output apart
+    c.give.ensures.images c.give.ensures.others c.convert_laid-answer.ensures.changes (c.requires.back input)
 
 pub returns-clause-faults : goal.returns-clause-faults
 returns-clause-faults g c =
     let input = c.args.conversion.now.input.now in
     let opens : IsOpen g.S.Shelf g.S.Disk.Disk input c.args.shelf.now c.open_input.new.shelf c.in-Ok.input =
     subst (λ r. OpensInput g.S.Shelf g.S.Disk.Disk input c.args.shelf.now c.open_input.new.shelf (Ok r)) c.in-Ok.is c.in_ok-input.ensures.opened in
-    held_counts g.S.Shelf g.S.Disk.Disk c.args.shelf.now c.open_input.new.shelf c.convert_file-answer.new.shelf c.give.new.self c.in-Ok.input _ _ _ input opens c.open_laid-file.ensures.same_disk (sym (search rules) ∙ c.close_read-back.ensures.same_disk) c.convert_file-answer.ensures.reads c.give.ensures.given
-    c.convert_file-answer.result c.in_ok-input.ensures.faults c.convert_file-answer.ensures.faults
+    held_counts g.S.Shelf g.S.Disk.Disk c.args.shelf.now c.open_input.new.shelf c.convert_laid-answer.new.shelf c.give.new.self c.in-Ok.input _ _ _ input opens refl refl c.convert_laid-answer.ensures.reads c.give.ensures.given
+    c.convert_laid-answer.result c.in_ok-input.ensures.faults c.convert_laid-answer.ensures.faults
 
 pub returns-clause-asked : goal.returns-clause-asked
 returns-clause-asked g c =
     let input = c.args.conversion.now.input.now in
     let opens : IsOpen g.S.Shelf g.S.Disk.Disk input c.args.shelf.now c.open_input.new.shelf c.in-Ok.input =
     subst (λ r. OpensInput g.S.Shelf g.S.Disk.Disk input c.args.shelf.now c.open_input.new.shelf (Ok r)) c.in-Ok.is c.in_ok-input.ensures.opened in
-    asked_held g.S.Shelf g.S.Disk.Disk c.args.shelf.now c.open_input.new.shelf c.convert_file-answer.new.shelf c.give.new.self c.in-Ok.input _ _ _ input opens c.open_laid-file.ensures.same_disk (sym (search rules) ∙ c.close_read-back.ensures.same_disk) c.give.ensures.given
-    c.convert_file-answer.ensures.unasked _ c.open_laid-file.ensures.shape (g.met.S.Disk.Disk.size_told c.in-Ok.input.disk) c.convert_file-answer.ensures.asked
+    asked_held g.S.Shelf g.S.Disk.Disk c.args.shelf.now c.open_input.new.shelf c.convert_laid-answer.new.shelf c.give.new.self c.in-Ok.input _ _ _ input opens refl refl c.give.ensures.given
+    c.convert_laid-answer.ensures.unasked (g.met.S.Disk.Disk.size_told c.in-Ok.input.disk) c.convert_laid-answer.ensures.asked

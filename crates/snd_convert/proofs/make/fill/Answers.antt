@@ -1,4 +1,4 @@
-use Rattle.std.proofs.Common.{◌≡◌, ◌∙◌, ap, sym, subst, [], ℕ, ℤ, ◌+◌, ◌-◌, ◌*◌, ◌/◌, List, arith}
+use Rattle.std.proofs.Common.{◌≡◌, ◌∙◌, ap, sym, subst, [], ℕ, ℤ, List, arith}
 use Rattle.snd_layout.specs.Params.{Parameters}
 use Rattle.snd_layout.specs.Shape.{Shape}
 use Rattle.snd_disk.specs.State.{AtMost}
@@ -8,7 +8,7 @@ use Rattle.snd_output.specs.Appended.{left_in}
 use Rattle.snd_output.specs.Made.{IsMaking}
 use Rattle.snd_convert.specs.Convert.{chunks_for}
 use Rattle.snd_convert.specs.Planning.{planned_by}
-use Rattle.snd_inputs.proofs.Asking.{asks_then, to_copy}
+use Rattle.snd_inputs.proofs.Asking.{asks_then}
 use Rattle.snd_inputs.proofs.Copying.{copies_then, counts_appended, still_works}
 use Rattle.snd_convert.proofs.Making.{begun_with, may_append, numbers_same}
 use Rattle.std.proofs.lemmas.Result.{on_ok_weaker}
@@ -49,12 +49,8 @@ returns-clause-copies g c =
 pub returns-clause-asked : goal.returns-clause-asked
 returns-clause-asked g c =
     let k : Known = known_of c.args.from.now in
-    let most = to_copy k.shape.params k.shape.frames c.are_good.ensures.linear c.are_good.ensures.params in
-    let first : k.shape.frames - k.place ≡ k.shape.frames = omega (arith, c.requires.unread.first) in
-    let blocks : AtMost (g.D.Disk.state (disk_of c.carry.new.from)).asked
-    (((k.shape.frames - k.place) / (16384 / k.shape.params.channels) + 2) * (bytes_of_frames k.shape.params (16384 / k.shape.params.channels) + 16384))
-    (g.D.Disk.state (disk_of c.append.new.from)).asked =
-    subst (λ (x : Known). AtMost (g.D.Disk.state (disk_of c.carry.new.from)).asked
-    ((left_in x / (16384 / x.shape.params.channels) + 2) * (bytes_of_frames x.shape.params (16384 / x.shape.params.channels) + 16384))
-    (g.D.Disk.state (disk_of c.append.new.from)).asked) c.in_ok-carry.ensures.same c.append.ensures.asked in
-    asks_then _ _ _ _ _ _ c.carry.ensures.asked blocks (omega (arith, most, ap (λ (n : ℕ). (n / (16384 / k.shape.params.channels) + 2) * (bytes_of_frames k.shape.params (16384 / k.shape.params.channels) + 16384)) first))
+    let first : left_in k ≡ k.shape.frames = omega (arith, c.requires.unread.first) in
+    let frames : AtMost (g.D.Disk.state (disk_of c.carry.new.from)).asked (bytes_of_frames k.shape.params (left_in k)) (g.D.Disk.state (disk_of c.append.new.from)).asked =
+    subst (λ (x : Known). AtMost (g.D.Disk.state (disk_of c.carry.new.from)).asked (bytes_of_frames x.shape.params (left_in x)) (g.D.Disk.state (disk_of c.append.new.from)).asked)
+    c.in_ok-carry.ensures.same c.append.ensures.asked in
+    asks_then _ _ _ _ _ _ c.carry.ensures.asked frames (omega (arith, ap (λ (n : ℕ). bytes_of_frames k.shape.params n) first))
