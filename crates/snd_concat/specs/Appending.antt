@@ -2,6 +2,7 @@
 use Rattle.std.specs.Prelude.{◌≡◌, ℕ, ℤ, ◌+◌, List, ◌++◌, All, Result, Ok, Err, IfOk, IsOk, false, nat_lt, true}
 use Rattle.snd_chunks.specs.Written.{NewChunk}
 use Rattle.snd_disk.specs.declared.disk.Disk.{Ghosts}
+use Rattle.snd_disk.specs.Device.{Tells}
 use Rattle.snd_disk.specs.Shelf.{Files, ShelfState}
 use Rattle.snd_disk.specs.Shelves.{TellsFiles}
 use Rattle.snd_disk.specs.State.{State}
@@ -12,7 +13,7 @@ use Rattle.snd_layout.specs.declared.kind.Kind.{Kind}
 use Rattle.snd_lines.specs.declared.refusal.Refusal.{Refusal}
 use Rattle.snd_modes.specs.declared.handle.File.{File}
 use Rattle.snd_modes.specs.declared.mode.Mode.{Ghosts as ModeGhosts}
-use Rattle.snd_modes.specs.Editing.{Editing}
+use Rattle.snd_modes.specs.Editing.{Editing, first_editing}
 use Rattle.snd_modes.specs.Handle.{Known, Stands, codec_of, known_of}
 use Rattle.snd_output.specs.declared.stop.Stop.{Stop}
 use Rattle.snd_output.specs.declared.stop.Stop.TheVariants.{Fault, Memory}
@@ -54,6 +55,12 @@ abbrev pub AppendsFile : {D M E N T R : Type 0} {d : Ghosts D} {m : ModeGhosts M
 AppendsFile state state' from to to' result =
     IfOk result (λ done. (e : Editing) → Stands state from e → e.place ≡ 0 → Follows e.shape (known_of to).shape
     → IsOk done × ((known_of to').shape.frames ≡ (known_of to).shape.frames + e.shape.frames) × Gains state' (numbers_for (codec_of to) e) to to')
+
+-- .. of the file on a disk, by its layout
+abbrev pub AppendsLaid : {D E N T R : Type 0} {t : Ghosts E} {n : ModeGhosts N} → (D → State) → (E → State) → D → Shape → File E N t n → File E N t n → Result (Result T Refusal) R → Type 0
+AppendsLaid state state' disk layout to to' result =
+    IfOk result (λ done. (b : List ℕ) → Tells state disk b → Follows layout (known_of to).shape
+    → IsOk done × ((known_of to').shape.frames ≡ (known_of to).shape.frames + layout.frames) × Gains state' (numbers_for (codec_of to) (first_editing b layout)) to to')
 
 abbrev pub AppendsInput : {S E N T R : Type 0} {t : Ghosts E} {n : ModeGhosts N} → (S → ShelfState) → (E → State) → List ℕ → S → File E N t n → File E N t n → Result (Result T Refusal) R → Type 0
 AppendsInput state state' name shelf to to' result =

@@ -1,20 +1,25 @@
 //! The frames of files, behind those of one that is being made.
 
-ghost use Rattle.std.specs.Prelude.{◌≡◌, ◌∷◌, [], All, IsOk, OnOk, false, length};
-ghost use Rattle.snd_disk.specs.Device.{GoesOnFrom};
+ghost use Rattle.std.specs.Prelude.{◌≡◌, ◌+◌, ◌≤◌, ◌^◌, ◌∷◌, [], All, IsOk, OnOk, false, is_none, length};
+ghost use Rattle.snd_container.specs.Sound.{fixed_of};
+ghost use Rattle.snd_disk.specs.Device.{AsksAtMost, GoesOnFrom, OnlyReadsOn};
 ghost use Rattle.snd_inputs.specs.Asking.{AsksForEach};
 ghost use Rattle.snd_inputs.specs.Copying.{AsksToCopy, CountsFileAndShelf, CountsFiles, OnlyReadsFile};
 ghost use Rattle.snd_inputs.specs.Looking.{ReadsFiles};
 ghost use Rattle.snd_inputs.specs.Opening.{IsUnread};
-ghost use Rattle.snd_layout.specs.Shape.{room as shape_room};
+ghost use Rattle.snd_layout.specs.Opened.{EndsIn};
+ghost use Rattle.snd_layout.specs.Shape.{end, room as shape_room};
 ghost use Rattle.snd_modes.specs.Handle.{disk_of, known_of, loan_of};
 ghost use Rattle.snd_modes.specs.Outcomes.{AsksNothing, TellsOn};
+ghost use Rattle.snd_modes.specs.Reading.{bytes_of_frames};
 ghost use Rattle.snd_output.specs.Appended.{IsAtEnd};
-ghost use Rattle.snd_concat.specs.Appending.{AppendsAll, AppendsFile, AppendsInput, Follows, MadeUnlessFault};
+ghost use Rattle.snd_output.specs.Ends.{CountsOneOf};
+ghost use Rattle.snd_concat.specs.Appending.{AppendsAll, AppendsFile, AppendsInput, AppendsLaid, Follows, MadeUnlessFault};
 
 use crate::judge::is_alike;
 use snd_disk::{Disk, Shelf};
 use snd_inputs::{Input, close_read, exceeds_room, open_input, params_of};
+use snd_layout::Layout;
 use snd_lines::Refusal;
 use snd_modes::{File, Read, Write, open_laid};
 use snd_output::{Stop, append};
@@ -73,6 +78,45 @@ fn append_file<D: Disk, E: Disk>(
     Ok(Ok(()))
 }
 
+// .. those of the file on a disk, by its layout.
+fn append_laid<D: Disk, E: Disk>(
+    alloc: Global,
+    disk: &mut D,
+    layout: Layout,
+    to: &mut File<'_, E, Write>,
+    room: u64,
+    block: &mut [i32],
+) -> Result<Result<(), Refusal>, Stop>
+    requires held { end layout layout.frames ≤ (D.state disk.old).size }
+    requires linear { is_none (fixed_of layout.params.codec) ≡ false }
+    requires room_ends { layout.start + shape_room layout + 8 ≤ 2 ^ 63 }
+    requires pieces_held { All (EndsIn (D.state disk.old).size) layout.pieces }
+    requires at_end { IsAtEnd (known_of to.old) }
+    requires room { room ≡ shape_room (known_of to.old).shape }
+    requires places { length block.old ≡ 16384 }
+    ensures to_loan { loan_of to.new ≡ loan_of to.old }
+    ensures left { MadeUnlessFault (known_of to.old) (known_of to.new) result }
+    ensures appended { AppendsLaid D.state E.state disk.old layout to.old to.new result }
+    ensures faults { CountsOneOf (D.state disk.old).faults (D.state disk.new).faults (E.state (disk_of to.old)).faults (E.state (disk_of to.new)).faults result }
+    ensures reads { OnlyReadsOn D.state D.may_leave D.left_between disk.old disk.new }
+    ensures tells { TellsOn E.state to.old to.new }
+    ensures time { GoesOnFrom E.state E.left_between (disk_of to.old) (disk_of to.new) }
+    ensures asked { AsksAtMost D.state (0 + bytes_of_frames layout.params layout.frames) disk.old disk.new }
+    ensures unasked { AsksNothing E.state to.old to.new }
+{
+    let mut from = match open_laid(alloc, disk, layout) {
+        Ok(from) => from,
+        Err((_, back)) => {
+            let _ = back;
+            return Err(Stop::Memory);
+        }
+    };
+    let appended = append_file(&mut from, to, room, block);
+    let back = close_read(from);
+    let _ = back;
+    appended
+}
+
 // .. those of the file of a name.
 fn append_input<S: Shelf, E: Disk>(
     alloc: Global,
@@ -93,7 +137,7 @@ fn append_input<S: Shelf, E: Disk>(
     ensures reads { ReadsFiles S.Shelf shelf.old shelf.new }
     ensures tells { TellsOn E.state to.old to.new }
     ensures time { GoesOnFrom E.state E.left_between (disk_of to.old) (disk_of to.new) }
-    ensures asked { AsksForEach 3 180224 S.state (name.now ∷ []) shelf.old shelf.new }
+    ensures asked { AsksForEach 1 16384 S.state (name.now ∷ []) shelf.old shelf.new }
     ensures unasked { AsksNothing E.state to.old to.new }
 {
     let input = match open_input(alloc, name, shelf)? {
@@ -101,10 +145,7 @@ fn append_input<S: Shelf, E: Disk>(
         Err(why) => return Ok(Err(why)),
     };
     let Input { mut disk, layout } = input;
-    let mut from = open_laid(&mut disk, layout);
-    let appended = append_file(&mut from, to, room, block);
-    let back = close_read(from);
-    let _ = back;
+    let appended = append_laid(alloc, &mut disk, layout, to, room, block);
     shelf.give(name, disk);
     appended
 }
@@ -131,7 +172,7 @@ pub(crate) fn append_all<'a, S: Shelf, E: Disk>(
     ensures reads { ReadsFiles S.Shelf shelf.old shelf.new }
     ensures tells { TellsOn E.state to.old to.new }
     ensures time { GoesOnFrom E.state E.left_between (disk_of to.old) (disk_of to.new) }
-    ensures asked { AsksForEach 3 180224 S.state names.now shelf.old shelf.new }
+    ensures asked { AsksForEach 1 16384 S.state names.now shelf.old shelf.new }
     ensures unasked { AsksNothing E.state to.old to.new }
 {
     for at in 0..names.len() {

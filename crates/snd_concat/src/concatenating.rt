@@ -55,7 +55,7 @@ fn concat_laid<'a, S: Shelf>(
     ensures done { DoesLike S.state concatenation.now layouts.now shelf.old shelf.new result }
     ensures changes { ChangesOne S.Shelf concatenation.now.output.now shelf.old shelf.new }
     ensures faults { CountsStop (S.state shelf.old).faults (S.state shelf.new).faults result }
-    ensures asked { AsksForEach 3 196608 S.state concatenation.now.inputs shelf.old shelf.new }
+    ensures asked { AsksForEach 1 32768 S.state concatenation.now.inputs shelf.old shelf.new }
 {
     let Some(like) = layouts.first() else {
         return Ok(Answer::Refused(concatenation.output, Refusal::MissingFile));
@@ -86,7 +86,7 @@ fn concat_laid<'a, S: Shelf>(
 /// refused by what it is when its frames are put, and the output holds those before.
 ///
 /// `Fault` where a call of the shelf or of a disk failed, and `Memory` where there is none: then the output
-/// may stand there in part. No more bytes are asked than eight times the inputs have, and 262144 for each.
+/// may stand there in part. No more bytes are asked than twice the inputs have, and 49152 for each.
 pub fn concat<'a, S: Shelf>(
     alloc: Global,
     concatenation: &Concatenation<'a>,

@@ -37,7 +37,7 @@ fn make<'a, S: Shelf, E: Disk>(
     ensures reads { ReadsFiles S.Shelf shelf.old shelf.new }
     ensures tells { StillTells (E.state disk.old) (E.state disk.new) }
     ensures time { GoesOnFrom E.state E.left_between disk.old disk.new }
-    ensures asked { AsksForEach 3 180224 S.state names.now shelf.old shelf.new }
+    ensures asked { AsksForEach 1 16384 S.state names.now shelf.old shelf.new }
     ensures unasked { (E.state disk.new).asked ≡ (E.state disk.old).asked }
 {
     like.keeps_rule();
@@ -96,7 +96,7 @@ fn make_apart<'a, S: Shelf, E: Disk>(
     ensures reads { ReadsFiles S.Shelf shelf.old shelf.new }
     ensures tells { StillTells (E.state disk.old) (E.state disk.new) }
     ensures time { GoesOnFrom E.state E.left_between disk.old disk.new }
-    ensures asked { AsksForEach 3 196608 S.state names.now shelf.old shelf.new }
+    ensures asked { AsksForEach 1 32768 S.state names.now shelf.old shelf.new }
     ensures unasked { (E.state disk.new).asked ≡ (E.state disk.old).asked }
 {
     see_apart(alloc, names, shelf)?;
@@ -117,7 +117,7 @@ pub(crate) fn make_under<'a, S: Shelf>(
     ensures made { MakesUnder S.state names.now output.now like.now shelf.old shelf.new result }
     ensures changes { ChangesOne S.Shelf output.now shelf.old shelf.new }
     ensures faults { CountsStop (S.state shelf.old).faults (S.state shelf.new).faults result }
-    ensures asked { AsksForEach 3 196608 S.state names.now shelf.old shelf.new }
+    ensures asked { AsksForEach 1 32768 S.state names.now shelf.old shelf.new }
 {
     let mut disk = take_output(output, shelf)?;
     let made = make_apart(alloc, names, like, shelf, &mut disk);

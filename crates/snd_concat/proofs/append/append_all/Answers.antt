@@ -1,4 +1,4 @@
-use Rattle.std.proofs.Common.{◌≡◌, ◌∙◌, ◌+◌, ◌≤◌, ℕ, List, [], ◌∷◌, Some, length, slice_get, get_or, take, false, rules, arith, ap, sym, subst}
+use Rattle.std.proofs.Common.{◌≡◌, ◌∙◌, ◌+◌, ◌≤◌, ℕ, List, [], ◌∷◌, Some, length, slice_get, get_or, take, false, refl, rules, arith, ap, sym, subst}
 use Rattle.std.proofs.lemmas.List.{take_all}
 use Rattle.std.proofs.lemmas.Option.{get_or_from_slice_get, slice_get_within}
 use Rattle.snd_disk.proofs.Chains.{goes_on_then}
@@ -42,7 +42,7 @@ returns-in-Err-clause-appended g c = λ files es told all follow.
     let there : slice_get c.args.names.now c.loop-at.at ≡ Some name = search rules in
     let mid = c.loop-at.invariant.reads.files files told in
     let before = c.loop-at.invariant.so_far files es told all follow in
-    let next = follows_at files mid.0 c.args.names.now es c.loop-at.at name c.args.to.now.layout c.loop-at.to.layout all there (mid.2 name) c.args.to.now.linear c.loop-at.invariant.made.1 before.0 follow in
+    let next = follows_at files mid.0 c.args.names.now es c.loop-at.at name c.args.to.now.layout c.loop-at.to.layout all there (mid.2 name) (c.args.to.now.linear refl) c.loop-at.invariant.made.1 before.0 follow in
     absurd (refused_not_ok c.in_ok-append_input.field-0 c.in-Err.why c.in-Err.is (c.in_ok-append_input.ensures.appended mid.0 next.0 mid.1 next.2 next.3).0)
 
 pub loop-at-preserved : goal.loop-at-preserved
@@ -59,8 +59,8 @@ loop-at-preserved g c =
       reads = reads_then g.S.Shelf _ _ _ inv.reads c.append_input.ensures.reads;
       calm = c.in_ok-append_input.ensures.faults.1 ∙ inv.calm;
       to_calm = c.in_ok-append_input.ensures.faults.0 ∙ inv.to_calm;
-      asked = subst (λ (l : List (List ℕ)). AsksForEach 3 180224 g.S.Shelf.state l c.args.shelf.now c.append_input.new.shelf) (sym (one_more c.args.names.now c.loop-at.at name there))
-          (each_then g.S.Shelf.state 3 180224 (take c.loop-at.at c.args.names.now) (name ∷ []) c.args.shelf.now c.loop-at.shelf c.append_input.new.shelf inv.reads.files inv.asked c.append_input.ensures.asked);
+      asked = subst (λ (l : List (List ℕ)). AsksForEach 1 16384 g.S.Shelf.state l c.args.shelf.now c.append_input.new.shelf) (sym (one_more c.args.names.now c.loop-at.at name there))
+          (each_then g.S.Shelf.state 1 16384 (take c.loop-at.at c.args.names.now) (name ∷ []) c.args.shelf.now c.loop-at.shelf c.append_input.new.shelf inv.reads.files inv.asked c.append_input.ensures.asked);
       unasked = c.append_input.ensures.unasked ∙ inv.unasked;
       tells = record { told = c.append_input.ensures.tells.told ∙ inv.tells.told; name = c.append_input.ensures.tells.name ∙ inv.tells.name };
       time = goes_on_then (g.E.Disk.state (disk_of old)).clock (g.E.Disk.state (disk_of now)).clock (g.E.Disk.state (disk_of new)).clock (g.E.Disk.left_between (disk_of old)) (g.E.Disk.left_between (disk_of now)) (g.E.Disk.left_between (disk_of new))
@@ -68,7 +68,7 @@ loop-at-preserved g c =
       so_far = λ files es told all follow.
           let mid = inv.reads.files files told in
           let before = inv.so_far files es told all follow in
-          let next = follows_at files mid.0 c.args.names.now es c.loop-at.at name old.layout now.layout all there (mid.2 name) old.linear inv.made.1 before.0 follow in
+          let next = follows_at files mid.0 c.args.names.now es c.loop-at.at name old.layout now.layout all there (mid.2 name) (old.linear refl) inv.made.1 before.0 follow in
           let done = c.in_ok-append_input.ensures.appended mid.0 next.0 mid.1 next.2 next.3 in
           let same : numbers_for (codec_of now) next.0 ≡ numbers_for (codec_of old) next.0 = ap (λ (h : Shape). numbers_for h.params.codec next.0) inv.made.1 in
           let more = gains_same g.E.Disk.state (numbers_for (codec_of now) next.0) (numbers_for (codec_of old) next.0) now new same done.2 in (
@@ -92,12 +92,12 @@ returns-clause-appended g c = λ files es told all follow.
 pub returns-in_err-append_input-clause-asked : goal.returns-in_err-append_input-clause-asked
 returns-in_err-append_input-clause-asked g c =
     let there : slice_get c.args.names.now c.loop-at.at ≡ Some c.in-Some.name.now = search rules in
-    asks_next g.S.Shelf.state 3 180224 c.args.names.now c.loop-at.at c.in-Some.name.now there c.args.shelf.now c.loop-at.shelf c.append_input.new.shelf c.loop-at.invariant.reads.files c.loop-at.invariant.asked c.append_input.ensures.asked
+    asks_next g.S.Shelf.state 1 16384 c.args.names.now c.loop-at.at c.in-Some.name.now there c.args.shelf.now c.loop-at.shelf c.append_input.new.shelf c.loop-at.invariant.reads.files c.loop-at.invariant.asked c.append_input.ensures.asked
 
 pub returns-in-Err-clause-asked : goal.returns-in-Err-clause-asked
 returns-in-Err-clause-asked g c =
     let there : slice_get c.args.names.now c.loop-at.at ≡ Some c.in-Some.name.now = search rules in
-    asks_next g.S.Shelf.state 3 180224 c.args.names.now c.loop-at.at c.in-Some.name.now there c.args.shelf.now c.loop-at.shelf c.append_input.new.shelf c.loop-at.invariant.reads.files c.loop-at.invariant.asked c.append_input.ensures.asked
+    asks_next g.S.Shelf.state 1 16384 c.args.names.now c.loop-at.at c.in-Some.name.now there c.args.shelf.now c.loop-at.shelf c.append_input.new.shelf c.loop-at.invariant.reads.files c.loop-at.invariant.asked c.append_input.ensures.asked
 
 pub returns-clause-asked : goal.returns-clause-asked
-returns-clause-asked g c = each_front g.S.Shelf.state 3 180224 c.args.names.now c.loop-at.at c.args.shelf.now c.loop-at.shelf c.loop-at.invariant.asked
+returns-clause-asked g c = each_front g.S.Shelf.state 1 16384 c.args.names.now c.loop-at.at c.args.shelf.now c.loop-at.shelf c.loop-at.invariant.asked

@@ -19,7 +19,7 @@ invariant-loop-at g l = record {
   reads : ReadsFiles g.S.Shelf l.fn.shelf l.shelf;
   calm : (g.S.Shelf.state l.shelf).faults ≡ (g.S.Shelf.state l.fn.shelf).faults;
   to_calm : (g.E.Disk.state (disk_of l.to)).faults ≡ (g.E.Disk.state (disk_of l.fn.to)).faults;
-  asked : AsksForEach 3 180224 g.S.Shelf.state (take l.at l.fn.names) l.fn.shelf l.shelf;
+  asked : AsksForEach 1 16384 g.S.Shelf.state (take l.at l.fn.names) l.fn.shelf l.shelf;
   unasked : AsksNothing g.E.Disk.state l.fn.to l.to;
   tells : TellsOn g.E.Disk.state l.fn.to l.to;
   time : GoesOnFrom g.E.Disk.state g.E.Disk.left_between (disk_of l.fn.to) (disk_of l.to);

@@ -1,4 +1,4 @@
-use Rattle.std.proofs.Common.{◌≡◌, ◌+◌, ◌-◌, ap, length, refl, arith}
+use Rattle.std.proofs.Common.{◌≡◌, ◌+◌, ◌-◌, ap, refl, arith}
 use Rattle.snd_inputs.proofs.Asking.{asks_to_copy}
 use Rattle.snd_layout.specs.Shape.{Shape}
 use Rattle.snd_modes.specs.Handle.{Known, known_of}
@@ -11,11 +11,11 @@ returns-clause-appended g c = λ e stands first follows.
     let same : c.args.from.now.layout.frames ≡ e.shape.frames = ap (λ (h : Shape). h.frames) stands.shape in
     (refl, omega (arith, counted, same, c.requires.unread.first), gains_file g.E.Disk.state g.D.Disk.state c.args.from.now c.args.to.now c.append.new.to e stands first c.in_ok-append.ensures.lengthens)
 
--- the frames of a file that is unread are asked for, a block at a time
+-- the frames of a file that is unread are asked for
 pub returns-in_err-append-clause-asked : goal.returns-in_err-append-clause-asked
 returns-in_err-append-clause-asked g c =
-    asks_to_copy (known_of c.args.from.now) (length c.args.block.now) _ _ c.params_of.ensures.linear c.params_of.ensures.good c.params_of.ensures.params c.requires.unread c.requires.places c.append.ensures.asked
+    asks_to_copy (known_of c.args.from.now) _ _ c.requires.unread c.append.ensures.asked
 
 pub returns-clause-asked : goal.returns-clause-asked
 returns-clause-asked g c =
-    asks_to_copy (known_of c.args.from.now) (length c.args.block.now) _ _ c.params_of.ensures.linear c.params_of.ensures.good c.params_of.ensures.params c.requires.unread c.requires.places c.append.ensures.asked
+    asks_to_copy (known_of c.args.from.now) _ _ c.requires.unread c.append.ensures.asked

@@ -62,6 +62,6 @@ returns-in-Err-clause-changes g c = reads_changes g.S.Shelf c.args.concatenation
 pub returns-in-Ok-Sound-clause-asked : goal.returns-in-Ok-Sound-clause-asked
 returns-in-Ok-Sound-clause-asked g c =
     let inputs = c.args.concatenation.now.inputs in
-    each_less g.S.Shelf.state 3 212992 8 262144 inputs c.args.shelf.now c.concat_laid.new.shelf (omega arith) (omega arith)
-    (both_then g.S.Shelf.state 0 16384 3 196608 inputs c.args.shelf.now c.look_all.new.shelf c.concat_laid.new.shelf c.look_all.ensures.reads.files
+    each_less g.S.Shelf.state 1 49152 2 49152 inputs c.args.shelf.now c.concat_laid.new.shelf (omega arith) (omega arith)
+    (both_then g.S.Shelf.state 0 16384 1 32768 inputs c.args.shelf.now c.look_all.new.shelf c.concat_laid.new.shelf c.look_all.ensures.reads.files
     (asks_looks g.S.Shelf.state 0 16384 inputs c.args.shelf.now c.look_all.new.shelf (omega arith) c.look_all.ensures.asked) c.concat_laid.ensures.asked)

@@ -24,5 +24,5 @@ returns-clause-reads g c = reads_then g.S.Shelf _ _ _ c.see_apart.ensures.reads 
 
 pub returns-clause-asked : goal.returns-clause-asked
 returns-clause-asked g c =
-    both_then g.S.Shelf.state 0 16384 3 180224 c.args.names.now c.args.shelf.now c.see_apart.new.shelf c.make.new.shelf c.see_apart.ensures.reads.files
+    both_then g.S.Shelf.state 0 16384 1 16384 c.args.names.now c.args.shelf.now c.see_apart.new.shelf c.make.new.shelf c.see_apart.ensures.reads.files
     (asks_looks g.S.Shelf.state 0 16384 c.args.names.now c.args.shelf.now c.see_apart.new.shelf (omega arith) c.see_apart.ensures.asked) c.make.ensures.asked

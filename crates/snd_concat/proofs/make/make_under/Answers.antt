@@ -33,5 +33,5 @@ returns-clause-changes g c =
 pub returns-clause-asked : goal.returns-clause-asked
 returns-clause-asked g c =
     let out = c.in_ok-disk.ensures.out in
-    asks_beside g.S.Shelf.state 3 196608 c.args.names.now c.args.output.now c.args.shelf.now c.take_output.new.shelf c.make_apart-made.new.shelf c.give.new.self _ out.takes.files out.bytes.asked c.make_apart-made.ensures.asked
+    asks_beside g.S.Shelf.state 1 32768 c.args.names.now c.args.output.now c.args.shelf.now c.take_output.new.shelf c.make_apart-made.new.shelf c.give.new.self _ out.takes.files out.bytes.asked c.make_apart-made.ensures.asked
     (c.make_apart-made.ensures.unasked ∙ out.takes.fresh.2) c.give.ensures.given.asked

@@ -1,0 +1,10 @@
+use Rattle.std.proofs.Common.{refl}
+use Rattle.std.proofs.lemmas.Result.{IfOk-weaker}
+use Rattle.snd_modes.specs.Editing.{first_editing}
+use Rattle.snd_concat.proofs.append.append_laid.Goals as goal
+
+pub returns-clause-appended : goal.returns-clause-appended
+returns-clause-appended g c =
+    IfOk-weaker c.append_file-appended.result _ _
+    (λ done appended b tells follows. appended (first_editing b c.args.layout) (c.in-Ok.ensures.stands b tells) refl follows)
+    c.append_file-appended.ensures.appended
