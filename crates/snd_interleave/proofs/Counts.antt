@@ -1,20 +1,28 @@
 -- Counts of faults of inputs side by side, of the disk that is made, and of a shelf.
-use Rattle.std.proofs.Common.{◌≡◌, ◌∙◌, ap, sym, refl, subst, inl, inr, ◌⊎◌, ℕ, ◌+◌, ◌<◌, ◌≤◌, List, [], ◌∷◌, ◌++◌, length, get_or, set, Result, Ok, Err, OnOk, arith}
+use Rattle.std.proofs.Common.{◌≡◌, ◌∙◌, ap, sym, refl, subst, inl, inr, ◌⊎◌, ℕ, ◌+◌, ◌<◌, ◌≤◌, List, [], ◌∷◌, ◌++◌, length, get_or, set, true, Option, None, Some, Result, Ok, Err, arith}
 use Rattle.std.proofs.lemmas.Bool.{cases_lt}
 use Rattle.std.proofs.lemmas.Grind.{get_or-set_at}
 use Rattle.std.proofs.lemmas.List.{get_or_append_left, get_or_at, get_or_default, get_or-set_other, length-append}
+use Rattle.std.specs.Prelude.{is_some}
 use Rattle.snd_disk.specs.declared.disk.Disk.{Ghosts}
+use Rattle.snd_disk.specs.declared.disk.Step.{Step}
 use Rattle.snd_disk.specs.State.{Adds, Rises, State}
-use Rattle.snd_output.specs.Appended.{CountsFault}
+use Rattle.snd_modes.specs.Handle.{Known}
+use Rattle.snd_output.specs.Ends.{BreaksByFault, CountsStop}
 use Rattle.snd_output.specs.declared.stop.Stop.{Stop}
 use Rattle.snd_output.specs.declared.stop.Stop.TheVariants.{Fault, Memory}
 use Rattle.snd_tools.proofs.Counts.{rises_on, rises_with}
-use Rattle.snd_interleave.specs.Channels.{AreCalm, AreLater, CountsAdding, CountsInputs, CountsWith, OneRises, faults_of}
+use Rattle.snd_interleave.specs.Channels.{AreCalm, AreLater, CountsInputs, CountsWith, OneRises, faults_of}
 use Rattle.snd_inputs.specs.declared.input.Input.{Input}
 
 pub rises_later : (a b c : ℕ) → a ≤ b → Rises b c → Rises a c
 rises_later a b c later (inl rose) = inl (omega (arith, later, rose))
 rises_later a b c later (inr last) = inr last
+
+-- a file that is broken has had a fault
+never_both : (o : Option Step) → is_some o ≡ true → o ≡ None → ⊥
+never_both None some none = absurd (cc)
+never_both (Some step) some none = absurd (cc)
 
 module _ {D : Type 0} {ghosts : Ghosts D} (state : D → State) where
   same_faults : (xs : List (Input D ghosts)) (k : ℕ) (d d' : Input D ghosts) → k < length xs → faults_of state (get_or xs k d') ≡ faults_of state (get_or xs k d)
@@ -40,11 +48,11 @@ module _ {D : Type 0} {ghosts : Ghosts D} (state : D → State) where
     pub inputs_then : {T : Type 0} (r : Result T Stop) → AreCalm state xs ys → CountsInputs state ys zs r → CountsInputs state xs zs r
     inputs_then (Ok x) calm counts = calm_then calm counts
     inputs_then (Err Fault) calm counts = (later_then (calm_later xs ys calm) counts.0, rises_behind calm counts.1)
-    inputs_then (Err Memory) calm counts = counts
+    inputs_then (Err Memory) calm counts = calm_then calm counts
 
-    pub adding_then : {T : Type 0} (r : Result T Stop) (a b c : ℕ) → AreCalm state xs ys → b ≡ a → CountsAdding state ys zs b c r → CountsAdding state xs zs a c r
+    pub adding_then : {T : Type 0} (r : Result T Stop) (a b c : ℕ) → AreCalm state xs ys → b ≡ a → CountsWith state ys zs b c r → CountsWith state xs zs a c r
     adding_then (Ok x) a b c calm same counts = (calm_then calm counts.0, counts.1 ∙ same)
-    adding_then (Err Memory) a b c calm same counts = counts
+    adding_then (Err Memory) a b c calm same counts = (calm_then calm counts.0, counts.1 ∙ same)
     adding_then (Err Fault) a b c calm same counts = (
       later_then (calm_later xs ys calm) counts.0,
       omega (arith, same, counts.1),
@@ -80,9 +88,9 @@ module _ {D : Type 0} {ghosts : Ghosts D} (state : D → State) where
       | inr other ↦ let a = other_is d d' k lt other in omega (arith, a)
     ]
 
-    pub counts_one : {T : Type 0} (r : Result T Stop) → CountsFault (faults_of state x) (faults_of state y) r → CountsInputs state xs (set xs i y) r
+    pub counts_one : {T : Type 0} (r : Result T Stop) → CountsStop (faults_of state x) (faults_of state y) r → CountsInputs state xs (set xs i y) r
     counts_one (Ok t) counts = calm_one counts
-    counts_one (Err Memory) counts = counts
+    counts_one (Err Memory) counts = calm_one counts
     counts_one (Err Fault) counts = (
       later_one counts.0,
       (i, within, λ d d'. subst (λ (n : ℕ). Rises n (faults_of state (get_or (set xs i y) i d'))) (sym (here_was d i refl)) (subst (λ (n : ℕ). Rises (faults_of state x) n) (sym (here_is d' i refl)) counts.1)),
@@ -92,16 +100,16 @@ module _ {D : Type 0} {ghosts : Ghosts D} (state : D → State) where
 
   module _ (xs ys : List (Input D ghosts)) (a b c : ℕ) where
     -- .. or not, since a call of its disk has failed before
-    pub counts_broken : (U : Type 0) {T : Type 0} (r : Result T Stop) → OnOk r ⊥ → b ≡ c → CountsAdding state xs ys a c r → CountsWith {T = U} state xs ys a b (Err Fault)
-    counts_broken U (Ok x) none same counts = absurd none
-    counts_broken U (Err Fault) none same counts = (counts.0, omega (arith, same, counts.1), elim counts.2 [ inl rises ↦ inl rises | inr rises ↦ inr (subst (Rises a) (sym same) rises) ])
-    counts_broken U (Err Memory) none same counts = absurd counts
+    pub counts_broken : (U : Type 0) {T : Type 0} (r : Result T Stop) (to : Known) → BreaksByFault to r → is_some to.broken ≡ true → b ≡ c → CountsWith state xs ys a c r → CountsWith {T = U} state xs ys a b (Err Fault)
+    counts_broken U (Ok x) to works broken same counts = absurd (never_both to.broken broken works)
+    counts_broken U (Err Fault) to works broken same counts = (counts.0, omega (arith, same, counts.1), elim counts.2 [ inl rises ↦ inl rises | inr rises ↦ inr (subst (Rises a) (sym same) rises) ])
+    counts_broken U (Err Memory) to works broken same counts = absurd (never_both to.broken broken works)
 
     -- .. or since one fails now
-    pub counts_unfinished : (U : Type 0) {T : Type 0} (r : Result T Stop) → c ≤ b → Rises c b → CountsAdding state xs ys a c r → CountsWith {T = U} state xs ys a b (Err Fault)
+    pub counts_unfinished : (U : Type 0) {T : Type 0} (r : Result T Stop) → c ≤ b → Rises c b → CountsWith state xs ys a c r → CountsWith {T = U} state xs ys a b (Err Fault)
     counts_unfinished U (Ok x) later rises counts = (calm_later xs ys counts.0, omega (arith, later, counts.1), inr (rises_later a c b (omega (arith, counts.1)) rises))
     counts_unfinished U (Err Fault) later rises counts = (counts.0, omega (arith, later, counts.1), inr (rises_later a c b counts.1 rises))
-    counts_unfinished U (Err Memory) later rises counts = absurd counts
+    counts_unfinished U (Err Memory) later rises counts = (calm_later xs ys counts.0, omega (arith, later, counts.1), inr (rises_later a c b (omega (arith, counts.1)) rises))
 
   -- the last input is taken from the others
   module _ (xs ys : List (Input D ghosts)) (x y : Input D ghosts) (count : length ys ≡ length xs) where

@@ -1,5 +1,5 @@
 -- A file that is made of inputs: it may be given all frames once it is begun, and how it ends.
-use Rattle.std.proofs.Common.{◌≡◌, ◌∙◌, ap, sym, subst, inl, inr, ◌⊎◌, ℕ, ◌+◌, ◌≤◌, List, [], true, false, Option, None, Some, Result, Ok, Err, OnOk, arith}
+use Rattle.std.proofs.Common.{◌≡◌, ◌∙◌, ap, sym, subst, inl, inr, ◌⊎◌, ℕ, ◌+◌, ◌≤◌, List, [], true, false, None, Result, Err, arith}
 use Rattle.std.proofs.lemmas.Bool.{ltb-false}
 use Rattle.std.specs.Prelude.{is_some}
 use Rattle.snd_container.proofs.EveryKind.{made}
@@ -9,14 +9,14 @@ use Rattle.snd_layout.specs.Fit.{fit_refusal}
 use Rattle.snd_layout.specs.Params.{AreParams, Parameters, data_bytes}
 use Rattle.snd_layout.specs.Shape.{Shape, room}
 use Rattle.snd_layout.specs.declared.kind.Kind.{Kind}
-use Rattle.snd_disk.specs.declared.disk.Step.{Step}
 use Rattle.snd_modes.specs.Handle.{IsFresh, Known}
 use Rattle.snd_modes.specs.Relaid.{shape_with}
 use Rattle.snd_output.proofs.Begun.{new_says}
 use Rattle.snd_output.specs.Appended.{HasRoom, IsAtEnd}
+use Rattle.snd_output.specs.Ends.{BreaksByFault}
 use Rattle.snd_output.specs.declared.stop.Stop.{Stop}
 use Rattle.snd_output.specs.declared.stop.Stop.TheVariants.{Fault}
-use Rattle.snd_interleave.specs.Channels.{CountsAdding, CountsWith}
+use Rattle.snd_interleave.specs.Channels.{CountsWith}
 use Rattle.snd_interleave.specs.Interleave.{is_full}
 use Rattle.snd_inputs.specs.declared.input.Input.{Input}
 use Rattle.snd_interleave.proofs.Counts.{counts_broken, counts_unfinished}
@@ -49,17 +49,9 @@ module _ (kind : Kind) (p : Parameters) (to : Known) (good : AreParams p) (fits 
 
 -- a file that is not finished
 module _ {D : Type 0} {ghosts : Ghosts D} (state : D → State) (xs ys : List (Input D ghosts)) (a b c : ℕ) where
-  pub counts_not_finished : (r : Result (Unit {0}) Stop) (stop : Stop) (broken : Option Step) → OnOk r (broken ≡ None) → stop ≡ Fault → CountsAdding state xs ys a c r
-      → ((is_some broken ≡ true) × (b ≡ c)) ⊎ ((c ≤ b) × Rises c b) → CountsWith {T = Unit {0}} state xs ys a b (Err stop)
-  counts_not_finished r stop broken left is counts (inl before) =
-      subst (λ (s : Stop). CountsWith {T = Unit {0}} state xs ys a b (Err s)) (sym is) (counts_broken state xs ys a b c (Unit {0}) r (none r left) before.1 counts)
-    where
-      never : (o : Option Step) → is_some o ≡ true → o ≡ None → ⊥
-      never None some none = absurd (cc)
-      never (Some step) some none = absurd (cc)
-
-      none : (r : Result (Unit {0}) Stop) → OnOk r (broken ≡ None) → OnOk r ⊥
-      none (Ok x) left = never broken before.0 left
-      none (Err e) left = tt
-  counts_not_finished r stop broken left is counts (inr now) =
+  pub counts_not_finished : (r : Result (Unit {0}) Stop) (stop : Stop) (to : Known) → BreaksByFault to r → stop ≡ Fault → CountsWith state xs ys a c r
+      → ((is_some to.broken ≡ true) × (b ≡ c)) ⊎ ((c ≤ b) × Rises c b) → CountsWith {T = Unit {0}} state xs ys a b (Err stop)
+  counts_not_finished r stop to works is counts (inl before) =
+      subst (λ (s : Stop). CountsWith {T = Unit {0}} state xs ys a b (Err s)) (sym is) (counts_broken state xs ys a b c (Unit {0}) r to works before.0 before.1 counts)
+  counts_not_finished r stop to works is counts (inr now) =
       subst (λ (s : Stop). CountsWith {T = Unit {0}} state xs ys a b (Err s)) (sym is) (counts_unfinished state xs ys a b c (Unit {0}) r now.0 now.1 counts)

@@ -125,13 +125,13 @@ module _ (inputs : List (List ℕ)) (output : List ℕ) where
     rest_refused why refused = rest_next ∙ ap (λ (r : Result Editing Refusal). done_with inputs output (opened_behind es (input_before name r (inputs_in files (drop (length es + 1) inputs))))) refused
 
     -- .. or is taken out, and open beside the others
-    pub rest_open : (apart : AreApart inputs output) (files' : Files) (b : List ℕ) (e : Editing) → files name ≡ Some b → SameFiles (put files name None) files' → opening_of b ≡ Ok e
+    pub rest_open : (apart : AreApart inputs output) (files' : Files) (b : List ℕ) (e : Editing) → files name ≡ Some b → SameFiles (put files name None) files' → input_as (opening_of b) ≡ Ok e
         → done_rest inputs output files es ≡ done_rest inputs output files' (es ++ e ∷ [])
     rest_open apart files' b e is out opens =
         rest_next
         ∙ ap (λ (o : Option (List ℕ)). done_with inputs output (opened_behind es (input_before name (input_in o) (inputs_in files (drop (length es + 1) inputs))))) is
         ∙ ap (λ r. done_with inputs output (opened_behind es (input_before name (input_as (opening_of b)) r))) (sym (same_inputs (drop (length es + 1) inputs) files files' same))
-        ∙ ap (λ r. done_with inputs output (opened_behind es (input_before name (input_as r) (inputs_in files' (drop (length es + 1) inputs))))) opens
+        ∙ ap (λ r. done_with inputs output (opened_behind es (input_before name r (inputs_in files' (drop (length es + 1) inputs))))) opens
         ∙ ap (done_with inputs output) (sym (behind_one es name e (inputs_in files' (drop (length es + 1) inputs))))
         ∙ ap (λ (n : ℕ). done_with inputs output (opened_behind (es ++ e ∷ []) (inputs_in files' (drop n inputs)))) (sym (length-append es (e ∷ [])))
       where

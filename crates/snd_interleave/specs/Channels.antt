@@ -84,19 +84,13 @@ AreLater {D = D} {ghosts = ghosts} state old new = (k : ℕ) (d d' : Input D gho
 abbrev pub OneRises : {D : Type 0} {ghosts : Ghosts D} → (D → State) → List (Input D ghosts) → List (Input D ghosts) → Type 0
 OneRises {D = D} {ghosts = ghosts} state old new = (k : ℕ) × (k < length old) × ((d d' : Input D ghosts) → Rises (faults_of state (get_or old k d)) (faults_of state (get_or new k d')))
 
--- One rises where the answer is a fault, and there alone. There is never no memory.
+-- One rises where the answer is a fault, and there alone.
 abbrev pub CountsInputs : {D T : Type 0} {ghosts : Ghosts D} → (D → State) → List (Input D ghosts) → List (Input D ghosts) → Result T Stop → Type 0
 CountsInputs state old new (Ok done) = AreCalm state old new
 CountsInputs state old new (Err Fault) = AreLater state old new × OneRises state old new
-CountsInputs state old new (Err Memory) = ⊥
+CountsInputs state old new (Err Memory) = AreCalm state old new
 
 -- One of theirs rises so, or another one.
-abbrev pub CountsAdding : {D T : Type 0} {ghosts : Ghosts D} → (D → State) → List (Input D ghosts) → List (Input D ghosts) → ℕ → ℕ → Result T Stop → Type 0
-CountsAdding state old new other other' (Ok done) = AreCalm state old new × (other' ≡ other)
-CountsAdding state old new other other' (Err Fault) = AreLater state old new × (other ≤ other') × (OneRises state old new ⊎ Rises other other')
-CountsAdding state old new other other' (Err Memory) = ⊥
-
--- .. and there may be no memory
 abbrev pub CountsWith : {D T : Type 0} {ghosts : Ghosts D} → (D → State) → List (Input D ghosts) → List (Input D ghosts) → ℕ → ℕ → Result T Stop → Type 0
 CountsWith state old new other other' (Ok done) = AreCalm state old new × (other' ≡ other)
 CountsWith state old new other other' (Err Fault) = AreLater state old new × (other ≤ other') × (OneRises state old new ⊎ Rises other other')
@@ -115,9 +109,9 @@ CountsMaking state state' old new disk disk' result = CountsWith state old new (
 
 abbrev pub CountsAddingTo : {D E N T : Type 0} {ghosts : Ghosts D} {t : Ghosts E} {n : ModeGhosts N}
     → (D → State) → (E → State) → List (Input D ghosts) → List (Input D ghosts) → File E N t n → File E N t n → Result T Stop → Type 0
-CountsAddingTo state state' old new to to' result = CountsAdding state old new (faults_of_file state' to) (faults_of_file state' to') result
+CountsAddingTo state state' old new to to' result = CountsWith state old new (faults_of_file state' to) (faults_of_file state' to') result
 
--- that of an open file alone
+-- That of an open file alone. There is never no memory.
 abbrev pub CountsFaultOf : {E N T : Type 0} {t : Ghosts E} {n : ModeGhosts N} → (E → State) → File E N t n → File E N t n → Result T Stop → Type 0
 CountsFaultOf state old new result = CountsFault (faults_of_file state old) (faults_of_file state new) result
 

@@ -1,7 +1,6 @@
 //! The frames of inputs side by side, behind those of a file that is made.
 
-ghost use Rattle.std.specs.Prelude.{◌≡◌, ◌≤◌, ◌*◌, None, OnOk, false, is_none, length};
-ghost use Rattle.snd_container.specs.Sound.{fixed_of};
+ghost use Rattle.std.specs.Prelude.{◌≡◌, ◌≤◌, ◌*◌, None, OnOk, length};
 ghost use Rattle.snd_disk.specs.Device.{GoesOnFrom};
 ghost use Rattle.snd_modes.specs.Edits.{written_to};
 ghost use Rattle.snd_modes.specs.Handle.{StandsAfter, channels_of, codec_of, disk_of, known_of, loan_of};
@@ -9,6 +8,7 @@ ghost use Rattle.snd_modes.specs.Outcomes.{TellsOn};
 ghost use Rattle.snd_modes.specs.Reading.{FitCodec};
 ghost use Rattle.snd_modes.specs.WriteCalls.{MayWrite, known_written};
 ghost use Rattle.snd_output.specs.Appended.{HasRoom, IsAtEnd, longer};
+ghost use Rattle.snd_output.specs.Ends.{BreaksByFault};
 ghost use Rattle.snd_interleave.specs.Channels.{AreMono, CountsAddingTo, CountsFaultOf, CountsInputs, HasFrames, Lengthens, ReadAll};
 
 use crate::channel::{read_numbers, width_in};
@@ -34,7 +34,6 @@ fn fill_block<D: Disk>(
     block: &mut [i32],
 ) -> Result<(), Stop>
     requires mono { AreMono inputs.old }
-    requires linear { is_none (fixed_of codec) ≡ false }
     requires size { length block.old ≡ length buffer.old * length inputs.old }
     ensures filled { OnOk result (HasFrames D.state inputs.old codec place buffer.old block.new) }
     ensures in_range { OnOk result (FitCodec codec block.new) }
@@ -52,10 +51,9 @@ fn fill_block<D: Disk>(
     Ok(())
 }
 
-// The codec of a file that is made, which is not ADPCM. It has some channel.
+// The codec of a file that is made, which has some channel.
 fn made_codec<E: Disk>(to: &File<'_, E, Write>) -> Codec
     ensures codec { result ≡ codec_of to.now }
-    ensures linear { is_none (fixed_of result) ≡ false }
     ensures some { 1 ≤ channels_of to.now }
 {
     let params = to.params();
@@ -98,6 +96,7 @@ fn add_block<D: Disk, E: Disk>(
     requires size { length block.old ≡ length buffer.old * length inputs.old }
     ensures loan { loan_of to.new ≡ loan_of to.old }
     ensures left { OnOk result (known_of to.new ≡ longer (length buffer.old) (known_of to.old)) }
+    ensures works { BreaksByFault (known_of to.new) result }
     ensures lengthens { OnOk result (Lengthens D.state E.state place (length buffer.old) inputs.old to.old to.new) }
     ensures faults { CountsAddingTo D.state E.state inputs.old inputs.new to.old to.new result }
     ensures reads { ReadAll D.Disk inputs.old inputs.new }
@@ -113,7 +112,7 @@ fn add_block<D: Disk, E: Disk>(
 /// time: so many, from the first on, with zeros where an input has ended. Each number has the width of the
 /// codec of the file.
 ///
-/// The answer is `Fault` where a call of a disk failed.
+/// The answer is `Fault` where a call of a disk failed, and `Memory` where there is none.
 pub(crate) fn add_frames<D: Disk, E: Disk>(
     alloc: Global,
     inputs: &mut [Input<D>],
@@ -125,7 +124,7 @@ pub(crate) fn add_frames<D: Disk, E: Disk>(
     requires at_end { IsAtEnd (known_of to.old) }
     requires room { HasRoom frames (known_of to.old).shape }
     ensures loan { loan_of to.new ≡ loan_of to.old }
-    ensures left { OnOk result ((known_of to.new).broken ≡ None) }
+    ensures works { BreaksByFault (known_of to.new) result }
     ensures lengthens { OnOk result (Lengthens D.state E.state 0 frames inputs.old to.old to.new) }
     ensures faults { CountsAddingTo D.state E.state inputs.old inputs.new to.old to.new result }
     ensures reads { ReadAll D.Disk inputs.old inputs.new }

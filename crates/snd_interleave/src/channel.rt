@@ -7,7 +7,7 @@ ghost use Rattle.snd_inputs.specs.Copying.{OnlyReadsFile};
 ghost use Rattle.snd_layout.specs.Shape.{end, room};
 ghost use Rattle.snd_modes.specs.Handle.{IfOkStanding, channels_of, codec_of, known_of, loan_of};
 ghost use Rattle.snd_modes.specs.Reading.{FitCodec};
-ghost use Rattle.snd_output.specs.Appended.{CountsFault};
+ghost use Rattle.snd_output.specs.Ends.{CountsStop};
 ghost use Rattle.snd_output.specs.Widths.{width_of};
 ghost use Rattle.snd_pcm.specs.Width.{HasWidth, IsWidth};
 ghost use Rattle.snd_interleave.specs.Channels.{CountsFaultOf, Reads, faults_of};
@@ -51,7 +51,7 @@ fn bare_layout(alloc: Global, layout: &Layout) -> Layout
 }
 
 // Reads the numbers of an open file of one channel, from a frame on: as many as the slice has places for,
-// fewer only at the end.
+// fewer only at the end. They stand in no blocks, of which one might be bad.
 fn read_from<D: Disk>(
     file: &mut File<'_, D, Read>,
     place: u64,
@@ -60,6 +60,7 @@ fn read_from<D: Disk>(
     requires working { (known_of file.old).broken ≡ None }
     requires mono { channels_of file.old ≡ 1 }
     requires within { place ≤ (known_of file.old).shape.frames }
+    requires linear { is_none (fixed_of (codec_of file.old)) ≡ false }
     ensures loan { loan_of file.new ≡ loan_of file.old }
     ensures count { IfOk result (IsCount place (known_of file.old).shape.frames (length into.old)) }
     ensures read { IfOkStanding D.state file.old result (GivesNumbers place into.new) }
@@ -79,6 +80,7 @@ fn read_from<D: Disk>(
 
 // .. of the file on a disk, by its layout
 fn read_laid<D: Disk>(
+    alloc: Global,
     disk: &mut D,
     layout: Layout,
     place: u64,
@@ -93,10 +95,16 @@ fn read_laid<D: Disk>(
     ensures count { IfOk result (IsCount place layout.frames (length into.old)) }
     ensures read { IfOkTold D.state disk.old result (GivesLaid place into.new layout) }
     ensures in_range { IfOk result (λ k. FitCodec layout.params.codec (take k into.new)) }
-    ensures faults { CountsFault (D.state disk.old).faults (D.state disk.new).faults result }
+    ensures faults { CountsStop (D.state disk.old).faults (D.state disk.new).faults result }
     ensures reads { OnlyReadsOn D.state D.may_leave D.left_between disk.old disk.new }
 {
-    let mut file = open_laid(disk, layout);
+    let mut file = match open_laid(alloc, disk, layout) {
+        Ok(file) => file,
+        Err((_, back)) => {
+            let _ = back;
+            return Err(Stop::Memory);
+        }
+    };
     let count = read_from(&mut file, place, into);
     let back = close_read(file);
     let _ = back;
@@ -114,14 +122,14 @@ fn read_input<D: Disk>(
     ensures count { IfOk result (IsCount place input.old.layout.frames (length into.old)) }
     ensures read { IfOk result (GivesHeld D.state input.old place into.new) }
     ensures in_range { IfOk result (λ k. FitCodec input.old.layout.params.codec (take k into.new)) }
-    ensures faults { CountsFault (faults_of D.state input.old) (faults_of D.state input.new) result }
+    ensures faults { CountsStop (faults_of D.state input.old) (faults_of D.state input.new) result }
     ensures reads { Reads D.Disk input.old input.new }
 {
     if place >= input.layout.frames {
         return Ok(0);
     }
     let layout = bare_layout(alloc, &input.layout);
-    read_laid(&mut input.disk, layout, place, into)
+    read_laid(alloc, &mut input.disk, layout, place, into)
 }
 
 // Puts zeros into a slice from a place on.
@@ -146,7 +154,7 @@ pub(crate) fn read_numbers<D: Disk>(
     requires mono { input.old.layout.params.channels ≡ 1 }
     ensures read { OnOk result (HasNumbers D.state input.old place into.new) }
     ensures in_range { OnOk result (All (HasWidth (width_of input.old.layout.params.codec)) into.new) }
-    ensures faults { CountsFault (faults_of D.state input.old) (faults_of D.state input.new) result }
+    ensures faults { CountsStop (faults_of D.state input.old) (faults_of D.state input.new) result }
     ensures reads { Reads D.Disk input.old input.new }
 {
     let count = read_input(alloc, input, place, into)?;

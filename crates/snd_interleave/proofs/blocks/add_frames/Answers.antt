@@ -7,7 +7,7 @@ use Rattle.snd_output.proofs.Appending.{longer_none, longer_twice}
 use Rattle.snd_output.specs.Appended.{HasRoom, longer}
 use Rattle.snd_output.specs.Made.{IsMaking}
 use Rattle.snd_interleave.specs.Beside.{frames_from}
-use Rattle.snd_interleave.specs.Channels.{CountsAdding}
+use Rattle.snd_interleave.specs.Channels.{CountsWith}
 use Rattle.snd_interleave.specs.Interleave.{channels_in}
 use Rattle.snd_interleave.proofs.Adding.{numbers_on, room_on}
 use Rattle.snd_interleave.proofs.Counts.{adding_then, calm_itself, calm_then}
@@ -37,7 +37,7 @@ add_block-requires-clause-room g c =
     let known = known_of c.args.to.now in
     let numbers = take c.min-count.result c.loop-place.buffer in
     let few : c.loop-place.place + length numbers ≤ c.args.frames = omega (arith, length-take c.min-count.result c.loop-place.buffer, c.min-count.ensures, inv.within) in
-    subst (λ (k : Known). HasRoom (length numbers) k.shape) (sym inv.known) (room_on known c.args.frames c.loop-place.place (length numbers) c.args.to.now.linear few c.requires.room)
+    subst (λ (k : Known). HasRoom (length numbers) k.shape) (sym inv.known) (room_on known c.args.frames c.loop-place.place (length numbers) (c.args.to.now.linear refl) few c.requires.room)
 
 pub loop-place-preserved : goal.loop-place-preserved
 loop-place-preserved g c =
@@ -76,7 +76,7 @@ returns-in_err-add_block-clause-faults g c =
     let inv = c.loop-place.invariant in
     let stop = c.in_err-add_block.field-0.0 in
     let failed : c.from_residual.result ≡ Err stop = search rules in
-    subst (CountsAdding g.D.Disk.state c.args.inputs.now c.add_block.new.inputs (g.E.Disk.state (disk_of c.args.to.now)).faults (g.E.Disk.state (disk_of c.add_block.new.to)).faults) (sym failed)
+    subst (CountsWith g.D.Disk.state c.args.inputs.now c.add_block.new.inputs (g.E.Disk.state (disk_of c.args.to.now)).faults (g.E.Disk.state (disk_of c.add_block.new.to)).faults) (sym failed)
     (adding_then g.D.Disk.state c.args.inputs.now c.loop-place.inputs c.add_block.new.inputs c.loop-place.auto.inputs {T = Unit {0}} (Err stop) _ _ _ inv.calm inv.to_calm c.in_err-add_block.ensures.faults)
 
 pub returns-in_err-add_block-clause-reads : goal.returns-in_err-add_block-clause-reads

@@ -12,7 +12,7 @@ returns-in-Ok-read_frames-clause-read g c = λ e stands.
     let mono : channels_of c.seek_read.new.self ≡ 1 = ap (λ (k : Known). k.shape.params.channels) c.in-Ok.ensures.left.2 ∙ c.requires.mono in
     let few = few_read _ c.in-Ok-read_frames.count (channels_of c.seek_read.new.self) _ mono c.in-Ok-read_frames.ensures.left.1 in
     let fits : c.in-Ok-read_frames.count ≤ length c.read_frames.new.into = omega (arith, few, c.read_frames.auto.into) in
-    numbers_read c.args.place c.in-Ok-read_frames.count _ c.read_frames.new.into e mono fits (c.in-Ok-read_frames.ensures.read (moved_to c.args.place e) moved)
+    numbers_read c.args.place c.in-Ok-read_frames.count _ c.read_frames.new.into e mono fits (c.in-Ok-read_frames.ensures.read (moved_to c.args.place e) moved).frames
 
 pub returns-in-Ok-read_frames-clause-in_range : goal.returns-in-Ok-read_frames-clause-in_range
 returns-in-Ok-read_frames-clause-in_range g c =

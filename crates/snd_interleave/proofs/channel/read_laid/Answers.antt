@@ -4,4 +4,4 @@ use Rattle.snd_interleave.proofs.channel.read_laid.Goals as goal
 
 pub returns-clause-read : goal.returns-clause-read
 returns-clause-read g c =
-    IfOk-weaker c.read_from-count.result _ _ (λ k read b told. read (first_editing b c.args.layout) (c.open_laid-file.ensures.stands b told)) c.read_from-count.ensures.read
+    IfOk-weaker c.read_from-count.result _ _ (λ k read b told. read (first_editing b c.args.layout) (c.in-Ok.ensures.stands b told)) c.read_from-count.ensures.read

@@ -9,5 +9,5 @@ use Rattle.snd_interleave.proofs.channel.read_numbers.Goals as goal
 pub returns-clause-in_range : goal.returns-clause-in_range
 returns-clause-in_range g c =
     let codec = c.args.input.now.layout.params.codec in
-    let fit = fits_width codec (take c.in_ok-count.count c.read_input.new.into) c.args.input.now.linear c.in_ok-count.ensures.in_range in
+    let fit = fits_width codec (take c.in_ok-count.count c.read_input.new.into) c.in_ok-count.ensures.in_range in
     all_fit (HasWidth (width_of codec)) c.read_input.new.into c.put_zeros.new.into c.in_ok-count.count (zero_fits (width_of codec) (width_is codec)) fit c.put_zeros.ensures.front c.put_zeros.ensures.zeros

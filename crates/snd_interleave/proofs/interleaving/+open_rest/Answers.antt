@@ -14,6 +14,7 @@ use Rattle.snd_modes.specs.Editing.{first_editing}
 use Rattle.snd_interleave.specs.Channels.{CountsWith, HoldAll}
 use Rattle.snd_interleave.specs.Opening.{AreOut, done_rest, opened_behind}
 use Rattle.snd_interleave.specs.Interleave.{done_beside}
+use Rattle.snd_inputs.proofs.Seen.{read_as}
 use Rattle.snd_interleave.proofs.Counts.{counts_apart}
 use Rattle.snd_interleave.proofs.Inputs.{front_of, hold_more, last_of}
 use Rattle.snd_interleave.proofs.Joining.{makes_output}
@@ -142,7 +143,7 @@ returns-clause-done g t c =
     let more = es ++ e ∷ [] in
     let all : HoldAll g.S.Disk.Disk.state c.push.new.self.items more = subst (λ l. HoldAll g.S.Disk.Disk.state l more) (sym pushed) (hold_more g.S.Disk.Disk.state xs es x e hold found.3) in
     let todo = done_rest names output files es in
-    let same : todo ≡ done_rest names output out.0 more = rest_open names output files es name at c.requires.apart out.0 found.0 e found.1 out.2 found.2 in
+    let same : todo ≡ done_rest names output out.0 more = rest_open names output files es name at c.requires.apart out.0 found.0 e found.1 out.2 (read_as found.0 x.layout x.linear found.2) in
     let d = done_same g.S.Shelf.state one.new.shelf out.0 answer (done_rest names output out.0 more) todo same (done out.0 more out.1 all) in (
       d.0,
       held_done g.S.Shelf g.S.Disk.Disk c.args.shelf.now c.open_input.new.shelf one.new.shelf c.give-2.new.self x x.disk y.disk y.disk name opens refl refl (last_of g.S.Disk.Disk xs ys x y _ _ pushed popped one.ensures.reads).disk c.give-2.ensures.given output apart

@@ -6,7 +6,7 @@ use Rattle.snd_layout.specs.declared.codec.Codec.{Codec}
 use Rattle.snd_modes.specs.Handle.{codec_of, disk_of, known_of}
 use Rattle.snd_output.specs.Made.{made_file}
 use Rattle.snd_interleave.specs.Beside.{frames_from}
-use Rattle.snd_interleave.specs.Channels.{CountsAdding, CountsWith, bytes_made}
+use Rattle.snd_interleave.specs.Channels.{CountsWith, bytes_made}
 use Rattle.snd_interleave.specs.Interleave.{channels_in}
 use Rattle.snd_inputs.proofs.Told.{told_as}
 use Rattle.snd_interleave.proofs.Making.{begun_at_end, begun_room, counts_not_finished, is_begun}
@@ -46,10 +46,10 @@ returns-in-Err-finish-clause-faults g c =
     let ys = c.add_frames-added.new.inputs in
     let a = (g.E.Disk.state c.args.disk.now).faults in
     let made = (g.E.Disk.state (disk_of c.add_frames-added.new.to)).faults in
-    let counts : CountsAdding g.D.Disk.state xs ys a made c.add_frames-added.result = subst (λ (n : ℕ). CountsAdding g.D.Disk.state xs ys n made c.add_frames-added.result) c.in-Ok.ensures.faults c.add_frames-added.ensures.faults in
+    let counts : CountsWith g.D.Disk.state xs ys a made c.add_frames-added.result = subst (λ (n : ℕ). CountsWith g.D.Disk.state xs ys n made c.add_frames-added.result) c.in-Ok.ensures.faults c.add_frames-added.ensures.faults in
     let cause = c.in-Err-finish.ensures.cause in
-    let by = counts_not_finished g.D.Disk.state xs ys a (g.E.Disk.state c.in-Err-finish.back.now).faults made c.add_frames-added.result c.in-Err-finish.stop (known_of c.add_frames-added.new.to).broken
-    c.add_frames-added.ensures.left cause.0 counts
+    let by = counts_not_finished g.D.Disk.state xs ys a (g.E.Disk.state c.in-Err-finish.back.now).faults made c.add_frames-added.result c.in-Err-finish.stop (known_of c.add_frames-added.new.to)
+    c.add_frames-added.ensures.works cause.0 counts
     (elim cause.1 [ inl before ↦ inl (before.0, ap (λ d. (g.E.Disk.state d).faults) before.1) | inr now ↦ inr (now.1, now.2) ]) in
     subst (λ d. CountsWith {T = Unit {0}} g.D.Disk.state xs ys a (g.E.Disk.state d).faults (Err c.in-Err-finish.stop)) (search rules) by
 
