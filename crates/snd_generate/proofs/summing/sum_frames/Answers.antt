@@ -45,3 +45,14 @@ loop-count-preserved g c =
       calm = one.faults ∙ inv.calm;
       reads = only_reads_then _ _ _ _ _ _ _ _ _ inv.reads one.reads;
     }
+
+pub feed_block-requires-clause-whole : goal.feed_block-requires-clause-whole
+feed_block-requires-clause-whole g c =
+    let now = known_of c.loop-count.file in
+    let q = c.from.result in
+    let is : q ≡ channels_of c.args.file.now = search rules in
+    let least : 1 ≤ q = search rules in
+    let most : q ≤ 256 = search rules in
+    let size : length (take (16384 - 16384 % q) c.loop-count.block) ≡ 16384 - 16384 % q = search rules in
+    let channels : now.shape.params.channels ≡ q = ap (λ (k : Known). k.shape.params.channels) c.loop-count.invariant.read ∙ sym is in
+    ap (λ (n : ℕ). n % now.shape.params.channels) size ∙ ap (λ (n : ℕ). (16384 - 16384 % q) % n) channels ∙ (whole_places 16384 q least (omega (arith, most))).1
