@@ -1,7 +1,7 @@
 -- From what was found to what is done.
 use Rattle.std.proofs.Common.{◌≡◌, ℕ, List, [], ◌∷◌, Bool, true, false, cond, Option, None, Some, Result, Ok, Err, refl, sym, ◌∙◌, ap, subst}
 use Rattle.std.specs.Option.{unwrap_or}
-use Rattle.std.specs.Prelude.{option_map}
+use Rattle.std.specs.Prelude.{is_none, option_map}
 use Rattle.std.specs.Str.{bytes_eq}
 use Rattle.snd_disk.specs.declared.disk.Disk.{Ghosts}
 use Rattle.snd_disk.specs.Shelf.{Files, ShelfState, put}
@@ -9,15 +9,18 @@ use Rattle.snd_disk.specs.State.{State}
 use Rattle.snd_layout.specs.Fit.{fit_refusal}
 use Rattle.snd_layout.specs.declared.refusal.OpenRefusal.{OpenRefusal}
 use Rattle.snd_lines.specs.declared.refusal.Refusal.{Refusal}
-use Rattle.snd_lines.specs.declared.refusal.Refusal.TheVariants.{MissingFile, Open, SameName}
+use Rattle.snd_lines.specs.declared.refusal.Refusal.TheVariants.{Open, SameName}
 use Rattle.snd_modes.specs.declared.handle.File.{File}
 use Rattle.snd_modes.specs.declared.mode.Mode.{Ghosts as ModeGhosts}
-use Rattle.snd_modes.specs.Editing.{Editing, opening_of}
+use Rattle.snd_inputs.proofs.Seen.{read_as}
+use Rattle.snd_modes.specs.Editing.{Editing, first_editing, opening_of}
 use Rattle.snd_modes.specs.Handle.{Stands}
 use Rattle.snd_output.specs.Made.{made_file}
 use Rattle.snd_output.specs.Widths.{joined}
 use Rattle.snd_output.specs.declared.stop.Stop.{Stop}
-use Rattle.snd_inputs.specs.Inputs.{input_as, input_in}
+use Rattle.snd_container.specs.Sound.{fixed_of}
+use Rattle.snd_inputs.specs.Inputs.{input_in}
+use Rattle.snd_layout.specs.Shape.{Shape}
 use Rattle.snd_tools.proofs.Names.{MakesOnly}
 use Rattle.snd_tools.specs.Done.{Done, Said, files_after, said_of}
 use Rattle.snd_tools.specs.Shelves.{HasFiles}
@@ -27,7 +30,7 @@ use Rattle.snd_words.specs.declared.metadata.MetadataChange.{MetadataChange}
 use Rattle.snd_metadata.specs.Making.{AnswersHalt, Plans, Retags, chunks_planned, file_planned}
 use Rattle.snd_metadata.specs.declared.halt.Halt.{Halt}
 use Rattle.snd_metadata.specs.declared.halt.Halt.TheVariants as halt
-use Rattle.snd_metadata.specs.Retagged.{bytes_made, chunks_made, first_of, refusals, refuse_if, retagged, retagged_file, retagged_from, retagged_with}
+use Rattle.snd_metadata.specs.Retagged.{bytes_made, chunks_made, first_of, refusals, refuse_if, retagged, retagged_file, retagged_with}
 use Rattle.snd_metadata.specs.declared.chunks.PlannedChunk.{PlannedChunk}
 
 -- the output alone is made, in one case, and whichever of some is the first
@@ -72,22 +75,17 @@ makes_file settings input output e = (refusals_only settings input output e).fir
 
 -- where the names differ, the input is opened, or is refused
 module _ (settings : List Stated) (input output : List ℕ) (files : Files) (apart : bytes_eq input output ≡ false) where
-  retagged_is : retagged settings input output files ≡ retagged_from settings input output (files input)
-  retagged_is = ap (λ (t : Bool). cond t (Done.refuses output SameName) (retagged_from settings input output (files input))) apart
+  retagged_is : retagged settings input output files ≡ retagged_with settings input output (input_in (files input))
+  retagged_is = ap (λ (t : Bool). cond t (Done.refuses output SameName) (retagged_with settings input output (input_in (files input)))) apart
 
-  pub retagged_as : (b : List ℕ) (e : Editing) → files input ≡ Some b → opening_of b ≡ Ok e → retagged settings input output files ≡ retagged_file settings input output e
-  retagged_as b e there opens = retagged_is ∙ ap (retagged_from settings input output) there ∙ ap (retagged_with settings input output) opens
-
-  refused_as : (why : Refusal) (r : Result Editing OpenRefusal) → input_as r ≡ Err why → retagged_with settings input output r ≡ Done.refuses input why
-  refused_as why (Ok e) refused = absurd (cc)
-  refused_as why (Err other) refused = let same : Open other ≡ why = cc in ap (Done.refuses input) same
-
-  refused_from : (why : Refusal) (o : Option (List ℕ)) → input_in o ≡ Err why → retagged_from settings input output o ≡ Done.refuses input why
-  refused_from why None refused = let same : MissingFile ≡ why = cc in ap (Done.refuses input) same
-  refused_from why (Some b) refused = refused_as why (opening_of b) refused
+  pub retagged_as : (b : List ℕ) (h : Shape) → files input ≡ Some b → is_none (fixed_of h.params.codec) ≡ false → opening_of b ≡ Ok (first_editing b h)
+      → retagged settings input output files ≡ retagged_file settings input output (first_editing b h)
+  retagged_as b h there linear opens =
+      retagged_is ∙ ap (λ (o : Option (List ℕ)). retagged_with settings input output (input_in o)) there
+      ∙ ap (retagged_with settings input output) (read_as b h linear opens)
 
   pub retagged_refused : (why : Refusal) → input_in (files input) ≡ Err why → retagged settings input output files ≡ Done.refuses input why
-  retagged_refused why refused = retagged_is ∙ refused_from why (files input) refused
+  retagged_refused why refused = retagged_is ∙ ap (retagged_with settings input output) refused
 
 module _ {S : Type 0} (state : S → ShelfState) (new : S) (files : Files) where
   module _ (settings : List Stated) (input output : List ℕ) where

@@ -104,6 +104,7 @@ module _ (h : Shape) (plan : List PlannedChunk) (from from' to to' : Known) (rea
   may_append_filled : MayAppend from (known_filled h plan to)
   may_append_filled = record {
     working = unread.working;
+    linear = unread.linear;
     at_end = record { working = fresh.broken; by_hand = fresh.automatic; free = says.free; behind = fresh.write_place ∙ sym says.frames };
     alike = ap (λ (x : Shape). x.params.channels) of ∙ ap (λ (q : Parameters). q.channels) (sym says.params);
     in_room = in_room;

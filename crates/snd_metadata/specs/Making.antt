@@ -12,7 +12,7 @@ use Rattle.snd_layout.specs.declared.kind.Kind.{Kind}
 use Rattle.snd_layout.specs.Shape.{Shape}
 use Rattle.snd_modes.specs.declared.handle.File.{File}
 use Rattle.snd_modes.specs.declared.mode.Mode.{Ghosts as ModeGhosts}
-use Rattle.snd_modes.specs.Editing.{Editing}
+use Rattle.snd_modes.specs.Editing.{Editing, first_editing}
 use Rattle.snd_modes.specs.Handle.{Known, Stands, known_of}
 use Rattle.snd_modes.specs.Heads.{holds_meta}
 use Rattle.snd_modes.specs.Making.{making_of}
@@ -131,3 +131,9 @@ abbrev pub Retags : {D M S E : Type 0} {d : Ghosts D} {m : ModeGhosts M}
 Retags state shelf_state change file old new result =
     IfOk result (λ answer. (files : Files) (e : Editing) → TellsFiles shelf_state old files → Stands state file e
     → IsDone shelf_state new answer (retagged_file change.settings change.input.now change.output.now e) files)
+
+-- .. of the file of a disk, by its layout
+abbrev pub RetagsLaid : {D S E : Type 0} → (D → State) → (S → ShelfState) → MetadataChange → D → Shape → S → S → Result Answer E → Type 0
+RetagsLaid state shelf_state change disk layout old new result =
+    IfOk result (λ answer. (files : Files) (b : List ℕ) → TellsFiles shelf_state old files → Tells state disk b
+    → IsDone shelf_state new answer (retagged_file change.settings change.input.now change.output.now (first_editing b layout)) files)

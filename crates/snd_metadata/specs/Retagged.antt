@@ -7,12 +7,13 @@ use Rattle.snd_disk.specs.Shelf.{Files}
 use Rattle.snd_layout.specs.Fit.{fit_refusal}
 use Rattle.snd_layout.specs.Params.{data_bytes}
 use Rattle.snd_layout.specs.Shape.{Shape, room}
-use Rattle.snd_layout.specs.declared.refusal.OpenRefusal.{OpenRefusal}
-use Rattle.snd_lines.specs.declared.refusal.Refusal.TheVariants.{BadBext, BadInfo, ChunkTooLarge, ContainerFull, MissingFile, NoChunks, Open, SameName, TextTooLong}
+use Rattle.snd_inputs.specs.Inputs.{input_in}
+use Rattle.snd_lines.specs.declared.refusal.Refusal.{Refusal}
+use Rattle.snd_lines.specs.declared.refusal.Refusal.TheVariants.{BadBext, BadInfo, ChunkTooLarge, ContainerFull, NoChunks, Open, SameName, TextTooLong}
 use Rattle.snd_meta.specs.Broadcast.{Broadcast, bext_body, blank}
 use Rattle.snd_meta.specs.Info.{Entry, info_body}
 use Rattle.snd_modes.specs.declared.error.GetError.TheVariants as get
-use Rattle.snd_modes.specs.Editing.{Editing, opening_of}
+use Rattle.snd_modes.specs.Editing.{Editing}
 use Rattle.snd_modes.specs.Heads.{holds_meta}
 use Rattle.snd_modes.specs.Relaid.{shape_with}
 use Rattle.snd_output.specs.Made.{made_file}
@@ -108,15 +109,11 @@ refusals settings input output e =
 abbrev pub retagged_file : List Stated → List ℕ → List ℕ → Editing → Done
 retagged_file settings input output e = unwrap_or (first_of (refusals settings input output e)) (Done.makes output (bytes_made settings e) e.shape.frames)
 
-abbrev pub retagged_with : List Stated → List ℕ → List ℕ → Result Editing OpenRefusal → Done
-retagged_with settings input output (Err why) = Done.refuses input (Open why)
+abbrev pub retagged_with : List Stated → List ℕ → List ℕ → Result Editing Refusal → Done
+retagged_with settings input output (Err why) = Done.refuses input why
 retagged_with settings input output (Ok e) = retagged_file settings input output e
-
-abbrev pub retagged_from : List Stated → List ℕ → List ℕ → Option (List ℕ) → Done
-retagged_from settings input output None = Done.refuses input MissingFile
-retagged_from settings input output (Some b) = retagged_with settings input output (opening_of b)
 
 -- `metadata-set SETTING.. INPUT OUTPUT`
 abbrev pub retagged : List Stated → List ℕ → List ℕ → Files → Done
 retagged settings input output files =
-    if bytes_eq input output then Done.refuses output SameName else retagged_from settings input output (files input)
+    if bytes_eq input output then Done.refuses output SameName else retagged_with settings input output (input_in (files input))

@@ -1,7 +1,6 @@
 //! The output, made of an open file by a plan of its chunks.
 
-ghost use Rattle.std.specs.Prelude.{◌≡◌, ◌<◌, None, OnOk, false, is_none, length, true};
-ghost use Rattle.snd_container.specs.Sound.{fixed_of};
+ghost use Rattle.std.specs.Prelude.{◌≡◌, ◌<◌, None, OnOk, length, true};
 ghost use Rattle.snd_disk.specs.Device.{GoesOnFrom};
 ghost use Rattle.snd_inputs.specs.Copying.{CopiesInto, CountsFileAndDisk, OnlyReadsFile};
 ghost use Rattle.snd_inputs.specs.Opening.{IsUnread};
@@ -16,7 +15,7 @@ ghost use Rattle.snd_metadata.specs.Planned.{IsReady, MayStand};
 use crate::chunks::PlannedChunk;
 use snd_carry::{carry_chunk, put_chunk};
 use snd_disk::Disk;
-use snd_layout::Params;
+use snd_inputs::params_of;
 use snd_modes::{File, Read, Write};
 use snd_output::{Stop, append, begin, finish};
 use std::alloc::Global;
@@ -90,17 +89,6 @@ fn fill<D: Disk, E: Disk>(
     carry(alloc, plan, from, to)?;
     let mut block = [0; BLOCK];
     append(from, to, &mut block)
-}
-
-// The parameters of an open file, whose codec is not ADPCM.
-fn params_of<D: Disk>(file: &File<'_, D, Read>) -> Params
-    ensures params { result ≡ (known_of file.now).shape.params }
-    ensures good { AreParams result }
-    ensures linear { is_none (fixed_of result.codec) ≡ false }
-{
-    let params = file.params();
-    params.are_good();
-    params
 }
 
 /// Makes the whole file.

@@ -1,8 +1,9 @@
 //! What is to be made of an open file.
 
-ghost use Rattle.std.specs.Prelude.{◌≡◌, All, IfOk, None, false, map, true};
+ghost use Rattle.std.specs.Prelude.{◌≡◌, All, IfOk, None, false, is_none, map, true};
+ghost use Rattle.snd_container.specs.Sound.{fixed_of};
 ghost use Rattle.snd_layout.specs.Fit.{fit_refusal};
-ghost use Rattle.snd_modes.specs.Handle.{known_of};
+ghost use Rattle.snd_modes.specs.Handle.{codec_of, known_of};
 ghost use Rattle.snd_modes.specs.Heads.{holds_meta};
 ghost use Rattle.snd_words.specs.Stated.{IsStated};
 ghost use Rattle.snd_metadata.specs.Judged.{HasRoom};
@@ -35,6 +36,7 @@ fn holds_meta(kind: Kind) -> bool
 // Whether the head of a file with these chunks has no room for the data of an open file.
 fn is_full<D: Disk>(plan: &[PlannedChunk], file: &File<'_, D, Read>) -> bool
     requires working { (known_of file.now).broken ≡ None }
+    requires linear { is_none (fixed_of (codec_of file.now)) ≡ false }
     requires meta { holds_meta (known_of file.now).shape.kind ≡ true }
     requires fits { fit_refusal (known_of file.now).shape.kind (known_of file.now).shape.params ≡ None }
     requires plan { IsPlan (known_of file.now).shape.pieces plan.now }
@@ -50,6 +52,7 @@ fn is_full<D: Disk>(plan: &[PlannedChunk], file: &File<'_, D, Read>) -> bool
 // parameters, and then `ContainerFull` where its head has no room for the data.
 fn judge_room<D: Disk>(plan: &[PlannedChunk], file: &File<'_, D, Read>) -> Result<(), Halt>
     requires working { (known_of file.now).broken ≡ None }
+    requires linear { is_none (fixed_of (codec_of file.now)) ≡ false }
     requires meta { holds_meta (known_of file.now).shape.kind ≡ true }
     requires plan { IsPlan (known_of file.now).shape.pieces plan.now }
     ensures outlines { HasRoom (known_of file.now).shape (map outline_planned plan.now) result }
@@ -73,6 +76,7 @@ pub(crate) fn plan_of<D: Disk>(
     file: &mut File<'_, D, Read>,
 ) -> Result<Vec<PlannedChunk>, Halt>
     requires working { (known_of file.old).broken ≡ None }
+    requires linear { is_none (fixed_of (codec_of file.old)) ≡ false }
     requires good { All IsStated settings.now }
     ensures plans { PlansFrom D.state settings.now file.old result }
     ensures ready { IfOk result (λ plan. IsReady (known_of file.old).shape plan.items) }

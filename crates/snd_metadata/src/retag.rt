@@ -1,13 +1,17 @@
 //! The tool that copies a file with changed texts.
 
-ghost use Rattle.std.specs.Prelude.{◌≡◌, All, false};
-ghost use Rattle.snd_inputs.specs.Copying.{CountsFileAndShelf, OnlyReadsFile};
+ghost use Rattle.std.specs.Prelude.{◌≡◌, ◌+◌, ◌≤◌, ◌^◌, All, false, is_none};
+ghost use Rattle.snd_container.specs.Sound.{fixed_of};
+ghost use Rattle.snd_disk.specs.Device.{OnlyReadsOn};
+ghost use Rattle.snd_inputs.specs.Copying.{CountsDiskAndShelf, CountsFileAndShelf, OnlyReadsFile};
 ghost use Rattle.snd_inputs.specs.Opening.{IsUnread};
+ghost use Rattle.snd_layout.specs.Opened.{EndsIn};
+ghost use Rattle.snd_layout.specs.Shape.{end, room};
 ghost use Rattle.snd_modes.specs.Handle.{known_of, loan_of};
 ghost use Rattle.snd_output.specs.Ends.{CountsStop};
 ghost use Rattle.snd_tools.specs.Shelves.{ChangesOne, Does, IsAllIn};
 ghost use Rattle.snd_words.specs.Stated.{IsStated};
-ghost use Rattle.snd_metadata.specs.Making.{AnswersHalt, MakesUnder, Retags};
+ghost use Rattle.snd_metadata.specs.Making.{AnswersHalt, MakesUnder, Retags, RetagsLaid};
 ghost use Rattle.snd_metadata.specs.Planned.{IsReady};
 ghost use Rattle.snd_metadata.specs.Retagged.{retagged};
 
@@ -17,6 +21,7 @@ use crate::make::make;
 use crate::planning::plan_of;
 use snd_disk::{Disk, Shelf};
 use snd_inputs::{Input, close_read, open_input, take_output};
+use snd_layout::Layout;
 use snd_lines::Refusal;
 use snd_modes::{File, Read, open_laid};
 use snd_output::Stop;
@@ -85,6 +90,38 @@ fn retag_file<'a, S: Shelf, D: Disk>(
     }
 }
 
+// .. of the file on a disk, by its layout.
+fn retag_laid<'a, S: Shelf, D: Disk>(
+    alloc: Global,
+    change: &MetadataChange<'a>,
+    disk: &mut D,
+    layout: Layout,
+    shelf: &mut S,
+) -> Result<Answer<'a>, Stop>
+    requires is_in { (S.state shelf.old).out change.now.output.now ≡ false }
+    requires good { All IsStated change.now.settings }
+    requires held { end layout layout.frames ≤ (D.state disk.old).size }
+    requires linear { is_none (fixed_of layout.params.codec) ≡ false }
+    requires room_ends { layout.start + room layout + 8 ≤ 2 ^ 63 }
+    requires pieces_held { All (EndsIn (D.state disk.old).size) layout.pieces }
+    ensures done { RetagsLaid D.state S.state change.now disk.old layout shelf.old shelf.new result }
+    ensures changes { ChangesOne S.Shelf change.now.output.now shelf.old shelf.new }
+    ensures faults { CountsDiskAndShelf D.state S.state disk.old disk.new shelf.old shelf.new result }
+    ensures reads { OnlyReadsOn D.state D.may_leave D.left_between disk.old disk.new }
+{
+    let mut file = match open_laid(alloc, disk, layout) {
+        Ok(file) => file,
+        Err((_, back)) => {
+            let _ = back;
+            return Err(Stop::Memory);
+        }
+    };
+    let answer = retag_file(alloc, change, &mut file, shelf);
+    let back = close_read(file);
+    let _ = back;
+    answer
+}
+
 /// Copies a WAVE or RF64 file with changed texts: the output has the kind, the parameters and the frames of
 /// the input, and of its further chunks those with at most 65536 bytes, the first 238 of them, in their order
 /// and before the data. A text of the INFO list or of the broadcast extension that is set is put into what
@@ -120,10 +157,7 @@ pub fn set_metadata<'a, S: Shelf>(
         Err(why) => return Ok(Answer::Refused(change.input, why)),
     };
     let Input { mut disk, layout } = input;
-    let mut file = open_laid(&mut disk, layout);
-    let answer = retag_file(alloc, change, &mut file, shelf);
-    let back = close_read(file);
-    let _ = back;
+    let answer = retag_laid(alloc, change, &mut disk, layout, shelf);
     shelf.give(change.input, disk);
     answer
 }

@@ -1,4 +1,4 @@
-use Rattle.std.proofs.Common.{◌≡◌, ◌∙◌, false, Ok, rules, subst, sym}
+use Rattle.std.proofs.Common.{◌≡◌, false, Ok, refl, rules, subst}
 use Rattle.std.proofs.lemmas.Result.{IfOk-weaker}
 use Rattle.std.specs.Str.{bytes_eq}
 use Rattle.snd_inputs.proofs.Answering.{does_so, done_same, refused_as}
@@ -29,8 +29,8 @@ returns-in-Err-clause-changes g c =
     let looks = subst (λ r. OpensInput g.S.Shelf g.S.Disk.Disk c.args.change.now.input.now c.args.shelf.now c.open_input.new.shelf (Ok r)) c.in-Err.is c.in_ok-input.ensures.opened in
     reads_changes g.S.Shelf c.args.change.now.output.now _ _ looks.0.reads
 
-pub retag_file-answer-requires-clause-is_in : goal.retag_file-answer-requires-clause-is_in
-retag_file-answer-requires-clause-is_in g c =
+pub retag_laid-answer-requires-clause-is_in : goal.retag_laid-answer-requires-clause-is_in
+retag_laid-answer-requires-clause-is_in g c =
     let input = c.args.change.now.input.now in
     let output = c.args.change.now.output.now in
     let apart : bytes_eq input output ≡ false = search rules in
@@ -46,20 +46,20 @@ returns-clause-done g c =
     let apart : bytes_eq input output ≡ false = search rules in
     let opens : IsOpen g.S.Shelf g.S.Disk.Disk input c.args.shelf.now c.open_input.new.shelf c.in-Ok.input =
     subst (λ r. OpensInput g.S.Shelf g.S.Disk.Disk input c.args.shelf.now c.open_input.new.shelf (Ok r)) c.in-Ok.is c.in_ok-input.ensures.opened in
-    does_so g.S.Shelf.state (retagged settings input output) c.args.shelf.now c.give.new.self c.retag_file-answer.result
-    (IfOk-weaker c.retag_file-answer.result _ _
+    does_so g.S.Shelf.state (retagged settings input output) c.args.shelf.now c.give.new.self c.retag_laid-answer.result
+    (IfOk-weaker c.retag_laid-answer.result _ _
     (λ answer done files told.
     let found = opens.opened files told in
     let out = opens.out.takes.files files told in
     let e = first_editing found.0 c.in-Ok.input.layout in
     let todo = retagged_file settings input output e in
-    let d = done out.0 e out.1 (c.open_laid-file.ensures.stands found.0 found.3.bytes) in
-    done_same g.S.Shelf.state c.give.new.self files answer todo (retagged settings input output files) (retagged_as settings input output files apart found.0 e found.1 found.2) (
+    let d = done out.0 found.0 out.1 found.3.bytes in
+    done_same g.S.Shelf.state c.give.new.self files answer todo (retagged settings input output files) (retagged_as settings input output files apart found.0 c.in-Ok.input.layout found.1 c.in-Ok.input.linear found.2) (
       d.0,
-      held_done g.S.Shelf g.S.Disk.Disk c.args.shelf.now c.open_input.new.shelf c.retag_file-answer.new.shelf c.give.new.self c.in-Ok.input _ _ _ input opens c.open_laid-file.ensures.same_disk (sym (search rules) ∙ c.close_read-back.ensures.same_disk) c.retag_file-answer.ensures.reads c.give.ensures.given output apart
+      held_done g.S.Shelf g.S.Disk.Disk c.args.shelf.now c.open_input.new.shelf c.retag_laid-answer.new.shelf c.give.new.self c.in-Ok.input _ _ _ input opens refl refl c.retag_laid-answer.ensures.reads c.give.ensures.given output apart
           todo files told (makes_file settings input output e) d.1,
     ))
-    c.retag_file-answer.ensures.done)
+    c.retag_laid-answer.ensures.done)
 
 pub returns-clause-changes : goal.returns-clause-changes
 returns-clause-changes g c =
@@ -68,13 +68,13 @@ returns-clause-changes g c =
     let apart : bytes_eq input output ≡ false = search rules in
     let opens : IsOpen g.S.Shelf g.S.Disk.Disk input c.args.shelf.now c.open_input.new.shelf c.in-Ok.input =
     subst (λ r. OpensInput g.S.Shelf g.S.Disk.Disk input c.args.shelf.now c.open_input.new.shelf (Ok r)) c.in-Ok.is c.in_ok-input.ensures.opened in
-    held_one g.S.Shelf g.S.Disk.Disk c.args.shelf.now c.open_input.new.shelf c.retag_file-answer.new.shelf c.give.new.self c.in-Ok.input _ _ _ input opens c.open_laid-file.ensures.same_disk (sym (search rules) ∙ c.close_read-back.ensures.same_disk) c.retag_file-answer.ensures.reads c.give.ensures.given output apart
-    c.give.ensures.images c.give.ensures.others c.retag_file-answer.ensures.changes (c.requires.back input)
+    held_one g.S.Shelf g.S.Disk.Disk c.args.shelf.now c.open_input.new.shelf c.retag_laid-answer.new.shelf c.give.new.self c.in-Ok.input _ _ _ input opens refl refl c.retag_laid-answer.ensures.reads c.give.ensures.given output apart
+    c.give.ensures.images c.give.ensures.others c.retag_laid-answer.ensures.changes (c.requires.back input)
 
 pub returns-clause-faults : goal.returns-clause-faults
 returns-clause-faults g c =
     let input = c.args.change.now.input.now in
     let opens : IsOpen g.S.Shelf g.S.Disk.Disk input c.args.shelf.now c.open_input.new.shelf c.in-Ok.input =
     subst (λ r. OpensInput g.S.Shelf g.S.Disk.Disk input c.args.shelf.now c.open_input.new.shelf (Ok r)) c.in-Ok.is c.in_ok-input.ensures.opened in
-    held_counts g.S.Shelf g.S.Disk.Disk c.args.shelf.now c.open_input.new.shelf c.retag_file-answer.new.shelf c.give.new.self c.in-Ok.input _ _ _ input opens c.open_laid-file.ensures.same_disk (sym (search rules) ∙ c.close_read-back.ensures.same_disk) c.retag_file-answer.ensures.reads c.give.ensures.given
-    c.retag_file-answer.result c.in_ok-input.ensures.faults c.retag_file-answer.ensures.faults
+    held_counts g.S.Shelf g.S.Disk.Disk c.args.shelf.now c.open_input.new.shelf c.retag_laid-answer.new.shelf c.give.new.self c.in-Ok.input _ _ _ input opens refl refl c.retag_laid-answer.ensures.reads c.give.ensures.given
+    c.retag_laid-answer.result c.in_ok-input.ensures.faults c.retag_laid-answer.ensures.faults
