@@ -1,28 +1,15 @@
 -- How many bytes are asked for frames.
-use Rattle.std.proofs.Common.{◌≡◌, ◌+◌, ◌*◌, ◌/◌, ◌%◌, ◌-◌, ◌≤◌, ℕ, false, min, length, ◌∙◌, ap, arith}
-use Rattle.std.proofs.Math.Nat.{mul-div_cancel, mul-le-mul_left, mul-mod_left}
-use Rattle.std.specs.Prelude.{is_none}
+use Rattle.std.proofs.Common.{◌≡◌, ◌+◌, ◌*◌, ◌/◌, ◌%◌, ◌-◌, ◌≤◌, ℕ, min, length, ◌∙◌, ap, arith}
+use Rattle.std.proofs.Math.Nat.{mul-div_cancel, mul-mod_left}
 use Rattle.snd_disk.specs.State.{AtMost}
-use Rattle.snd_layout.specs.declared.codec.Codec.{Codec}
-use Rattle.snd_layout.specs.declared.codec.Codec.TheVariants.{U8, S8, S16, S24, S32, MuLaw, ALaw, Ima, Ms}
-use Rattle.snd_layout.specs.Blocks.{block_align}
-use Rattle.snd_container.specs.Sound.{fixed_of}
-use Rattle.snd_layout.specs.Shape.{Shape}
+use Rattle.snd_layout.specs.Params.{AreParams}
+use Rattle.snd_layout.specs.Shape.{KeepsRule, Shape}
+use Rattle.snd_modes.specs.Calls.{count_read}
 use Rattle.snd_modes.specs.Editing.{Editing, frames_left}
 use Rattle.snd_modes.specs.Handle.{Known}
+use Rattle.snd_modes.specs.Reading.{bytes_to_read}
 use Rattle.snd_script.specs.Rules.{read_known}
-
--- a frame of a codec with a fixed number of bytes a sample has at most 1024
-pub linear_frame : (channels : ℕ) (codec : Codec) → is_none (fixed_of codec) ≡ false → channels ≤ 256 → block_align channels codec ≤ 1024
-linear_frame channels U8 linear few = omega arith
-linear_frame channels S8 linear few = omega arith
-linear_frame channels (S16 order) linear few = omega arith
-linear_frame channels (S24 order) linear few = omega arith
-linear_frame channels (S32 order) linear few = omega arith
-linear_frame channels MuLaw linear few = omega arith
-linear_frame channels ALaw linear few = omega arith
-linear_frame channels (Ima align per_block) linear few = absurd (cc)
-linear_frame channels (Ms align per_block) linear few = absurd (cc)
+use Rattle.snd_script.proofs.BlockBytes.{most_read}
 
 whole_frames : (size count channels : ℕ) → size ≡ count * channels → 1 ≤ channels → size / channels ≡ count
 whole_frames size count channels e some = ap (λ n. n / channels) e ∙ mul-div_cancel count some
@@ -31,12 +18,12 @@ whole_frames size count channels e some = ap (λ n. n / channels) e ∙ mul-div_
 pub no_part : (size count channels : ℕ) → size ≡ count * channels → size % channels ≡ 0
 no_part size count channels e = ap (λ n. n % channels) e ∙ mul-mod_left count channels
 
-pub asked_for_frames : (old new size count wanted channels align : ℕ) → AtMost old (size / channels * align + 16384) new → size ≡ count * channels → 1 ≤ channels → count ≤ wanted → align ≤ 1024
-    → AtMost old (1024 * wanted + 16384) new
-asked_for_frames old new size count wanted channels align asked e some few small =
-    let least : count * align ≤ count * 1024 = mul-le-mul_left count small in
-    let frames : size / channels * align ≡ count * align = ap (λ n. n * align) (whole_frames size count channels e some) in
-    record { later = asked.later; most = omega (arith, asked.most, least, frames, few) }
+pub asked_for_frames : (old new : ℕ) (known : Known) (size count wanted : ℕ) → AtMost old (bytes_to_read known.shape.params (count_read size known)) new → KeepsRule known.shape → AreParams known.shape.params
+    → size ≡ count * known.shape.params.channels → count ≤ wanted → AtMost old (1024 * wanted + 16384) new
+asked_for_frames old new known size count wanted asked rule good e few =
+    let most = most_read known.shape (count_read size known) rule good in
+    let frames : size / known.shape.params.channels ≡ count = whole_frames size count known.shape.params.channels e good.some_channel in
+    record { later = asked.later; most = omega (arith, asked.most, most, frames, few) }
 
 -- as many frames are read as are wanted and are left
 pub read_on : (old new : Known) (wanted k size count channels : ℕ) → new ≡ record old { place = old.place + k } → k ≡ min (size / channels) (old.shape.frames - old.place) → size ≡ count * channels → 1 ≤ channels

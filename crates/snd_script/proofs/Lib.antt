@@ -1,4 +1,5 @@
 pub mod Asked
+pub mod BlockBytes
 pub mod Chains
 pub mod Ends
 pub mod Followed
@@ -17,6 +18,7 @@ pub mod PinnedMoves
 pub mod PinnedRuns
 pub mod PinnedTrails
 pub mod Printing
+pub mod ReadFrames
 pub mod Refused
 pub mod RefusedOpening
 pub mod Resting

@@ -9,7 +9,7 @@ use Rattle.snd_layout.specs.declared.refusal.OpenRefusal.{OpenRefusal}
 use Rattle.snd_layout.specs.declared.refusal.OpenRefusal.TheVariants as chunk
 use Rattle.snd_layout.specs.Names.{codec_name, kind_name, refusal_name as open_name}
 use Rattle.snd_lines.specs.declared.refusal.Refusal.{Refusal}
-use Rattle.snd_lines.specs.declared.refusal.Refusal.TheVariants.{Open, AdpcmUpdate, UnknownLength, PartFrame, SampleRange, SeekRange, TrailingData, ContainerFull, Straddle, FramesWritten, ReservedChunk, NoChunks, ChunkTooLarge, AutoOn, NoSuchChunk, BadCommand, LineTooLong, NotOpen, AlreadyOpen, WrongMode, SameName, MixedParams, NotMono, UnknownSuffix, MissingFile, BadInfo, BadCue, BadBext, TextTooLong, Pinned, NotBuilt, NoSuchTap, TapOn}
+use Rattle.snd_lines.specs.declared.refusal.Refusal.TheVariants.{Open, AdpcmUpdate, UnknownLength, PartFrame, SampleRange, SeekRange, TrailingData, ContainerFull, Straddle, FramesWritten, ReservedChunk, NoChunks, ChunkTooLarge, AutoOn, NoSuchChunk, BadBlock, BadCommand, LineTooLong, NotOpen, AlreadyOpen, WrongMode, SameName, MixedParams, NotMono, UnknownSuffix, MissingFile, BadInfo, BadCue, BadBext, TextTooLong, Pinned, NotBuilt, NoSuchTap, TapOn}
 use Rattle.snd_lines.specs.Refusals.{refusal_name}
 use Rattle.snd_taps.specs.Names.{tap_name}
 use Rattle.snd_taps.specs.declared.tap.TapKind.{TapKind}
@@ -86,6 +86,7 @@ short_refusal NoChunks = lit≤ tt
 short_refusal ChunkTooLarge = lit≤ tt
 short_refusal AutoOn = lit≤ tt
 short_refusal NoSuchChunk = lit≤ tt
+short_refusal BadBlock = lit≤ tt
 short_refusal BadInfo = lit≤ tt
 short_refusal BadCue = lit≤ tt
 short_refusal BadBext = lit≤ tt

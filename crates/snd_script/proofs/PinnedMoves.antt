@@ -9,7 +9,8 @@ use Rattle.snd_command.specs.declared.refusal.ScriptRefusal.TheVariants as no_co
 use Rattle.snd_disk.specs.declared.disk.Disk.{Ghosts}
 use Rattle.snd_meters.specs.Gauge.{Gauge}
 use Rattle.snd_meters.specs.Gauges.{stop_answer}
-use Rattle.snd_modes.specs.Editing.{Editing, frames_left, frames_read}
+use Rattle.snd_blocks.specs.Frames.{has_bad}
+use Rattle.snd_modes.specs.Editing.{Editing, frames_left, moved_by}
 use Rattle.snd_modes.specs.Edits.{cut_to, sealed_to}
 use Rattle.snd_modes.specs.Safe.{IsSafe}
 use Rattle.snd_modes.specs.declared.error.GetError.TheVariants as get
@@ -24,15 +25,15 @@ use Rattle.snd_taps.specs.declared.tap.TapState.{TapState}
 use Rattle.snd_script.specs.Desk.{Mode, OpenFile, Store, open_desk, pinned, updating}
 use Rattle.snd_script.specs.Edit.{Edited, close_edit, edit_by, edit_file, edit_open, edit_unless, keep_open, line_edit}
 use Rattle.snd_script.specs.Handled.{HandleAtRest, HandleStands, handle_disk, handle_known}
-use Rattle.snd_script.specs.Replies.{bext_text, body_text, done_line, error_line, ok_line, frame_line, frames_text, points_text, says, text_of, texts_text}
+use Rattle.snd_script.specs.Replies.{bext_text, body_text, done_line, error_line, ok_line, frame_line, frames_text, points_text, refuses, says, text_of, texts_text}
 use Rattle.snd_lines.specs.Refusals.{refusal_name, refusal_number}
-use Rattle.snd_script.specs.Rules.{FileEdited, Rule, chunk_of, found_answer, get_bext_rule, get_chunk_rule, get_chunks_rule, get_cues_rule, get_strings_rule, grounds_of, is_built, is_close, is_held, read_rule, refused_rule, report_of, rule_of, seek_both_rule, seek_read_rule, seek_write_rule, tap_rule, tell_rule, trim_rule, truncate_rule, untap_rule, update_rule, write_rule}
+use Rattle.snd_script.specs.Rules.{FileEdited, Rule, answered, chunk_of, found_answer, frames_wanted, get_bext_rule, get_chunk_rule, get_chunks_rule, get_cues_rule, get_strings_rule, grounds_of, is_built, is_close, is_held, read_rule, refused_rule, report_of, rule_of, says_of, seek_both_rule, seek_read_rule, seek_write_rule, tap_rule, tell_rule, trim_rule, truncate_rule, untap_rule, update_rule, write_rule}
 use Rattle.snd_script.specs.Trail.{MovesSafely, RestsAt, pinned_file, state_behind}
 use Rattle.snd_script.proofs.StaysOpen.{carried}
 use Rattle.snd_script.specs.declared.handle.Handle.{Handle}
 use Rattle.snd_script.specs.declared.handle.Handle.TheVariants.{R, W, U}
 use Rattle.snd_lines.specs.declared.refusal.Refusal.{Refusal}
-use Rattle.snd_lines.specs.declared.refusal.Refusal.TheVariants.{BadBext, BadCommand, BadCue, BadInfo, ChunkTooLarge, LineTooLong, NoSuchChunk, NotBuilt, Pinned, WrongMode}
+use Rattle.snd_lines.specs.declared.refusal.Refusal.TheVariants.{BadBext, BadBlock, BadCommand, BadCue, BadInfo, ChunkTooLarge, LineTooLong, NoSuchChunk, NotBuilt, Pinned, WrongMode}
 use Rattle.snd_script.specs.declared.stop.Stop.{Stop}
 use Rattle.snd_script.specs.declared.stop.Stop.TheVariants as stop
 
@@ -57,6 +58,15 @@ ok_speaks rest =
 
 frames_speak : (frames : List (List ℤ)) → 0 < length (frames_text frames)
 frames_speak frames = behind (ok_line (length frames)) (flat_map frame_line frames) (ok_speaks (decimal (length frames) ++ 10 ∷ []))
+
+-- frames are said, or the block of one is bad
+read_speaks : (bad : Bool) (frames : List (List ℤ)) (e moved : Editing) → 0 < length (text_of (cond bad (answered (refuses BadBlock) e) (says_of (frames_text frames) moved)).answer)
+read_speaks true frames e moved = error_speaks BadBlock
+read_speaks false frames e moved = frames_speak frames
+
+reading_on : (bad : Bool) (frames : List (List ℤ)) (n : ℕ) (e : Editing) → (cond bad (answered (refuses BadBlock) e) (says_of (frames_text frames) (moved_by (frames_left e n) e))).editing.automatic ≡ e.automatic
+reading_on true frames n e = refl
+reading_on false frames n e = refl
 
 pub unless_speaks : (refusal : Option Refusal) (done : FileEdited) (e : Editing) → 0 < length (text_of done.answer) → 0 < length (text_of (edit_unless refusal done e).answer)
 unless_speaks None done e some = some
@@ -116,7 +126,7 @@ answers taps Said.close = refusing Pinned
 answers taps (Said.seek_read n) = answering (seek_read_rule n) (λ e. ok_speaks _) (λ e. refl)
 answers taps (Said.seek_write n) = answering (seek_write_rule n) (λ e. ok_speaks _) (λ e. refl)
 answers taps (Said.seek_both n) = answering (seek_both_rule n) (λ e. ok_speaks _) (λ e. refl)
-answers taps (Said.read n) = answering (read_rule n) (λ e. frames_speak (frames_read e (frames_left e n))) (λ e. refl)
+answers taps (Said.read n) = answering (read_rule n) (λ e. read_speaks (has_bad (frames_wanted n e)) (frames_wanted n e) e (moved_by (frames_left e n) e)) (λ e. reading_on (has_bad (frames_wanted n e)) (frames_wanted n e) n e)
 answers taps (Said.write xs) = answering (write_rule xs) (λ e. ok_speaks _) (λ e. refl)
 answers taps (Said.truncate n) = answering (truncate_rule n) (λ e. ok_speaks _) (λ e. cutting_on (nat_lt n e.shape.frames) n e)
 answers taps Said.trim = answering trim_rule (λ e. ok_speaks _) (λ e. refl)

@@ -143,7 +143,7 @@ module _ {D M O : Type 0} {mode : ModeGhosts M} (d : Ghosts D) (o : SinkMeaning 
       unchanged = ap (λ x. rule.changes && is_none x) why ∙ and_right rule.changes false refl
 
   -- .. and as the disk alone has it
-  pub found_out : (refusal : Refusal) → IsAsBefore d rule.asked rule.written old new → refusal_by rule (known_of old) ≡ None → rule.finds refusal ≡ true → IsByHand d o rule old out new
+  pub found_out : (refusal : Refusal) → IsAsBefore d rule.asked rule.written old new → refusal_by rule (known_of old) ≡ None → rule.finds (known_grounds (known_of old)) refusal ≡ true → IsByHand d o rule old out new
       → ((e : Editing) → Stands d.state old e → rule.done e ≡ answered (refuses refusal) e) → Sends o (refuses refusal) r out out' → Follows d o rule r old out new out'
   found_out refusal same free finds by_hand done sends = record {
     loan = same.loan;

@@ -1,6 +1,6 @@
 -- Why a command on an open file is refused, in the words of the calls and in those of the rules.
 use Rattle.std.proofs.Common.{◌≡◌, ◌≢◌, ℕ, ℤ, ◌%◌, ◌<◌, ◌≤◌, Bool, true, false, not, T, ◌&&◌, List, Option, None, Some, inl, inr, length, refl, sym, ap, ◌∙◌, subst, arith}
-use Rattle.std.specs.Prelude.{All, int_le, nat_lt}
+use Rattle.std.specs.Prelude.{All, int_le, is_none, nat_lt}
 use Rattle.std.proofs.lemmas.Bool.{and_from, and_left, and_parts, cases_lt, cases_Bool, lt-ltb, le-ltb}
 use Rattle.std.proofs.lemmas.List.Elements.{All-weaker}
 use Rattle.std.proofs.lemmas.List.Sums.{AllPass-from_list_all, list_all-from_AllPass}
@@ -10,6 +10,7 @@ use Rattle.snd_layout.specs.Shape.{Shape, room}
 use Rattle.snd_layout.specs.declared.codec.Codec.{Codec}
 use Rattle.snd_modes.specs.Handle.{Known}
 use Rattle.snd_modes.specs.Reading.{FitCodec}
+use Rattle.snd_modes.proofs.Ranges.{fits_form, in_form}
 use Rattle.snd_modes.specs.WriteCalls.{AreFrames, MayCut, MayTrim, MayWrite, end_written, is_whole_field}
 use Rattle.snd_container.specs.Fixed.{InRange, range_form}
 use Rattle.snd_container.specs.declared.fixed.Fixed.{Fixed}
@@ -82,11 +83,15 @@ between_fit (Some form) xs test f is =
     subst (λ (l : Fixed). All (InRange l) xs) same all
 
 are_fit : (codec : Codec) (xs : List ℤ) → FitCodec codec xs → not (are_between (fixed_of codec) xs) ≡ false
-are_fit codec xs fit = ap not (fit_between (fixed_of codec) xs fit)
+are_fit codec xs fit = ap not (fit_between (fixed_of codec) xs (λ form is. in_form codec form xs is fit))
 
-are_unfit : (codec : Codec) (xs : List ℤ) → (FitCodec codec xs → ⊥) → not (are_between (fixed_of codec) xs) ≡ true
-are_unfit codec xs unfit = elim (cases_Bool (are_between (fixed_of codec) xs)) [
-  | inl fit ↦ absurd (unfit (between_fit (fixed_of codec) xs fit))
+fit_by : (codec : Codec) (form : Option Fixed) (xs : List ℤ) → fixed_of codec ≡ form → is_none form ≡ false → are_between form xs ≡ true → FitCodec codec xs
+fit_by codec None xs is linear test = absurd (cc)
+fit_by codec (Some form) xs is linear test = fits_form codec form xs is (between_fit (Some form) xs test form refl)
+
+are_unfit : (codec : Codec) (xs : List ℤ) → is_none (fixed_of codec) ≡ false → (FitCodec codec xs → ⊥) → not (are_between (fixed_of codec) xs) ≡ true
+are_unfit codec xs linear unfit = elim (cases_Bool (are_between (fixed_of codec) xs)) [
+  | inl fit ↦ absurd (unfit (fit_by codec (fixed_of codec) xs refl linear fit))
   | inr none ↦ ap not none
 ]
 
@@ -95,10 +100,10 @@ are_unfit codec xs unfit = elim (cases_Bool (are_between (fixed_of codec) xs)) [
 pub write_part : (xs : List ℤ) (h : Shape) (place : ℕ) → length xs % h.params.channels ≢ 0 → write_refusal xs place h ≡ Some PartFrame
 write_part xs h place part = is_refused (nat_lt 0 (length xs % h.params.channels)) PartFrame _ (some_rest _ part)
 
-pub write_range : (xs : List ℤ) (h : Shape) (place : ℕ) → length xs % h.params.channels ≡ 0 → (FitCodec h.params.codec xs → ⊥) → write_refusal xs place h ≡ Some SampleRange
-write_range xs h place whole unfit =
+pub write_range : (xs : List ℤ) (h : Shape) (place : ℕ) → is_none (fixed_of h.params.codec) ≡ false → length xs % h.params.channels ≡ 0 → (FitCodec h.params.codec xs → ⊥) → write_refusal xs place h ≡ Some SampleRange
+write_range xs h place linear whole unfit =
     not_refused (nat_lt 0 (length xs % h.params.channels)) PartFrame _ (no_rest _ whole)
-    ∙ is_refused (not (are_between (fixed_of h.params.codec) xs)) SampleRange _ (are_unfit h.params.codec xs unfit)
+    ∙ is_refused (not (are_between (fixed_of h.params.codec) xs)) SampleRange _ (are_unfit h.params.codec xs linear unfit)
 
 write_frames : (xs : List ℤ) (h : Shape) (place : ℕ) → AreFrames xs h → write_refusal xs place h ≡ growth_refusal (end_written xs h place) h
 write_frames xs h place are =

@@ -2,6 +2,7 @@
 use Rattle.std.proofs.Common.{◌≡◌, inl, inr, ⊎_elim, ℕ, ◌+◌, ◌≤◌, List, Bool, true, false, ◌&&◌, Option, None, Some, Result, Ok, Err, refl, sym, ◌∙◌, ap, subst, arith}
 use Rattle.std.specs.Prelude.{is_none, nat_lt, if◌then◌else◌}
 use Rattle.std.proofs.lemmas.Bool.{cases_Bool, ltb-false}
+use Rattle.snd_blocks.specs.Frames.{has_bad}
 use Rattle.snd_disk.specs.Device.{OnlyReadsOn}
 use Rattle.snd_disk.specs.declared.disk.Disk.{Ghosts}
 use Rattle.snd_disk.specs.declared.streams.Sink.{Ghosts as SinkMeaning}
@@ -24,7 +25,7 @@ use Rattle.snd_patch.specs.Images.{LeavesEach}
 use Rattle.snd_meters.specs.Gauge.{Gauge}
 use Rattle.snd_script.specs.Desk.{Mode, is_pinned, makes, pinned, reading, reads, updating, writes, writing}
 use Rattle.snd_script.specs.Edit.{edit_by, edit_unless}
-use Rattle.snd_script.specs.Rules.{FileEdited, Grounds, Rule, answered, auto_rule, grounds_of, in_mode, read_rule, refused_if, refused_rule, seek_both_rule, seek_read_rule, seek_rule, seek_write_rule, set_bext_rule, set_chunk_rule, set_cue_rule, set_string_rule, trim_rule, truncate_rule, unless_pinned, update_rule, write_rule}
+use Rattle.snd_script.specs.Rules.{FileEdited, Grounds, Rule, answered, auto_rule, frames_wanted, grounds_of, in_mode, read_rule, refused_if, refused_rule, seek_both_rule, seek_read_rule, seek_rule, seek_write_rule, set_bext_rule, set_chunk_rule, set_cue_rule, set_string_rule, trim_rule, truncate_rule, unless_pinned, update_rule, write_rule}
 use Rattle.snd_script.specs.Stepped.{IsAutomatic, LeavesFile, changes_by}
 use Rattle.snd_script.specs.Work.{Follows, asking_rule, setting_rule, work_rule}
 use Rattle.snd_script.specs.declared.handle.Reply.{Reply}
@@ -38,6 +39,7 @@ use Rattle.snd_script.specs.declared.work.Setting.{Setting}
 use Rattle.snd_script.specs.declared.work.Setting.TheVariants as setting
 use Rattle.snd_script.specs.declared.work.Work.{Work}
 use Rattle.snd_script.specs.Replies.{Answer, done_line, says}
+use Rattle.snd_script.proofs.ReadFrames.{bad_read, good_read}
 use Rattle.snd_script.proofs.Followed.{same_grounds}
 use Rattle.snd_script.specs.declared.work.Work.TheVariants.{Open, Update, Make, Close, Tell, SeekRead, SeekWrite, SeekBoth, Read, Write, Truncate, Trim, BringUp, Auto, Set, Ask, Tap, Untap, NotBuilt}
 
@@ -109,13 +111,16 @@ module _ (e : Editing) (holds : HoldsFrames e) where
   already_open pinned = stays
 
   read_on : (n : ℕ) → IsMoved e (edit_by (read_rule n) e).editing
-  read_on n = record {
-    place = e.place + frames_left e n;
-    write_place = e.write_place;
-    is = refl;
-    within = omega (arith, holds.count, holds.placed);
-    write_within = holds.write_placed;
-  }
+  read_on n = elim (cases_Bool (has_bad (frames_wanted n e))) [
+    | inl bad ↦ subst (λ (x : FileEdited). IsMoved e x.editing) (sym (bad_read n e bad)) stays
+    | inr good ↦ subst (λ (x : FileEdited). IsMoved e x.editing) (sym (good_read n e good)) (record {
+      place = e.place + frames_left e n;
+      write_place = e.write_place;
+      is = refl;
+      within = omega (arith, holds.count, holds.placed);
+      write_within = holds.write_placed;
+    })
+  ]
 
   sought_by_mode : (mode : Mode) (n : ℕ) → IsMoved e (edit_by (seek_rule mode n) e).editing
   sought_by_mode reading n = sought_read n

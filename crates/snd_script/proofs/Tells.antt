@@ -66,7 +66,7 @@ refused_so why finds refusal done e is answer =
     ⊎_elim (λ known. ap (λ (w : Option Refusal). (edit_unless w (answered done e) e).answer) known)
     (λ found. ap (λ (w : Option Refusal). (edit_unless w (answered done e) e).answer) found.0 ∙ answer) is
 
-replies_so : (why : Option Refusal) (rule : Rule) (refusal : Refusal) (old new : Known) → IsWhy why rule.finds refusal → new ≡ old → RepliesUnless why rule old new (reply_of (refuses refusal))
+replies_so : (why : Option Refusal) (rule : Rule) (refusal : Refusal) (old new : Known) → IsWhy why (rule.finds (known_grounds old)) refusal → new ≡ old → RepliesUnless why rule old new (reply_of (refuses refusal))
 replies_so why rule refusal old new is same =
     ⊎_elim (λ known. subst (λ (w : Option Refusal). RepliesUnless w rule old new (reply_of (refuses refusal))) (sym known) (refl, same))
     (λ found. subst (λ (w : Option Refusal). RepliesUnless w rule old new (reply_of (refuses refusal))) (sym found.0) (inr (refusal, found.1, refl, same))) is

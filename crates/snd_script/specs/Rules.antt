@@ -8,6 +8,8 @@ use Rattle.snd_command.specs.Said.{Said}
 use Rattle.snd_command.specs.declared.tables.CodecWord.{CodecWord}
 use Rattle.snd_command.specs.declared.tables.CodecWord.TheVariants as word
 use Rattle.snd_container.specs.Sound.{fixed_of}
+use Rattle.snd_blocks.specs.Frames.{has_bad}
+use Rattle.snd_layout.specs.Blocks.{is_adpcm}
 use Rattle.snd_layout.specs.Params.{data_bytes}
 use Rattle.snd_layout.specs.Shape.{Shape, room}
 use Rattle.snd_layout.specs.declared.codec.Codec.{Codec}
@@ -50,7 +52,7 @@ use Rattle.snd_script.specs.Desk.{Mode, is_pinned, makes, pinned, reading, reads
 use Rattle.snd_script.specs.Hex.{bytes_of_hex}
 use Rattle.snd_script.specs.Replies.{Answer, nothing, refuses, says, bext_text, body_text, chunks_text, done_line, file_line, frames_text, ok_line, points_text, texts_text}
 use Rattle.snd_lines.specs.declared.refusal.Refusal.{Refusal}
-use Rattle.snd_lines.specs.declared.refusal.Refusal.TheVariants.{PartFrame, SampleRange, SeekRange, TrailingData, ContainerFull, Straddle, FramesWritten, ReservedChunk, NoChunks, ChunkTooLarge, AutoOn, NoSuchChunk, Open, BadCommand, AlreadyOpen, WrongMode, BadInfo, BadCue, BadBext, TextTooLong, Pinned, NotBuilt}
+use Rattle.snd_lines.specs.declared.refusal.Refusal.TheVariants.{PartFrame, SampleRange, SeekRange, TrailingData, ContainerFull, Straddle, FramesWritten, ReservedChunk, NoChunks, ChunkTooLarge, AutoOn, NoSuchChunk, BadBlock, Open, BadCommand, AlreadyOpen, WrongMode, BadInfo, BadCue, BadBext, TextTooLong, Pinned, NotBuilt}
 
 -- ---- why a command is refused
 
@@ -130,8 +132,8 @@ pub record Rule : Type 0 where
   -- the frames that it says, and what it makes of the taps with them, in a file of a codec
   pub feeds : Editing → List (List ℤ)
   pub taps : Codec → List (List ℤ) → List Gauge → List Gauge
-  -- which refusals only what stands on the disk decides
-  pub finds : Refusal → Bool
+  -- which refusals only what stands on the disk decides, by what the file says of itself
+  pub finds : Grounds → Refusal → Bool
   -- the chunk that is put with a body which the disk decides, where there is one
   pub puts : Option (List ℕ)
   -- whether it changes the file; and whether that is sealed before something else is done
@@ -151,7 +153,7 @@ telling done known = record {
   known = known;
   feeds = λ e. [];
   taps = λ codec frames taps. taps;
-  finds = λ refusal. false;
+  finds = λ g refusal. false;
   puts = None;
   changes = false;
   seals_first = false;
@@ -181,15 +183,31 @@ seek_write_rule n = record (telling (λ e. says_of (ok_line n) (moved_write_to n
 abbrev pub seek_both_rule : ℕ → Rule
 seek_both_rule n = record (telling (λ e. says_of (ok_line n) (moved_write_to n (moved_to n e))) (λ k. record k { place = n; write_place = n })) { refusal = λ g. seek_refusal n g.shape }
 
--- `read`: as many frames as are wanted and are left, each of which is fed to the taps that are on; a frame of a codec that is
--- read has at most 1024 bytes
+-- `read`: as many frames as are wanted and are left, each of which is fed to the taps that are on. Where the block of one of them
+-- is bad, which happens in ADPCM alone, the place stays and nothing is fed.
 abbrev pub read_known : ℕ → Known → Known
 read_known n k = record k { place = k.place + min n (k.shape.frames - k.place) }
 
+abbrev pub frames_wanted : ℕ → Editing → List (List ℤ)
+frames_wanted n e = frames_read e (frames_left e n)
+
+abbrev pub read_edit : ℕ → Editing → FileEdited
+read_edit n e =
+    if has_bad (frames_wanted n e) then answered (refuses BadBlock) e else says_of (frames_text (frames_wanted n e)) (moved_by (frames_left e n) e)
+
+abbrev pub frames_fed : ℕ → Editing → List (List ℤ)
+frames_fed n e = if has_bad (frames_wanted n e) then [] else frames_wanted n e
+
+abbrev pub finds_bad_block : Bool → Refusal → Bool
+finds_bad_block in_blocks BadBlock = in_blocks
+finds_bad_block in_blocks refusal = false
+
+-- a frame has at most 1024 bytes; blocks have at most 8 for each frame, and the first and the last at most 8192
 abbrev pub read_rule : ℕ → Rule
-read_rule n = record (telling (λ e. says_of (frames_text (frames_read e (frames_left e n))) (moved_by (frames_left e n) e)) (read_known n)) {
-  feeds = λ e. frames_read e (frames_left e n);
+read_rule n = record (telling (read_edit n) (read_known n)) {
+  feeds = frames_fed n;
   taps = λ codec frames taps. after_feed frames taps;
+  finds = λ g. finds_bad_block (is_adpcm g.shape.params.codec);
   asked = 1024 * n + 16384;
   takes_memory = true;
 }
@@ -271,7 +289,7 @@ found_answer bad text (Err (Get get.ChunkTooLarge)) = refuses ChunkTooLarge
 found_answer bad text (Err error) = refuses NoSuchChunk
 
 abbrev pub telling_of : {T : Type 0} → Refusal → (T → List ℕ) → (List ℕ → Shape → Result T TagError) → (Grounds → Option Refusal) → (Refusal → Bool) → Rule
-telling_of bad text held refusal finds = record (asking (λ e. answered (found_answer bad text (held e.bytes e.shape)) e)) { refusal = refusal; finds = finds }
+telling_of bad text held refusal finds = record (asking (λ e. answered (found_answer bad text (held e.bytes e.shape)) e)) { refusal = refusal; finds = λ g. finds }
 
 abbrev pub finds_none : Refusal → Bool
 finds_none refusal = false
@@ -346,7 +364,7 @@ finds_no_room refusal = false
 
 abbrev pub drafting : List ℕ → (Grounds → Option Refusal) → (Editing → List ℕ) → Rule
 drafting id refusal body = record (changing 16777216 refusal (λ e. put_edit id (body e) e) (λ k. k)) {
-  finds = finds_no_room;
+  finds = λ g. finds_no_room;
   puts = Some id;
   asked = 16777216;
   takes_memory = true;

@@ -84,7 +84,7 @@ abbrev pub IsCarriedOut : Rule → Known → Known → Reply → Type 0
 IsCarriedOut rule old new answer = (answer ≡ reply.Ok) × IsKnown rule.puts (rule.known old) old new
 
 abbrev pub IsFoundOut : Rule → Known → Known → Reply → Type 0
-IsFoundOut rule old new answer = (refusal : Refusal) × (rule.finds refusal ≡ true) × (answer ≡ reply.Refused (refusal_number refusal)) × (new ≡ old)
+IsFoundOut rule old new answer = (refusal : Refusal) × (rule.finds (known_grounds old) refusal ≡ true) × (answer ≡ reply.Refused (refusal_number refusal)) × (new ≡ old)
 
 abbrev pub RepliesUnless : Option Refusal → Rule → Known → Known → Reply → Type 0
 RepliesUnless (Some refusal) rule old new answer = (answer ≡ reply.Refused (refusal_number refusal)) × (new ≡ old)

@@ -8,21 +8,23 @@ use Rattle.snd_disk.specs.State.{State}
 use Rattle.snd_disk.specs.declared.disk.Disk.{Ghosts}
 use Rattle.snd_disk.specs.declared.disk.Step.{Step}
 use Rattle.snd_disk.specs.declared.streams.Sink.{Ghosts as SinkMeaning}
+use Rattle.snd_blocks.specs.Frames.{has_bad}
+use Rattle.snd_layout.specs.Blocks.{is_adpcm}
 use Rattle.snd_layout.specs.Params.{params_of}
 use Rattle.snd_meters.specs.Gauge.{Gauge}
-use Rattle.snd_modes.specs.Editing.{Editing, frames_left, frames_read, moved_by}
+use Rattle.snd_modes.specs.Editing.{Editing, frames_left, moved_by}
 use Rattle.snd_modes.specs.Edits.{sealed_to}
 use Rattle.snd_modes.specs.Handle.{Known, Stands, channels_of, disk_of, known_of, loan_of}
 use Rattle.snd_modes.specs.declared.handle.File.{File}
 use Rattle.snd_modes.specs.declared.mode.Mode.{Ghosts as ModeGhosts}
+use Rattle.snd_modes.specs.Reading.{GivesFrames}
 use Rattle.snd_modes.specs.Rest.{IsAtRest}
 use Rattle.snd_modes.specs.Safe.{IsSafe}
 use Rattle.snd_patch.specs.Images.{LeavesEach}
 use Rattle.snd_patch.specs.Steps.{StillTells}
-use Rattle.snd_pcm.specs.Groups.{first_groups}
 use Rattle.snd_script.specs.Desk.{Mode, Store, closed_desk, makes, reads, writes}
 use Rattle.snd_script.specs.Edit.{Edited, Opening, edit_by, edit_closed, make_edit, open_edit, refused}
-use Rattle.snd_script.specs.Rules.{Rule, auto_rule, get_bext_rule, get_chunk_rule, get_chunks_rule, get_cues_rule, get_strings_rule, in_mode, is_close, read_rule, refused_rule, rule_of, seek_read_rule, seek_rule, seek_write_rule, set_bext_rule, set_chunk_rule, set_cue_rule, set_string_rule, tap_rule, tell_rule, trim_rule, truncate_rule, unless_pinned, untap_rule, update_rule, write_rule}
+use Rattle.snd_script.specs.Rules.{Rule, auto_rule, frames_wanted, get_bext_rule, get_chunk_rule, get_chunks_rule, get_cues_rule, get_strings_rule, in_mode, is_close, read_known, read_rule, refused_rule, rule_of, seek_read_rule, seek_rule, seek_write_rule, set_bext_rule, set_chunk_rule, set_cue_rule, set_string_rule, tap_rule, tell_rule, trim_rule, truncate_rule, unless_pinned, untap_rule, update_rule, write_rule}
 use Rattle.snd_script.specs.Handled.{back_of}
 use Rattle.snd_script.specs.Kept.{work_writes}
 use Rattle.snd_script.specs.Used.{work_asks, work_makes}
@@ -194,16 +196,29 @@ FileAsks state n old new = AsksAtMost state n (disk_of old) (disk_of new)
 abbrev pub FileFault : {D M : Type 0} {ghosts : Ghosts D} {mode : ModeGhosts M} → (D → State) → File D M ghosts mode → File D M ghosts mode → StepFault → Type 0
 FileFault state old new fault = IsReadFault (known_of old) (known_of new) (state (disk_of old)).faults (state (disk_of new)).faults fault
 
--- so many of the wanted frames were left, and these are they, where the disk tells the file
+-- what the handle knows once frames were read, or none, since the block of one of them is bad
+abbrev pub KnowsRead : ℕ → Known → Known → Option ℕ → Type 0
+KnowsRead wanted old new (Some k) = new ≡ read_known wanted old
+KnowsRead wanted old new None = (is_adpcm old.shape.params.codec ≡ true) × (new ≡ old)
+
+-- so many of the wanted frames were left, and these are they, of which none is bad, where the disk tells the file
 abbrev pub CountsLeft : {D M : Type 0} {ghosts : Ghosts D} {mode : ModeGhosts M} → (D → State) → ℕ → File D M ghosts mode → ℕ → Type 0
 CountsLeft state wanted file k = (e : Editing) → Stands state file e → k ≡ frames_left e wanted
 
 abbrev pub ReadsFrames : {D M : Type 0} {ghosts : Ghosts D} {mode : ModeGhosts M} → (D → State) → ℕ → File D M ghosts mode → List ℤ → Type 0
-ReadsFrames state k file samples = (e : Editing) → Stands state file e → first_groups (channels_of file) k samples ≡ frames_read e k
+ReadsFrames state k file samples = (e : Editing) → Stands state file e → GivesFrames (channels_of file) samples e k
 
-abbrev pub MovesOn : {D M : Type 0} {ghosts : Ghosts D} {mode : ModeGhosts M} → (D → State) → Result ℕ StepFault → File D M ghosts mode → File D M ghosts mode → Type 0
+-- .. or one of them is bad
+abbrev pub HasBadFrame : {D M : Type 0} {ghosts : Ghosts D} {mode : ModeGhosts M} → (D → State) → ℕ → File D M ghosts mode → Type 0
+HasBadFrame state wanted file = (e : Editing) → Stands state file e → has_bad (frames_wanted wanted e) ≡ true
+
+abbrev pub moved_on : Option ℕ → Editing → Editing
+moved_on (Some k) e = moved_by k e
+moved_on None e = e
+
+abbrev pub MovesOn : {D M : Type 0} {ghosts : Ghosts D} {mode : ModeGhosts M} → (D → State) → Result (Option ℕ) StepFault → File D M ghosts mode → File D M ghosts mode → Type 0
 MovesOn state result old new =
-    (e : Editing) → Stands state old e → MatchResult result (λ k. Stands state new (moved_by k e)) (λ fault. Stands state new e)
+    (e : Editing) → Stands state old e → MatchResult result (λ k. Stands state new (moved_on k e)) (λ fault. Stands state new e)
 
 abbrev pub FileCalm : {D M : Type 0} {ghosts : Ghosts D} {mode : ModeGhosts M} → (D → State) → File D M ghosts mode → File D M ghosts mode → Type 0
 FileCalm state old new = (state (disk_of new)).faults ≡ (state (disk_of old)).faults

@@ -37,7 +37,7 @@ pub fn tell<'d, D: Disk, M: Mode, O: Sink>(
     say_file(out, file.frames(), file.params(), file.kind())
 }
 
-// Why a frame is not sought in a file that is whole, and of a codec with no blocks.
+// Why a frame is not sought in a file that is whole; none of ADPCM is written here.
 fn seek_refusal(error: SeekError) -> Refusal
     requires { error ≡ SeekError.SeekRange }
     ensures { result ≡ Refusal.SeekRange }
@@ -96,7 +96,8 @@ pub fn seek_both<'d, D: Disk, O: Sink>(
     }
 }
 
-/// Reads frames, by way of the samples and the page, and feeds them to the taps.
+/// Reads frames, by way of the samples and the page, and feeds them to the taps, unless the block of one of
+/// them is bad.
 pub fn read<'d, D: Disk, M: CanRead, O: Sink>(
     file: &mut File<'d, D, M>,
     room: &mut Room,
@@ -109,7 +110,9 @@ pub fn read<'d, D: Disk, M: CanRead, O: Sink>(
     ensures taps { FeedsFile D.state (read_rule wanted) result file.old (meter_taps (λ b. meter b) meters.old) (meter_taps (λ b. meter b) meters.new) }
 {
     let channels = usize::from(file.params().channels);
-    let frames = read_some(file, &mut room.samples, wanted)?;
+    let Some(frames) = read_some(file, &mut room.samples, wanted)? else {
+        return refuse(out, Refusal::BadBlock);
+    };
     let read = &room.samples[..frames * channels];
     meters.feed(channels, read);
     say_frames(&mut room.page, out, read, channels, frames)

@@ -17,7 +17,7 @@ returns-in-Ok g c =
     c.write_frames.ensures.loan (write_free xs h.shape h.write_place c.in-Ok.ensures.left.1) c.say_ok.ensures.sent (search rules)
     (λ e here. ap (λ (s : Shape). says (ok_line (length xs / s.params.channels))) (sym here.shape)) c.in-Ok.ensures.stands
     c.in-Ok.ensures.left.2 (search rules) (search rules) (search rules) (search rules) (λ changes on. c.in-Ok.ensures.leaves (⊎_elim (λ is. is) (λ is. is) on)) (λ changes on. c.in-Ok.ensures.rests (⊎_elim (λ is. is) (λ is. is) on)) (search rules)
-    (written_for_numbers _ _ (length xs) h.shape.params.channels h.shape.params.codec h.automatic c.args.file.now.linear c.in-Ok.ensures.written)
+    (written_for_numbers _ _ (length xs) h.shape.params.channels h.shape.params.codec h.automatic (c.args.file.now.linear g.met.M.CanWrite.writes) c.in-Ok.ensures.written)
 
 pub returns-in-Err-DiskFault : goal.returns-in-Err-DiskFault
 returns-in-Err-DiskFault g c =
@@ -27,7 +27,7 @@ returns-in-Err-DiskFault g c =
     failed g.D.Disk g.O.Sink (write_rule xs) c.args.file.now c.args.out.now c.write_frames.new.self
     c.write_frames.ensures.loan (write_free xs h.shape h.write_place (search rules)) (search rules) (search rules) (search rules)
     (search rules) (search rules) (λ on. leaves (⊎_elim (λ is. is) (λ is. is) on)) (search rules)
-    (written_for_numbers _ _ (length xs) h.shape.params.channels h.shape.params.codec h.automatic c.args.file.now.linear c.write_frames.ensures.written)
+    (written_for_numbers _ _ (length xs) h.shape.params.channels h.shape.params.codec h.automatic (c.args.file.now.linear g.met.M.CanWrite.writes) c.write_frames.ensures.written)
 
 pub returns-in-Err-SampleRange : goal.returns-in-Err-SampleRange
 returns-in-Err-SampleRange g c =
@@ -35,7 +35,7 @@ returns-in-Err-SampleRange g c =
     let xs = c.args.samples.now in
     let left = rw c.in-Err-SampleRange.field-0-is at c.in-Err-SampleRange.ensures.left in
     refused_on g.D.Disk g.O.Sink (write_rule xs) c.refuse-in-Err-SampleRange.result c.args.file.now c.args.out.now c.write_frames.new.self c.refuse-in-Err-SampleRange.new.out SampleRange
-    c.write_frames.ensures.loan (write_range xs h.shape h.write_place left.1.0 left.1.1) c.refuse-in-Err-SampleRange.ensures.sent c.refuse-in-Err-SampleRange.ensures.said left.2 (search rules)
+    c.write_frames.ensures.loan (write_range xs h.shape h.write_place (c.args.file.now.linear g.met.M.CanWrite.writes) left.1.0 left.1.1) c.refuse-in-Err-SampleRange.ensures.sent c.refuse-in-Err-SampleRange.ensures.said left.2 (search rules)
 
 pub returns-in-Err-TrailingData : goal.returns-in-Err-TrailingData
 returns-in-Err-TrailingData g c =
