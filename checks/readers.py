@@ -22,9 +22,10 @@ NO_READING = {
 NO_DECODING = {
     (tool, "w64", "ffmpeg", law, 3): "it takes the laws of an extensible Wave64 head for linear samples of 8 bits" for law in kinds.LAWS for tool in ("sox", "sndfile")
 }
+ROUNDED = {"ima": "it rounds the differences of IMA ADPCM otherwise than the sum of halved steps", "ms": "it rounds the predictions of Microsoft ADPCM toward zero"}
 NO_DECODING |= {
-    ("ffmpeg", kind, maker, "ima", channels): "it rounds the differences of IMA ADPCM otherwise than the sum of halved steps"
-    for kind in ("wave", "w64") for maker in ("sox", "sndfile", "ffmpeg") for channels in (1, 2)
+    ("ffmpeg", kind, maker, codec, channels): why
+    for codec, why in ROUNDED.items() for kind in ("wave", "w64") for maker in ("sox", "sndfile", "ffmpeg") for channels in (1, 2)
 }
 # the padding that some count as frames where there is some, by the kind: to so many bytes
 PADDED = {"w64": 8, "svx": 2}
