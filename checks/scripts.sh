@@ -112,14 +112,24 @@ for codec, tag, data, kept, zeros, zero in (("ulaw", 7, b"\xff\x7f\xce\x4e\x80\0
         [line_of(codec, 2, 8000, 0), "ok 3", "error 23 SampleRange", "error 23 SampleRange", "ok 3", line_of(codec, 2, 8000, 3), "ok 3", *kept, "ok 1", "ok 1", "ok 0", "ok 3", kept[0], zero, kept[2], "ok 3"], 1,
         {"o.wav": start + data[:2] + zeros + data[4:]})
 
+# ADPCM: frames are given from front to back, and whole blocks of them are told of until the file is closed
+for codec, frames, start in (("ima", 505, struct.pack("<4sI4s4sIHHIIHHHH4sII4sI", b"RIFF", 564, b"WAVE", b"fmt ", 20, 0x11, 1, 8000, 4055, 256, 4, 2, 505, b"fact", 4, 506, b"data", 512)),
+                             ("ms", 500, struct.pack("<4sI4s4sIHHIIHHHHH14h4sII4sI", b"RIFF", 594, b"WAVE", b"fmt ", 50, 2, 1, 8000, 4096, 256, 4, 32, 500, 7,
+                                                     256, 0, 512, -256, 0, 0, 192, 64, 240, 0, 460, -208, 392, -232, b"fact", 4, 506, b"data", 512))):
+    zeros = bytes(512) if codec == "ima" else (bytes(1) + struct.pack("<h", 16) + bytes(253)) * 2
+    run(f"{codec}, which is made", [f"create wave {codec} 1 8000 o.wav", f"write {' '.join(['0'] * 500)}", "write 0 0 0 0 0 0", "write 32768", "info", "update", "auto on", "seek w 0", "seek rw 0",
+        "seek r 0", "read 1", "truncate 0", "trim", "set cue 1", "close"],
+        [line_of(codec, 1, 8000, 0), "ok 500", "ok 6", "error 23 SampleRange", line_of(codec, 1, 8000, 506), f"ok {frames}", f"ok {frames}", "error 33 AdpcmSeek", "error 33 AdpcmSeek",
+         "error 44 WrongMode", "error 44 WrongMode", "error 20 AdpcmUpdate", "error 20 AdpcmUpdate", "error 28 FramesWritten", "ok 506"], 1, {"o.wav": start + zeros})
+
 two = [[1, -1], [2, -2]]
 old = {"a.wav": made("pcm_16_le", 2, 44100, two), "other": b"stays"}
 opened = line_of("pcm_16_le", 2, 44100, 2)
 run("refusals, and nothing changes", ["write 1", "update", "close", "open u none.wav", "create wave pcm_16_be 1 1 n.wav", "create wave pcm_16_le 0 1 n.wav", "create wave pcm_16_le 257 1 n.wav",
-    "create wave pcm_16_le 1 0 n.wav", "create au pcm_u8 1 1 n.wav", "create wave ima 1 1 n.wav", "open r a.wav", "open u a.wav", "create wave pcm_u8 1 1 n.wav", "create wave ima 1 1 n.wav",
+    "create wave pcm_16_le 1 0 n.wav", "create au pcm_u8 1 1 n.wav", "create wave ima 3 1 n.wav", "open r a.wav", "open u a.wav", "create wave pcm_u8 1 1 n.wav", "create wave ima 1 1 n.wav",
     "write 1 1", "truncate 1", "trim", "update", "auto on", "auto off", "seek w 0", "seek rw 2", "seek r 3", "set cue 1", "close"],
-    ["error 42 NotOpen"] * 3 + ["error 56 MissingFile", "error 18 BadPair", "error 11 BadChannels", "error 11 BadChannels", "error 12 BadRate", "error 18 BadPair", "error 99 NotBuilt", opened]
-    + ["error 43 AlreadyOpen"] * 2 + ["error 99 NotBuilt"] + ["error 44 WrongMode"] * 7 + ["ok 2", "error 24 SeekRange", "error 44 WrongMode", "ok 2"], 1, old, old)
+    ["error 42 NotOpen"] * 3 + ["error 56 MissingFile", "error 18 BadPair", "error 11 BadChannels", "error 11 BadChannels", "error 12 BadRate", "error 18 BadPair", "error 18 BadPair", opened]
+    + ["error 43 AlreadyOpen"] * 3 + ["error 44 WrongMode"] * 7 + ["ok 2", "error 24 SeekRange", "error 44 WrongMode", "ok 2"], 1, old, old)
 run("a file that is made is not read", ["create wave pcm_u8 1 8000 n.wav", "write 1", "read 1", "seek r 0", "seek rw 0", "write 2", "truncate 9", "truncate 1"],
     [line_of("pcm_u8", 1, 8000, 0), "ok 1", "error 44 WrongMode", "error 44 WrongMode", "ok 0", "ok 1", "error 24 SeekRange", "ok 1"], 1, {"n.wav": made("pcm_u8", 1, 8000, [[2]])})
 run("made over a file that is there", ["create wave pcm_16_le 2 44100 a.wav"], [line_of("pcm_16_le", 2, 44100, 0)], 0, {**old, "a.wav": made("pcm_16_le", 2, 44100, [])}, old)

@@ -5,7 +5,7 @@ use Rattle.snd_disk.specs.Shelf.{Files, ShelfState, Takes}
 use Rattle.snd_container.specs.Sound.{layout_of}
 use Rattle.snd_app.specs.declared.look.Found.{Found}
 use Rattle.snd_output.specs.declared.stop.Stop.{Stop}
-use Rattle.snd_output.specs.declared.stop.Stop.TheVariants.{Fault, Memory}
+use Rattle.snd_output.specs.declared.stop.Stop.TheVariants.{Changed, Fault, Memory}
 use Rattle.snd_output.specs.Ends.{CountsStop}
 use Rattle.snd_tools.proofs.Counts.{rises_with}
 use Rattle.snd_app.specs.Outcome.{found_in, found_of}
@@ -27,5 +27,6 @@ if_ok (Err e) P Q f p = p
 pub counts_given : {T : Type 0} (r : Result T Stop) (old mid fresh disk new : ℕ) → mid ≡ old → fresh ≡ 0 → CountsStop fresh disk r → Adds mid disk new → CountsStop old new r
 counts_given (Ok x) old mid fresh disk new same none counts adds = omega (arith, adds.later, adds.most)
 counts_given (Err Memory) old mid fresh disk new same none counts adds = omega (arith, adds.later, adds.most)
+counts_given (Err Changed) old mid fresh disk new same none counts adds = omega (arith, adds.later, adds.most)
 counts_given (Err Fault) old mid fresh disk new same none counts adds =
     (omega (arith, adds.later), subst (λ (m : ℕ). Rises m new) same (rises_with mid disk new (subst (λ (z : ℕ). Rises z disk) none counts.1) adds))

@@ -62,6 +62,7 @@ fn run_info<S: Shelf, O: Sink, E: Sink>(
         Ok(found) => found,
         Err(Stop::Fault) => return FAULT,
         Err(Stop::Memory) => return NO_MEMORY,
+        Err(Stop::Changed) => return NO_MEMORY,
     };
     let Ok(text) = text_for(alloc, name, &found) else {
         return NO_MEMORY;

@@ -135,5 +135,6 @@ pub(crate) fn run_tool<S: Shelf, O: Sink, E: Sink>(
         Ok(Reply::Refused(text)) => put_text(err, &text, 1),
         Err(Stop::Fault) => FAULT,
         Err(Stop::Memory) => NO_MEMORY,
+        Err(Stop::Changed) => NO_MEMORY,
     }
 }

@@ -23,7 +23,6 @@ use Rattle.snd_modes.specs.Editing.{Editing, first_editing}
 use Rattle.snd_modes.specs.Handle.{Known, Stands, StandsAfter, known_of}
 use Rattle.snd_modes.specs.Heads.{holds_meta}
 use Rattle.snd_layout.specs.declared.refusal.OpenRefusal.{OpenRefusal}
-use Rattle.snd_layout.specs.declared.refusal.OpenRefusal.TheVariants.{NotBuilt}
 use Rattle.snd_modes.specs.Making.{making_as, making_of}
 use Rattle.snd_modes.specs.Pieces.{body_of}
 use Rattle.snd_modes.specs.Relaid.{added_to, head_with, pieces_held, shape_put, shape_with}
@@ -54,14 +53,9 @@ added_is kind p cs id body meta held =
 -- the state in which a file is made
 first_by : (kind : Kind) (p : Parameters) (e : Editing) (r : Option OpenRefusal) → making_as kind p r ≡ Ok e → e ≡ first_editing (new_file kind p) (new_shape kind p)
 first_by kind p e (Some refusal) given = absurd (cc)
-first_by kind p e None given = elim (cases_Bool (is_none (fixed_of p.codec))) [
-  | inl blocks ↦ absurd (let h = rw blocks at given in cc)
-  | inr linear ↦
-      let first : Editing = first_editing (new_file kind p) (new_shape kind p) in
-      let same : ◌≡◌ {A = Result Editing OpenRefusal} (Ok first) (Ok e) = sym (ap (λ (t : Bool). cond t (Err NotBuilt) (Ok first)) linear) ∙ given in
-      let it : first ≡ e = cc in
-      sym it
-]
+first_by kind p e None given =
+    let it : first_editing (new_file kind p) (new_shape kind p) ≡ e = cc in
+    sym it
 
 first_is : (kind : Kind) (p : Parameters) (e : Editing) → making_of kind p ≡ Ok e → e ≡ first_editing (new_file kind p) (new_shape kind p)
 unfolding making_of

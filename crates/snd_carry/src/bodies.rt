@@ -11,7 +11,7 @@ ghost use Rattle.snd_modes.specs.PieceCalls.{IsUntouched, known_put};
 ghost use Rattle.snd_modes.specs.Pieces.{body_of};
 ghost use Rattle.snd_modes.specs.Relaid.{added_to, outline};
 ghost use Rattle.snd_wave.specs.Heads.{new_piece};
-ghost use Rattle.snd_output.specs.Ends.{BreaksByFault, CountsOneOf, CountsStop};
+ghost use Rattle.snd_output.specs.Ends.{BreaksByFault, CountsOneOf, CountsStop, IsUnchanged};
 ghost use Rattle.snd_carry.specs.Carried.{is_carried};
 ghost use Rattle.snd_carry.specs.Carrying.{CarriesOne, HoldsChunk, HoldsOne};
 
@@ -44,6 +44,7 @@ fn read_body<D: Disk>(
     ensures bytes { IfOk result (λ body. All IsByte body.items) }
     ensures stands { StandsAfter D.state from.old from.new (λ e. e) }
     ensures faults { CountsStop (D.state (disk_of from.old)).faults (D.state (disk_of from.new)).faults result }
+    ensures unchanged { IsUnchanged result }
     ensures reads { OnlyReadsOn D.state D.may_leave D.left_between (disk_of from.old) (disk_of from.new) }
     ensures asked { AsksAtMost D.state piece.len (disk_of from.old) (disk_of from.new) }
 {
@@ -75,6 +76,7 @@ pub fn put_chunk<E: Disk>(to: &mut File<'_, E, Write>, id: Id4, body: &[u8]) -> 
     ensures begins { OnOk result (StandsAsOpened E.state to.new) }
     ensures works { BreaksByFault (known_of to.new) result }
     ensures faults { CountsStop (E.state (disk_of to.old)).faults (E.state (disk_of to.new)).faults result }
+    ensures unchanged { IsUnchanged result }
     ensures tells { TellsOn E.state to.old to.new }
     ensures time { GoesOnFrom E.state E.left_between (disk_of to.old) (disk_of to.new) }
     ensures written { WritesAtMost E.state 16777216 (disk_of to.old) (disk_of to.new) }
@@ -125,6 +127,7 @@ pub fn carry_chunk<D: Disk, E: Disk>(
     ensures chunk { OnOk result (HoldsChunk D.state piece from.old) }
     ensures works { BreaksByFault (known_of to.new) result }
     ensures faults { CountsOneOf (D.state (disk_of from.old)).faults (D.state (disk_of from.new)).faults (E.state (disk_of to.old)).faults (E.state (disk_of to.new)).faults result }
+    ensures unchanged { IsUnchanged result }
     ensures reads { OnlyReadsOn D.state D.may_leave D.left_between (disk_of from.old) (disk_of from.new) }
     ensures asked { AsksAtMost D.state piece.len (disk_of from.old) (disk_of from.new) }
     ensures tells { TellsOn E.state to.old to.new }

@@ -5,7 +5,7 @@ ghost use Rattle.snd_disk.specs.Device.{GoesOnFrom, OnlyReadsOn, WritesAtMost};
 ghost use Rattle.snd_modes.specs.Handle.{IsFresh, StandsAfter, disk_of, known_of, loan_of};
 ghost use Rattle.snd_modes.specs.Heads.{holds_meta};
 ghost use Rattle.snd_modes.specs.Outcomes.{AsksNothing, TellsOn};
-ghost use Rattle.snd_output.specs.Ends.{BreaksByFault, CountsOneOf};
+ghost use Rattle.snd_output.specs.Ends.{BreaksByFault, CountsOneOf, IsUnchanged};
 ghost use Rattle.snd_carry.specs.Carried.{carried_pieces};
 ghost use Rattle.snd_carry.specs.Carrying.{AsksForBodies, Carries, HoldsChunks, IsNewShape, StaysAsOpened, known_with};
 
@@ -42,6 +42,7 @@ pub fn carry_pieces<D: Disk, E: Disk>(
     ensures stands { StandsAfter D.state from.old from.new (λ e. e) }
     ensures works { BreaksByFault (known_of to.new) result }
     ensures faults { CountsOneOf (D.state (disk_of from.old)).faults (D.state (disk_of from.new)).faults (E.state (disk_of to.old)).faults (E.state (disk_of to.new)).faults result }
+    ensures unchanged { IsUnchanged result }
     ensures reads { OnlyReadsOn D.state D.may_leave D.left_between (disk_of from.old) (disk_of from.new) }
     ensures asked { AsksForBodies D.state (carried_pieces (known_of from.old).shape.pieces) from.old from.new }
     ensures tells { TellsOn E.state to.old to.new }

@@ -1,21 +1,29 @@
 -- From what was looked at to what is done.
 use Rattle.std.proofs.Common.{◌≡◌, ℕ, ◌<◌, List, [], ◌∷◌, ◌++◌, All, Bool, true, false, cond, not, Option, None, Some, Result, Ok, Err, IsOk, length, slice_get, get_or, position, refl, sym, ◌∙◌, ap, inl, inr, arith}
-use Rattle.std.proofs.lemmas.Bool.{cases_lt, lt-ltb}
+use Rattle.std.proofs.lemmas.Bool.{cases_Bool, cases_lt, lt-ltb}
 use Rattle.std.proofs.lemmas.List.{get_or_append_left}
 use Rattle.std.proofs.lemmas.List.Quantifiers.{position-Some}
 use Rattle.std.proofs.lemmas.List.Sums.{fails_before_first}
 use Rattle.std.specs.List.{position_or_len}
+use Rattle.std.specs.Prelude.{is_none}
+use Rattle.snd_container.specs.Sound.{fixed_of}
 use Rattle.snd_disk.specs.Shelf.{Files, ShelfState}
+use Rattle.snd_inputs.specs.Inputs.{first_bad, is_bad}
 use Rattle.snd_inputs.specs.Looking.{all_seen}
+use Rattle.snd_layout.specs.Blocks.{is_adpcm}
 use Rattle.snd_layout.specs.Shape.{Shape}
+use Rattle.snd_layout.specs.declared.codec.Codec.{Codec}
+use Rattle.snd_layout.specs.declared.refusal.OpenRefusal.TheVariants.{NotBuilt}
 use Rattle.snd_lines.specs.declared.refusal.Refusal.{Refusal}
-use Rattle.snd_lines.specs.declared.refusal.Refusal.TheVariants.{MissingFile}
+use Rattle.snd_lines.specs.declared.refusal.Refusal.TheVariants.{ContainerFull, MissingFile, Open}
+use Rattle.snd_modes.proofs.FixedFrames.{is_fixed}
+use Rattle.snd_modes.proofs.Rooms.{not_adpcm}
 use Rattle.snd_modes.specs.Editing.{Editing}
 use Rattle.snd_tools.proofs.Names.{after_same}
 use Rattle.snd_tools.specs.Done.{Done}
 use Rattle.snd_tools.specs.Shelves.{IsDone}
 use Rattle.snd_tools.specs.declared.answer.Answer.{Answer}
-use Rattle.snd_concat.specs.Concat.{done_if_alike, done_like, first_mixed, is_alike, shapes_of}
+use Rattle.snd_concat.specs.Concat.{all_frames, done_if_alike, done_like, first_mixed, is_alike, is_full, made_if_built, made_if_good, made_like, shapes_of}
 
 module _ {S : Type 0} (state : S → ShelfState) (new : S) where
   -- what is done over some files is done over others that are the same
@@ -23,6 +31,12 @@ module _ {S : Type 0} (state : S → ShelfState) (new : S) where
   done_over answer todo files files' same done = (done.0, (done.1.0, done.1.1, λ n. done.1.2 n ∙ after_same todo files files' n (same n)))
 
 -- ---- inputs by their layouts
+
+stands_in_blocks : (codec : Codec) → is_none (fixed_of codec) ≡ true → is_adpcm codec ≡ true
+stands_in_blocks codec none = elim (cases_Bool (is_adpcm codec)) [
+  | inl is ↦ is
+  | inr other ↦ absurd (let no : true ≡ false = sym none ∙ is_fixed codec other in cc)
+]
 
 module _ (inputs : List (List ℕ)) (output : List ℕ) where
   pub like_done : (es : List Editing) (hs : List Shape) (h : Shape) → shapes_of es ≡ hs → slice_get hs 0 ≡ Some h → done_like inputs output es ≡ done_if_alike inputs output h es (first_mixed h.params hs)
@@ -32,6 +46,26 @@ module _ (inputs : List (List ℕ)) (output : List ℕ) where
       let same : e.shape ≡ h = cc in
       ap (λ (g : Shape). done_if_alike inputs output g (e ∷ others) (first_mixed g.params (shapes_of (e ∷ others)))) same
       ∙ ap (λ (l : List Shape). done_if_alike inputs output h (e ∷ others) (first_mixed h.params l)) seen
+
+  -- where their channels and rates are those of the first: an output of ADPCM, more data than the head has room for, and neither
+  module _ (es : List Editing) (hs : List Shape) (h : Shape) (seen : shapes_of es ≡ hs) (first : slice_get hs 0 ≡ Some h) (none : first_mixed h.params hs ≡ None) where
+    alike_done : done_like inputs output es ≡ made_if_built inputs output h es
+    alike_done = like_done es hs h seen first ∙ ap (done_if_alike inputs output h es) none
+
+    pub unbuilt_done : is_none (fixed_of h.params.codec) ≡ true → done_like inputs output es ≡ Done.refuses output (Open NotBuilt)
+    unbuilt_done blocks = alike_done ∙ ap (λ (t : Bool). cond t (Done.refuses output (Open NotBuilt)) (made_like inputs output h es)) (stands_in_blocks h.params.codec blocks)
+
+    module _ (linear : is_none (fixed_of h.params.codec) ≡ false) where
+      built_done : done_like inputs output es ≡ made_like inputs output h es
+      built_done = alike_done ∙ ap (λ (t : Bool). cond t (Done.refuses output (Open NotBuilt)) (made_like inputs output h es)) (not_adpcm h.params.codec linear)
+
+      pub full_done : is_full h (all_frames hs) ≡ true → done_like inputs output es ≡ Done.refuses output ContainerFull
+      full_done full =
+          built_done ∙ ap (λ (t : Bool). cond t (Done.refuses output ContainerFull) (made_if_good inputs output h es (first_bad es))) (ap (λ (l : List Shape). is_full h (all_frames l)) seen ∙ full)
+
+      pub room_done : is_full h (all_frames hs) ≡ false → done_like inputs output es ≡ made_if_good inputs output h es (first_bad es)
+      room_done room =
+          built_done ∙ ap (λ (t : Bool). cond t (Done.refuses output ContainerFull) (made_if_good inputs output h es (first_bad es))) (ap (λ (l : List Shape). is_full h (all_frames l)) seen ∙ room)
 
   pub none_done : (es : List Editing) → shapes_of es ≡ [] → done_like inputs output es ≡ Done.refuses output MissingFile
   none_done [] seen = refl
@@ -43,6 +77,11 @@ module _ (inputs : List (List ℕ)) (output : List ℕ) where
 
 pub mixed_within : (h : Shape) (hs : List Shape) (at : ℕ) → first_mixed h.params hs ≡ Some at → at < length hs
 mixed_within h hs at is = (position-Some (λ (g : Shape). not (is_alike h.params g.params)) hs at h is).0
+
+-- a place at which a file has a bad block is one of them
+pub bad_within : (es : List Editing) (at : ℕ) → Some at ≡ first_bad es → at < length es
+bad_within [] at is = absurd (cc)
+bad_within (e ∷ es) at is = (position-Some is_bad (e ∷ es) at e (sym is)).0
 
 not_not : (t : Bool) → not t ≡ false → t ≡ true
 not_not true is = refl

@@ -1,5 +1,5 @@
 -- A file that is being made and gains the numbers of others.
-use Rattle.std.proofs.Common.{◌≡◌, ℕ, ℤ, List, ◌++◌, drop, ◌∙◌, ap, subst, append_assoc}
+use Rattle.std.proofs.Common.{◌≡◌, ℕ, ℤ, List, ◌++◌, drop, ◌∙◌, ap, sym, subst, append_assoc, Result, Err}
 use Rattle.snd_disk.specs.declared.disk.Disk.{Ghosts}
 use Rattle.snd_disk.specs.State.{State}
 use Rattle.snd_layout.specs.Shape.{Shape}
@@ -7,16 +7,30 @@ use Rattle.snd_modes.specs.declared.handle.File.{File}
 use Rattle.snd_modes.specs.declared.mode.Mode.{Ghosts as ModeGhosts}
 use Rattle.snd_modes.specs.Editing.{Editing}
 use Rattle.snd_modes.specs.Handle.{Known, Stands, codec_of}
-use Rattle.snd_output.specs.Appended.{Lengthens, numbers_left}
+use Rattle.snd_output.specs.Appended.{AppendLeaves, CountsEither, Lengthens, numbers_left}
 use Rattle.snd_output.specs.Made.{IsMaking}
 use Rattle.snd_output.specs.Widths.{change_numbers, joined}
-use Rattle.snd_concat.specs.Appending.{Gains, StillMade}
+use Rattle.snd_output.specs.declared.stop.Stop.{Stop}
+use Rattle.snd_output.specs.declared.stop.Stop.TheVariants.{Changed, Fault, Memory}
+use Rattle.snd_concat.specs.Appending.{Gains, MadeUnlessFault, StillMade}
 use Rattle.snd_concat.specs.Concat.{numbers_for}
 
 -- ---- what is known of it
 
 pub made_then : (a b c : Known) → StillMade a b → StillMade b c → StillMade a c
 made_then a b c first second = (second.0, second.1 ∙ ap (λ (h : Shape). record h { frames = c.shape.frames }) first.1)
+
+-- .. where frames were not put there
+pub made_unless : {T : Type 0} (n : ℕ) (from from' to to' : Known) (a b c e : ℕ) (stop : Stop) (result : Result T Stop) → result ≡ Err stop → AppendLeaves {T = T} n from from' to to' (Err stop)
+    → CountsEither {T = T} a b c e (Err stop) → MadeUnlessFault to to' result
+made_unless n from from' to to' a b c e Fault result is left counts = subst (MadeUnlessFault to to') (sym is) tt
+made_unless n from from' to to' a b c e Memory result is left counts = absurd counts
+made_unless n from from' to to' a b c e Changed result is left counts = subst (MadeUnlessFault to to') (sym is) left.2
+
+pub made_later : {T : Type 0} (first to to' : Known) (stop : Stop) (result : Result T Stop) → result ≡ Err stop → StillMade first to → MadeUnlessFault {T = T} to to' (Err stop) → MadeUnlessFault first to' result
+made_later first to to' Fault result is before made = subst (MadeUnlessFault first to') (sym is) tt
+made_later first to to' Memory result is before made = subst (MadeUnlessFault first to') (sym is) (made_then first to to' before made)
+made_later first to to' Changed result is before made = subst (MadeUnlessFault first to') (sym is) made
 
 -- ---- what it holds
 

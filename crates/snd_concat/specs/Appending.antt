@@ -1,12 +1,12 @@
 -- How the frames of files are put behind those of one that is being made. It is said for the proofs alone.
-use Rattle.std.specs.Prelude.{◌≡◌, ℕ, ℤ, ◌+◌, List, ◌++◌, All, Result, Ok, Err, IfOk, IsOk, false, nat_lt, true}
+use Rattle.std.specs.Prelude.{◌≡◌, ℕ, ℤ, ◌+◌, List, ◌++◌, All, None, Result, Ok, Err, IfOk, IsOk, false, nat_lt, true}
 use Rattle.snd_chunks.specs.Written.{NewChunk}
 use Rattle.snd_disk.specs.declared.disk.Disk.{Ghosts}
 use Rattle.snd_disk.specs.Device.{Tells}
 use Rattle.snd_disk.specs.Shelf.{Files, ShelfState}
 use Rattle.snd_disk.specs.Shelves.{TellsFiles}
 use Rattle.snd_disk.specs.State.{State}
-use Rattle.snd_inputs.specs.Inputs.{input_in, inputs_in}
+use Rattle.snd_inputs.specs.Inputs.{input_in, inputs_in, is_bad}
 use Rattle.snd_layout.specs.Params.{Parameters, data_bytes}
 use Rattle.snd_layout.specs.Shape.{Shape, room}
 use Rattle.snd_layout.specs.declared.kind.Kind.{Kind}
@@ -16,8 +16,9 @@ use Rattle.snd_modes.specs.declared.mode.Mode.{Ghosts as ModeGhosts}
 use Rattle.snd_modes.specs.Editing.{Editing, first_editing}
 use Rattle.snd_modes.specs.Handle.{Known, Stands, codec_of, known_of}
 use Rattle.snd_output.specs.declared.stop.Stop.{Stop}
-use Rattle.snd_output.specs.declared.stop.Stop.TheVariants.{Fault, Memory}
+use Rattle.snd_output.specs.declared.stop.Stop.TheVariants.{Changed, Fault, Memory}
 use Rattle.snd_output.specs.Appended.{IsAtEnd}
+use Rattle.snd_output.specs.Ends.{IfChanged}
 use Rattle.snd_output.specs.Made.{IsMaking}
 use Rattle.snd_tools.specs.Done.{Said, said_by}
 use Rattle.snd_tools.specs.declared.answer.Answer.{Answer}
@@ -40,7 +41,16 @@ StillMade old new = IsAtEnd new × (new.shape ≡ record old.shape { frames = ne
 abbrev pub MadeUnlessFault : {T : Type 0} → Known → Known → Result T Stop → Type 0
 MadeUnlessFault old new (Ok done) = StillMade old new
 MadeUnlessFault old new (Err Memory) = StillMade old new
+MadeUnlessFault old new (Err Changed) = new.broken ≡ None
 MadeUnlessFault old new (Err Fault) = Unit {0}
+
+-- a file on a disk, or one under a name, is said to have changed only where it has a bad block
+abbrev pub LaidChanged : {D T : Type 0} → (D → State) → D → Shape → Result T Stop → Type 0
+LaidChanged state disk layout result = IfChanged ((b : List ℕ) → Tells state disk b → is_bad (first_editing b layout) ≡ true) result
+
+abbrev pub InputChanged : {S T : Type 0} → (S → ShelfState) → List ℕ → S → Result T Stop → Type 0
+InputChanged state name shelf result =
+    IfChanged ((files : Files) (e : Editing) → TellsFiles state shelf files → input_in (files name) ≡ Ok e → is_bad e ≡ true) result
 
 -- where its disk tells what it holds, it has so many numbers more
 abbrev pub Gains : {E N : Type 0} {t : Ghosts E} {n : ModeGhosts N} → (E → State) → List ℤ → File E N t n → File E N t n → Type 0

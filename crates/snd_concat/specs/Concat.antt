@@ -1,13 +1,16 @@
 -- What `concat` does: the whole file that it makes, or what it refuses. It refuses in this order: equal names; an input that is
--- missing or is not opened; one whose channels or rate are not those of the first; and more data than the head has room for.
+-- missing or is not opened; one whose channels or rate are not those of the first; an output of ADPCM; more data than the head has
+-- room for; and an input that has a bad block.
 use Rattle.std.specs.Prelude.{ℕ, ℤ, Bool, ◌&&◌, ◌==◌, not, List, [], ◌∷◌, ◌++◌, Option, Some, None, Result, Ok, Err, flat_map, map, nat_lt, position, slice_index_or, sum_by, if◌then◌else◌}
 use Rattle.snd_disk.specs.Shelf.{Files}
-use Rattle.snd_inputs.specs.Inputs.{inputs_in}
+use Rattle.snd_inputs.specs.Inputs.{first_bad, inputs_in}
+use Rattle.snd_layout.specs.Blocks.{is_adpcm}
 use Rattle.snd_layout.specs.Params.{Parameters, data_bytes}
 use Rattle.snd_layout.specs.Shape.{Shape, room}
 use Rattle.snd_layout.specs.declared.codec.Codec.{Codec}
+use Rattle.snd_layout.specs.declared.refusal.OpenRefusal.TheVariants.{NotBuilt}
 use Rattle.snd_lines.specs.declared.refusal.Refusal.{Refusal}
-use Rattle.snd_lines.specs.declared.refusal.Refusal.TheVariants.{ContainerFull, MissingFile, MixedParams, SameName}
+use Rattle.snd_lines.specs.declared.refusal.Refusal.TheVariants.{BadBlock, ContainerFull, MissingFile, MixedParams, Open, SameName}
 use Rattle.snd_modes.specs.Editing.{Editing}
 use Rattle.snd_modes.specs.Relaid.{shape_with}
 use Rattle.snd_output.specs.Made.{made_file}
@@ -41,15 +44,22 @@ abbrev pub is_full : Shape → ℕ → Bool
 is_full h frames = nat_lt (room (shape_with h.kind h.params [])) (data_bytes h.params frames)
 
 -- a new file, like one with this layout, with all frames, without further chunks
-abbrev pub made_like : List ℕ → Shape → List Editing → Done
-made_like output h es =
-    let frames = all_frames (shapes_of es) in
-    if is_full h frames then Done.refuses output ContainerFull
-    else Done.makes output (made_file h.kind h.params [] (all_numbers h.params.codec es)) frames
+abbrev pub made_if_good : List (List ℕ) → List ℕ → Shape → List Editing → Option ℕ → Done
+made_if_good inputs output h es (Some at) = Done.refuses (slice_index_or inputs at []) BadBlock
+made_if_good inputs output h es None = Done.makes output (made_file h.kind h.params [] (all_numbers h.params.codec es)) (all_frames (shapes_of es))
+
+abbrev pub made_like : List (List ℕ) → List ℕ → Shape → List Editing → Done
+made_like inputs output h es =
+    if is_full h (all_frames (shapes_of es)) then Done.refuses output ContainerFull else made_if_good inputs output h es (first_bad es)
+
+-- a file of ADPCM is not made yet
+abbrev pub made_if_built : List (List ℕ) → List ℕ → Shape → List Editing → Done
+made_if_built inputs output h es =
+    if is_adpcm h.params.codec then Done.refuses output (Open NotBuilt) else made_like inputs output h es
 
 abbrev pub done_if_alike : List (List ℕ) → List ℕ → Shape → List Editing → Option ℕ → Done
 done_if_alike inputs output h es (Some at) = Done.refuses (slice_index_or inputs at []) MixedParams
-done_if_alike inputs output h es None = made_like output h es
+done_if_alike inputs output h es None = made_if_built inputs output h es
 
 -- It is made like the first. Where no inputs are named, which no words do, there is none.
 abbrev pub done_like : List (List ℕ) → List ℕ → List Editing → Done

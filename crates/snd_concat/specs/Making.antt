@@ -1,19 +1,21 @@
 -- How the output is made, and how what was looked at is judged. It is said for the proofs alone.
-use Rattle.std.specs.Prelude.{◌≡◌, ℕ, ◌≤◌, List, [], ◌∷◌, ◌++◌, All, Some, Result, Ok, IfOk, true, false, length, slice_index_or}
+use Rattle.std.specs.Prelude.{◌≡◌, ℕ, ◌≤◌, List, [], ◌∷◌, ◌++◌, All, None, Some, Result, Ok, IfOk, true, false, length, slice_index_or}
 use Rattle.std.specs.Str.{bytes_eq}
 use Rattle.snd_disk.specs.Device.{Tells}
 use Rattle.snd_disk.specs.Shelf.{Files, ShelfState, put}
 use Rattle.snd_disk.specs.Shelves.{TellsFiles}
 use Rattle.snd_disk.specs.State.{State}
-use Rattle.snd_inputs.specs.Inputs.{inputs_in}
+use Rattle.snd_inputs.specs.Inputs.{first_bad, inputs_in}
 use Rattle.snd_layout.specs.Shape.{Shape}
 use Rattle.snd_modes.specs.Editing.{Editing}
+use Rattle.snd_output.specs.Ends.{IfChanged}
 use Rattle.snd_output.specs.Made.{made_file}
+use Rattle.snd_output.specs.declared.stop.Stop.{Stop}
 use Rattle.snd_tools.specs.Done.{Said, said_by}
 use Rattle.snd_tools.specs.Shelves.{HasFiles, IsDone}
 use Rattle.snd_tools.specs.declared.answer.Answer.{Answer}
 use Rattle.snd_words.specs.declared.concat.Concatenation.{Concatenation}
-use Rattle.snd_concat.specs.Concat.{all_frames, all_numbers, done_like, is_alike, is_full, shapes_of}
+use Rattle.snd_concat.specs.Concat.{all_frames, all_numbers, done_like, is_alike, is_full, made_if_good, shapes_of}
 
 -- no name is the given one
 abbrev pub AllApart : List ℕ → List (List ℕ) → Type 0
@@ -38,6 +40,21 @@ abbrev pub MakesUnder : {S R : Type 0} → (S → ShelfState) → List (List ℕ
 MakesUnder state names output h old new result =
     IfOk result (λ answer. (files : Files) (es : List Editing) → TellsFiles state old files → inputs_in files names ≡ Ok es → MayJoin h (shapes_of es)
     → (said_by answer ≡ Said.made (all_frames (shapes_of es))) × HasFiles state new (put files output (Some (bytes_made h es))))
+
+-- what is to be done with files that may be put together is done
+abbrev pub DoesGood : {S R : Type 0} → (S → ShelfState) → Concatenation → Shape → S → S → Result Answer R → Type 0
+DoesGood state concatenation h old new result =
+    let names = concatenation.inputs in
+    IfOk result (λ answer. (files : Files) (es : List Editing) → TellsFiles state old files → inputs_in files names ≡ Ok es → MayJoin h (shapes_of es)
+    → IsDone state new answer (made_if_good names concatenation.output.now h es (first_bad es)) files)
+
+-- no input is said to have changed where the shelf tells its files, and these are opened; or where they have no bad block, too
+abbrev pub StayTold : {S T : Type 0} → (S → ShelfState) → List (List ℕ) → S → Result T Stop → Type 0
+StayTold state names shelf result = IfChanged ((files : Files) (es : List Editing) → TellsFiles state shelf files → inputs_in files names ≡ Ok es → ⊥) result
+
+abbrev pub StayGood : {S T : Type 0} → (S → ShelfState) → List (List ℕ) → S → Result T Stop → Type 0
+StayGood state names shelf result =
+    IfChanged ((files : Files) (es : List Editing) → TellsFiles state shelf files → inputs_in files names ≡ Ok es → first_bad es ≡ None → ⊥) result
 
 -- what is to be done with files of these layouts is done
 abbrev pub DoesLike : {S R : Type 0} → (S → ShelfState) → Concatenation → List Shape → S → S → Result Answer R → Type 0

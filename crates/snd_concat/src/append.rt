@@ -1,20 +1,19 @@
 //! The frames of files, behind those of one that is being made.
 
-ghost use Rattle.std.specs.Prelude.{◌≡◌, ◌+◌, ◌≤◌, ◌^◌, ◌∷◌, [], All, IsOk, OnOk, false, is_none, length};
-ghost use Rattle.snd_container.specs.Sound.{fixed_of};
+ghost use Rattle.std.specs.Prelude.{◌≡◌, ◌+◌, ◌≤◌, ◌^◌, ◌∷◌, [], All, IsOk, OnOk, false, length};
 ghost use Rattle.snd_disk.specs.Device.{AsksAtMost, GoesOnFrom, OnlyReadsOn};
 ghost use Rattle.snd_inputs.specs.Asking.{AsksForEach};
-ghost use Rattle.snd_inputs.specs.Copying.{AsksToCopy, CountsFileAndShelf, CountsFiles, OnlyReadsFile};
+ghost use Rattle.snd_inputs.specs.Copying.{AsksToCopy, CountsFileAndShelf, CountsFiles, OnlyReadsFile, bytes_to_copy};
 ghost use Rattle.snd_inputs.specs.Looking.{ReadsFiles};
 ghost use Rattle.snd_inputs.specs.Opening.{IsUnread};
 ghost use Rattle.snd_layout.specs.Opened.{EndsIn};
 ghost use Rattle.snd_layout.specs.Shape.{end, room as shape_room};
 ghost use Rattle.snd_modes.specs.Handle.{disk_of, known_of, loan_of};
 ghost use Rattle.snd_modes.specs.Outcomes.{AsksNothing, TellsOn};
-ghost use Rattle.snd_modes.specs.Reading.{bytes_of_frames};
-ghost use Rattle.snd_output.specs.Appended.{IsAtEnd};
+ghost use Rattle.snd_output.specs.Appended.{FindsChanged, IsAtEnd};
 ghost use Rattle.snd_output.specs.Ends.{CountsOneOf};
-ghost use Rattle.snd_concat.specs.Appending.{AppendsAll, AppendsFile, AppendsInput, AppendsLaid, Follows, MadeUnlessFault};
+ghost use Rattle.snd_concat.specs.Appending.{AppendsAll, AppendsFile, AppendsInput, AppendsLaid, Follows, InputChanged, LaidChanged, MadeUnlessFault};
+ghost use Rattle.snd_concat.specs.Making.{StayGood};
 
 use crate::judge::is_alike;
 use snd_disk::{Disk, Shelf};
@@ -63,6 +62,7 @@ fn append_file<D: Disk, E: Disk>(
     ensures to_loan { loan_of to.new ≡ loan_of to.old }
     ensures left { MadeUnlessFault (known_of to.old) (known_of to.new) result }
     ensures appended { AppendsFile D.state E.state from.old to.old to.new result }
+    ensures changed { FindsChanged D.state (λ e. e.frames) from.old result }
     ensures faults { CountsFiles D.state E.state from.old from.new to.old to.new result }
     ensures reads { OnlyReadsFile D.Disk from.old from.new }
     ensures tells { TellsOn E.state to.old to.new }
@@ -88,7 +88,6 @@ fn append_laid<D: Disk, E: Disk>(
     block: &mut [i32],
 ) -> Result<Result<(), Refusal>, Stop>
     requires held { end layout layout.frames ≤ (D.state disk.old).size }
-    requires linear { is_none (fixed_of layout.params.codec) ≡ false }
     requires room_ends { layout.start + shape_room layout + 8 ≤ 2 ^ 63 }
     requires pieces_held { All (EndsIn (D.state disk.old).size) layout.pieces }
     requires at_end { IsAtEnd (known_of to.old) }
@@ -97,11 +96,12 @@ fn append_laid<D: Disk, E: Disk>(
     ensures to_loan { loan_of to.new ≡ loan_of to.old }
     ensures left { MadeUnlessFault (known_of to.old) (known_of to.new) result }
     ensures appended { AppendsLaid D.state E.state disk.old layout to.old to.new result }
+    ensures changed { LaidChanged D.state disk.old layout result }
     ensures faults { CountsOneOf (D.state disk.old).faults (D.state disk.new).faults (E.state (disk_of to.old)).faults (E.state (disk_of to.new)).faults result }
     ensures reads { OnlyReadsOn D.state D.may_leave D.left_between disk.old disk.new }
     ensures tells { TellsOn E.state to.old to.new }
     ensures time { GoesOnFrom E.state E.left_between (disk_of to.old) (disk_of to.new) }
-    ensures asked { AsksAtMost D.state (0 + bytes_of_frames layout.params layout.frames) disk.old disk.new }
+    ensures asked { AsksAtMost D.state (0 + bytes_to_copy layout.params layout.frames) disk.old disk.new }
     ensures unasked { AsksNothing E.state to.old to.new }
 {
     let mut from = match open_laid(alloc, disk, layout) {
@@ -133,6 +133,7 @@ fn append_input<S: Shelf, E: Disk>(
     ensures to_loan { loan_of to.new ≡ loan_of to.old }
     ensures left { MadeUnlessFault (known_of to.old) (known_of to.new) result }
     ensures appended { AppendsInput S.state E.state name.now shelf.old to.old to.new result }
+    ensures changed { InputChanged S.state name.now shelf.old result }
     ensures faults { CountsFileAndShelf E.state S.state to.old to.new shelf.old shelf.new result }
     ensures reads { ReadsFiles S.Shelf shelf.old shelf.new }
     ensures tells { TellsOn E.state to.old to.new }
@@ -168,6 +169,7 @@ pub(crate) fn append_all<'a, S: Shelf, E: Disk>(
     ensures to_loan { loan_of to.new ≡ loan_of to.old }
     ensures left { MadeUnlessFault (known_of to.old) (known_of to.new) result }
     ensures appended { AppendsAll S.state E.state names.now shelf.old to.old to.new result }
+    ensures changed { StayGood S.state names.now shelf.old result }
     ensures faults { CountsFileAndShelf E.state S.state to.old to.new shelf.old shelf.new result }
     ensures reads { ReadsFiles S.Shelf shelf.old shelf.new }
     ensures tells { TellsOn E.state to.old to.new }

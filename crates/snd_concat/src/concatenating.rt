@@ -1,18 +1,20 @@
 //! The tool that puts sound files behind each other.
 
-ghost use Rattle.std.specs.Prelude.{◌≡◌, All};
+ghost use Rattle.std.specs.Prelude.{◌≡◌, All, false, is_none};
+ghost use Rattle.snd_container.specs.Sound.{fixed_of};
 ghost use Rattle.snd_inputs.specs.Asking.{AsksForEach, AsksForFiles};
 ghost use Rattle.snd_inputs.specs.Looking.{IsReadable};
 ghost use Rattle.snd_output.specs.Ends.{CountsStop};
-ghost use Rattle.snd_tools.specs.Shelves.{ChangesOne, Does, IsAllIn};
+ghost use Rattle.snd_tools.specs.Shelves.{ChangesOne, Does, IsAllIn, NeverChanged};
 ghost use Rattle.snd_concat.specs.Concat.{all_frames, concatenated, is_full};
-ghost use Rattle.snd_concat.specs.Making.{AllApart, DoesLike, IsNamedAt};
+ghost use Rattle.snd_concat.specs.Making.{AllApart, DoesGood, DoesLike, IsNamedAt, StayTold};
 
 use crate::judge::{all_frames, first_mixed};
 use crate::make::make_under;
+use snd_container::fixed_form;
 use snd_disk::Shelf;
-use snd_inputs::{Inputs, bare_room, exceeds_room, look_all};
-use snd_layout::Layout;
+use snd_inputs::{Inputs, bare_room, exceeds_room, first_bad, look_all};
+use snd_layout::{Layout, OpenRefusal};
 use snd_lines::Refusal;
 use snd_output::Stop;
 use snd_tools::Answer;
@@ -31,7 +33,7 @@ fn name_at<'a>(concatenation: &Concatenation<'a>, at: usize) -> &'a str
 
 // Whether the head of a file like one with a layout has no room for the frames of all.
 fn is_full(like: &Layout, layouts: &[Layout]) -> bool
-    requires readable { IsReadable like.now }
+    requires linear { is_none (fixed_of like.now.params.codec) ≡ false }
     ensures { result ≡ is_full like.now (all_frames layouts.now) }
 {
     like.keeps_rule();
@@ -40,6 +42,36 @@ fn is_full(like: &Layout, layouts: &[Layout]) -> bool
         like.params,
         all_frames(layouts),
     )
+}
+
+// Makes the output of inputs that may be put together, where none has a bad block.
+fn concat_good<'a, S: Shelf>(
+    alloc: Global,
+    concatenation: &Concatenation<'a>,
+    like: &Layout,
+    shelf: &mut S,
+) -> Result<Answer<'a>, Stop>
+    requires back { IsAllIn (S.state shelf.old) }
+    requires apart { AllApart concatenation.now.output.now concatenation.now.inputs }
+    requires readable { IsReadable like.now }
+    requires linear { is_none (fixed_of like.now.params.codec) ≡ false }
+    ensures done { DoesGood S.state concatenation.now like.now shelf.old shelf.new result }
+    ensures changes { ChangesOne S.Shelf concatenation.now.output.now shelf.old shelf.new }
+    ensures faults { CountsStop (S.state shelf.old).faults (S.state shelf.new).faults result }
+    ensures changed { StayTold S.state concatenation.now.inputs shelf.old result }
+    ensures asked { AsksForEach 2 32768 S.state concatenation.now.inputs shelf.old shelf.new }
+{
+    let bad = first_bad(alloc, &concatenation.inputs, shelf)?;
+    match bad {
+        Some(at) => {
+            let name = name_at(concatenation, at);
+            Ok(Answer::Refused(name, Refusal::BadBlock))
+        }
+        None => {
+            let output = concatenation.output;
+            make_under(alloc, &concatenation.inputs, output, like, shelf)
+        }
+    }
 }
 
 // Judges inputs by their layouts, and makes the output.
@@ -55,7 +87,8 @@ fn concat_laid<'a, S: Shelf>(
     ensures done { DoesLike S.state concatenation.now layouts.now shelf.old shelf.new result }
     ensures changes { ChangesOne S.Shelf concatenation.now.output.now shelf.old shelf.new }
     ensures faults { CountsStop (S.state shelf.old).faults (S.state shelf.new).faults result }
-    ensures asked { AsksForEach 1 32768 S.state concatenation.now.inputs shelf.old shelf.new }
+    ensures changed { StayTold S.state concatenation.now.inputs shelf.old result }
+    ensures asked { AsksForEach 2 32768 S.state concatenation.now.inputs shelf.old shelf.new }
 {
     let Some(like) = layouts.first() else {
         return Ok(Answer::Refused(concatenation.output, Refusal::MissingFile));
@@ -63,16 +96,14 @@ fn concat_laid<'a, S: Shelf>(
     if let Some(at) = first_mixed(like.params, layouts) {
         return Ok(Answer::Refused(name_at(concatenation, at), Refusal::MixedParams));
     }
+    if fixed_form(like.params.codec).is_none() {
+        let why = Refusal::Open(OpenRefusal::NotBuilt);
+        return Ok(Answer::Refused(concatenation.output, why));
+    }
     if is_full(like, layouts) {
         return Ok(Answer::Refused(concatenation.output, Refusal::ContainerFull));
     }
-    make_under(
-        alloc,
-        &concatenation.inputs,
-        concatenation.output,
-        like,
-        shelf,
-    )
+    concat_good(alloc, concatenation, like, shelf)
 }
 
 /// Puts the frames of sound files behind each other, in a file of the kind and with the parameters of the
@@ -81,12 +112,15 @@ fn concat_laid<'a, S: Shelf>(
 ///
 /// All that is refused is refused before the output is touched, in this order: `SameName` of the later of two
 /// equal names; `MissingFile`, or why an input does not open, in the order of the inputs; `MixedParams` of the
-/// first input whose channels or rate are not those of the first; `ContainerFull` of the output where its head
-/// has no room for the data. Where the shelf does not tell its files, and one has changed since, it is
+/// first input whose channels or rate are not those of the first; `NotBuilt` of the output where the codec of
+/// the first is ADPCM; `ContainerFull` of the output where its head has no room for the data; `BadBlock` of the
+/// first input that has a bad block. Where the shelf does not tell its files, and one has changed since, it is
 /// refused by what it is when its frames are put, and the output holds those before.
 ///
 /// `Fault` where a call of the shelf or of a disk failed, and `Memory` where there is none: then the output
-/// may stand there in part. No more bytes are asked than twice the inputs have, and 49152 for each.
+/// may stand there in part. So it is with `Changed`, where the blocks of an input have changed since they were
+/// seen to be good; it never comes where the shelf tells its files. No more bytes are asked than twice the
+/// inputs have, and 49152 for each; of one of ADPCM, eight times its bytes and 114688.
 pub fn concat<'a, S: Shelf>(
     alloc: Global,
     concatenation: &Concatenation<'a>,
@@ -96,6 +130,7 @@ pub fn concat<'a, S: Shelf>(
     ensures done { Does S.state (concatenated concatenation.now.inputs concatenation.now.output.now) shelf.old shelf.new result }
     ensures changes { ChangesOne S.Shelf concatenation.now.output.now shelf.old shelf.new }
     ensures faults { CountsStop (S.state shelf.old).faults (S.state shelf.new).faults result }
+    ensures changed { NeverChanged S.state shelf.old result }
     ensures asked { AsksForFiles S.state concatenation.now.inputs shelf.old shelf.new }
 {
     if let Some(at) = first_repeated(&concatenation.inputs, concatenation.output) {

@@ -71,7 +71,6 @@ module _ (plan : Planned) (from from' to to' : Known) (good : AreParams plan.par
   may_append_filled : MayAppend from (known_filled plan from.shape to)
   may_append_filled = record {
     working = unread.working;
-    linear = unread.linear;
     at_end = record { working = fresh.broken; by_hand = fresh.automatic; free = is_begun.free; behind = fresh.write_place ∙ sym is_begun.frames };
     alike = sym alike ∙ ap (λ (q : Parameters). q.channels) (sym is_begun.params);
     in_room = in_room;

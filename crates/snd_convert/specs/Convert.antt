@@ -1,5 +1,5 @@
 -- What `convert` does: the whole file that it makes, or what it refuses. It refuses in this order: equal names; an unknown suffix
--- of the output; the input; what it is to become; and more data than the head has room for.
+-- of the output; the input; what it is to become; more data than the head has room for; and a bad block of the input.
 use Rattle.std.specs.Prelude.{ℕ, ℤ, Bool, ◌&&◌, List, [], Option, Some, None, Result, Ok, Err, nat_lt, if◌then◌else◌}
 use Rattle.std.specs.Str.{bytes_eq}
 use Rattle.snd_carry.specs.Carried.{carried}
@@ -9,9 +9,9 @@ use Rattle.snd_layout.specs.Params.{data_bytes}
 use Rattle.snd_layout.specs.Shape.{room}
 use Rattle.snd_layout.specs.declared.kind.Kind.{Kind}
 use Rattle.snd_layout.specs.declared.refusal.OpenRefusal.{OpenRefusal}
-use Rattle.snd_inputs.specs.Inputs.{input_in}
+use Rattle.snd_inputs.specs.Inputs.{input_in, is_bad}
 use Rattle.snd_lines.specs.declared.refusal.Refusal.{Refusal}
-use Rattle.snd_lines.specs.declared.refusal.Refusal.TheVariants.{ContainerFull, Open, SameName, UnknownSuffix}
+use Rattle.snd_lines.specs.declared.refusal.Refusal.TheVariants.{BadBlock, ContainerFull, Open, SameName, UnknownSuffix}
 use Rattle.snd_modes.specs.Editing.{Editing}
 use Rattle.snd_modes.specs.Heads.{holds_meta}
 use Rattle.snd_modes.specs.Relaid.{shape_with}
@@ -41,8 +41,11 @@ file_made plan e = made_file plan.kind plan.params (chunks_for plan e) (numbers_
 abbrev pub is_full : Planned → Editing → Bool
 is_full plan e = nat_lt (room (shape_with plan.kind plan.params (chunks_for plan e))) (data_bytes plan.params e.shape.frames)
 
+abbrev pub made_if_good : Converting → Planned → Editing → Done
+made_if_good c plan e = if is_bad e then Done.refuses c.input BadBlock else Done.makes c.output (file_made plan e) e.shape.frames
+
 abbrev pub made_of : Converting → Planned → Editing → Done
-made_of c plan e = if is_full plan e then Done.refuses c.output ContainerFull else Done.makes c.output (file_made plan e) e.shape.frames
+made_of c plan e = if is_full plan e then Done.refuses c.output ContainerFull else made_if_good c plan e
 
 abbrev pub done_by_plan : Converting → Editing → Result Planned OpenRefusal → Done
 done_by_plan c e (Err why) = Done.refuses c.output (Open why)

@@ -1,7 +1,7 @@
 -- A file that is made of an open one, as the code does it: what is asked of the two, and what comes of it.
 use Rattle.std.specs.Prelude.{◌≡◌, ℕ, ℤ, ◌+◌, Bool, List, [], Some, Result, Ok, IfOk, OnOk, map, nat_lt, if◌then◌else◌}
 use Rattle.snd_carry.specs.Carried.{body_bytes, carried_pieces}
-use Rattle.snd_inputs.specs.Copying.{AsksToCopy}
+use Rattle.snd_inputs.specs.Copying.{AsksToCopy, bytes_checked, bytes_to_copy}
 use Rattle.snd_chunks.specs.Written.{NewChunk}
 use Rattle.snd_disk.specs.declared.disk.Disk.{Ghosts}
 use Rattle.snd_disk.specs.Device.{AsksAtMost, Tells}
@@ -17,14 +17,15 @@ use Rattle.snd_modes.specs.Editing.{Editing, first_editing}
 use Rattle.snd_modes.specs.Handle.{Known, Stands, disk_of, known_of}
 use Rattle.snd_modes.specs.Heads.{holds_meta}
 use Rattle.snd_modes.specs.Making.{making_of}
-use Rattle.snd_modes.specs.Reading.{bytes_of_frames}
 use Rattle.snd_modes.specs.Relaid.{outline, shape_with}
+use Rattle.snd_output.specs.Ends.{IfChanged}
 use Rattle.snd_output.specs.Made.{IsMaking}
+use Rattle.snd_output.specs.declared.stop.Stop.{Stop}
 use Rattle.snd_tools.specs.Shelves.{HasFiles, IsDone}
 use Rattle.snd_tools.specs.declared.answer.Answer.{Answer}
 use Rattle.snd_room.specs.Room.{Take}
 use Rattle.snd_words.specs.declared.convert.Conversion.{Conversion}
-use Rattle.snd_convert.specs.Convert.{carries, chunks_for, done_by_plan, file_made, is_full, made_of, numbers_for}
+use Rattle.snd_convert.specs.Convert.{carries, chunks_for, done_by_plan, file_made, is_full, made_if_good, made_of, numbers_for}
 use Rattle.snd_convert.specs.Plan.{Planned, planned}
 use Rattle.snd_convert.specs.Planning.{asked_of, planned_by}
 use Rattle.snd_convert.specs.declared.plan.Plan.{Plan}
@@ -81,7 +82,14 @@ MakesUnder state shelf_state name plan file old new result =
     OnOk result ((files : Files) (e : Editing) → TellsFiles shelf_state old files → Stands state file e
     → HasFiles shelf_state new (put files name (Some (file_made (planned_by plan) e))))
 
--- what is answered is what is to be done with an open file by a plan, or in a file of a kind; and that is done
+-- What is answered is what is to be done with an open file by a plan, where the head has room for its data; and that is done.
+abbrev pub DoesGood : {D M S E : Type 0} {d : Ghosts D} {m : ModeGhosts M}
+    → (D → State) → (S → ShelfState) → Conversion → Plan → File D M d m → S → S → Result Answer E → Type 0
+DoesGood state shelf_state conversion plan file old new result =
+    IfOk result (λ answer. (files : Files) (e : Editing) → TellsFiles shelf_state old files → Stands state file e
+    → IsDone shelf_state new answer (made_if_good (asked_of conversion) (planned_by plan) e) files)
+
+-- .. whether it has or not; or what is to be done in a file of a kind
 abbrev pub DoesBy : {D M S E : Type 0} {d : Ghosts D} {m : ModeGhosts M}
     → (D → State) → (S → ShelfState) → Conversion → Plan → File D M d m → S → S → Result Answer E → Type 0
 DoesBy state shelf_state conversion plan file old new result =
@@ -109,10 +117,21 @@ bodies_in h = if holds_meta h.kind then body_bytes (carried_pieces h.pieces) els
 abbrev pub AsksToCarry : {D M : Type 0} {d : Ghosts D} {m : ModeGhosts M} → (D → State) → File D M d m → File D M d m → Type 0
 AsksToCarry state old new = AsksAtMost state (bodies_in (known_of old).shape) (disk_of old) (disk_of new)
 
--- so many bytes are asked at most of a file that is converted, with its chunks
-abbrev pub AsksToConvert : {D M : Type 0} {d : Ghosts D} {m : ModeGhosts M} → (D → State) → File D M d m → File D M d m → Type 0
-AsksToConvert state old new = AsksToCopy state (bodies_in (known_of old).shape) old new
+-- so many bytes are asked at most of a file that is copied, with its chunks
+abbrev pub AsksToFill : {D M : Type 0} {d : Ghosts D} {m : ModeGhosts M} → (D → State) → File D M d m → File D M d m → Type 0
+AsksToFill state old new = AsksToCopy state (bodies_in (known_of old).shape) old new
 
--- .. or of the disk of one, by its layout
+-- .. and so many beside its blocks are checked; or of the disk of one, by its layout
 abbrev pub AsksToConvertLaid : {D : Type 0} → (D → State) → Shape → D → D → Type 0
-AsksToConvertLaid state layout old new = AsksAtMost state (bodies_in layout + bytes_of_frames layout.params layout.frames) old new
+AsksToConvertLaid state layout old new =
+    AsksAtMost state (bytes_checked layout + (bodies_in layout + bytes_to_copy layout.params layout.frames)) old new
+
+abbrev pub AsksToConvert : {D M : Type 0} {d : Ghosts D} {m : ModeGhosts M} → (D → State) → File D M d m → File D M d m → Type 0
+AsksToConvert state old new = AsksToConvertLaid state (known_of old).shape (disk_of old) (disk_of new)
+
+-- the file is not said to have changed where its disk tells what it holds
+abbrev pub StaysTold : {D M T : Type 0} {d : Ghosts D} {m : ModeGhosts M} → (D → State) → File D M d m → Result T Stop → Type 0
+StaysTold state file result = IfChanged ((e : Editing) → Stands state file e → ⊥) result
+
+abbrev pub StaysToldOn : {D T : Type 0} → (D → State) → D → Result T Stop → Type 0
+StaysToldOn state disk result = IfChanged ((b : List ℕ) → Tells state disk b → ⊥) result

@@ -1,12 +1,14 @@
 //! The further chunks that go with the frames.
 
-ghost use Rattle.std.specs.Prelude.{◌≡◌, ◌≤◌, [], None, OnOk};
+ghost use Rattle.std.specs.Prelude.{◌≡◌, ◌≤◌, [], None, OnOk, false, is_none};
+ghost use Rattle.snd_container.specs.Sound.{fixed_of};
 ghost use Rattle.snd_inputs.specs.Copying.{CopiesInto};
 ghost use Rattle.snd_layout.specs.Params.{AreParams};
 ghost use Rattle.snd_modes.specs.Handle.{IsFresh, StandsAfter, known_of};
 ghost use Rattle.snd_modes.specs.Heads.{holds_meta};
 ghost use Rattle.snd_modes.specs.Outcomes.{AsksNothing};
 ghost use Rattle.snd_modes.specs.Relaid.{shape_with};
+ghost use Rattle.snd_output.specs.Ends.{IsUnchanged};
 ghost use Rattle.snd_convert.specs.Convert.{carries};
 ghost use Rattle.snd_convert.specs.Making.{AsksToCarry, ChunksTake, IsFilled, OutlinesTake, TakesChunks};
 
@@ -53,6 +55,7 @@ pub(crate) fn carry<D: Disk, E: Disk>(
 ) -> Result<(), Stop>
     requires working { (known_of from.old).broken ≡ None }
     requires good { AreParams plan.now.params }
+    requires linear { is_none (fixed_of plan.now.params.codec) ≡ false }
     requires fresh { IsFresh (known_of to.old) }
     requires begun { (known_of to.old).shape ≡ shape_with plan.now.kind plan.now.params [] }
     ensures same { OnOk result (known_of from.new ≡ known_of from.old) }
@@ -60,6 +63,7 @@ pub(crate) fn carry<D: Disk, E: Disk>(
     ensures stands { StandsAfter D.state from.old from.new (λ e. e) }
     ensures carried { OnOk result (TakesChunks D.state E.state plan.now from.old to.old to.new) }
     ensures copies { CopiesInto D.Disk E.Disk from.old from.new to.old to.new result }
+    ensures unchanged { IsUnchanged result }
     ensures asked { AsksToCarry D.state from.old from.new }
     ensures unasked { AsksNothing E.state to.old to.new }
 {

@@ -10,17 +10,18 @@ ghost use Rattle.snd_layout.specs.Fit.{fit_refusal};
 ghost use Rattle.snd_layout.specs.Opened.{EndsIn};
 ghost use Rattle.snd_layout.specs.Shape.{end, room};
 ghost use Rattle.snd_modes.specs.Handle.{channels_of, known_of, loan_of};
+ghost use Rattle.snd_output.specs.Appended.{FindsChanged};
 ghost use Rattle.snd_output.specs.Ends.{CountsStop};
-ghost use Rattle.snd_tools.specs.Shelves.{ChangesOne, Does, IsAllIn};
+ghost use Rattle.snd_tools.specs.Shelves.{ChangesOne, Does, IsAllIn, NeverChanged};
 ghost use Rattle.snd_convert.specs.Convert.{converted};
-ghost use Rattle.snd_convert.specs.Making.{AsksToConvert, AsksToConvertLaid, Converts, ConvertsLaid, DoesBy, MakesUnder, TellsFull, is_full_by};
+ghost use Rattle.snd_convert.specs.Making.{AsksToConvert, AsksToConvertLaid, AsksToFill, Converts, ConvertsLaid, DoesBy, DoesGood, MakesUnder, StaysTold, StaysToldOn, TellsFull, is_full_by};
 ghost use Rattle.snd_convert.specs.Planning.{asked_of, planned_by};
 
 use crate::chunks::chunks_size;
 use crate::make::make;
 use crate::plan::{Plan, plan_of};
 use snd_disk::{Disk, Shelf};
-use snd_inputs::{Input, close_read, open_input, take_output};
+use snd_inputs::{Input, close_read, has_bad_block, open_input, take_output};
 use snd_layout::{Kind, Layout};
 use snd_lines::Refusal;
 use snd_modes::{File, Read, open_laid};
@@ -49,7 +50,8 @@ fn make_under<S: Shelf, D: Disk>(
     ensures changes { ChangesOne S.Shelf name.now shelf.old shelf.new }
     ensures faults { CountsFileAndShelf D.state S.state file.old file.new shelf.old shelf.new result }
     ensures reads { OnlyReadsFile D.Disk file.old file.new }
-    ensures asked { AsksToConvert D.state file.old file.new }
+    ensures changed { FindsChanged D.state (λ e. e.frames) file.old result }
+    ensures asked { AsksToFill D.state file.old file.new }
     ensures unasked { (S.state shelf.new).asked ≡ (S.state shelf.old).asked }
 {
     let mut disk = take_output(name, shelf)?;
@@ -71,7 +73,41 @@ fn is_full<D: Disk>(plan: &Plan, file: &File<'_, D, Read>) -> bool
     bytes > u128::from(room_with(plan.kind, plan.params, chunks))
 }
 
-// Makes what a plan makes of an open file.
+// Makes what a plan makes of an open file, where the head has room for its data.
+fn convert_good<'a, S: Shelf, D: Disk>(
+    alloc: Global,
+    conversion: &Conversion<'a>,
+    plan: &Plan,
+    file: &mut File<'_, D, Read>,
+    shelf: &mut S,
+) -> Result<Answer<'a>, Stop>
+    requires is_in { (S.state shelf.old).out conversion.now.output.now ≡ false }
+    requires unread { IsUnread (known_of file.old) }
+    requires fits { fit_refusal plan.now.kind plan.now.params ≡ None }
+    requires linear { is_none (fixed_of plan.now.params.codec) ≡ false }
+    requires alike { plan.now.params.channels ≡ channels_of file.old }
+    requires room { is_full_by (planned_by plan.now) (known_of file.old).shape ≡ false }
+    ensures loan { loan_of file.new ≡ loan_of file.old }
+    ensures done { DoesGood D.state S.state conversion.now plan.now file.old shelf.old shelf.new result }
+    ensures changes { ChangesOne S.Shelf conversion.now.output.now shelf.old shelf.new }
+    ensures faults { CountsFileAndShelf D.state S.state file.old file.new shelf.old shelf.new result }
+    ensures changed { StaysTold D.state file.old result }
+    ensures reads { OnlyReadsFile D.Disk file.old file.new }
+    ensures asked { AsksToConvert D.state file.old file.new }
+    ensures unasked { (S.state shelf.new).asked ≡ (S.state shelf.old).asked }
+{
+    let frames = file.frames();
+    let bad = has_bad_block(file)?;
+    if bad {
+        return Ok(Answer::Refused(conversion.input, Refusal::BadBlock));
+    }
+    match make_under(alloc, file, conversion.output, plan, shelf) {
+        Ok(()) => Ok(Answer::Made(frames)),
+        Err(stop) => Err(stop),
+    }
+}
+
+// .. whether it has or not.
 fn convert_as<'a, S: Shelf, D: Disk>(
     alloc: Global,
     conversion: &Conversion<'a>,
@@ -88,18 +124,15 @@ fn convert_as<'a, S: Shelf, D: Disk>(
     ensures done { DoesBy D.state S.state conversion.now plan.now file.old shelf.old shelf.new result }
     ensures changes { ChangesOne S.Shelf conversion.now.output.now shelf.old shelf.new }
     ensures faults { CountsFileAndShelf D.state S.state file.old file.new shelf.old shelf.new result }
+    ensures changed { StaysTold D.state file.old result }
     ensures reads { OnlyReadsFile D.Disk file.old file.new }
     ensures asked { AsksToConvert D.state file.old file.new }
     ensures unasked { (S.state shelf.new).asked ≡ (S.state shelf.old).asked }
 {
-    let frames = file.frames();
     if is_full(plan, file) {
         return Ok(Answer::Refused(conversion.output, Refusal::ContainerFull));
     }
-    match make_under(alloc, file, conversion.output, plan, shelf) {
-        Ok(()) => Ok(Answer::Made(frames)),
-        Err(stop) => Err(stop),
-    }
+    convert_good(alloc, conversion, plan, file, shelf)
 }
 
 // Converts an open file.
@@ -116,6 +149,7 @@ fn convert_file<'a, S: Shelf, D: Disk>(
     ensures done { Converts D.state S.state conversion.now kind file.old shelf.old shelf.new result }
     ensures changes { ChangesOne S.Shelf conversion.now.output.now shelf.old shelf.new }
     ensures faults { CountsFileAndShelf D.state S.state file.old file.new shelf.old shelf.new result }
+    ensures changed { StaysTold D.state file.old result }
     ensures reads { OnlyReadsFile D.Disk file.old file.new }
     ensures asked { AsksToConvert D.state file.old file.new }
     ensures unasked { (S.state shelf.new).asked ≡ (S.state shelf.old).asked }
@@ -137,12 +171,12 @@ fn convert_laid<'a, S: Shelf, D: Disk>(
 ) -> Result<Answer<'a>, Stop>
     requires is_in { (S.state shelf.old).out conversion.now.output.now ≡ false }
     requires held { end layout layout.frames ≤ (D.state disk.old).size }
-    requires linear { is_none (fixed_of layout.params.codec) ≡ false }
     requires room_ends { layout.start + room layout + 8 ≤ 2 ^ 63 }
     requires pieces_held { All (EndsIn (D.state disk.old).size) layout.pieces }
     ensures done { ConvertsLaid D.state S.state conversion.now kind disk.old layout shelf.old shelf.new result }
     ensures changes { ChangesOne S.Shelf conversion.now.output.now shelf.old shelf.new }
     ensures faults { CountsDiskAndShelf D.state S.state disk.old disk.new shelf.old shelf.new result }
+    ensures changed { StaysToldOn D.state disk.old result }
     ensures reads { OnlyReadsOn D.state D.may_leave D.left_between disk.old disk.new }
     ensures asked { AsksToConvertLaid D.state layout disk.old disk.new }
     ensures unasked { (S.state shelf.new).asked ≡ (S.state shelf.old).asked }
@@ -169,11 +203,13 @@ fn convert_laid<'a, S: Shelf, D: Disk>(
 ///
 /// All that is refused is refused before the output is touched, in this order: `SameName`;
 /// `UnknownSuffix` of the output; `MissingFile`, or why the input does not open; `NotBuilt` of an ADPCM
-/// codec, or why the output's kind does not hold its parameters; `ContainerFull` where its head, with the
-/// chunks, has no room for the data.
+/// codec of the output, or why its kind does not hold its parameters; `ContainerFull` where its head, with the
+/// chunks, has no room for the data; `BadBlock` of the input.
 ///
 /// `Fault` where a call of the shelf or of a disk failed, and `Memory` where there is none: then the output
-/// may stand there in part. No more bytes are asked than twice the input has, and 49152.
+/// may stand there in part. So it is with `Changed`, where the input has changed since its blocks were seen to
+/// be good; it never comes where the shelf tells its files. No more bytes are asked than twice the input has,
+/// and 49152; of an input of ADPCM, eight times these bytes and 114688.
 pub fn convert<'a, S: Shelf>(
     alloc: Global,
     conversion: &Conversion<'a>,
@@ -183,6 +219,7 @@ pub fn convert<'a, S: Shelf>(
     ensures done { Does S.state (converted (asked_of conversion.now)) shelf.old shelf.new result }
     ensures changes { ChangesOne S.Shelf conversion.now.output.now shelf.old shelf.new }
     ensures faults { CountsStop (S.state shelf.old).faults (S.state shelf.new).faults result }
+    ensures changed { NeverChanged S.state shelf.old result }
     ensures asked { AsksForFiles S.state (conversion.now.input.now ∷ []) shelf.old shelf.new }
 {
     if conversion.input == conversion.output {

@@ -10,8 +10,9 @@ ghost use Rattle.snd_layout.specs.Params.{AreParams};
 ghost use Rattle.snd_modes.specs.Handle.{IsFresh, channels_of, known_of, loan_of};
 ghost use Rattle.snd_modes.specs.Outcomes.{AsksNothing};
 ghost use Rattle.snd_modes.specs.Relaid.{shape_with};
+ghost use Rattle.snd_output.specs.Appended.{FindsChanged};
 ghost use Rattle.snd_patch.specs.Steps.{StillTells};
-ghost use Rattle.snd_convert.specs.Making.{AsksToConvert, Fills, Makes, is_full_by};
+ghost use Rattle.snd_convert.specs.Making.{AsksToFill, Fills, Makes, is_full_by};
 ghost use Rattle.snd_convert.specs.Planning.{planned_by};
 
 use crate::chunks::carry;
@@ -34,13 +35,15 @@ fn fill<D: Disk, E: Disk>(
     requires unread { IsUnread (known_of from.old) }
     requires good { AreParams plan.now.params }
     requires fits { fit_refusal plan.now.kind plan.now.params ≡ None }
+    requires linear { is_none (fixed_of plan.now.params.codec) ≡ false }
     requires alike { plan.now.params.channels ≡ channels_of from.old }
     requires room { is_full_by (planned_by plan.now) (known_of from.old).shape ≡ false }
     requires fresh { IsFresh (known_of to.old) }
     requires begun { (known_of to.old).shape ≡ shape_with plan.now.kind plan.now.params [] }
     ensures fills { OnOk result (Fills D.state E.state plan.now from.old to.old to.new) }
     ensures copies { CopiesInto D.Disk E.Disk from.old from.new to.old to.new result }
-    ensures asked { AsksToConvert D.state from.old from.new }
+    ensures changed { FindsChanged D.state (λ e. e.frames) from.old result }
+    ensures asked { AsksToFill D.state from.old from.new }
     ensures unasked { AsksNothing E.state to.old to.new }
 {
     carry(alloc, plan, from, to)?;
@@ -66,7 +69,8 @@ pub(crate) fn make<D: Disk, E: Disk>(
     ensures reads { OnlyReadsFile D.Disk from.old from.new }
     ensures tells { StillTells (E.state disk.old) (E.state disk.new) }
     ensures time { GoesOnFrom E.state E.left_between disk.old disk.new }
-    ensures asked { AsksToConvert D.state from.old from.new }
+    ensures changed { FindsChanged D.state (λ e. e.frames) from.old result }
+    ensures asked { AsksToFill D.state from.old from.new }
     ensures unasked { (E.state disk.new).asked ≡ (E.state disk.old).asked }
 {
     plan.params.are_good();

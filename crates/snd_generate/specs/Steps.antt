@@ -18,7 +18,7 @@ use Rattle.snd_modes.specs.Relaid.{shape_with}
 use Rattle.snd_modes.specs.WriteCalls.{MayWrite}
 use Rattle.snd_output.specs.Appended.{read_on}
 use Rattle.snd_output.specs.declared.stop.Stop.{Stop}
-use Rattle.snd_output.specs.declared.stop.Stop.TheVariants.{Fault, Memory}
+use Rattle.snd_output.specs.declared.stop.Stop.TheVariants.{Changed, Fault, Memory}
 use Rattle.snd_output.specs.Ends.{CountsStop}
 use Rattle.snd_output.specs.Made.{IsMaking}
 use Rattle.snd_patch.specs.Sealed.{counted}
@@ -36,6 +36,7 @@ abbrev pub IsBrokenBy : {T : Type 0} → Result T Stop → Option Step → Type 
 IsBrokenBy (Ok done) broken = broken ≡ None
 IsBrokenBy (Err Fault) broken = Unit {0}
 IsBrokenBy (Err Memory) broken = broken ≡ None
+IsBrokenBy (Err Changed) broken = broken ≡ None
 
 -- a call on an open file, whose disk it changes or reads
 pub record Calls {D M T : Type 0} {ghosts : Ghosts D} {mode : ModeGhosts M} (state : D → State) (left_between : D → ℕ → ℕ → List ℕ → Type 0) (old new : File D M ghosts mode) (result : Result T Stop) : Type 0 where

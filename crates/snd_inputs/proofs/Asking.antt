@@ -1,5 +1,5 @@
 -- What is asked to copy the frames of files.
-use Rattle.std.proofs.Common.{◌≡◌, ◌∙◌, ap, sym, subst, refl, ℕ, ◌+◌, ◌*◌, ◌≤◌, Bool, cond, true, false, List, [], ◌∷◌, ◌++◌, Option, None, Some, length, take, drop, length-append, arith}
+use Rattle.std.proofs.Common.{◌≡◌, ◌∙◌, ap, sym, subst, refl, ℕ, ◌+◌, ◌*◌, ◌/◌, ◌≤◌, Bool, cond, true, false, List, [], ◌∷◌, ◌++◌, Option, None, Some, Ok, length, take, drop, length-append, arith}
 use Rattle.std.proofs.lemmas.List.{take-append-drop, take_more}
 use Rattle.std.proofs.lemmas.Option.{get_or_from_slice_get, slice_get_within}
 use Rattle.std.specs.Str.{bytes_eq}
@@ -10,15 +10,16 @@ use Rattle.snd_disk.specs.Shelf.{Files, Gives, KeepsFiles, Puts, SameFiles, Shel
 use Rattle.snd_disk.specs.State.{Adds, AtMost}
 use Rattle.snd_disk.specs.declared.disk.Disk.{Ghosts}
 use Rattle.snd_disk.specs.declared.shelf.Shelf.{Ghosts as ShelfMeaning}
-use Rattle.snd_inputs.proofs.DataBytes.{align_bytes}
+use Rattle.snd_inputs.proofs.Weighing.{whole_within}
 use Rattle.snd_inputs.specs.Asking.{AsksForEach, size_of, sizes_of}
+use Rattle.snd_inputs.specs.Copying.{bytes_checked, bytes_to_copy}
 use Rattle.snd_inputs.specs.Looking.{AsksToLook}
 use Rattle.snd_inputs.specs.Opening.{IsOpen, IsUnread}
 use Rattle.snd_inputs.specs.declared.input.Input.{Input}
 use Rattle.snd_layout.specs.Shape.{Shape, end}
+use Rattle.snd_modes.specs.Editing.{first_editing, opening_of}
 use Rattle.snd_modes.specs.Handle.{Known}
-use Rattle.snd_modes.specs.Reading.{bytes_of_frames}
-use Rattle.snd_output.specs.Appended.{left_in}
+use Rattle.snd_output.specs.Appended.{bytes_by_calls, left_in}
 
 -- one thing is asked behind another, and no more than so much in all
 pub asks_then : (a b c m n all : ℕ) → AtMost a m b → AtMost b n c → m + n ≤ all → AtMost a all c
@@ -28,10 +29,17 @@ pub asks_less : (a b m n : ℕ) → m ≤ n → AtMost a m b → AtMost a n b
 asks_less a b m n le was = record { later = was.later; most = omega (arith, was.most, le) }
 
 -- so that of a file that is unread no more is asked for all its frames
-pub asks_to_copy : (k : Known) (a b : ℕ) → IsUnread k → AtMost a (bytes_of_frames k.shape.params (left_in k)) b → AtMost a (0 + bytes_of_frames k.shape.params k.shape.frames) b
-asks_to_copy k a b unread was =
+pub asks_to_copy : (k : Known) (places a b : ℕ) → IsUnread k → places ≡ 16384 → AtMost a (bytes_by_calls k.shape.params (places / k.shape.params.channels) (left_in k)) b
+    → AtMost a (0 + bytes_to_copy k.shape.params k.shape.frames) b
+asks_to_copy k places a b unread size was =
     let first : left_in k ≡ k.shape.frames = omega (arith, unread.first) in
-    asks_less _ _ _ _ (omega (arith, ap (λ (n : ℕ). bytes_of_frames k.shape.params n) first)) was
+    let each : bytes_by_calls k.shape.params (places / k.shape.params.channels) (left_in k) ≡ bytes_to_copy k.shape.params (left_in k) =
+    ap (λ (n : ℕ). bytes_by_calls k.shape.params (n / k.shape.params.channels) (left_in k)) size in
+    let all : bytes_to_copy k.shape.params (left_in k) ≡ bytes_to_copy k.shape.params k.shape.frames = ap (λ (n : ℕ). bytes_to_copy k.shape.params n) first in
+    asks_less a b _ _ (same_bytes (bytes_by_calls k.shape.params (places / k.shape.params.channels) (left_in k)) (bytes_to_copy k.shape.params k.shape.frames) (each ∙ all)) was
+  where
+    same_bytes : (x y : ℕ) → x ≡ y → x ≤ 0 + y
+    same_bytes x y e = omega (arith, e)
 
 -- ---- the files of names
 
@@ -118,16 +126,37 @@ module _ {S : Type 0} (state : S → ShelfState) where
 
 module _ {S D : Type 0} (s : ShelfMeaning S D) (d : Ghosts D) (old mid new : S) (input : Input D d) (from to given : D) (name : List ℕ) (opens : IsOpen s d name old mid input)
     (from_is : from ≡ input.disk) (to_is : given ≡ to) (gives : Gives (s.state mid) (s.state new) name (d.state given)) where
-  -- the frames of the file of a name are copied, which was opened, and is given back
-  pub asks_whole : (h : Shape) → h ≡ input.layout → ((b : List ℕ) → Tells d.state input.disk b → (d.state input.disk).size ≡ length b)
-      → AtMost (d.state from).asked (0 + bytes_of_frames h.params h.frames) (d.state to).asked → AsksForEach 1 16384 s.state (name ∷ []) old new
-  asks_whole h shape told_size copies files told =
+  -- so much is asked of the file of a name, which was opened, and is given back
+  pub asks_held : (most : ℕ) → ((b : List ℕ) → opening_of b ≡ Ok (first_editing b input.layout) → end input.layout input.layout.frames ≤ length b → most ≤ size_of (Some b))
+      → ((b : List ℕ) → Tells d.state input.disk b → (d.state input.disk).size ≡ length b)
+      → AtMost (d.state from).asked most (d.state to).asked → AsksForEach 1 16384 s.state (name ∷ []) old new
+  asks_held most fits told_size copies files told =
       let found = opens.opened files told in
       let size : (d.state input.disk).size ≡ length found.0 = told_size found.0 found.3.bytes in
       let first : (d.state from).asked ≤ 16384 = omega (arith, ap (λ (x : D). (d.state x).asked) from_is, opens.asked) in
       let adds : Adds (s.state mid).asked (d.state to).asked (s.state new).asked = subst (λ (y : D). Adds (s.state mid).asked (d.state y).asked (s.state new).asked) to_is gives.asked in
       let within : end input.layout input.layout.frames ≤ length found.0 = omega (arith, input.held, size) in
-      let frames : bytes_of_frames input.layout.params input.layout.frames ≤ length found.0 = omega (arith, align_bytes input.layout.params input.linear input.layout.frames, within) in
-      let same : bytes_of_frames h.params h.frames ≡ bytes_of_frames input.layout.params input.layout.frames = ap (λ (l : Shape). bytes_of_frames l.params l.frames) shape in
-      let bytes : sizes_of files (name ∷ []) ≡ length found.0 + 0 = rw found.1 refl in
-      record { later = omega (arith, opens.out.bytes.asked, adds.later); most = omega (arith, opens.out.bytes.asked, adds.most, copies.most, first, frames, same, bytes) }
+      let few : most ≤ size_of (Some found.0) = fits found.0 found.2 within in
+      let bytes : sizes_of files (name ∷ []) ≡ size_of (Some found.0) + 0 = ap (λ (o : Option (List ℕ)). size_of o + 0) found.1 in
+      record { later = omega (arith, opens.out.bytes.asked, adds.later); most = omega (arith, opens.out.bytes.asked, adds.most, copies.most, first, few, bytes) }
+
+  -- its frames are copied
+  pub asks_whole : (h : Shape) → h ≡ input.layout → ((b : List ℕ) → Tells d.state input.disk b → (d.state input.disk).size ≡ length b)
+      → AtMost (d.state from).asked (0 + bytes_to_copy h.params h.frames) (d.state to).asked → AsksForEach 1 16384 s.state (name ∷ []) old new
+  asks_whole h shape told_size copies =
+      let same : 0 + bytes_to_copy h.params h.frames ≡ 0 + bytes_to_copy input.layout.params input.layout.frames = ap (λ (l : Shape). 0 + bytes_to_copy l.params l.frames) shape in
+      asks_held (0 + bytes_to_copy input.layout.params input.layout.frames)
+      (λ b opened within. copied_of _ _ _ (whole_within b input.layout input.fits input.good within opened)) told_size
+      (subst (λ (n : ℕ). AtMost (d.state from).asked n (d.state to).asked) same copies)
+    where
+      copied_of : (x y z : ℕ) → x + y ≤ z → 0 + y ≤ z
+      copied_of x y z le = omega (arith, le)
+
+  -- .. or its blocks are checked
+  pub asks_checked : ((b : List ℕ) → Tells d.state input.disk b → (d.state input.disk).size ≡ length b)
+      → AtMost (d.state from).asked (bytes_checked input.layout) (d.state to).asked → AsksForEach 1 16384 s.state (name ∷ []) old new
+  asks_checked told_size checks =
+      asks_held (bytes_checked input.layout) (λ b opened within. checked_of _ _ _ (whole_within b input.layout input.fits input.good within opened)) told_size checks
+    where
+      checked_of : (x y z : ℕ) → x + y ≤ z → x ≤ z
+      checked_of x y z le = omega (arith, le)

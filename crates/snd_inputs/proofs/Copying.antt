@@ -1,21 +1,25 @@
 -- A file that is read while another is made of it.
-use Rattle.std.proofs.Common.{◌≡◌, ◌∙◌, ap, refl, subst, inl, inr, ⊎_elim, ℕ, ◌≤◌, None, Result, Ok, Err, arith}
+use Rattle.std.proofs.Common.{◌≡◌, ◌∙◌, ap, sym, refl, subst, inl, inr, ⊎_elim, ℕ, ◌≤◌, drop, true, None, Result, Ok, Err, arith}
+use Rattle.snd_blocks.specs.Frames.{has_bad}
 use Rattle.snd_disk.proofs.Chains.{goes_on_then, only_reads_then}
 use Rattle.snd_disk.specs.declared.disk.Disk.{Ghosts}
 use Rattle.snd_disk.specs.State.{Rises}
 use Rattle.snd_modes.specs.declared.handle.File.{File}
 use Rattle.snd_modes.specs.declared.mode.Mode.{Ghosts as ModeGhosts}
+use Rattle.snd_modes.specs.Editing.{Editing}
 use Rattle.snd_modes.specs.Handle.{Known, known_of}
-use Rattle.snd_output.specs.Appended.{AppendLeaves, CountsEither}
+use Rattle.snd_output.specs.Appended.{AppendLeaves, CountsEither, frames_ahead}
 use Rattle.snd_output.specs.Ends.{BreaksByFault, CountsOneOf}
 use Rattle.snd_output.specs.declared.stop.Stop.{Stop}
-use Rattle.snd_output.specs.declared.stop.Stop.TheVariants.{Fault, Memory}
+use Rattle.snd_output.specs.declared.stop.Stop.TheVariants.{Changed, Fault, Memory}
 use Rattle.snd_inputs.specs.Copying.{CopiesInto}
+use Rattle.snd_inputs.specs.Inputs.{is_bad}
 use Rattle.snd_inputs.proofs.Reading.{reads_none}
 
-counts_then : {T : Type 0} (r : Result T Stop) (a b c a' b' c' : ℕ) → b ≡ a → b' ≡ a' → CountsOneOf b c b' c' r → CountsOneOf a c a' c' r
+pub counts_then : {T : Type 0} (r : Result T Stop) (a b c a' b' c' : ℕ) → b ≡ a → b' ≡ a' → CountsOneOf b c b' c' r → CountsOneOf a c a' c' r
 counts_then (Ok x) a b c a' b' c' same same' counts = (counts.0 ∙ same, counts.1 ∙ same')
 counts_then (Err Memory) a b c a' b' c' same same' counts = (counts.0 ∙ same, counts.1 ∙ same')
+counts_then (Err Changed) a b c a' b' c' same same' counts = (counts.0 ∙ same, counts.1 ∙ same')
 counts_then (Err Fault) a b c a' b' c' same same' counts = (
   subst (λ (n : ℕ). n ≤ c) same counts.0,
   subst (λ (n : ℕ). n ≤ c') same' counts.1,
@@ -57,8 +61,14 @@ pub counts_appended : {T : Type 0} (r : Result T Stop) (a b c e : ℕ) → Count
 counts_appended (Ok x) a b c e counts = counts
 counts_appended (Err Memory) a b c e counts = absurd counts
 counts_appended (Err Fault) a b c e counts = counts
+counts_appended (Err Changed) a b c e counts = counts
 
 pub still_works : {T : Type 0} (r : Result T Stop) (n : ℕ) (from from' to to' : Known) (a b c e : ℕ) → AppendLeaves n from from' to to' r → CountsEither a b c e r → to.broken ≡ None → BreaksByFault to' r
 still_works (Ok x) n from from' to to' a b c e left counts working = ap (λ (k : Known). k.broken) left.1 ∙ working
 still_works (Err Memory) n from from' to to' a b c e left counts working = absurd counts
 still_works (Err Fault) n from from' to to' a b c e left counts working = tt
+still_works (Err Changed) n from from' to to' a b c e left counts working = left.2
+
+-- all frames are ahead of a file that is unread
+pub all_ahead : (e : Editing) → e.place ≡ 0 → has_bad (frames_ahead e) ≡ true → is_bad e ≡ true
+all_ahead e first bad = sym (ap (λ (n : ℕ). has_bad (drop n e.frames)) first) ∙ bad

@@ -1,5 +1,5 @@
 -- A file that was open to be read and came back: what was done meanwhile is done, and the shelf is as that left it.
-use Rattle.std.proofs.Common.{◌≡◌, ◌∙◌, ap, ℕ, List, Bool, cond, false, true, inl, inr, Result, Ok, Err, subst, sym}
+use Rattle.std.proofs.Common.{◌≡◌, ◌∙◌, ap, ℕ, List, Bool, cond, false, true, inl, inr, Result, Ok, Err, refl, subst, sym, arith}
 use Rattle.std.specs.Str.{bytes_eq}
 use Rattle.snd_disk.proofs.Chains.{only_reads_then}
 use Rattle.snd_disk.specs.declared.disk.Disk.{Ghosts}
@@ -9,7 +9,7 @@ use Rattle.snd_disk.specs.Shelf.{Files, Gives}
 use Rattle.snd_disk.specs.Shelves.{KeepsOthers, TakesBack, TellsFiles}
 use Rattle.snd_disk.specs.State.{Adds}
 use Rattle.snd_output.specs.declared.stop.Stop.{Stop}
-use Rattle.snd_output.specs.declared.stop.Stop.TheVariants.{Fault, Memory}
+use Rattle.snd_output.specs.declared.stop.Stop.TheVariants.{Changed, Fault, Memory}
 use Rattle.snd_output.specs.Ends.{CountsOneOf, CountsStop}
 use Rattle.snd_tools.proofs.Counts.{counts_back, counts_given}
 use Rattle.snd_tools.proofs.Left.{held_changes, held_files}
@@ -25,16 +25,25 @@ counts_same : {T : Type 0} (r : Result T Stop) (a b c d : ℕ) → CountsOneOf a
 counts_same (Ok x) a b c d counts = counts
 counts_same (Err Fault) a b c d counts = counts
 counts_same (Err Memory) a b c d counts = counts
+counts_same (Err Changed) a b c d counts = counts
 
 counts_other : {T : Type 0} (r : Result T Stop) (a b c d : ℕ) → CountsOneOf a b c d r → CountsOne c d a b r
 counts_other (Ok x) a b c d counts = (counts.1, counts.0)
 counts_other (Err Fault) a b c d counts = (counts.1, counts.0, elim counts.2 [ inl rose ↦ inr rose | inr rose ↦ inl rose ])
 counts_other (Err Memory) a b c d counts = (counts.1, counts.0)
+counts_other (Err Changed) a b c d counts = (counts.1, counts.0)
 
 counts_back_same : {T : Type 0} (r : Result T Stop) (a b c d : ℕ) → CountsOne a b c d r → CountsOneOf a b c d r
 counts_back_same (Ok x) a b c d counts = counts
 counts_back_same (Err Fault) a b c d counts = counts
 counts_back_same (Err Memory) a b c d counts = counts
+counts_back_same (Err Changed) a b c d counts = counts
+
+counts_alone : {T : Type 0} (r : Result T Stop) (a b c : ℕ) → CountsStop a b r → CountsOne a b c c r
+counts_alone (Ok x) a b c counts = (counts, refl)
+counts_alone (Err Fault) a b c counts = (counts.0, omega arith, inl counts.1)
+counts_alone (Err Memory) a b c counts = (counts, refl)
+counts_alone (Err Changed) a b c counts = (counts, refl)
 
 -- a disk was only read, wherever it is
 reads_as : {D : Type 0} (d : Ghosts D) (x x' y y' : D) → x ≡ x' → y' ≡ y → OnlyReadsOn d.state d.may_leave d.left_between x y → OnlyReadsOn d.state d.may_leave d.left_between x' y'
@@ -88,3 +97,9 @@ module _ {S D : Type 0} (s : ShelfMeaning S D) (d : Ghosts D) (old mid new : S) 
       counts_back_same r _ _ _ _
       (counts_given (s.state old).faults (s.state mid).faults (d.state from).faults (d.state to).faults (s.state new).faults same (ap (λ (x : D). (d.state x).faults) from_is ∙ opens.calm) r file file' (counts_other r _ _ _ _ counts)
       (subst (λ (y : D). Adds (s.state mid).faults (d.state y).faults (s.state new).faults) to_is gives.faults))
+
+  -- .. or that of the disk alone
+  pub held_counts_alone : {T : Type 0} (r : Result T Stop) → (s.state mid).faults ≡ (s.state old).faults → CountsStop (d.state from).faults (d.state to).faults r → CountsStop (s.state old).faults (s.state new).faults r
+  held_counts_alone r same counts =
+      counts_back (s.state old).faults (s.state mid).faults (d.state from).faults (d.state to).faults (s.state new).faults same (ap (λ (x : D). (d.state x).faults) from_is ∙ opens.calm) r (s.state mid).faults
+      (counts_alone r _ _ (s.state mid).faults counts) (subst (λ (y : D). Adds (s.state mid).faults (d.state y).faults (s.state new).faults) to_is gives.faults)

@@ -1,10 +1,13 @@
 pub mod Answering
 pub mod Between
 pub mod Asking
+pub mod Checked
 pub mod Copying
 pub mod DataBytes
+pub mod Formed
 pub mod Held
 pub mod Lists
 pub mod Reading
 pub mod Seen
 pub mod Told
+pub mod Weighing

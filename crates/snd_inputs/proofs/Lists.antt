@@ -1,10 +1,15 @@
 -- Inputs one after the other.
-use Rattle.std.proofs.Common.{◌≡◌, ℕ, zero, suc, ◌+◌, List, [], ◌∷◌, ◌++◌, All, Option, Some, length, Result, Ok, Err, slice_get, take, map, refl, sym, ◌∙◌, ap, arith}
+use Rattle.std.proofs.Common.{◌≡◌, ℕ, zero, suc, ◌+◌, ◌<◌, Bool, cond, true, false, List, [], ◌∷◌, ◌++◌, All, Option, None, Some, length, Result, Ok, Err, slice_get, get_or, take, map, inl, inr, refl, sym, ◌∙◌, ap, arith}
+use Rattle.std.proofs.lemmas.Bool.{cases_lt, le-ltb, lt-ltb}
+use Rattle.std.proofs.lemmas.List.Sums.{fails_before_first, position_or_len_is}
+use Rattle.std.proofs.lemmas.Option.{get_or_from_slice_get, slice_get_within}
+use Rattle.std.specs.List.{position_or_len}
+use Rattle.std.specs.Prelude.{nat_lt}
 use Rattle.snd_disk.specs.Shelf.{Files}
 use Rattle.snd_layout.specs.Shape.{Shape}
 use Rattle.snd_lines.specs.declared.refusal.Refusal.{Refusal}
 use Rattle.snd_modes.specs.Editing.{Editing}
-use Rattle.snd_inputs.specs.Inputs.{input_before, input_in, inputs_in}
+use Rattle.snd_inputs.specs.Inputs.{first_bad, input_before, input_in, inputs_in, is_bad}
 use Rattle.snd_inputs.specs.Looking.{all_seen, seen_of}
 
 -- what is seen behind one that is opened
@@ -105,3 +110,31 @@ seen_err (Err other) why is = let same : other ≡ why = cc in ap (λ (x : Refus
 pub opened_same : (r : Result Editing Refusal) (e f : Editing) → r ≡ Ok e → r ≡ Ok f → e ≡ f
 opened_same (Ok x) e f is is' = cc
 opened_same (Err why) e f is is' = absurd (cc)
+
+-- ---- the first file with a bad block
+
+pub bad_first : (es : List Editing) (at : ℕ) (e : Editing) → slice_get es at ≡ Some e → is_bad e ≡ true → ((k : ℕ) (d : Editing) → k < at → is_bad (get_or es k d) ≡ false) → Some at ≡ first_bad es
+bad_first es at e there bad none =
+    let within : at < length es = slice_get_within es at e there in
+    let this : is_bad (get_or es at e) ≡ true = ap is_bad (get_or_from_slice_get es at e e there) ∙ bad in
+    let is : position_or_len is_bad es ≡ at = position_or_len_is is_bad es at e (omega (arith, within)) (λ k lt. none k e lt) (λ lt. this) in
+    sym (ap (λ (n : ℕ). cond (nat_lt n (length es)) (Some n) None) is ∙ ap (λ (t : Bool). cond t (Some at) None) (lt-ltb at (length es) within))
+
+none_found : (es : List Editing) (d : Editing) → ((k : ℕ) (d : Editing) → k < length es → is_bad (get_or es k d) ≡ false) → None ≡ first_bad es
+none_found es d none =
+    let is : position_or_len is_bad es ≡ length es = position_or_len_is is_bad es (length es) d (omega arith) (λ k lt. none k d lt) (λ lt. absurd (omega (arith, lt))) in
+    sym (ap (λ (n : ℕ). cond (nat_lt n (length es)) (Some n) None) is ∙ ap (λ (t : Bool). cond t (Some (length es)) None) (le-ltb (length es) (length es) (omega arith)))
+
+pub bad_none : (es : List Editing) → ((k : ℕ) (d : Editing) → k < length es → is_bad (get_or es k d) ≡ false) → None ≡ first_bad es
+bad_none [] none = refl
+bad_none (e ∷ es) none = none_found (e ∷ es) e none
+
+-- where there is none, none has one
+pub none_bad : (es : List Editing) → first_bad es ≡ None → (k : ℕ) (d : Editing) → k < length es → is_bad (get_or es k d) ≡ false
+none_bad es none k d lt = elim (cases_lt (position_or_len is_bad es) (length es)) [
+  | inl found ↦ absurd (
+      let is : first_bad es ≡ Some (position_or_len is_bad es) = ap (λ (t : Bool). cond t (Some (position_or_len is_bad es)) None) (lt-ltb (position_or_len is_bad es) (length es) found) in
+      let no : ◌≡◌ {A = Option ℕ} None (Some (position_or_len is_bad es)) = sym none ∙ is in
+      cc)
+  | inr past ↦ fails_before_first is_bad es k d (omega (arith, lt, past))
+]

@@ -1,74 +1,50 @@
 -- What is seen of a file that was handed out.
-use Rattle.std.proofs.Common.{◌≡◌, ℕ, List, [], Bool, cond, false, true, Option, Some, unwrap_or, Result, Ok, Err, inl, inr, refl, sym, ◌∙◌, ap, length, arith}
-use Rattle.std.proofs.lemmas.Bool.{cases_Bool}
-use Rattle.std.specs.Prelude.{is_none}
+use Rattle.std.proofs.Common.{◌≡◌, ℕ, List, [], Option, Some, unwrap_or, Result, Ok, Err, false, refl, sym, ◌∙◌, ap, length, arith}
 use Rattle.snd_blocks.specs.Sound.{frames_in}
-use Rattle.snd_container.specs.Sound.{fixed_of, layout_of}
+use Rattle.snd_container.specs.Sound.{layout_of}
 use Rattle.snd_disk.specs.declared.disk.Disk.{Ghosts}
 use Rattle.snd_disk.specs.Shelf.{Files, ShelfState, Takes}
 use Rattle.snd_disk.specs.State.{State}
 use Rattle.snd_layout.specs.Blocks.{is_adpcm}
 use Rattle.snd_layout.specs.Shape.{Shape}
-use Rattle.snd_layout.specs.declared.codec.Codec.{Codec}
 use Rattle.snd_layout.specs.declared.refusal.OpenRefusal.{OpenRefusal}
-use Rattle.snd_layout.specs.declared.refusal.OpenRefusal.TheVariants.{NotBuilt}
 use Rattle.snd_lines.specs.declared.refusal.Refusal.{Refusal}
 use Rattle.snd_lines.specs.declared.refusal.Refusal.TheVariants.{Open}
 use Rattle.snd_modes.specs.Editing.{Editing, first_editing, opening_of}
 use Rattle.snd_inputs.specs.Inputs.{input_as, input_in}
-use Rattle.snd_modes.proofs.FixedFrames.{count_opened, is_fixed}
+use Rattle.snd_modes.proofs.FixedFrames.{count_any}
 use Rattle.snd_modes.proofs.Opening.{opening_ok, opening_refused}
-use Rattle.snd_modes.proofs.Rooms.{not_adpcm}
 use Rattle.snd_inputs.specs.Looking.{IsReadable, LiesWithin, seen_of}
 use Rattle.snd_inputs.specs.Opening.{Holds}
 use Rattle.snd_inputs.specs.declared.input.Input.{Input}
 
 -- ---- on a disk
 
--- a codec that is not of ADPCM is read
-pub input_read : (e : Editing) → is_none (fixed_of e.shape.params.codec) ≡ false → input_as (Ok e) ≡ Ok e
-input_read e linear = ap (λ (t : Bool). cond t (Err (Open NotBuilt)) (Ok e)) (not_adpcm e.shape.params.codec linear)
-
-stands_in_blocks : (codec : Codec) → is_none (fixed_of codec) ≡ true → is_adpcm codec ≡ true
-stands_in_blocks codec none = elim (cases_Bool (is_adpcm codec)) [
-  | inl is ↦ is
-  | inr other ↦ absurd (let no : true ≡ false = sym none ∙ is_fixed codec other in cc)
-]
-
 module _ (b : List ℕ) where
   pub refused_seen : (why : OpenRefusal) → layout_of b ≡ Err why → seen_of (input_as (opening_of b)) ≡ Err (Open why)
   refused_seen why is = ap (λ (r : Result Editing OpenRefusal). seen_of (input_as r)) (opening_refused b why is)
 
-  pub adpcm_seen : (h : Shape) → layout_of b ≡ Ok h → is_none (fixed_of h.params.codec) ≡ true → seen_of (input_as (opening_of b)) ≡ Err (Open NotBuilt)
-  adpcm_seen h is adpcm =
-      ap (λ (r : Result Editing OpenRefusal). seen_of (input_as r)) (opening_ok b h is)
-      ∙ ap (λ (t : Bool). seen_of (cond t (Err (Open NotBuilt)) (Ok (first_editing b h)))) (stands_in_blocks h.params.codec adpcm)
+  -- what is opened is what tools read
+  pub read_as : (h : Shape) → opening_of b ≡ Ok (first_editing b h) → input_as (opening_of b) ≡ Ok (first_editing b h)
+  read_as h is = ap input_as is
 
-  -- what is opened is what tools read, where its codec is not ADPCM
-  pub read_as : (h : Shape) → is_none (fixed_of h.params.codec) ≡ false → opening_of b ≡ Ok (first_editing b h) → input_as (opening_of b) ≡ Ok (first_editing b h)
-  read_as h linear is = ap input_as is ∙ input_read (first_editing b h) linear
-
-  pub layout_seen : (h : Shape) → layout_of b ≡ Ok h → is_none (fixed_of h.params.codec) ≡ false → seen_of (input_as (opening_of b)) ≡ Ok h
-  layout_seen h is linear = ap seen_of (read_as h linear (opening_ok b h is))
+  pub layout_seen : (h : Shape) → layout_of b ≡ Ok h → seen_of (input_as (opening_of b)) ≡ Ok h
+  layout_seen h is = ap seen_of (read_as h (opening_ok b h is))
 
   -- a layout that is seen is what the file is opened as
   pub opened_as : (h : Shape) → Ok h ≡ seen_of (input_as (opening_of b)) → opening_of b ≡ Ok (first_editing b h)
   opened_as h is = by_layout (layout_of b) refl
     where
-      by_codec : (s : Shape) (t : Bool) → Ok h ≡ seen_of (cond t (Err (Open NotBuilt)) (Ok (first_editing b s))) → s ≡ h
-      by_codec s true seen = absurd (cc)
-      by_codec s false seen = cc
-
       by_layout : (r : Result Shape OpenRefusal) → layout_of b ≡ r → opening_of b ≡ Ok (first_editing b h)
       by_layout (Err why) found = absurd (let no : ◌≡◌ {A = Result Shape Refusal} (Ok h) (Err (Open why)) = is ∙ refused_seen why found in cc)
       by_layout (Ok s) found =
-          let opens = opening_ok b s found in
-          let same = by_codec s (is_adpcm s.params.codec) (is ∙ ap (λ (r : Result Editing OpenRefusal). seen_of (input_as r)) opens) in
-          opens ∙ ap (λ (x : Shape). Ok (first_editing b x)) same
+          let seen : ◌≡◌ {A = Result Shape Refusal} (Ok h) (Ok s) = is ∙ layout_seen s found in
+          let same : s ≡ h = cc in
+          opening_ok b s found ∙ ap (λ (x : Shape). Ok (first_editing b x)) same
 
   -- its frames are counted
   pub counted : (h : Shape) (size : ℕ) → IsReadable h → LiesWithin size h → size ≡ length b → h.frames ≡ length (frames_in b h)
-  counted h size readable within long = count_opened b h readable.linear readable.some (omega (arith, within.frames, long))
+  counted h size readable within long = count_any b h readable.rule readable.good (omega (arith, within.frames, long)) (is_adpcm h.params.codec) refl
 
 -- ---- under a name
 
@@ -95,6 +71,5 @@ module _ (old mid : ShelfState) (files : Files) (name : List ℕ) (disk : State)
       )
 
 -- what an input holds is what is seen under its name, and lies within its bytes
-pub seen_open : (files : Files) (name b : List ℕ) (h : Shape) → is_none (fixed_of h.params.codec) ≡ false → files name ≡ Some b → opening_of b ≡ Ok (first_editing b h)
-    → Ok h ≡ seen_of (input_in (files name))
-seen_open files name b h linear is opens = sym (ap (λ (o : Option (List ℕ)). seen_of (input_in o)) is ∙ ap seen_of (read_as b h linear opens))
+pub seen_open : (files : Files) (name b : List ℕ) (h : Shape) → files name ≡ Some b → opening_of b ≡ Ok (first_editing b h) → Ok h ≡ seen_of (input_in (files name))
+seen_open files name b h is opens = sym (ap (λ (o : Option (List ℕ)). seen_of (input_in o)) is ∙ ap seen_of (read_as b h opens))

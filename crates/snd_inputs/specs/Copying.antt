@@ -1,15 +1,18 @@
 -- What holds of two things of which one call reads the one and changes the other: files that are open, disks and shelves.
-use Rattle.std.specs.Prelude.{◌≡◌, ℕ, ◌+◌, Result}
+use Rattle.std.specs.Prelude.{◌≡◌, ℕ, ◌+◌, ◌/◌, Result, if◌then◌else◌}
 use Rattle.snd_disk.specs.declared.disk.Disk.{Ghosts}
 use Rattle.snd_disk.specs.Device.{AsksAtMost, GoesOnFrom, OnlyReadsOn}
 use Rattle.snd_disk.specs.Shelf.{ShelfState}
 use Rattle.snd_disk.specs.State.{State}
+use Rattle.snd_layout.specs.Blocks.{is_adpcm}
+use Rattle.snd_layout.specs.Params.{Parameters, data_bytes}
+use Rattle.snd_layout.specs.Shape.{Shape}
 use Rattle.snd_modes.specs.declared.handle.File.{File}
 use Rattle.snd_modes.specs.declared.mode.Mode.{Ghosts as ModeGhosts}
 use Rattle.snd_modes.specs.Handle.{disk_of, known_of, loan_of}
 use Rattle.snd_modes.specs.Outcomes.{TellsOn}
-use Rattle.snd_modes.specs.Reading.{bytes_of_frames}
 use Rattle.snd_output.specs.declared.stop.Stop.{Stop}
+use Rattle.snd_output.specs.Appended.{bytes_by_calls}
 use Rattle.snd_output.specs.Ends.{BreaksByFault, CountsOneOf, CountsStop}
 
 -- the disk of an open file was only read
@@ -54,8 +57,19 @@ pub record CopiesInto {D E M N T : Type 0} {m : ModeGhosts M} {n : ModeGhosts N}
   pub tells : TellsOn t.state to to'
   pub time : GoesOnFrom t.state t.left_between (disk_of to) (disk_of to')
 
--- beside so many bytes of chunks no more is asked of a file to copy its frames than their bytes
+-- so many bytes are asked of a file to copy its frames, 16384 numbers in each call
+abbrev pub bytes_to_copy : Parameters → ℕ → ℕ
+bytes_to_copy p frames = bytes_by_calls p (16384 / p.channels) frames
+
+-- no more are, beside so many of chunks
 abbrev pub AsksToCopy : {D M : Type 0} {d : Ghosts D} {m : ModeGhosts M} → (D → State) → ℕ → File D M d m → File D M d m → Type 0
 AsksToCopy state chunks old new =
     let known = known_of old in
-    AsksAtMost state (chunks + bytes_of_frames known.shape.params known.shape.frames) (disk_of old) (disk_of new)
+    AsksAtMost state (chunks + bytes_to_copy known.shape.params known.shape.frames) (disk_of old) (disk_of new)
+
+-- its blocks are read to see whether one is bad, if it has some
+abbrev pub bytes_checked : Shape → ℕ
+bytes_checked h = if is_adpcm h.params.codec then data_bytes h.params h.frames else 0
+
+abbrev pub AsksToCheck : {D M : Type 0} {d : Ghosts D} {m : ModeGhosts M} → (D → State) → File D M d m → File D M d m → Type 0
+AsksToCheck state old new = AsksAtMost state (bytes_checked (known_of old).shape) (disk_of old) (disk_of new)

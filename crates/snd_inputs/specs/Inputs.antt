@@ -1,16 +1,15 @@
 -- The files that a tool reads, by their names.
-use Rattle.std.specs.Prelude.{ℕ, List, [], ◌∷◌, Option, Some, None, Result, Ok, Err, if◌then◌else◌}
+use Rattle.std.specs.Prelude.{ℕ, Bool, List, [], ◌∷◌, Option, Some, None, Result, Ok, Err, position}
 use Rattle.snd_disk.specs.Shelf.{Files}
-use Rattle.snd_layout.specs.Blocks.{is_adpcm}
+use Rattle.snd_blocks.specs.Frames.{has_bad}
 use Rattle.snd_layout.specs.declared.refusal.OpenRefusal.{OpenRefusal}
-use Rattle.snd_layout.specs.declared.refusal.OpenRefusal.TheVariants.{NotBuilt}
 use Rattle.snd_lines.specs.declared.refusal.Refusal.{Refusal}
 use Rattle.snd_lines.specs.declared.refusal.Refusal.TheVariants.{MissingFile, Open}
 use Rattle.snd_modes.specs.Editing.{Editing, opening_of}
 
--- a file as it is opened to be read; or why it is not: tools do not read ADPCM yet
+-- a file as it is opened to be read; or why it is not
 abbrev pub input_as : Result Editing OpenRefusal → Result Editing Refusal
-input_as (Ok e) = if is_adpcm e.shape.params.codec then Err (Open NotBuilt) else Ok e
+input_as (Ok e) = Ok e
 input_as (Err why) = Err (Open why)
 
 -- .. where it may be missing
@@ -28,3 +27,10 @@ input_before name (Ok e) (Ok es) = Ok (e ∷ es)
 abbrev pub inputs_in : Files → List (List ℕ) → Result (List Editing) (List ℕ × Refusal)
 inputs_in files [] = Ok []
 inputs_in files (name ∷ names) = input_before name (input_in (files name)) (inputs_in files names)
+
+-- whether one of its blocks is bad, which is so in ADPCM alone; and the place of the first of some files of which that is so
+abbrev pub is_bad : Editing → Bool
+is_bad e = has_bad e.frames
+
+abbrev pub first_bad : List Editing → Option ℕ
+first_bad es = position is_bad es

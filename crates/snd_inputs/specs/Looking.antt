@@ -1,15 +1,15 @@
 -- How files are looked at, as the code says it. The first argument is what is known of a shelf, or its whole meaning.
-use Rattle.std.specs.Prelude.{◌≡◌, ℕ, ◌+◌, ◌*◌, ◌^◌, ◌≤◌, List, All, Some, Result, Ok, Err, IfOk, false, is_none, length, map}
-use Rattle.snd_container.specs.Sound.{fixed_of}
+use Rattle.std.specs.Prelude.{◌≡◌, ℕ, ◌+◌, ◌*◌, ◌^◌, ◌≤◌, Bool, List, All, Option, Some, Result, Ok, Err, IfOk, length, map}
 use Rattle.snd_disk.specs.State.{AtMost}
 use Rattle.snd_disk.specs.Shelf.{Files, KeepsFiles, ShelfState}
 use Rattle.snd_disk.specs.Shelves.{KeepsFileImages, TellsFiles}
 use Rattle.snd_disk.specs.declared.shelf.Shelf.{Ghosts as ShelfMeaning}
 use Rattle.snd_layout.specs.Opened.{EndsIn}
-use Rattle.snd_layout.specs.Shape.{Shape, end, room}
+use Rattle.snd_layout.specs.Params.{AreParams}
+use Rattle.snd_layout.specs.Shape.{KeepsRule, Shape, end, room}
 use Rattle.snd_lines.specs.declared.refusal.Refusal.{Refusal}
 use Rattle.snd_modes.specs.Editing.{Editing}
-use Rattle.snd_inputs.specs.Inputs.{input_in, inputs_in}
+use Rattle.snd_inputs.specs.Inputs.{first_bad, input_in, inputs_in, is_bad}
 use Rattle.snd_inputs.specs.declared.looking.Inputs.{Inputs}
 use Rattle.snd_inputs.specs.declared.looking.Inputs.TheVariants as inputs
 
@@ -31,11 +31,10 @@ seen_by (inputs.Refused name why) = Err (name.now, why)
 abbrev pub IfOkFiles : {S T E : Type 0} → (S → ShelfState) → S → Result T E → (Files → T → Type 0) → Type 0
 IfOkFiles state shelf result P = IfOk result (λ value. (files : Files) → TellsFiles state shelf files → P files value)
 
--- a layout of which the frames are read, as its file is opened: it has some channel, and the room of its head ends where a disk
--- may
+-- a layout of which the frames are read, as its file is opened: the room of its head ends where a disk may
 pub record IsReadable (h : Shape) : Type 0 where
-  pub linear : is_none (fixed_of h.params.codec) ≡ false
-  pub some : 1 ≤ h.params.channels
+  pub rule : KeepsRule h
+  pub good : AreParams h.params
   pub room_ends : h.start + room h + 8 ≤ 2 ^ 63
 
 -- what is seen of the file of a name, or of those of several, is what they are
@@ -61,6 +60,13 @@ SeenWithin state name shelf result =
 -- layouts that are seen are those of files that are read
 abbrev pub AllReadable : {E : Type 0} → Result Inputs E → Type 0
 AllReadable result = IfOk result (λ inputs. IfOk (seen_by inputs) (All IsReadable))
+
+-- it is said whether the file of a name has a bad block, or which of those of several is the first that has, where they are opened
+abbrev pub SeesBad : {S E : Type 0} → (S → ShelfState) → List ℕ → S → Result Bool E → Type 0
+SeesBad state name shelf result = IfOkFiles state shelf result (λ files bad. (e : Editing) → input_in (files name) ≡ Ok e → bad ≡ is_bad e)
+
+abbrev pub FindsFirstBad : {S E : Type 0} → (S → ShelfState) → List (List ℕ) → S → Result (Option ℕ) E → Type 0
+FindsFirstBad state names shelf result = IfOkFiles state shelf result (λ files at. (es : List Editing) → inputs_in files names ≡ Ok es → at ≡ first_bad es)
 
 -- files were only read: each disk is back, and no file has changed, nor what a crash may leave of one
 pub record ReadsFiles {S D : Type 0} (s : ShelfMeaning S D) (old new : S) : Type 0 where

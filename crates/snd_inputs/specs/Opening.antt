@@ -1,6 +1,5 @@
 -- A file that is taken out to be read, or to be made. The first arguments are the whole meanings of a shelf and of its disks.
-use Rattle.std.specs.Prelude.{◌≡◌, ℕ, ◌≤◌, Bool, true, false, List, None, Some, Result, Ok, Err, is_none, length}
-use Rattle.snd_container.specs.Sound.{fixed_of}
+use Rattle.std.specs.Prelude.{◌≡◌, ℕ, ◌≤◌, Bool, true, false, List, None, Some, Result, Ok, Err, length}
 use Rattle.snd_disk.specs.declared.disk.Disk.{Ghosts}
 use Rattle.snd_disk.specs.declared.shelf.Shelf.{Ghosts as ShelfMeaning}
 use Rattle.snd_disk.specs.Device.{OnlyReadsOn, Tells}
@@ -41,11 +40,10 @@ pub record IsOpen {S D : Type 0} (s : ShelfMeaning S D) (d : Ghosts D) (name : L
   pub opened : (files : Files) → TellsFiles s.state old files
       → (b : List ℕ) × (files name ≡ Some b) × (opening_of b ≡ Ok (first_editing b input.layout)) × Holds d.state input (first_editing b input.layout)
 
--- an open file, whose frames stand in no blocks, may be read from its first frame on
+-- an open file may be read from its first frame on
 pub record IsUnread (k : Known) : Type 0 where
   pub working : k.broken ≡ None
   pub first : k.place ≡ 0
-  pub linear : is_none (fixed_of k.shape.params.codec) ≡ false
 
 -- the file of a name was looked at, where it is there, and is back
 pub record OnlyLooks {S D : Type 0} (s : ShelfMeaning S D) (old new : S) : Type 0 where

@@ -5,15 +5,15 @@ ghost use Rattle.snd_container.specs.Sound.{fixed_of};
 ghost use Rattle.snd_disk.specs.Device.{AsksAtMost, OnlyReadsOn};
 ghost use Rattle.snd_layout.specs.Params.{AreParams};
 ghost use Rattle.snd_modes.specs.Handle.{disk_of, known_of, loan_of};
-ghost use Rattle.snd_output.specs.Ends.{CountsStop};
+ghost use Rattle.snd_output.specs.Ends.{CountsStop, IsUnchanged};
 ghost use Rattle.snd_inputs.specs.Looking.{SeenReadable};
 ghost use Rattle.snd_inputs.specs.Opening.{OpensInput};
 ghost use Rattle.snd_inputs.specs.Seeing.{SeesDisk, SeesWithin};
 
 use crate::input::Input;
-use snd_container::{fixed_form, open_layout};
+use snd_container::open_layout;
 use snd_disk::{Disk, Shelf, ShelfFault};
-use snd_layout::{Layout, OpenError, OpenRefusal, Params};
+use snd_layout::{Layout, OpenError, Params};
 use snd_lines::Refusal;
 use snd_modes::{File, Mode, Read};
 use snd_output::Stop;
@@ -25,6 +25,7 @@ fn layout_on<D: Disk>(alloc: Global, disk: &mut D) -> Result<Result<Layout, Refu
     ensures readable { SeenReadable result }
     ensures within { SeesWithin D.state disk.old result }
     ensures faults { CountsStop (D.state disk.old).faults (D.state disk.new).faults result }
+    ensures unchanged { IsUnchanged result }
     ensures reads { OnlyReadsOn D.state D.may_leave D.left_between disk.old disk.new }
     ensures asked { AsksAtMost D.state 16384 disk.old disk.new }
 {
@@ -34,16 +35,14 @@ fn layout_on<D: Disk>(alloc: Global, disk: &mut D) -> Result<Result<Layout, Refu
         Err(OpenError::Memory) => return Err(Stop::Memory),
         Err(_) => return Err(Stop::Fault),
     };
+    layout.keeps_rule();
     layout.params.are_good();
-    if fixed_form(layout.params.codec).is_none() {
-        return Ok(Err(Refusal::Open(OpenRefusal::NotBuilt)));
-    }
     Ok(Ok(layout))
 }
 
 /// Takes the file of a name out, and opens it to be read; or says why a tool refuses it, which is
-/// `MissingFile` or why it is not opened, and `NotBuilt` where its codec is ADPCM. It asks at most 16384 bytes
-/// of it. Where it is not opened, the shelf has it back, as it was.
+/// `MissingFile` or why it is not opened. It asks at most 16384 bytes of it. Where it is not opened, the shelf
+/// has it back, as it was.
 ///
 /// `Fault` where a call of the shelf or of the disk failed, and `Memory` where there is none.
 pub fn open_input<S: Shelf>(
@@ -54,6 +53,7 @@ pub fn open_input<S: Shelf>(
     requires { (S.state shelf.old).out name.now ≡ false }
     ensures opened { OpensInput S.Shelf S.Disk.Disk name.now shelf.old shelf.new result }
     ensures faults { CountsStop (S.state shelf.old).faults (S.state shelf.new).faults result }
+    ensures unchanged { IsUnchanged result }
 {
     let mut disk = match shelf.take(name, false) {
         Ok(disk) => disk,
@@ -78,7 +78,7 @@ pub fn open_input<S: Shelf>(
 pub fn params_of<D: Disk, M: Mode>(file: &File<'_, D, M>) -> Params
     ensures params { result ≡ (known_of file.now).shape.params }
     ensures good { AreParams result }
-    ensures linear { M.WRITES ≡ true → is_none (fixed_of result.codec) ≡ false }
+    ensures linear { M.PLACES ≡ true → is_none (fixed_of result.codec) ≡ false }
 {
     let params = file.params();
     params.are_good();

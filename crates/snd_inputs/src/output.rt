@@ -2,7 +2,7 @@
 
 ghost use Rattle.std.specs.Prelude.{◌≡◌, IfOk, OnErr, false, true};
 ghost use Rattle.snd_disk.specs.Shelf.{KeepsBytes};
-ghost use Rattle.snd_output.specs.Ends.{CountsStop};
+ghost use Rattle.snd_output.specs.Ends.{CountsStop, IsUnchanged};
 ghost use Rattle.snd_tools.specs.Shelves.{ChangesOne};
 ghost use Rattle.snd_inputs.specs.Opening.{IsHandedOut};
 
@@ -17,6 +17,7 @@ pub fn take_output<S: Shelf>(name: &str, shelf: &mut S) -> Result<S::Disk, Stop>
     ensures out { IfOk result (IsHandedOut S.Shelf S.Disk.Disk name.now true shelf.old shelf.new) }
     ensures changes { OnErr result (ChangesOne S.Shelf name.now shelf.old shelf.new) }
     ensures faults { CountsStop (S.state shelf.old).faults (S.state shelf.new).faults result }
+    ensures unchanged { IsUnchanged result }
     ensures bytes { KeepsBytes (S.state shelf.old) (S.state shelf.new) }
 {
     match shelf.take(name, true) {

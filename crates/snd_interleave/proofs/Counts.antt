@@ -10,7 +10,7 @@ use Rattle.snd_disk.specs.State.{Adds, Rises, State}
 use Rattle.snd_modes.specs.Handle.{Known}
 use Rattle.snd_output.specs.Ends.{BreaksByFault, CountsStop}
 use Rattle.snd_output.specs.declared.stop.Stop.{Stop}
-use Rattle.snd_output.specs.declared.stop.Stop.TheVariants.{Fault, Memory}
+use Rattle.snd_output.specs.declared.stop.Stop.TheVariants.{Changed, Fault, Memory}
 use Rattle.snd_tools.proofs.Counts.{rises_on, rises_with}
 use Rattle.snd_interleave.specs.Channels.{AreCalm, AreLater, CountsInputs, CountsWith, OneRises, faults_of}
 use Rattle.snd_inputs.specs.declared.input.Input.{Input}
@@ -49,10 +49,12 @@ module _ {D : Type 0} {ghosts : Ghosts D} (state : D → State) where
     inputs_then (Ok x) calm counts = calm_then calm counts
     inputs_then (Err Fault) calm counts = (later_then (calm_later xs ys calm) counts.0, rises_behind calm counts.1)
     inputs_then (Err Memory) calm counts = calm_then calm counts
+    inputs_then (Err Changed) calm counts = calm_then calm counts
 
     pub adding_then : {T : Type 0} (r : Result T Stop) (a b c : ℕ) → AreCalm state xs ys → b ≡ a → CountsWith state ys zs b c r → CountsWith state xs zs a c r
     adding_then (Ok x) a b c calm same counts = (calm_then calm counts.0, counts.1 ∙ same)
     adding_then (Err Memory) a b c calm same counts = (calm_then calm counts.0, counts.1 ∙ same)
+    adding_then (Err Changed) a b c calm same counts = (calm_then calm counts.0, counts.1 ∙ same)
     adding_then (Err Fault) a b c calm same counts = (
       later_then (calm_later xs ys calm) counts.0,
       omega (arith, same, counts.1),
@@ -91,6 +93,7 @@ module _ {D : Type 0} {ghosts : Ghosts D} (state : D → State) where
     pub counts_one : {T : Type 0} (r : Result T Stop) → CountsStop (faults_of state x) (faults_of state y) r → CountsInputs state xs (set xs i y) r
     counts_one (Ok t) counts = calm_one counts
     counts_one (Err Memory) counts = calm_one counts
+    counts_one (Err Changed) counts = calm_one counts
     counts_one (Err Fault) counts = (
       later_one counts.0,
       (i, within, λ d d'. subst (λ (n : ℕ). Rises n (faults_of state (get_or (set xs i y) i d'))) (sym (here_was d i refl)) (subst (λ (n : ℕ). Rises (faults_of state x) n) (sym (here_is d' i refl)) counts.1)),
@@ -104,12 +107,14 @@ module _ {D : Type 0} {ghosts : Ghosts D} (state : D → State) where
     counts_broken U (Ok x) to works broken same counts = absurd (never_both to.broken broken works)
     counts_broken U (Err Fault) to works broken same counts = (counts.0, omega (arith, same, counts.1), elim counts.2 [ inl rises ↦ inl rises | inr rises ↦ inr (subst (Rises a) (sym same) rises) ])
     counts_broken U (Err Memory) to works broken same counts = absurd (never_both to.broken broken works)
+    counts_broken U (Err Changed) to works broken same counts = absurd (never_both to.broken broken works)
 
     -- .. or since one fails now
     pub counts_unfinished : (U : Type 0) {T : Type 0} (r : Result T Stop) → c ≤ b → Rises c b → CountsWith state xs ys a c r → CountsWith {T = U} state xs ys a b (Err Fault)
     counts_unfinished U (Ok x) later rises counts = (calm_later xs ys counts.0, omega (arith, later, counts.1), inr (rises_later a c b (omega (arith, counts.1)) rises))
     counts_unfinished U (Err Fault) later rises counts = (counts.0, omega (arith, later, counts.1), inr (rises_later a c b counts.1 rises))
     counts_unfinished U (Err Memory) later rises counts = (calm_later xs ys counts.0, omega (arith, later, counts.1), inr (rises_later a c b (omega (arith, counts.1)) rises))
+    counts_unfinished U (Err Changed) later rises counts = (calm_later xs ys counts.0, omega (arith, later, counts.1), inr (rises_later a c b (omega (arith, counts.1)) rises))
 
   -- the last input is taken from the others
   module _ (xs ys : List (Input D ghosts)) (x y : Input D ghosts) (count : length ys ≡ length xs) where
@@ -169,6 +174,8 @@ module _ {D : Type 0} {ghosts : Ghosts D} (state : D → State) where
     counts_apart (Ok t) old mid mid' new same none adds counts =
         (front_calm counts.0, (let last = last_calm counts.0 in omega (arith, same, none, last, counts.1, adds.later, adds.most)))
     counts_apart (Err Memory) old mid mid' new same none adds counts =
+        (front_calm counts.0, (let last = last_calm counts.0 in omega (arith, same, none, last, counts.1, adds.later, adds.most)))
+    counts_apart (Err Changed) old mid mid' new same none adds counts =
         (front_calm counts.0, (let last = last_calm counts.0 in omega (arith, same, none, last, counts.1, adds.later, adds.most)))
     counts_apart (Err Fault) old mid mid' new same none adds counts = (
       front_later counts.0,

@@ -1,5 +1,5 @@
 -- Inputs side by side: what holds of each, where one of them is read, where another is put behind them, and where calls follow each other.
-use Rattle.std.proofs.Common.{◌≡◌, ◌∙◌, ap, sym, refl, subst, inl, inr, ◌⊎◌, ℕ, ◌+◌, ◌<◌, List, [], ◌∷◌, ◌++◌, length, get_or, set, arith}
+use Rattle.std.proofs.Common.{◌≡◌, ◌∙◌, ap, sym, refl, subst, inl, inr, ◌⊎◌, ℕ, zero, suc, ◌+◌, ◌<◌, List, [], ◌∷◌, ◌++◌, length, get_or, set, arith}
 use Rattle.std.proofs.lemmas.Bool.{cases_lt}
 use Rattle.std.proofs.lemmas.Grind.{get_or-set_at}
 use Rattle.std.proofs.lemmas.List.{get_or_append_left, get_or_at, get_or_default, get_or-set_other, length-append, length-set}
@@ -10,7 +10,7 @@ use Rattle.snd_inputs.proofs.Reading.{reads_none}
 use Rattle.snd_inputs.specs.Opening.{Holds}
 use Rattle.snd_layout.specs.Shape.{Shape}
 use Rattle.snd_modes.specs.Editing.{Editing, first_editing}
-use Rattle.snd_interleave.specs.Channels.{AreMono, HoldAll, ReadAll, Reads}
+use Rattle.snd_interleave.specs.Channels.{AreMono, HoldAll, ReadAll, Reads, layouts_of}
 use Rattle.snd_inputs.specs.declared.input.Input.{Input}
 
 module _ {D : Type 0} (ghosts : Ghosts D) where
@@ -86,6 +86,15 @@ module _ {D : Type 0} (ghosts : Ghosts D) where
   still_mono xs ys all mono k d lt =
       let within : k < length xs = omega (arith, lt, all.count) in
       ap (λ (h : Shape). h.params.channels) (all.each k d d within).layout ∙ mono k d within
+
+  -- and they say the same
+  pub same_layouts : (xs ys : List (Input D ghosts)) → ReadAll ghosts xs ys → layouts_of ys ≡ layouts_of xs
+  same_layouts [] [] all = refl
+  same_layouts [] (y ∷ ys) all = absurd (omega (arith, all.count))
+  same_layouts (x ∷ xs) [] all = absurd (omega (arith, all.count))
+  same_layouts (x ∷ xs) (y ∷ ys) all =
+      ap (λ (h : Shape). h ∷ layouts_of ys) (all.each zero x y (omega arith)).layout
+      ∙ ap (λ (hs : List Shape). x.layout ∷ hs) (same_layouts xs ys (record { count = omega (arith, all.count); each = λ k d d' lt. all.each (suc k) d d' (omega (arith, lt)) }))
 
   -- ---- what they hold
 

@@ -1,16 +1,23 @@
 -- What is done with inputs that are all open.
 use Rattle.std.proofs.Common.{◌≡◌, ◌∙◌, ap, sym, refl, subst, inl, inr, ℕ, zero, suc, ℤ, Bool, true, false, cond, List, [], ◌∷◌, Option, None, Some, Result, Ok, Err, length, arith}
 use Rattle.std.proofs.lemmas.Bool.{cases_Bool, eqb-true}
-use Rattle.std.specs.Prelude.{◌==◌}
+use Rattle.std.specs.Prelude.{◌==◌, is_none}
+use Rattle.snd_container.specs.Sound.{fixed_of}
 use Rattle.snd_disk.specs.declared.disk.Disk.{Ghosts}
 use Rattle.snd_disk.specs.Shelf.{Files, ShelfState, put}
 use Rattle.snd_disk.specs.Shelves.{TellsFiles}
+use Rattle.snd_inputs.specs.Inputs.{first_bad}
+use Rattle.snd_layout.specs.Blocks.{is_adpcm}
 use Rattle.snd_layout.specs.Params.{Parameters}
 use Rattle.snd_layout.specs.Shape.{Shape}
+use Rattle.snd_layout.specs.declared.codec.Codec.{Codec}
 use Rattle.snd_layout.specs.declared.kind.Kind.{Kind}
 use Rattle.snd_layout.specs.declared.refusal.OpenRefusal.{OpenRefusal}
+use Rattle.snd_layout.specs.declared.refusal.OpenRefusal.TheVariants.{BadChannels, NotBuilt}
 use Rattle.snd_lines.specs.declared.refusal.Refusal.{Refusal}
-use Rattle.snd_lines.specs.declared.refusal.Refusal.TheVariants.{ContainerFull, MixedParams, NotMono}
+use Rattle.snd_lines.specs.declared.refusal.Refusal.TheVariants.{ContainerFull, MixedParams, NotMono, Open}
+use Rattle.snd_modes.proofs.FixedFrames.{is_fixed}
+use Rattle.snd_modes.proofs.Rooms.{not_adpcm}
 use Rattle.snd_modes.specs.Editing.{Editing}
 use Rattle.snd_output.specs.Made.{made_file}
 use Rattle.snd_tools.proofs.Names.{MakesOnly}
@@ -18,35 +25,55 @@ use Rattle.snd_tools.specs.Done.{Done, Said, files_after, said_of}
 use Rattle.snd_tools.specs.Shelves.{HasFiles}
 use Rattle.snd_interleave.specs.Beside.{longest, side_by_side}
 use Rattle.snd_interleave.specs.Channels.{AreMono, bytes_made, first_of, layouts_of}
-use Rattle.snd_interleave.specs.Interleave.{channels_in, done_as, done_beside, done_if_fit, done_with, first_misfit, is_full, made_of, misfit, misfit_or, planned, shapes_of}
+use Rattle.snd_interleave.specs.Interleave.{channels_in, done_as, done_beside, done_if_built, done_if_fit, done_with, first_misfit, is_full, made_if_good, made_of, misfit, misfit_or, planned, shapes_of}
 use Rattle.snd_inputs.specs.declared.input.Input.{Input}
 
 -- ---- the output alone is made
 
-makes_of : (output : List ℕ) (kind : Kind) (p : Parameters) (channels : List (List ℤ)) → MakesOnly output (made_of output kind p channels)
-makes_of output kind p channels =
-    let made = Done.makes output (made_file kind p [] (side_by_side channels)) (longest channels) in
+makes_good : (inputs : List (List ℕ)) (output : List ℕ) (kind : Kind) (p : Parameters) (channels : List (List ℤ)) (o : Option ℕ) → MakesOnly output (made_if_good inputs output kind p channels o)
+makes_good inputs output kind p channels (Some at) = tt
+makes_good inputs output kind p channels None = refl
+
+makes_of : (inputs : List (List ℕ)) (output : List ℕ) (kind : Kind) (p : Parameters) (es : List Editing) → MakesOnly output (made_of inputs output kind p es)
+makes_of inputs output kind p es =
+    let channels = channels_in p.codec es in
+    let made = made_if_good inputs output kind p channels (first_bad es) in
     let P : Bool → Type 0 = λ t. MakesOnly output (cond t (Done.refuses output ContainerFull) made) in
     elim (cases_Bool (is_full kind p (longest channels))) [
       | inl full ↦ subst P (sym full) tt
-      | inr room ↦ subst P (sym room) refl
+      | inr room ↦ subst P (sym room) (makes_good inputs output kind p channels (first_bad es))
     ]
 
-makes_as : (output : List ℕ) (kind : Kind) (es : List Editing) (r : Result Parameters OpenRefusal) → MakesOnly output (done_as output kind es r)
-makes_as output kind es (Err why) = tt
-makes_as output kind es (Ok p) = makes_of output kind p (channels_in p.codec es)
+makes_as : (inputs : List (List ℕ)) (output : List ℕ) (kind : Kind) (es : List Editing) (r : Result Parameters OpenRefusal) → MakesOnly output (done_as inputs output kind es r)
+makes_as inputs output kind es (Err why) = tt
+makes_as inputs output kind es (Ok p) = makes_of inputs output kind p es
 
-makes_if_fit : (output : List ℕ) (kind : Kind) (own : Parameters) (es : List Editing) (o : Option (List ℕ × Refusal)) → MakesOnly output (done_if_fit output kind own es o)
-makes_if_fit output kind own es (Some refused) = tt
-makes_if_fit output kind own es None = makes_as output kind es (planned kind (length es) own.rate own.codec)
+makes_built : (inputs : List (List ℕ)) (output : List ℕ) (kind : Kind) (own : Parameters) (es : List Editing) → MakesOnly output (done_if_built inputs output kind own es)
+makes_built inputs output kind own es =
+    let made = done_as inputs output kind es (planned kind (length es) own.rate own.codec) in
+    let P : Bool → Type 0 = λ t. MakesOnly output (cond t (Done.refuses output (Open NotBuilt)) made) in
+    elim (cases_Bool (is_adpcm own.codec)) [
+      | inl blocks ↦ subst P (sym blocks) tt
+      | inr linear ↦ subst P (sym linear) (makes_as inputs output kind es (planned kind (length es) own.rate own.codec))
+    ]
+
+makes_if_fit : (inputs : List (List ℕ)) (output : List ℕ) (kind : Kind) (own : Parameters) (es : List Editing) (o : Option (List ℕ × Refusal)) → MakesOnly output (done_if_fit inputs output kind own es o)
+makes_if_fit inputs output kind own es (Some refused) = tt
+makes_if_fit inputs output kind own es None = makes_built inputs output kind own es
 
 makes_beside : (inputs : List (List ℕ)) (output : List ℕ) (es : List Editing) → MakesOnly output (done_beside inputs output es)
 makes_beside inputs output [] = tt
-makes_beside inputs output (e ∷ es) = makes_if_fit output e.shape.kind e.shape.params (e ∷ es) (first_misfit e.shape.params inputs (shapes_of (e ∷ es)))
+makes_beside inputs output (e ∷ es) = makes_if_fit inputs output e.shape.kind e.shape.params (e ∷ es) (first_misfit e.shape.params inputs (shapes_of (e ∷ es)))
 
 pub makes_output : (inputs : List (List ℕ)) (output : List ℕ) (r : Result (List Editing) (List ℕ × Refusal)) → MakesOnly output (done_with inputs output r)
 makes_output inputs output (Err refused) = tt
 makes_output inputs output (Ok es) = makes_beside inputs output es
+
+stands_in_blocks : (codec : Codec) → is_none (fixed_of codec) ≡ true → is_adpcm codec ≡ true
+stands_in_blocks codec none = elim (cases_Bool (is_adpcm codec)) [
+  | inl is ↦ is
+  | inr other ↦ absurd (let no : true ≡ false = sym none ∙ is_fixed codec other in cc)
+]
 
 -- ---- by what the first one says
 
@@ -59,16 +86,25 @@ params_or p None = p
 params_or p (Some both) = both.1
 
 pub beside_is : (inputs : List (List ℕ)) (output : List ℕ) (es : List Editing) (hs : List Shape) (kind : Kind) (own : Parameters) → hs ≡ shapes_of es → first_of hs ≡ Some (kind, own)
-    → done_beside inputs output es ≡ done_if_fit output kind own es (first_misfit own inputs hs)
+    → done_beside inputs output es ≡ done_if_fit inputs output kind own es (first_misfit own inputs hs)
 unfolding kind_or params_or
 beside_is inputs output [] hs kind own are first = absurd (let never : first_of [] ≡ Some (kind, own) = sym (ap first_of are) ∙ first in cc)
 beside_is inputs output (e ∷ es) hs kind own are first =
     let is : Some (e.shape.kind, e.shape.params) ≡ Some (kind, own) = sym (ap first_of are) ∙ first in
     let kinds : e.shape.kind ≡ kind = ap (kind_or kind) is in
     let params : e.shape.params ≡ own = ap (params_or own) is in
-    ap (λ (k : Kind). done_if_fit output k e.shape.params (e ∷ es) (first_misfit e.shape.params inputs (shapes_of (e ∷ es)))) kinds
-    ∙ ap (λ (p : Parameters). done_if_fit output kind p (e ∷ es) (first_misfit p inputs (shapes_of (e ∷ es)))) params
-    ∙ ap (λ (l : List Shape). done_if_fit output kind own (e ∷ es) (first_misfit own inputs l)) (sym are)
+    ap (λ (k : Kind). done_if_fit inputs output k e.shape.params (e ∷ es) (first_misfit e.shape.params inputs (shapes_of (e ∷ es)))) kinds
+    ∙ ap (λ (p : Parameters). done_if_fit inputs output kind p (e ∷ es) (first_misfit p inputs (shapes_of (e ∷ es)))) params
+    ∙ ap (λ (l : List Shape). done_if_fit inputs output kind own (e ∷ es) (first_misfit own inputs l)) (sym are)
+
+-- there is none
+pub none_first : {D : Type 0} {ghosts : Ghosts D} (xs : List (Input D ghosts)) → first_of (layouts_of xs) ≡ None → length xs ≡ 0
+none_first [] none = refl
+none_first (x ∷ xs) none = absurd (cc)
+
+pub beside_none : (inputs : List (List ℕ)) (output : List ℕ) (es : List Editing) → length es ≡ 0 → done_beside inputs output es ≡ Done.refuses output (Open BadChannels)
+beside_none inputs output [] none = refl
+beside_none inputs output (e ∷ es) none = absurd (omega (arith, none))
 
 -- ---- where all fit, they have one channel each
 
@@ -95,21 +131,31 @@ all_mono first (name ∷ names) (x ∷ inputs) many none =
 
 -- ---- and is said
 
--- the output was made
-pub output_made : {S : Type 0} (state : S → ShelfState) (new : S) (files : Files) (output : List ℕ) (kind : Kind) (p : Parameters) (es : List Editing) (frames : ℕ)
-    → frames ≡ longest (channels_in p.codec es) → is_full kind p (longest (channels_in p.codec es)) ≡ false → HasFiles state new (put files output (Some (bytes_made kind p es)))
-    → (Said.made frames ≡ said_of (done_as output kind es (Ok p))) × HasFiles state new (files_after (done_as output kind es (Ok p)) files)
-output_made state new files output kind p es frames same room has =
-    let channels = channels_in p.codec es in
-    let made = Done.makes output (made_file kind p [] (side_by_side channels)) (longest channels) in
-    let P : Bool → Type 0 = λ t. (Said.made frames ≡ said_of (cond t (Done.refuses output ContainerFull) made)) × HasFiles state new (files_after (cond t (Done.refuses output ContainerFull) made) files) in
-    subst P (sym room) (ap Said.made same, has)
+-- whether the output is of ADPCM
+module _ (inputs : List (List ℕ)) (output : List ℕ) (kind : Kind) (own : Parameters) (es : List Editing) where
+  pub unbuilt_is : is_none (fixed_of own.codec) ≡ true → done_if_fit inputs output kind own es None ≡ Done.refuses output (Open NotBuilt)
+  unbuilt_is blocks =
+      ap (λ (t : Bool). cond t (Done.refuses output (Open NotBuilt)) (done_as inputs output kind es (planned kind (length es) own.rate own.codec))) (stands_in_blocks own.codec blocks)
 
--- .. or has no room
-pub full_is : (output : List ℕ) (kind : Kind) (p : Parameters) (es : List Editing) → is_full kind p (longest (channels_in p.codec es)) ≡ true → done_as output kind es (Ok p) ≡ Done.refuses output ContainerFull
-full_is output kind p es full =
-    let channels = channels_in p.codec es in
-    ap (λ (t : Bool). cond t (Done.refuses output ContainerFull) (Done.makes output (made_file kind p [] (side_by_side channels)) (longest channels))) full
+  pub built_is : is_none (fixed_of own.codec) ≡ false → done_if_fit inputs output kind own es None ≡ done_as inputs output kind es (planned kind (length es) own.rate own.codec)
+  built_is linear =
+      ap (λ (t : Bool). cond t (Done.refuses output (Open NotBuilt)) (done_as inputs output kind es (planned kind (length es) own.rate own.codec))) (not_adpcm own.codec linear)
+
+-- whether its head has room
+module _ (inputs : List (List ℕ)) (output : List ℕ) (kind : Kind) (p : Parameters) (es : List Editing) where
+  pub full_is : is_full kind p (longest (channels_in p.codec es)) ≡ true → done_as inputs output kind es (Ok p) ≡ Done.refuses output ContainerFull
+  full_is full = ap (λ (t : Bool). cond t (Done.refuses output ContainerFull) (made_if_good inputs output kind p (channels_in p.codec es) (first_bad es))) full
+
+  pub room_is : is_full kind p (longest (channels_in p.codec es)) ≡ false → done_as inputs output kind es (Ok p) ≡ made_if_good inputs output kind p (channels_in p.codec es) (first_bad es)
+  room_is room = ap (λ (t : Bool). cond t (Done.refuses output ContainerFull) (made_if_good inputs output kind p (channels_in p.codec es) (first_bad es))) room
+
+-- the output was made
+pub output_made : {S : Type 0} (state : S → ShelfState) (new : S) (files : Files) (inputs : List (List ℕ)) (output : List ℕ) (kind : Kind) (p : Parameters) (es : List Editing) (frames : ℕ)
+    → frames ≡ longest (channels_in p.codec es) → None ≡ first_bad es → HasFiles state new (put files output (Some (bytes_made kind p es)))
+    → (Said.made frames ≡ said_of (made_if_good inputs output kind p (channels_in p.codec es) (first_bad es))) × HasFiles state new (files_after (made_if_good inputs output kind p (channels_in p.codec es) (first_bad es)) files)
+output_made state new files inputs output kind p es frames same good has =
+    let P : Option ℕ → Type 0 = λ o. (Said.made frames ≡ said_of (made_if_good inputs output kind p (channels_in p.codec es) o)) × HasFiles state new (files_after (made_if_good inputs output kind p (channels_in p.codec es) o) files) in
+    subst P good (ap Said.made same, has)
 
 -- something was refused
 pub refused_as : {S : Type 0} (state : S → ShelfState) (shelf : S) (files : Files) (name : List ℕ) (why : Refusal) (todo : Done) → TellsFiles state shelf files → todo ≡ Done.refuses name why

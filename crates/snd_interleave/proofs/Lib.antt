@@ -1,4 +1,6 @@
 pub mod Adding
+pub mod Asking
+pub mod Bad
 pub mod Counts
 pub mod Filling
 pub mod Frames

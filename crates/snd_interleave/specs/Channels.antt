@@ -1,5 +1,5 @@
 -- Inputs that are open side by side, as the code has them. It is said for the proofs alone.
-use Rattle.std.specs.Prelude.{◌≡◌, ◌⊎◌, ℕ, ℤ, pos, ◌+◌, ◌<◌, ◌≤◌, List, [], ◌∷◌, ◌++◌, Option, None, Some, Result, Ok, Err, IfOk, OnOk, Vec, get_or, length, map, max}
+use Rattle.std.specs.Prelude.{◌≡◌, ◌⊎◌, ℕ, ℤ, pos, true, ◌+◌, ◌<◌, ◌≤◌, List, [], ◌∷◌, ◌++◌, Option, None, Some, Result, Ok, Err, IfOk, OnOk, Vec, get_or, length, map, max}
 use Rattle.std.specs.declared.alloc.Global.{Global}
 use Rattle.snd_chunks.specs.Written.{NewChunk}
 use Rattle.snd_disk.specs.declared.disk.Disk.{Ghosts}
@@ -16,17 +16,20 @@ use Rattle.snd_layout.specs.declared.codec.Codec.{Codec}
 use Rattle.snd_layout.specs.declared.kind.Kind.{Kind}
 use Rattle.snd_modes.specs.declared.handle.File.{File}
 use Rattle.snd_modes.specs.declared.mode.Mode.{Ghosts as ModeGhosts}
-use Rattle.snd_modes.specs.Editing.{Editing}
+use Rattle.snd_modes.specs.Editing.{Editing, first_editing}
 use Rattle.snd_modes.specs.Handle.{Stands, codec_of}
-use Rattle.snd_output.specs.Appended.{CountsFault}
+use Rattle.snd_inputs.specs.Inputs.{first_bad, is_bad}
+use Rattle.snd_output.specs.Appended.{CountsFault, CountsRead}
+use Rattle.snd_output.specs.Ends.{IfChanged}
 use Rattle.snd_output.specs.Made.{IsMaking, made_file}
 use Rattle.snd_output.specs.declared.stop.Stop.{Stop}
-use Rattle.snd_output.specs.declared.stop.Stop.TheVariants.{Fault, Memory}
+use Rattle.snd_output.specs.declared.stop.Stop.TheVariants.{Changed, Fault, Memory}
 use Rattle.snd_tools.specs.Done.{Done}
 use Rattle.snd_tools.specs.Shelves.{HasFiles, IsDone}
 use Rattle.snd_tools.specs.declared.answer.Answer.{Answer}
 use Rattle.snd_interleave.specs.Beside.{frames_from, side_by_side}
-use Rattle.snd_interleave.specs.Interleave.{channels_in}
+use Rattle.snd_interleave.specs.Interleave.{channels_in, made_if_good}
+use Rattle.snd_words.specs.declared.interleave.Interleaving.{Interleaving}
 
 -- ---- one input
 
@@ -89,12 +92,14 @@ abbrev pub CountsInputs : {D T : Type 0} {ghosts : Ghosts D} → (D → State) �
 CountsInputs state old new (Ok done) = AreCalm state old new
 CountsInputs state old new (Err Fault) = AreLater state old new × OneRises state old new
 CountsInputs state old new (Err Memory) = AreCalm state old new
+CountsInputs state old new (Err Changed) = AreCalm state old new
 
 -- One of theirs rises so, or another one.
 abbrev pub CountsWith : {D T : Type 0} {ghosts : Ghosts D} → (D → State) → List (Input D ghosts) → List (Input D ghosts) → ℕ → ℕ → Result T Stop → Type 0
 CountsWith state old new other other' (Ok done) = AreCalm state old new × (other' ≡ other)
 CountsWith state old new other other' (Err Fault) = AreLater state old new × (other ≤ other') × (OneRises state old new ⊎ Rises other other')
 CountsWith state old new other other' (Err Memory) = AreCalm state old new × (other' ≡ other)
+CountsWith state old new other other' (Err Changed) = AreCalm state old new × (other' ≡ other)
 
 -- .. of a shelf, of a disk that is made, or of an open file
 abbrev pub CountsBeside : {D S T : Type 0} {ghosts : Ghosts D} → (D → State) → (S → ShelfState) → List (Input D ghosts) → List (Input D ghosts) → S → S → Result T Stop → Type 0
@@ -114,6 +119,30 @@ CountsAddingTo state state' old new to to' result = CountsWith state old new (fa
 -- That of an open file alone. There is never no memory.
 abbrev pub CountsFaultOf : {E N T : Type 0} {t : Ghosts E} {n : ModeGhosts N} → (E → State) → File E N t n → File E N t n → Result T Stop → Type 0
 CountsFaultOf state old new result = CountsFault (faults_of_file state old) (faults_of_file state new) result
+
+abbrev pub CountsReadOf : {E N T : Type 0} {t : Ghosts E} {n : ModeGhosts N} → (E → State) → File E N t n → File E N t n → Result T Stop → Type 0
+CountsReadOf state old new result = CountsRead (faults_of_file state old) (faults_of_file state new) result
+
+-- ---- when one is said to have changed
+
+-- a file on a disk, or an input, is so only where it has a bad block
+abbrev pub LaidChanged : {D T : Type 0} → (D → State) → D → Shape → Result T Stop → Type 0
+LaidChanged state disk layout result = IfChanged ((b : List ℕ) → Tells state disk b → is_bad (first_editing b layout) ≡ true) result
+
+abbrev pub InputChanged : {D T : Type 0} {ghosts : Ghosts D} → (D → State) → Input D ghosts → Result T Stop → Type 0
+InputChanged state input result = IfChanged ((e : Editing) → Holds state input e → is_bad e ≡ true) result
+
+-- of several only where one has
+abbrev pub StayGood : {D T : Type 0} {ghosts : Ghosts D} → (D → State) → List (Input D ghosts) → Result T Stop → Type 0
+StayGood state inputs result = IfChanged ((es : List Editing) → HoldAll state inputs es → first_bad es ≡ None → ⊥) result
+
+-- .. and where it is seen before that none has, never, as long as the disks tell what they hold; or the shelf does, too
+abbrev pub StayHeld : {D T : Type 0} {ghosts : Ghosts D} → (D → State) → List (Input D ghosts) → Result T Stop → Type 0
+StayHeld state inputs result = IfChanged ((es : List Editing) → HoldAll state inputs es → ⊥) result
+
+abbrev pub StayTold : {D S T : Type 0} {ghosts : Ghosts D} → (D → State) → (S → ShelfState) → List (Input D ghosts) → S → Result T Stop → Type 0
+StayTold state shelf_state inputs shelf result =
+    IfChanged ((files : Files) (es : List Editing) → TellsFiles shelf_state shelf files → HoldAll state inputs es → ⊥) result
 
 -- ---- what is made of them
 
@@ -146,3 +175,8 @@ MakesUnder state shelf_state name kind p inputs old new result =
 abbrev pub DoesWith : {D S E : Type 0} {d : Ghosts D} → (D → State) → (S → ShelfState) → (Files → List Editing → Done) → List (Input D d) → S → S → Result Answer E → Type 0
 DoesWith state shelf_state todo inputs old new result =
     IfOk result (λ answer. (files : Files) (es : List Editing) → TellsFiles shelf_state old files → HoldAll state inputs es → IsDone shelf_state new answer (todo files es) files)
+
+-- .. what is to be done with inputs that fit, as files of a kind with these parameters
+abbrev pub DoesGood : {D S E : Type 0} {d : Ghosts D} → (D → State) → (S → ShelfState) → Interleaving → Kind → Parameters → List (Input D d) → S → S → Result Answer E → Type 0
+DoesGood state shelf_state interleaving kind p inputs old new result =
+    DoesWith state shelf_state (λ files es. made_if_good interleaving.inputs interleaving.output.now kind p (channels_in p.codec es) (first_bad es)) inputs old new result

@@ -1,9 +1,10 @@
 -- What `interleave` does: the whole file that it makes, or what it refuses. It refuses in this order: equal names; an input that is
--- missing or is not opened; one that has more channels than one, or another rate than the first; what the output would be; and more
--- data than its head has room for.
+-- missing or is not opened; one that has more channels than one, or another rate than the first; an output of ADPCM; what the output
+-- would be; more data than its head has room for; and an input that has a bad block.
 use Rattle.std.specs.Prelude.{ℕ, ℤ, pos, Bool, ◌==◌, List, [], ◌∷◌, ◌++◌, Option, Some, None, Result, Ok, Err, get_or, length, map, nat_lt, slice_index_or, if◌then◌else◌}
 use Rattle.snd_disk.specs.Shelf.{Files}
-use Rattle.snd_inputs.specs.Inputs.{inputs_in}
+use Rattle.snd_inputs.specs.Inputs.{first_bad, inputs_in}
+use Rattle.snd_layout.specs.Blocks.{is_adpcm}
 use Rattle.snd_layout.specs.Fit.{fit_refusal}
 use Rattle.snd_layout.specs.Params.{Parameters, data_bytes, params_of}
 use Rattle.snd_layout.specs.Refusals.{unless}
@@ -11,9 +12,9 @@ use Rattle.snd_layout.specs.Shape.{Shape, room}
 use Rattle.snd_layout.specs.declared.codec.Codec.{Codec}
 use Rattle.snd_layout.specs.declared.kind.Kind.{Kind}
 use Rattle.snd_layout.specs.declared.refusal.OpenRefusal.{OpenRefusal}
-use Rattle.snd_layout.specs.declared.refusal.OpenRefusal.TheVariants.{BadChannels}
+use Rattle.snd_layout.specs.declared.refusal.OpenRefusal.TheVariants.{BadChannels, NotBuilt}
 use Rattle.snd_lines.specs.declared.refusal.Refusal.{Refusal}
-use Rattle.snd_lines.specs.declared.refusal.Refusal.TheVariants.{ContainerFull, MixedParams, NotMono, Open, SameName}
+use Rattle.snd_lines.specs.declared.refusal.Refusal.TheVariants.{BadBlock, ContainerFull, MixedParams, NotMono, Open, SameName}
 use Rattle.snd_modes.specs.Editing.{Editing}
 use Rattle.snd_modes.specs.Relaid.{shape_with}
 use Rattle.snd_output.specs.Made.{made_file}
@@ -40,10 +41,14 @@ abbrev pub is_full : Kind → Parameters → ℕ → Bool
 is_full kind p frames = nat_lt (room (shape_with kind p [])) (data_bytes p frames)
 
 -- the file of a kind that has these as its channels, without further chunks
-abbrev pub made_of : List ℕ → Kind → Parameters → List (List ℤ) → Done
-made_of output kind p channels =
-    if is_full kind p (longest channels) then Done.refuses output ContainerFull
-    else Done.makes output (made_file kind p [] (side_by_side channels)) (longest channels)
+abbrev pub made_if_good : List (List ℕ) → List ℕ → Kind → Parameters → List (List ℤ) → Option ℕ → Done
+made_if_good inputs output kind p channels (Some at) = Done.refuses (slice_index_or inputs at []) BadBlock
+made_if_good inputs output kind p channels None = Done.makes output (made_file kind p [] (side_by_side channels)) (longest channels)
+
+abbrev pub made_of : List (List ℕ) → List ℕ → Kind → Parameters → List Editing → Done
+made_of inputs output kind p es =
+    let channels = channels_in p.codec es in
+    if is_full kind p (longest channels) then Done.refuses output ContainerFull else made_if_good inputs output kind p channels (first_bad es)
 
 -- ---- what is refused
 
@@ -56,9 +61,14 @@ abbrev pub planned : Kind → ℕ → ℕ → Codec → Result Parameters OpenRe
 planned kind channels rate codec = fitting kind (params_of channels rate codec)
 
 -- the output has the kind, the rate and the codec of the first input, and a channel for each
-abbrev pub done_as : List ℕ → Kind → List Editing → Result Parameters OpenRefusal → Done
-done_as output kind es (Err why) = Done.refuses output (Open why)
-done_as output kind es (Ok p) = made_of output kind p (channels_in p.codec es)
+abbrev pub done_as : List (List ℕ) → List ℕ → Kind → List Editing → Result Parameters OpenRefusal → Done
+done_as inputs output kind es (Err why) = Done.refuses output (Open why)
+done_as inputs output kind es (Ok p) = made_of inputs output kind p es
+
+-- a file of ADPCM is not made yet
+abbrev pub done_if_built : List (List ℕ) → List ℕ → Kind → Parameters → List Editing → Done
+done_if_built inputs output kind first es =
+    if is_adpcm first.codec then Done.refuses output (Open NotBuilt) else done_as inputs output kind es (planned kind (length es) first.rate first.codec)
 
 -- why a file is no channel beside a first one
 abbrev pub misfit : Parameters → Parameters → Option Refusal
@@ -76,16 +86,16 @@ first_misfit first names hs = None
 abbrev pub shapes_of : List Editing → List Shape
 shapes_of es = map (λ e. e.shape) es
 
-abbrev pub done_if_fit : List ℕ → Kind → Parameters → List Editing → Option (List ℕ × Refusal) → Done
-done_if_fit output kind first es (Some refused) = Done.refuses refused.0 refused.1
-done_if_fit output kind first es None = done_as output kind es (planned kind (length es) first.rate first.codec)
+abbrev pub done_if_fit : List (List ℕ) → List ℕ → Kind → Parameters → List Editing → Option (List ℕ × Refusal) → Done
+done_if_fit inputs output kind first es (Some refused) = Done.refuses refused.0 refused.1
+done_if_fit inputs output kind first es None = done_if_built inputs output kind first es
 
 -- No words name no inputs. There would be no channels.
 abbrev pub done_beside : List (List ℕ) → List ℕ → List Editing → Done
 done_beside inputs output [] = Done.refuses output (Open BadChannels)
 done_beside inputs output (first ∷ others) =
     let h = first.shape in
-    done_if_fit output h.kind h.params (first ∷ others) (first_misfit h.params inputs (shapes_of (first ∷ others)))
+    done_if_fit inputs output h.kind h.params (first ∷ others) (first_misfit h.params inputs (shapes_of (first ∷ others)))
 
 abbrev pub done_with : List (List ℕ) → List ℕ → Result (List Editing) (List ℕ × Refusal) → Done
 done_with inputs output (Err refused) = Done.refuses refused.0 refused.1

@@ -1,3 +1,4 @@
+pub mod Asking
 pub mod Beside
 pub mod Channels
 pub mod Interleave

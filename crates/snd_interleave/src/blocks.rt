@@ -4,12 +4,13 @@ ghost use Rattle.std.specs.Prelude.{◌≡◌, ◌≤◌, ◌*◌, None, OnOk, l
 ghost use Rattle.snd_disk.specs.Device.{GoesOnFrom};
 ghost use Rattle.snd_modes.specs.Edits.{written_to};
 ghost use Rattle.snd_modes.specs.Handle.{StandsAfter, channels_of, codec_of, disk_of, known_of, loan_of};
-ghost use Rattle.snd_modes.specs.Outcomes.{TellsOn};
+ghost use Rattle.snd_modes.specs.Outcomes.{AsksNothing, TellsOn};
 ghost use Rattle.snd_modes.specs.Reading.{FitCodec};
 ghost use Rattle.snd_modes.specs.WriteCalls.{MayWrite, known_written};
 ghost use Rattle.snd_output.specs.Appended.{HasRoom, IsAtEnd, longer};
 ghost use Rattle.snd_output.specs.Ends.{BreaksByFault};
-ghost use Rattle.snd_interleave.specs.Channels.{AreMono, CountsAddingTo, CountsFaultOf, CountsInputs, HasFrames, Lengthens, ReadAll};
+ghost use Rattle.snd_interleave.specs.Asking.{AsksEach, AsksOnce, bytes_from};
+ghost use Rattle.snd_interleave.specs.Channels.{AreMono, CountsAddingTo, CountsFaultOf, CountsInputs, HasFrames, Lengthens, ReadAll, StayGood, layouts_of, most_frames};
 
 use crate::channel::{read_numbers, width_in};
 use crate::scatter::{put_channel, width_of};
@@ -20,7 +21,7 @@ use snd_modes::{File, Write, WriteError};
 use snd_output::Stop;
 use std::alloc::Global;
 
-/// The numbers that are held at once of all channels, and of one.
+/// The numbers that are held at once of each channel.
 const BLOCK: usize = 16384;
 
 // Puts the frames of inputs into a block, from a place on: as many as a buffer has places for the numbers of
@@ -38,7 +39,9 @@ fn fill_block<D: Disk>(
     ensures filled { OnOk result (HasFrames D.state inputs.old codec place buffer.old block.new) }
     ensures in_range { OnOk result (FitCodec codec block.new) }
     ensures faults { CountsInputs D.state inputs.old inputs.new result }
+    ensures changed { StayGood D.state inputs.old result }
     ensures reads { ReadAll D.Disk inputs.old inputs.new }
+    ensures asked { AsksEach D.state (bytes_from place (length buffer.old)) inputs.old inputs.new }
 {
     let channels = inputs.len();
     let width = width_of(codec);
@@ -71,6 +74,7 @@ fn write_all<E: Disk>(to: &mut File<'_, E, Write>, from: &[i32]) -> Result<(), S
     ensures faults { CountsFaultOf E.state to.old to.new result }
     ensures tells { TellsOn E.state to.old to.new }
     ensures time { GoesOnFrom E.state E.left_between (disk_of to.old) (disk_of to.new) }
+    ensures unasked { AsksNothing E.state to.old to.new }
 {
     match to.write_frames(from) {
         Ok(()) => Ok(()),
@@ -99,20 +103,62 @@ fn add_block<D: Disk, E: Disk>(
     ensures works { BreaksByFault (known_of to.new) result }
     ensures lengthens { OnOk result (Lengthens D.state E.state place (length buffer.old) inputs.old to.old to.new) }
     ensures faults { CountsAddingTo D.state E.state inputs.old inputs.new to.old to.new result }
+    ensures changed { StayGood D.state inputs.old result }
     ensures reads { ReadAll D.Disk inputs.old inputs.new }
     ensures tells { TellsOn E.state to.old to.new }
     ensures time { GoesOnFrom E.state E.left_between (disk_of to.old) (disk_of to.new) }
+    ensures asked { AsksEach D.state (bytes_from place (length buffer.old)) inputs.old inputs.new }
+    ensures unasked { AsksNothing E.state to.old to.new }
 {
     let codec = made_codec(to);
     fill_block(alloc, inputs, place, codec, buffer, block)?;
     write_all(to, block)
 }
 
+// Puts all frames there, into a block that has places for them.
+fn add_all<D: Disk, E: Disk>(
+    alloc: Global,
+    inputs: &mut [Input<D>],
+    to: &mut File<'_, E, Write>,
+    frames: u64,
+    block: &mut [i32],
+) -> Result<(), Stop>
+    requires mono { AreMono inputs.old }
+    requires alike { channels_of to.old ≡ length inputs.old }
+    requires at_end { IsAtEnd (known_of to.old) }
+    requires room { HasRoom frames (known_of to.old).shape }
+    requires all { frames ≡ most_frames (layouts_of inputs.old) }
+    requires size { length block.old ≡ 16384 * length inputs.old }
+    ensures loan { loan_of to.new ≡ loan_of to.old }
+    ensures works { BreaksByFault (known_of to.new) result }
+    ensures lengthens { OnOk result (Lengthens D.state E.state 0 frames inputs.old to.old to.new) }
+    ensures faults { CountsAddingTo D.state E.state inputs.old inputs.new to.old to.new result }
+    ensures changed { StayGood D.state inputs.old result }
+    ensures reads { ReadAll D.Disk inputs.old inputs.new }
+    ensures tells { TellsOn E.state to.old to.new }
+    ensures time { GoesOnFrom E.state E.left_between (disk_of to.old) (disk_of to.new) }
+    ensures asked { AsksOnce D.state inputs.old inputs.new }
+    ensures unasked { AsksNothing E.state to.old to.new }
+{
+    let channels = inputs.len();
+    let mut buffer = [0; BLOCK];
+    let mut place = 0;
+    while place < frames {
+        let count = (frames - place).min(BLOCK as u64) as usize;
+        let numbers = &mut buffer[..count];
+        let whole = &mut block[..count * channels];
+        add_block(alloc, inputs, to, place, numbers, whole)?;
+        place += count as u64;
+    }
+    Ok(())
+}
+
 /// Puts the frames of inputs of one channel behind those of a file that is made, side by side, a block at a
 /// time: so many, from the first on, with zeros where an input has ended. Each number has the width of the
-/// codec of the file.
+/// codec of the file. Each frame of an input is asked for once.
 ///
-/// The answer is `Fault` where a call of a disk failed, and `Memory` where there is none.
+/// The answer is `Fault` where a call of a disk failed, `Memory` where there is none, and `Changed` where an
+/// input has a bad block.
 pub(crate) fn add_frames<D: Disk, E: Disk>(
     alloc: Global,
     inputs: &mut [Input<D>],
@@ -123,26 +169,22 @@ pub(crate) fn add_frames<D: Disk, E: Disk>(
     requires alike { channels_of to.old ≡ length inputs.old }
     requires at_end { IsAtEnd (known_of to.old) }
     requires room { HasRoom frames (known_of to.old).shape }
+    requires all { frames ≡ most_frames (layouts_of inputs.old) }
     ensures loan { loan_of to.new ≡ loan_of to.old }
     ensures works { BreaksByFault (known_of to.new) result }
     ensures lengthens { OnOk result (Lengthens D.state E.state 0 frames inputs.old to.old to.new) }
     ensures faults { CountsAddingTo D.state E.state inputs.old inputs.new to.old to.new result }
+    ensures changed { StayGood D.state inputs.old result }
     ensures reads { ReadAll D.Disk inputs.old inputs.new }
     ensures tells { TellsOn E.state to.old to.new }
     ensures time { GoesOnFrom E.state E.left_between (disk_of to.old) (disk_of to.new) }
+    ensures asked { AsksOnce D.state inputs.old inputs.new }
+    ensures unasked { AsksNothing E.state to.old to.new }
 {
-    let channels = inputs.len();
     to.params().are_good();
-    let most = BLOCK / channels;
-    let mut buffer = [0; BLOCK];
-    let mut block = [0; BLOCK];
-    let mut place = 0;
-    while place < frames {
-        let count = (frames - place).min(most as u64) as usize;
-        let numbers = &mut buffer[..count];
-        let whole = &mut block[..count * channels];
-        add_block(alloc, inputs, to, place, numbers, whole)?;
-        place += count as u64;
-    }
-    Ok(())
+    let places = BLOCK * inputs.len();
+    let Ok(mut block) = vec![in alloc; 0i32; places] else {
+        return Err(Stop::Memory);
+    };
+    add_all(alloc, inputs, to, frames, block.as_mut_slice())
 }

@@ -1,25 +1,70 @@
 //! The tool that puts sound files side by side.
 
-ghost use Rattle.std.specs.Prelude.{◌≡◌, ◌≤◌, false, length, take};
+ghost use Rattle.std.specs.Prelude.{◌≡◌, ◌≤◌, None, drop, false, is_none, length, take};
+ghost use Rattle.snd_container.specs.Sound.{fixed_of};
+ghost use Rattle.snd_layout.specs.Fit.{fit_refusal};
 ghost use Rattle.std.specs.Vec.{vec_len};
+ghost use Rattle.snd_inputs.specs.Asking.{AsksForEach};
 ghost use Rattle.snd_output.specs.Ends.{CountsStop};
-ghost use Rattle.snd_tools.specs.Shelves.{ChangesOne, Does, IsAllIn};
-ghost use Rattle.snd_interleave.specs.Channels.{CountsAll, CountsBeside, ReadAll};
+ghost use Rattle.snd_tools.specs.Shelves.{ChangesOne, Does, IsAllIn, NeverChanged};
+ghost use Rattle.snd_interleave.specs.Asking.{AsksWhole};
+ghost use Rattle.snd_interleave.specs.Channels.{AreMono, CountsAll, CountsBeside, DoesGood, ReadAll, StayHeld, StayTold, layouts_of, most_frames};
 ghost use Rattle.snd_interleave.specs.Opening.{AreApart, AreOut, DoesAll, DoesBeside};
-ghost use Rattle.snd_interleave.specs.Interleave.{interleaved};
+ghost use Rattle.snd_interleave.specs.Interleave.{interleaved, is_full};
 
+use crate::checking::first_bad;
 use crate::judge::{first_misfit, first_of, is_full, most_frames, planned};
 use crate::make::make_under;
+use snd_container::fixed_form;
 use snd_disk::{Disk, Shelf};
 use snd_inputs::{Input, open_input};
-use snd_layout::OpenRefusal;
+use snd_layout::{Kind, OpenRefusal, Params};
 use snd_lines::Refusal;
 use snd_output::Stop;
 use snd_tools::Answer;
 use snd_words::{Interleaving, first_repeated};
 use std::alloc::Global;
 
-// Makes the output of inputs that are all open, and fit.
+// Makes the output of inputs that are all open, and fit, where none has a bad block.
+fn join_good<'a, S: Shelf, D: Disk>(
+    alloc: Global,
+    interleaving: &Interleaving<'a>,
+    inputs: &mut [Input<D>],
+    kind: Kind,
+    params: Params,
+    frames: u64,
+    shelf: &mut S,
+) -> Result<Answer<'a>, Stop>
+    requires is_in { (S.state shelf.old).out interleaving.now.output.now ≡ false }
+    requires named { length inputs.old ≡ length interleaving.now.inputs }
+    requires mono { AreMono inputs.old }
+    requires alike { params.channels ≡ length inputs.old }
+    requires fits { fit_refusal kind params ≡ None }
+    requires linear { is_none (fixed_of params.codec) ≡ false }
+    requires all { frames ≡ most_frames (layouts_of inputs.old) }
+    requires room { is_full kind params frames ≡ false }
+    ensures done { DoesGood D.state S.state interleaving.now kind params inputs.old shelf.old shelf.new result }
+    ensures changes { ChangesOne S.Shelf interleaving.now.output.now shelf.old shelf.new }
+    ensures faults { CountsBeside D.state S.state inputs.old inputs.new shelf.old shelf.new result }
+    ensures changed { StayHeld D.state inputs.old result }
+    ensures reads { ReadAll D.Disk inputs.old inputs.new }
+    ensures asked { AsksWhole D.state inputs.old inputs.new }
+    ensures unasked { (S.state shelf.new).asked ≡ (S.state shelf.old).asked }
+{
+    let output = interleaving.output;
+    let bad = first_bad(alloc, inputs)?;
+    if let Some(at) = bad {
+        let names = &interleaving.inputs;
+        let name = names.get(at).unwrap_or(output);
+        return Ok(Answer::Refused(name, Refusal::BadBlock));
+    }
+    match make_under(alloc, inputs, kind, params, frames, output, shelf) {
+        Ok(()) => Ok(Answer::Made(frames)),
+        Err(stop) => Err(stop),
+    }
+}
+
+// Makes the output of inputs that are all open.
 fn join<'a, S: Shelf, D: Disk>(
     alloc: Global,
     interleaving: &Interleaving<'a>,
@@ -31,7 +76,10 @@ fn join<'a, S: Shelf, D: Disk>(
     ensures done { DoesBeside D.state S.state interleaving.now inputs.old shelf.old shelf.new result }
     ensures changes { ChangesOne S.Shelf interleaving.now.output.now shelf.old shelf.new }
     ensures faults { CountsBeside D.state S.state inputs.old inputs.new shelf.old shelf.new result }
+    ensures changed { StayHeld D.state inputs.old result }
     ensures reads { ReadAll D.Disk inputs.old inputs.new }
+    ensures asked { AsksWhole D.state inputs.old inputs.new }
+    ensures unasked { (S.state shelf.new).asked ≡ (S.state shelf.old).asked }
 {
     let output = interleaving.output;
     let Some((kind, own)) = first_of(inputs) else {
@@ -41,6 +89,10 @@ fn join<'a, S: Shelf, D: Disk>(
     if let Some((name, why)) = first_misfit(own, &interleaving.inputs, inputs) {
         return Ok(Answer::Refused(name, why));
     }
+    if fixed_form(own.codec).is_none() {
+        let why = Refusal::Open(OpenRefusal::NotBuilt);
+        return Ok(Answer::Refused(output, why));
+    }
     let params = match planned(kind, inputs.len() as u64, own) {
         Ok(params) => params,
         Err(why) => return Ok(Answer::Refused(output, Refusal::Open(why))),
@@ -49,10 +101,7 @@ fn join<'a, S: Shelf, D: Disk>(
     if is_full(kind, params, frames) {
         return Ok(Answer::Refused(output, Refusal::ContainerFull));
     }
-    match make_under(alloc, inputs, kind, params, frames, output, shelf) {
-        Ok(()) => Ok(Answer::Made(frames)),
-        Err(stop) => Err(stop),
-    }
+    join_good(alloc, interleaving, inputs, kind, params, frames, shelf)
 }
 
 // Opens the inputs that are left, beside those that are open already, and makes the output once all are. Each
@@ -69,7 +118,10 @@ fn open_rest<'a, S: Shelf>(
     ensures done { DoesAll S.Disk.state S.state interleaving.now inputs.old shelf.old shelf.new result }
     ensures changes { ChangesOne S.Shelf interleaving.now.output.now shelf.old shelf.new }
     ensures faults { CountsAll S.Disk.state S.state inputs.old inputs.new shelf.old shelf.new result }
+    ensures changed { StayTold S.Disk.state S.state inputs.old.items shelf.old result }
     ensures reads { ReadAll S.Disk.Disk inputs.old.items inputs.new.items }
+    ensures asked { AsksWhole S.Disk.state inputs.old.items inputs.new.items }
+    ensures asked_rest { AsksForEach 1 16384 S.state (drop (vec_len inputs.old) interleaving.now.inputs) shelf.old shelf.new }
 {
     let Some(name) = interleaving.inputs.get(inputs.len()) else {
         return join(alloc, interleaving, inputs.as_mut_slice(), shelf);
@@ -98,13 +150,14 @@ fn open_rest<'a, S: Shelf>(
 /// carried. Each other file is as before, whatever comes.
 ///
 /// All that is refused is refused before the output is touched, in this order: `SameName`, by the first
-/// name that equals an earlier one; `MissingFile`, or why an input does not open, and `NotBuilt` where its
-/// codec is ADPCM; `NotMono` and `MixedParams` of an input that has more channels or another rate than the
-/// first, input by input; why the output's kind does not hold its parameters, as 2 channels in 8SVX;
-/// `ContainerFull` where its head has no room for the data.
+/// name that equals an earlier one; `MissingFile`, or why an input does not open; `NotMono` and `MixedParams`
+/// of an input that has more channels or another rate than the first, input by input; `NotBuilt` of the output
+/// where the codec of the first is ADPCM; why its kind does not hold its parameters, as 2 channels in 8SVX;
+/// `ContainerFull` where its head has no room for the data; `BadBlock` of the first input that has a bad block.
 ///
 /// `Fault` where a call of the shelf or of a disk failed, and `Memory` where there is none: then the output
-/// may stand there in part. All inputs are open at once, and frames pass in blocks.
+/// may stand there in part. All inputs are open at once, and frames pass in blocks. No more bytes are asked
+/// than the inputs have, and 16384 for each.
 pub fn interleave<'a, S: Shelf>(
     alloc: Global,
     interleaving: &Interleaving<'a>,
@@ -114,6 +167,8 @@ pub fn interleave<'a, S: Shelf>(
     ensures done { Does S.state (interleaved interleaving.now.inputs interleaving.now.output.now) shelf.old shelf.new result }
     ensures changes { ChangesOne S.Shelf interleaving.now.output.now shelf.old shelf.new }
     ensures faults { CountsStop (S.state shelf.old).faults (S.state shelf.new).faults result }
+    ensures changed { NeverChanged S.state shelf.old result }
+    ensures asked { AsksForEach 1 16384 S.state interleaving.now.inputs shelf.old shelf.new }
 {
     let output = interleaving.output;
     if let Some(at) = first_repeated(&interleaving.inputs, output) {

@@ -1,6 +1,6 @@
 //! What inputs may stand side by side, and as what.
 
-ghost use Rattle.std.specs.Prelude.{◌≡◌, IfOk, IfSome, None, false, is_none, length, option_map};
+ghost use Rattle.std.specs.Prelude.{◌≡◌, IfOk, None, false, is_none, length, option_map};
 ghost use Rattle.snd_container.specs.Sound.{fixed_of};
 ghost use Rattle.snd_layout.specs.Fit.{fit_refusal};
 ghost use Rattle.snd_interleave.specs.Channels.{first_of, layouts_of, most_frames};
@@ -26,7 +26,7 @@ fn misfit(first: Params, params: Params) -> Option<Refusal>
     }
 }
 
-// The kind of an input, and its parameters, whose codec is not ADPCM.
+// The kind of an input, and its parameters.
 fn kind_in<D: Disk>(input: &Input<D>) -> Kind
     ensures { result ≡ input.now.layout.kind }
 {
@@ -34,16 +34,14 @@ fn kind_in<D: Disk>(input: &Input<D>) -> Kind
 }
 
 fn params_in<D: Disk>(input: &Input<D>) -> Params
-    ensures value { result ≡ input.now.layout.params }
-    ensures linear { is_none (fixed_of result.codec) ≡ false }
+    ensures { result ≡ input.now.layout.params }
 {
     input.layout.params
 }
 
 /// The kind and the parameters of the first input.
 pub(crate) fn first_of<D: Disk>(inputs: &[Input<D>]) -> Option<(Kind, Params)>
-    ensures value { result ≡ first_of (layouts_of inputs.now) }
-    ensures linear { IfSome result (λ r. is_none (fixed_of r.1.codec) ≡ false) }
+    ensures { result ≡ first_of (layouts_of inputs.now) }
 {
     let first = inputs.first()?;
     Some((kind_in(first), params_in(first)))

@@ -3,6 +3,7 @@
 
 mod blocks;
 mod channel;
+mod checking;
 mod interleaving;
 mod judge;
 mod make;

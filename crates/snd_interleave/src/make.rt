@@ -6,7 +6,8 @@ ghost use Rattle.snd_disk.specs.Device.{GoesOnFrom};
 ghost use Rattle.snd_layout.specs.Fit.{fit_refusal};
 ghost use Rattle.snd_patch.specs.Steps.{StillTells};
 ghost use Rattle.snd_tools.specs.Shelves.{ChangesOne};
-ghost use Rattle.snd_interleave.specs.Channels.{AreMono, CountsBeside, CountsMaking, Makes, MakesUnder, ReadAll, layouts_of, most_frames};
+ghost use Rattle.snd_interleave.specs.Asking.{AsksOnce};
+ghost use Rattle.snd_interleave.specs.Channels.{AreMono, CountsBeside, CountsMaking, Makes, MakesUnder, ReadAll, StayGood, layouts_of, most_frames};
 ghost use Rattle.snd_interleave.specs.Interleave.{is_full};
 
 use crate::blocks::add_frames;
@@ -33,9 +34,12 @@ fn make<D: Disk, E: Disk>(
     requires room { is_full kind params frames ≡ false }
     ensures made { OnOk result (Makes D.state E.state kind params inputs.old disk.old disk.new) }
     ensures faults { CountsMaking D.state E.state inputs.old inputs.new disk.old disk.new result }
+    ensures changed { StayGood D.state inputs.old result }
     ensures reads { ReadAll D.Disk inputs.old inputs.new }
     ensures tells { StillTells (E.state disk.old) (E.state disk.new) }
     ensures time { GoesOnFrom E.state E.left_between disk.old disk.new }
+    ensures asked { AsksOnce D.state inputs.old inputs.new }
+    ensures unasked { (E.state disk.new).asked ≡ (E.state disk.old).asked }
 {
     params.are_good();
     let mut to = match begin(alloc, disk, kind, params) {
@@ -79,7 +83,10 @@ pub(crate) fn make_under<S: Shelf, D: Disk>(
     ensures made { MakesUnder D.state S.state name.now kind params inputs.old shelf.old shelf.new result }
     ensures changes { ChangesOne S.Shelf name.now shelf.old shelf.new }
     ensures faults { CountsBeside D.state S.state inputs.old inputs.new shelf.old shelf.new result }
+    ensures changed { StayGood D.state inputs.old result }
     ensures reads { ReadAll D.Disk inputs.old inputs.new }
+    ensures asked { AsksOnce D.state inputs.old inputs.new }
+    ensures unasked { (S.state shelf.new).asked ≡ (S.state shelf.old).asked }
 {
     let mut disk = take_output(name, shelf)?;
     let made = make(alloc, inputs, kind, params, frames, &mut disk);

@@ -2,7 +2,7 @@
 use Rattle.std.specs.Prelude.{ℕ, List, codes}
 use Rattle.snd_layout.specs.Names.{refusal_name as open_name, refusal_number as open_number}
 use Rattle.snd_lines.specs.declared.refusal.Refusal.{Refusal}
-use Rattle.snd_lines.specs.declared.refusal.Refusal.TheVariants.{Open, AdpcmUpdate, UnknownLength, PartFrame, SampleRange, SeekRange, TrailingData, ContainerFull, Straddle, FramesWritten, ReservedChunk, NoChunks, ChunkTooLarge, AutoOn, NoSuchChunk, BadBlock, BadCommand, LineTooLong, NotOpen, AlreadyOpen, WrongMode, NoSuchTap, TapOn, SameName, MixedParams, NotMono, UnknownSuffix, MissingFile, BadInfo, BadCue, BadBext, TextTooLong, Pinned, NotBuilt}
+use Rattle.snd_lines.specs.declared.refusal.Refusal.TheVariants.{Open, AdpcmUpdate, UnknownLength, PartFrame, SampleRange, SeekRange, TrailingData, ContainerFull, Straddle, FramesWritten, ReservedChunk, NoChunks, ChunkTooLarge, AutoOn, AdpcmSeek, NoSuchChunk, BadBlock, BadCommand, LineTooLong, NotOpen, AlreadyOpen, WrongMode, NoSuchTap, TapOn, SameName, MixedParams, NotMono, UnknownSuffix, MissingFile, BadInfo, BadCue, BadBext, TextTooLong, Pinned}
 
 abbrev pub refusal_number : Refusal → ℕ
 refusal_number (Open refusal) = open_number refusal
@@ -19,6 +19,7 @@ refusal_number ReservedChunk = 29
 refusal_number NoChunks = 30
 refusal_number ChunkTooLarge = 31
 refusal_number AutoOn = 32
+refusal_number AdpcmSeek = 33
 refusal_number NoSuchChunk = 34
 refusal_number BadBlock = 35
 refusal_number BadCommand = 40
@@ -38,7 +39,6 @@ refusal_number BadCue = 62
 refusal_number BadBext = 63
 refusal_number TextTooLong = 64
 refusal_number Pinned = 65
-refusal_number NotBuilt = 99
 
 abbrev pub refusal_name : Refusal → List ℕ
 refusal_name (Open refusal) = open_name refusal
@@ -55,6 +55,7 @@ refusal_name ReservedChunk = codes "ReservedChunk"
 refusal_name NoChunks = codes "NoChunks"
 refusal_name ChunkTooLarge = codes "ChunkTooLarge"
 refusal_name AutoOn = codes "AutoOn"
+refusal_name AdpcmSeek = codes "AdpcmSeek"
 refusal_name NoSuchChunk = codes "NoSuchChunk"
 refusal_name BadBlock = codes "BadBlock"
 refusal_name BadCommand = codes "BadCommand"
@@ -74,4 +75,3 @@ refusal_name BadCue = codes "BadCue"
 refusal_name BadBext = codes "BadBext"
 refusal_name TextTooLong = codes "TextTooLong"
 refusal_name Pinned = codes "Pinned"
-refusal_name NotBuilt = codes "NotBuilt"

@@ -36,6 +36,8 @@ pub enum Refusal {
     ChunkTooLarge,
     /// Updates are automatic.
     AutoOn,
+    /// Frames of ADPCM are written from front to back: their place is not sought.
+    AdpcmSeek,
     /// There is no such chunk.
     NoSuchChunk,
     /// A block of ADPCM that holds a wanted frame has a bad head.
@@ -74,8 +76,6 @@ pub enum Refusal {
     TextTooLong,
     /// The file stays open, and is updated automatically, to the end of the script.
     Pinned,
-    /// The command is not built yet.
-    NotBuilt,
 }
 
 impl Refusal {
@@ -98,6 +98,7 @@ impl Refusal {
             Refusal::NoChunks => 30,
             Refusal::ChunkTooLarge => 31,
             Refusal::AutoOn => 32,
+            Refusal::AdpcmSeek => 33,
             Refusal::NoSuchChunk => 34,
             Refusal::BadBlock => 35,
             Refusal::BadCommand => 40,
@@ -117,7 +118,6 @@ impl Refusal {
             Refusal::BadBext => 63,
             Refusal::TextTooLong => 64,
             Refusal::Pinned => 65,
-            Refusal::NotBuilt => 99,
         }
     }
 
@@ -140,6 +140,7 @@ impl Refusal {
             Refusal::NoChunks => "NoChunks",
             Refusal::ChunkTooLarge => "ChunkTooLarge",
             Refusal::AutoOn => "AutoOn",
+            Refusal::AdpcmSeek => "AdpcmSeek",
             Refusal::NoSuchChunk => "NoSuchChunk",
             Refusal::BadBlock => "BadBlock",
             Refusal::BadCommand => "BadCommand",
@@ -159,7 +160,6 @@ impl Refusal {
             Refusal::BadBext => "BadBext",
             Refusal::TextTooLong => "TextTooLong",
             Refusal::Pinned => "Pinned",
-            Refusal::NotBuilt => "NotBuilt",
         }
     }
 }

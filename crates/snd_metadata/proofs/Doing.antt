@@ -1,7 +1,7 @@
 -- From what was found to what is done.
 use Rattle.std.proofs.Common.{◌≡◌, ℕ, List, [], ◌∷◌, Bool, true, false, cond, Option, None, Some, Result, Ok, Err, refl, sym, ◌∙◌, ap, subst}
 use Rattle.std.specs.Option.{unwrap_or}
-use Rattle.std.specs.Prelude.{is_none, option_map}
+use Rattle.std.specs.Prelude.{option_map}
 use Rattle.std.specs.Str.{bytes_eq}
 use Rattle.snd_disk.specs.declared.disk.Disk.{Ghosts}
 use Rattle.snd_disk.specs.Shelf.{Files, ShelfState, put}
@@ -18,7 +18,6 @@ use Rattle.snd_modes.specs.Handle.{Stands}
 use Rattle.snd_output.specs.Made.{made_file}
 use Rattle.snd_output.specs.Widths.{joined}
 use Rattle.snd_output.specs.declared.stop.Stop.{Stop}
-use Rattle.snd_container.specs.Sound.{fixed_of}
 use Rattle.snd_inputs.specs.Inputs.{input_in}
 use Rattle.snd_layout.specs.Shape.{Shape}
 use Rattle.snd_tools.proofs.Names.{MakesOnly}
@@ -67,8 +66,7 @@ unfit_only output (Some why) = record { only = tt }
 
 refusals_only : (settings : List Stated) (input output : List ℕ) (e : Editing) → FirstIsOnly output (refusals settings input output e)
 refusals_only settings input output e =
-    more_only output _ _ (refused_only output _ _ _) (more_only output _ _ (refused_only output _ _ _) (more_only output _ _ (refused_only output _ _ _) (more_only output _ _ (refused_only output _ _ _)
-    (more_only output _ _ (refused_only output _ _ _) (more_only output _ _ (refused_only output _ _ _) (more_only output _ _ (unfit_only output (fit_refusal e.shape.kind e.shape.params)) (more_only output _ _ (refused_only output _ _ _) (none_only output))))))))
+    more_only output _ _ (refused_only output _ _ _) (more_only output _ _ (refused_only output _ _ _) (more_only output _ _ (refused_only output _ _ _) (more_only output _ _ (refused_only output _ _ _) (more_only output _ _ (refused_only output _ _ _) (more_only output _ _ (refused_only output _ _ _) (more_only output _ _ (refused_only output _ _ _) (more_only output _ _ (unfit_only output (fit_refusal e.shape.kind e.shape.params)) (more_only output _ _ (refused_only output _ _ _) (none_only output)))))))))
 
 pub makes_file : (settings : List Stated) (input output : List ℕ) (e : Editing) → MakesOnly output (retagged_file settings input output e)
 makes_file settings input output e = (refusals_only settings input output e).first (Done.makes output (bytes_made settings e) e.shape.frames) refl
@@ -78,11 +76,11 @@ module _ (settings : List Stated) (input output : List ℕ) (files : Files) (apa
   retagged_is : retagged settings input output files ≡ retagged_with settings input output (input_in (files input))
   retagged_is = ap (λ (t : Bool). cond t (Done.refuses output SameName) (retagged_with settings input output (input_in (files input)))) apart
 
-  pub retagged_as : (b : List ℕ) (h : Shape) → files input ≡ Some b → is_none (fixed_of h.params.codec) ≡ false → opening_of b ≡ Ok (first_editing b h)
+  pub retagged_as : (b : List ℕ) (h : Shape) → files input ≡ Some b → opening_of b ≡ Ok (first_editing b h)
       → retagged settings input output files ≡ retagged_file settings input output (first_editing b h)
-  retagged_as b h there linear opens =
+  retagged_as b h there opens =
       retagged_is ∙ ap (λ (o : Option (List ℕ)). retagged_with settings input output (input_in o)) there
-      ∙ ap (retagged_with settings input output) (read_as b h linear opens)
+      ∙ ap (retagged_with settings input output) (read_as b h opens)
 
   pub retagged_refused : (why : Refusal) → input_in (files input) ≡ Err why → retagged settings input output files ≡ Done.refuses input why
   retagged_refused why refused = retagged_is ∙ ap (retagged_with settings input output) refused

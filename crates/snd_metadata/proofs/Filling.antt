@@ -1,5 +1,5 @@
 -- A file that was begun is given the chunks of a plan, and all frames of another.
-use Rattle.std.proofs.Common.{◌≡◌, ◌∙◌, ap, subst, sym, refl, ℕ, ◌+◌, ◌-◌, ◌^◌, ◌≤◌, Bool, true, cond, ℤ, pos, ◌*ℤ◌, List, [], ◌∷◌, ◌++◌, Ok, Err, OnOk, Result, drop, length, arith}
+use Rattle.std.proofs.Common.{◌≡◌, ◌∙◌, ap, subst, sym, refl, ℕ, ◌+◌, ◌-◌, ◌^◌, ◌≤◌, Bool, true, cond, ℤ, pos, ◌*ℤ◌, List, [], ◌∷◌, ◌++◌, Ok, Err, OnOk, Result, drop, length, arith, false}
 use Rattle.std.proofs.lemmas.List.{length-map, map-append, nil_from_length}
 use Rattle.std.proofs.lemmas.Bool.{le-leb, ltb-false}
 use Rattle.std.proofs.lemmas.Int.{ints}
@@ -26,8 +26,12 @@ use Rattle.snd_modes.specs.PieceCalls.{known_put}
 use Rattle.snd_modes.specs.Pieces.{body_of}
 use Rattle.snd_modes.specs.Relaid.{added_to, head_with, pieces_held, shape_with}
 use Rattle.snd_output.proofs.Carried.{SaysOf, says_of}
-use Rattle.snd_output.specs.Appended.{HasRoom, MayAppend, left_in, numbers_left}
+use Rattle.snd_output.specs.Appended.{AppendLeaves, HasRoom, MayAppend, left_in, numbers_left}
 use Rattle.snd_output.specs.Made.{made_with}
+use Rattle.snd_layout.specs.Blocks.{is_adpcm}
+use Rattle.snd_output.specs.Ends.{IsUnchanged}
+use Rattle.snd_output.specs.declared.stop.Stop.{Stop}
+use Rattle.snd_output.specs.declared.stop.Stop.TheVariants.{Changed, Fault, Memory}
 use Rattle.snd_output.specs.Widths.{change_numbers, joined, width_of}
 use Rattle.snd_pcm.specs.Width.{changed, floor_div}
 use Rattle.snd_wave.specs.Heads.{new_piece}
@@ -104,7 +108,6 @@ module _ (h : Shape) (plan : List PlannedChunk) (from from' to to' : Known) (rea
   may_append_filled : MayAppend from (known_filled h plan to)
   may_append_filled = record {
     working = unread.working;
-    linear = unread.linear;
     at_end = record { working = fresh.broken; by_hand = fresh.automatic; free = says.free; behind = fresh.write_place ∙ sym says.frames };
     alike = ap (λ (x : Shape). x.params.channels) of ∙ ap (λ (q : Parameters). q.channels) (sym says.params);
     in_room = in_room;
@@ -132,3 +135,10 @@ pub numbers_same : (r : Editing) (from to codec : Codec) → from ≡ codec → 
 numbers_same r from to codec from_is to_is first =
     ap (λ (c : Codec). change_numbers c to (numbers_left r)) from_is ∙ ap (λ (c : Codec). change_numbers codec c (numbers_left r)) to_is
     ∙ all_unchanged (width_of codec) (numbers_left r) ∙ ap (λ (n : ℕ). joined (drop n r.frames)) first
+
+-- a file that is not of ADPCM has no bad block
+pub never_blocks : {T : Type 0} (n : ℕ) (from from' to to' : Known) (r : Result T Stop) → is_adpcm from.shape.params.codec ≡ false → AppendLeaves n from from' to to' r → IsUnchanged r
+never_blocks n from from' to to' (Ok x) linear left = tt
+never_blocks n from from' to to' (Err Fault) linear left = tt
+never_blocks n from from' to to' (Err Memory) linear left = tt
+never_blocks n from from' to to' (Err Changed) linear left = let no : true ≡ false = sym left.0 ∙ linear in absurd (cc)

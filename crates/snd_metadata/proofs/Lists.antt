@@ -1,11 +1,12 @@
 -- Lists of which some elements are kept, in which one is found, and into which one is put.
 use Rattle.std.proofs.Common.{◌≡◌, ◌∙◌, ap, sym, refl, inl, inr, ℕ, ◌+◌, ◌<◌, ◌≤◌, ◌||◌, Bool, true, false, cond, List, [], ◌∷◌, ◌++◌, All, Some, length, take, drop, arith}
-use Rattle.std.proofs.lemmas.Bool.{cases_Bool}
-use Rattle.std.proofs.lemmas.List.{append-nil, drop-map, drop_more, map-append, places, same_lists, set_split, take-map, take_more}
+use Rattle.std.proofs.lemmas.Bool.{cases_Bool, cases_lt}
+use Rattle.std.proofs.lemmas.List.{append-nil, drop-map, drop_all, drop_more, map-append, places, same_lists, set_split, take-map, take_more}
 use Rattle.std.proofs.lemmas.List.Elements.{All-append, All-cons, All-drop, All-take, filter-append}
 use Rattle.std.proofs.lemmas.List.Folds.{list_any_at, list_any_more}
+use Rattle.std.proofs.lemmas.List.Sums.{sum_by-append, sum_by-cons, sum_by-drop_more, sum_by-take-drop}
 use Rattle.std.proofs.lemmas.Option.{get_or_from_slice_get, slice_get_within}
-use Rattle.std.specs.List.{filter, list_any, position_or_len}
+use Rattle.std.specs.List.{filter, list_any, position_or_len, sum_by}
 use Rattle.std.specs.Prelude.{map, not, set, slice_get, suc}
 use Rattle.snd_metadata.specs.Planned.{put_in}
 
@@ -55,6 +56,16 @@ put_split at x xs within = let one : suc at ≡ at + 1 = omega arith in set_spli
 
 pub all_put : {A : Type 0} (P : A → Type 0) (at : ℕ) (x : A) (xs : List A) → All P xs → P x → All P (put_in at x xs)
 all_put P at x xs all is = All-append P (take at xs) (x ∷ drop (at + 1) xs) (All-take P at xs all) (All-cons P x (drop (at + 1) xs) is (All-drop P (at + 1) xs all))
+
+-- no more is summed up than before, and for that one
+pub sum_put : {A : Type 0} (f : A → ℕ) (at : ℕ) (x : A) (xs : List A) → sum_by f (put_in at x xs) ≤ sum_by f xs + f x
+sum_put f at x xs = omega (arith, sum_by-append f (take at xs) (x ∷ drop (at + 1) xs), sum_by-cons f x (drop (at + 1) xs), sum_by-take-drop f xs at, behind)
+  where
+    behind : sum_by f (drop (at + 1) xs) ≤ sum_by f (drop at xs)
+    behind = elim (cases_lt at (length xs)) [
+      | inl lt ↦ omega (arith, sum_by-drop_more f xs at x lt)
+      | inr le ↦ omega (arith, ap (sum_by f) (drop_all (at + 1) xs (omega (arith, le))))
+    ]
 
 -- the place of the first that passes does not hang on what the others are made of
 pub place_in_map : {A B : Type 0} (f : A → B) (p : B → Bool) (q : A → Bool) (xs : List A) → ((x : A) → p (f x) ≡ q x) → position_or_len p (map f xs) ≡ position_or_len q xs

@@ -1,3 +1,4 @@
+pub mod Asking
 pub mod Chunks
 pub mod Judged
 pub mod Looking

@@ -11,7 +11,7 @@ use Rattle.snd_modes.specs.declared.handle.File.{File}
 use Rattle.snd_modes.specs.declared.mode.Mode.{Ghosts as ModeGhosts}
 use Rattle.snd_modes.specs.Editing.{Editing}
 use Rattle.snd_modes.specs.Handle.{Stands, StandsAfter, disk_of, known_of, loan_of}
-use Rattle.snd_output.specs.Ends.{CountsStop}
+use Rattle.snd_output.specs.Ends.{CountsStop, IsUnchanged}
 use Rattle.snd_output.specs.declared.stop.Stop.{Stop}
 use Rattle.snd_tags.specs.declared.error.TagError.{TagError}
 use Rattle.snd_tags.specs.Found.{broadcast_of, texts_of}
@@ -47,6 +47,7 @@ pub record Looks {D M T : Type 0} {mode : ModeGhosts M} (d : Ghosts D) (old new 
   pub known : OnOk result (known_of new ≡ known_of old)
   pub stands : StandsAfter d.state old new (λ e. e)
   pub faults : CountsStop (d.state (disk_of old)).faults (d.state (disk_of new)).faults result
+  pub unchanged : IsUnchanged result
   pub reads : OnlyReadsOn d.state d.may_leave d.left_between (disk_of old) (disk_of new)
 
 -- what is read is what a chunk says, or what a new one does; or why it is not

@@ -1,10 +1,12 @@
 -- A list of chunks that are to be put, as the code has it.
 use Rattle.std.specs.Prelude.{◌≡◌, ℕ, ◌+◌, ◌≤◌, Bool, true, false, List, [], ◌∷◌, ◌++◌, All, None, Some, Vec, codes, drop, length, map, slice_get, take}
+use Rattle.std.specs.List.{sum_by}
 use Rattle.std.specs.declared.alloc.Global.{Global}
 use Rattle.std.specs.Str.{bytes_eq}
-use Rattle.snd_carry.specs.Carried.{is_carried}
+use Rattle.snd_carry.specs.Carried.{body_bytes, is_carried}
 use Rattle.snd_chunks.specs.Written.{NewChunk}
 use Rattle.snd_fields.specs.Laws.{IsByte}
+use Rattle.snd_layout.specs.Blocks.{is_adpcm}
 use Rattle.snd_layout.specs.Fit.{fit_refusal}
 use Rattle.snd_layout.specs.Shape.{Shape}
 use Rattle.snd_layout.specs.declared.piece.Piece.{Piece}
@@ -55,10 +57,19 @@ PutsExtension changed body old new = (b : List ℕ) → map (chunk_planned b) ne
 abbrev pub StandStill : List PlannedChunk → List PlannedChunk → Type 0
 StandStill old new = (pieces : List Piece) → All (MayStand pieces) old → All (MayStand pieces) new
 
--- all of them may be put
+-- the bytes that are read of the input for a chunk, and for all
+abbrev pub bytes_read : PlannedChunk → ℕ
+bytes_read (Kept place piece) = piece.len
+bytes_read (Given id body) = 0
+
+abbrev pub bytes_planned : List PlannedChunk → ℕ
+bytes_planned plan = sum_by bytes_read plan
+
+-- all of them may be put, and no chunk of the input is read twice for them
 pub record IsPlan (pieces : List Piece) (plan : List PlannedChunk) : Type 0 where
   pub few : length plan ≤ 240
   pub each : All (MayStand pieces) plan
+  pub once : bytes_planned plan ≤ body_bytes pieces
 
 -- ---- what is done with it
 
@@ -73,9 +84,11 @@ abbrev pub sizes_planned : List PlannedChunk → ℕ
 sizes_planned [] = 0
 sizes_planned (chunk ∷ chunks) = size_planned chunk + sizes_planned chunks
 
--- the plan of a file that is read: its kind holds such chunks and its parameters, and the head has room for the data
+-- the plan of a file that is read: its kind holds such chunks and its parameters, it is not of ADPCM, and the head has room for the
+-- data
 pub record IsReady (h : Shape) (plan : List PlannedChunk) : Type 0 where
   pub meta : holds_meta h.kind ≡ true
+  pub linear : is_adpcm h.params.codec ≡ false
   pub fits : fit_refusal h.kind h.params ≡ None
   pub plan_is : IsPlan h.pieces plan
   pub room_is : is_full_with h (map outline_planned plan) ≡ false

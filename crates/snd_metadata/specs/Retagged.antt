@@ -4,12 +4,13 @@ use Rattle.std.specs.Option.{unwrap_or}
 use Rattle.std.specs.Str.{bytes_eq}
 use Rattle.snd_chunks.specs.Written.{NewChunk}
 use Rattle.snd_disk.specs.Shelf.{Files}
+use Rattle.snd_layout.specs.Blocks.{is_adpcm}
 use Rattle.snd_layout.specs.Fit.{fit_refusal}
 use Rattle.snd_layout.specs.Params.{data_bytes}
 use Rattle.snd_layout.specs.Shape.{Shape, room}
 use Rattle.snd_inputs.specs.Inputs.{input_in}
 use Rattle.snd_lines.specs.declared.refusal.Refusal.{Refusal}
-use Rattle.snd_lines.specs.declared.refusal.Refusal.TheVariants.{BadBext, BadInfo, ChunkTooLarge, ContainerFull, NoChunks, Open, SameName, TextTooLong}
+use Rattle.snd_lines.specs.declared.refusal.Refusal.TheVariants.{AdpcmUpdate, BadBext, BadInfo, ChunkTooLarge, ContainerFull, NoChunks, Open, SameName, TextTooLong}
 use Rattle.snd_meta.specs.Broadcast.{Broadcast, bext_body, blank}
 use Rattle.snd_meta.specs.Info.{Entry, info_body}
 use Rattle.snd_modes.specs.declared.error.GetError.TheVariants as get
@@ -95,6 +96,7 @@ first_of (Some done ∷ rest) = Some done
 abbrev pub refusals : List Stated → List ℕ → List ℕ → Editing → List (Option Done)
 refusals settings input output e =
     refuse_if (not (holds_meta e.shape.kind)) (Done.refuses input NoChunks)
+    ∷ refuse_if (is_adpcm e.shape.params.codec) (Done.refuses input AdpcmUpdate)
     ∷ refuse_if (is_too_large (extension_judged settings e) || is_too_large (texts_judged settings e)) (Done.refuses input ChunkTooLarge)
     ∷ refuse_if (is_unreadable (extension_judged settings e)) (Done.refuses input BadBext)
     ∷ refuse_if (is_unreadable (texts_judged settings e)) (Done.refuses input BadInfo)

@@ -2,9 +2,10 @@
 
 ghost use Rattle.std.specs.Prelude.{◌≡◌, ◌+◌, ◌≤◌, All, IfErr, IfOk, OnOk, length};
 ghost use Rattle.std.specs.List.{position_or_len};
+ghost use Rattle.snd_carry.specs.Carried.{body_bytes};
 ghost use Rattle.snd_fields.specs.Laws.{IsByte};
 ghost use Rattle.snd_output.specs.declared.stop.Stop.TheVariants as stop;
-ghost use Rattle.snd_metadata.specs.Planned.{IsSmall, KeepsChunks, MayStand, PutsExtension, StandStill, names_extension, outline_planned, put_in, sizes_planned};
+ghost use Rattle.snd_metadata.specs.Planned.{IsSmall, KeepsChunks, MayStand, PutsExtension, StandStill, bytes_planned, names_extension, outline_planned, put_in, sizes_planned};
 
 use snd_carry::is_carried;
 use snd_fields::Id4;
@@ -32,6 +33,7 @@ pub(crate) fn kept_chunks(alloc: Global, pieces: &PieceList) -> Result<Vec<Plann
     ensures kept { IfOk result (KeepsChunks pieces.now) }
     ensures each { IfOk result (λ plan. All (MayStand pieces.now) plan.items) }
     ensures few { IfOk result (λ plan. length plan.items ≤ 238) }
+    ensures once { IfOk result (λ plan. bytes_planned plan.items ≤ body_bytes pieces.now) }
     ensures only { IfErr result (λ e. e ≡ stop.Memory) }
 {
     let mut plan = Vec::new(alloc);
@@ -105,6 +107,7 @@ pub(crate) fn put_extension(
     ensures put { OnOk result (PutsExtension changed body.items plan.old.items plan.new.items) }
     ensures each { OnOk result (StandStill plan.old.items plan.new.items) }
     ensures few { OnOk result (length plan.new.items ≤ length plan.old.items + 1) }
+    ensures no_more { OnOk result (bytes_planned plan.new.items ≤ bytes_planned plan.old.items) }
     ensures only { IfErr result (λ e. e ≡ stop.Memory) }
 {
     if !changed {

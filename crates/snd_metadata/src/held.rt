@@ -1,7 +1,8 @@
 //! What the chunks that are to be changed say in the input.
 
 ghost use Rattle.std.specs.Prelude.{◌≡◌, None};
-ghost use Rattle.snd_modes.specs.Handle.{known_of};
+ghost use Rattle.snd_disk.specs.Device.{AsksAtMost};
+ghost use Rattle.snd_modes.specs.Handle.{disk_of, known_of};
 ghost use Rattle.snd_metadata.specs.Looking.{DraftsFrom, Looks, ReadsExtension, ReadsTexts, halted_by, judging, reading};
 
 use crate::halt::{Halt, Unread};
@@ -23,6 +24,7 @@ fn extension_held<D: Disk>(
     requires { (known_of file.old).broken ≡ None }
     ensures read { ReadsExtension D.state wanted file.old result }
     ensures looks { Looks D.Disk file.old file.new (reading result) }
+    ensures asked { AsksAtMost D.state 65536 (disk_of file.old) (disk_of file.new) }
 {
     if !wanted {
         return Ok(Bext::new(alloc));
@@ -47,6 +49,7 @@ fn texts_held<D: Disk>(
     requires { (known_of file.old).broken ≡ None }
     ensures read { ReadsTexts D.state wanted file.old result }
     ensures looks { Looks D.Disk file.old file.new (reading result) }
+    ensures asked { AsksAtMost D.state 81920 (disk_of file.old) (disk_of file.new) }
 {
     if !wanted {
         return Ok(InfoList::new(alloc));
@@ -83,6 +86,7 @@ pub(crate) fn drafts_of<D: Disk>(
     requires { (known_of file.old).broken ≡ None }
     ensures drafts { DraftsFrom D.state file.old summary.fields summary.texts result }
     ensures looks { Looks D.Disk file.old file.new (judging result) }
+    ensures asked { AsksAtMost D.state 147456 (disk_of file.old) (disk_of file.new) }
 {
     match extension_held(alloc, summary.fields, file) {
         Ok(extension) => match texts_held(alloc, summary.texts, file) {

@@ -1,16 +1,18 @@
 //! The output, made of an open file by a plan of its chunks.
 
 ghost use Rattle.std.specs.Prelude.{◌≡◌, ◌<◌, None, OnOk, length, true};
-ghost use Rattle.snd_disk.specs.Device.{GoesOnFrom};
-ghost use Rattle.snd_inputs.specs.Copying.{CopiesInto, CountsFileAndDisk, OnlyReadsFile};
+ghost use Rattle.snd_disk.specs.Device.{AsksAtMost, GoesOnFrom};
+ghost use Rattle.snd_inputs.specs.Copying.{AsksToCopy, CopiesInto, CountsFileAndDisk, OnlyReadsFile};
 ghost use Rattle.snd_inputs.specs.Opening.{IsUnread};
-ghost use Rattle.snd_modes.specs.Handle.{IsFresh, StandsAfter, known_of, loan_of};
+ghost use Rattle.snd_modes.specs.Handle.{IsFresh, StandsAfter, disk_of, known_of, loan_of};
 ghost use Rattle.snd_layout.specs.Params.{AreParams};
 ghost use Rattle.snd_modes.specs.Heads.{holds_meta};
+ghost use Rattle.snd_modes.specs.Outcomes.{AsksNothing};
 ghost use Rattle.snd_modes.specs.PieceCalls.{IsUntouched};
+ghost use Rattle.snd_output.specs.Ends.{IsUnchanged};
 ghost use Rattle.snd_patch.specs.Steps.{StillTells};
 ghost use Rattle.snd_metadata.specs.Making.{Carries, Fills, HasOneMore, IsBegunLike, IsFilled, Makes, PutsPlanned};
-ghost use Rattle.snd_metadata.specs.Planned.{IsReady, MayStand};
+ghost use Rattle.snd_metadata.specs.Planned.{IsReady, MayStand, bytes_planned, bytes_read};
 
 use crate::chunks::PlannedChunk;
 use snd_carry::{carry_chunk, put_chunk};
@@ -40,6 +42,9 @@ fn put_planned<D: Disk, E: Disk>(
     ensures stands { StandsAfter D.state from.old from.new (λ e. e) }
     ensures puts { OnOk result (PutsPlanned D.state E.state chunk.now from.old to.old to.new) }
     ensures copies { CopiesInto D.Disk E.Disk from.old from.new to.old to.new result }
+    ensures unchanged { IsUnchanged result }
+    ensures asked { AsksAtMost D.state (bytes_read chunk.now) (disk_of from.old) (disk_of from.new) }
+    ensures unasked { AsksNothing E.state to.old to.new }
 {
     match chunk {
         PlannedChunk::Kept(place, piece) => carry_chunk(alloc, from, to, *place, *piece),
@@ -64,6 +69,9 @@ fn carry<D: Disk, E: Disk>(
     ensures stands { StandsAfter D.state from.old from.new (λ e. e) }
     ensures carried { OnOk result (Carries D.state E.state plan.now from.old to.old to.new) }
     ensures copies { CopiesInto D.Disk E.Disk from.old from.new to.old to.new result }
+    ensures unchanged { IsUnchanged result }
+    ensures asked { AsksAtMost D.state (bytes_planned plan.now) (disk_of from.old) (disk_of from.new) }
+    ensures unasked { AsksNothing E.state to.old to.new }
 {
     for at in 0..plan.len() {
         put_planned(alloc, &plan[at], from, to)?;
@@ -85,6 +93,9 @@ fn fill<D: Disk, E: Disk>(
     requires begun { IsBegunLike from.old to.old }
     ensures fills { OnOk result (Fills D.state E.state plan.now from.old to.old to.new) }
     ensures copies { CopiesInto D.Disk E.Disk from.old from.new to.old to.new result }
+    ensures unchanged { IsUnchanged result }
+    ensures asked { AsksToCopy D.state (bytes_planned plan.now) from.old from.new }
+    ensures unasked { AsksNothing E.state to.old to.new }
 {
     carry(alloc, plan, from, to)?;
     let mut block = [0; BLOCK];
@@ -103,9 +114,12 @@ pub(crate) fn make<D: Disk, E: Disk>(
     ensures loan { loan_of from.new ≡ loan_of from.old }
     ensures made { OnOk result (Makes D.state E.state plan.now from.old disk.old disk.new) }
     ensures faults { CountsFileAndDisk D.state E.state from.old from.new disk.old disk.new result }
+    ensures unchanged { IsUnchanged result }
     ensures reads { OnlyReadsFile D.Disk from.old from.new }
     ensures tells { StillTells (E.state disk.old) (E.state disk.new) }
     ensures time { GoesOnFrom E.state E.left_between disk.old disk.new }
+    ensures asked { AsksToCopy D.state (bytes_planned plan.now) from.old from.new }
+    ensures unasked { (E.state disk.new).asked ≡ (E.state disk.old).asked }
 {
     let params = params_of(from);
     let mut to = match begin(alloc, disk, from.kind(), params) {

@@ -1,12 +1,13 @@
 //! Where the INFO list stands among the chunks, and the chunks with those that are changed.
 
-ghost use Rattle.std.specs.Prelude.{◌≡◌, ◌+◌, ◌<◌, ◌≤◌, All, IfOk, None, OnOk, codes, false, length};
+ghost use Rattle.std.specs.Prelude.{◌≡◌, ◌+◌, ◌*◌, ◌<◌, ◌≤◌, All, IfOk, None, OnOk, codes, false, length};
 ghost use Rattle.std.specs.Str.{bytes_eq};
+ghost use Rattle.snd_disk.specs.Device.{AsksAtMost};
 ghost use Rattle.snd_fields.specs.Laws.{IsByte};
-ghost use Rattle.snd_modes.specs.Handle.{IfOkStanding, known_of};
+ghost use Rattle.snd_modes.specs.Handle.{IfOkStanding, disk_of, known_of};
 ghost use Rattle.snd_metadata.specs.Looking.{Looks};
 ghost use Rattle.snd_metadata.specs.Places.{HasChunks, IsInfoPlace, PutsInfoList, SaysInfo, SaysInfoList};
-ghost use Rattle.snd_metadata.specs.Planned.{IsPlan, MayStand};
+ghost use Rattle.snd_metadata.specs.Planned.{IsPlan, MayStand, bytes_planned};
 ghost use Rattle.snd_metadata.specs.Retagged.{are_too_large};
 
 use crate::bodies::Bodies;
@@ -38,6 +39,7 @@ fn begins_info<D: Disk>(file: &mut File<'_, D, Read>, place: usize) -> Result<bo
     requires there { place < length (known_of file.old).shape.pieces }
     ensures says { IfOkStanding D.state file.old result (SaysInfo place) }
     ensures looks { Looks D.Disk file.old file.new result }
+    ensures asked { AsksAtMost D.state 4 (disk_of file.old) (disk_of file.new) }
 {
     let mut head = [0u8; 4];
     match file.piece_read(place, &mut head) {
@@ -53,6 +55,7 @@ fn is_info_list<D: Disk>(file: &mut File<'_, D, Read>, chunk: &PlannedChunk) -> 
     requires stands { MayStand (known_of file.old).shape.pieces chunk.now }
     ensures says { IfOkStanding D.state file.old result (SaysInfoList chunk.now) }
     ensures looks { Looks D.Disk file.old file.new result }
+    ensures asked { AsksAtMost D.state 4 (disk_of file.old) (disk_of file.new) }
 {
     match chunk {
         PlannedChunk::Kept(place, piece) => {
@@ -76,6 +79,7 @@ fn info_place<D: Disk>(file: &mut File<'_, D, Read>, plan: &[PlannedChunk]) -> R
     ensures place { IfOkStanding D.state file.old result (IsInfoPlace plan.now) }
     ensures within { IfOk result (λ at. at ≤ length plan.now) }
     ensures looks { Looks D.Disk file.old file.new result }
+    ensures asked { AsksAtMost D.state (4 * length plan.now) (disk_of file.old) (disk_of file.new) }
 {
     for at in 0..plan.len() {
         if is_info_list(file, &plan[at])? {
@@ -99,7 +103,9 @@ fn put_info_list<D: Disk>(
     ensures put { OnOk result (PutsInfoList D.state file.old changed body.items plan.old plan.new) }
     ensures stand { OnOk result (All (MayStand (known_of file.old).shape.pieces) plan.new.items) }
     ensures few { OnOk result (length plan.new.items ≤ length plan.old.items + 1) }
+    ensures no_more { OnOk result (bytes_planned plan.new.items ≤ bytes_planned plan.old.items) }
     ensures looks { Looks D.Disk file.old file.new result }
+    ensures asked { AsksAtMost D.state (4 * length plan.old.items) (disk_of file.old) (disk_of file.new) }
 {
     if !changed {
         return Ok(());
@@ -121,6 +127,7 @@ pub(crate) fn chunks_of<D: Disk>(
     ensures chunks { IfOkStanding D.state file.old result (HasChunks summary bodies) }
     ensures plan { IfOk result (λ plan. IsPlan (known_of file.old).shape.pieces plan.items) }
     ensures looks { Looks D.Disk file.old file.new result }
+    ensures asked { AsksAtMost D.state 1024 (disk_of file.old) (disk_of file.new) }
 {
     let Bodies { extension, texts } = bodies;
     let mut plan = kept_chunks(alloc, file.pieces())?;

@@ -1,9 +1,10 @@
 //! What is to be made of an open file.
 
-ghost use Rattle.std.specs.Prelude.{◌≡◌, All, IfOk, None, false, is_none, map, true};
-ghost use Rattle.snd_container.specs.Sound.{fixed_of};
+ghost use Rattle.std.specs.Prelude.{◌≡◌, All, IfOk, None, false, map, true};
+ghost use Rattle.snd_disk.specs.Device.{AsksAtMost};
+ghost use Rattle.snd_layout.specs.Blocks.{is_adpcm};
 ghost use Rattle.snd_layout.specs.Fit.{fit_refusal};
-ghost use Rattle.snd_modes.specs.Handle.{codec_of, known_of};
+ghost use Rattle.snd_modes.specs.Handle.{codec_of, disk_of, known_of};
 ghost use Rattle.snd_modes.specs.Heads.{holds_meta};
 ghost use Rattle.snd_words.specs.Stated.{IsStated};
 ghost use Rattle.snd_metadata.specs.Judged.{HasRoom};
@@ -20,7 +21,7 @@ use crate::places::chunks_of;
 use crate::settings::summary_of;
 use snd_container::fit;
 use snd_disk::Disk;
-use snd_layout::Kind;
+use snd_layout::{Codec, Kind};
 use snd_lines::Refusal;
 use snd_modes::{File, Read};
 use snd_room::room_with;
@@ -33,10 +34,17 @@ fn holds_meta(kind: Kind) -> bool
     matches!(kind, Kind::Wave | Kind::Rf64)
 }
 
+// Whether the samples of a codec stand in blocks.
+fn is_adpcm(codec: Codec) -> bool
+    ensures { result ≡ is_adpcm codec }
+{
+    matches!(codec, Codec::Ima { .. } | Codec::Ms { .. })
+}
+
 // Whether the head of a file with these chunks has no room for the data of an open file.
 fn is_full<D: Disk>(plan: &[PlannedChunk], file: &File<'_, D, Read>) -> bool
     requires working { (known_of file.now).broken ≡ None }
-    requires linear { is_none (fixed_of (codec_of file.now)) ≡ false }
+    requires linear { is_adpcm (codec_of file.now) ≡ false }
     requires meta { holds_meta (known_of file.now).shape.kind ≡ true }
     requires fits { fit_refusal (known_of file.now).shape.kind (known_of file.now).shape.params ≡ None }
     requires plan { IsPlan (known_of file.now).shape.pieces plan.now }
@@ -52,7 +60,7 @@ fn is_full<D: Disk>(plan: &[PlannedChunk], file: &File<'_, D, Read>) -> bool
 // parameters, and then `ContainerFull` where its head has no room for the data.
 fn judge_room<D: Disk>(plan: &[PlannedChunk], file: &File<'_, D, Read>) -> Result<(), Halt>
     requires working { (known_of file.now).broken ≡ None }
-    requires linear { is_none (fixed_of (codec_of file.now)) ≡ false }
+    requires linear { is_adpcm (codec_of file.now) ≡ false }
     requires meta { holds_meta (known_of file.now).shape.kind ≡ true }
     requires plan { IsPlan (known_of file.now).shape.pieces plan.now }
     ensures outlines { HasRoom (known_of file.now).shape (map outline_planned plan.now) result }
@@ -68,22 +76,25 @@ fn judge_room<D: Disk>(plan: &[PlannedChunk], file: &File<'_, D, Read>) -> Resul
 }
 
 /// The chunks of the file that is made of an open one with these settings; or the first reason why it is not
-/// made: `NoChunks` of an input that is neither WAVE nor RF64, those of `drafts_of` and of `bodies_of`, why
-/// its kind does not hold its parameters, and `ContainerFull`.
+/// made: `NoChunks` of an input that is neither WAVE nor RF64, `AdpcmUpdate` of one of ADPCM, those of
+/// `drafts_of` and of `bodies_of`, why its kind does not hold its parameters, and `ContainerFull`.
 pub(crate) fn plan_of<D: Disk>(
     alloc: Global,
     settings: &MetadataSettings<'_>,
     file: &mut File<'_, D, Read>,
 ) -> Result<Vec<PlannedChunk>, Halt>
     requires working { (known_of file.old).broken ≡ None }
-    requires linear { is_none (fixed_of (codec_of file.old)) ≡ false }
     requires good { All IsStated settings.now }
     ensures plans { PlansFrom D.state settings.now file.old result }
     ensures ready { IfOk result (λ plan. IsReady (known_of file.old).shape plan.items) }
     ensures looks { Looks D.Disk file.old file.new (judging result) }
+    ensures asked { AsksAtMost D.state 148480 (disk_of file.old) (disk_of file.new) }
 {
     if !holds_meta(file.kind()) {
         return Err(Halt::Input(Refusal::NoChunks));
+    }
+    if is_adpcm(file.params().codec) {
+        return Err(Halt::Input(Refusal::AdpcmUpdate));
     }
     let summary = summary_of(settings);
     let drafts = drafts_of(alloc, summary, file)?;

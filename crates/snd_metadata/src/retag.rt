@@ -1,18 +1,19 @@
 //! The tool that copies a file with changed texts.
 
-ghost use Rattle.std.specs.Prelude.{◌≡◌, ◌+◌, ◌≤◌, ◌^◌, All, false, is_none};
-ghost use Rattle.snd_container.specs.Sound.{fixed_of};
+ghost use Rattle.std.specs.Prelude.{◌≡◌, ◌+◌, ◌≤◌, ◌^◌, ◌∷◌, [], All, false};
 ghost use Rattle.snd_disk.specs.Device.{OnlyReadsOn};
-ghost use Rattle.snd_inputs.specs.Copying.{CountsDiskAndShelf, CountsFileAndShelf, OnlyReadsFile};
+ghost use Rattle.snd_inputs.specs.Asking.{AsksForEach};
+ghost use Rattle.snd_inputs.specs.Copying.{AsksToCopy, CountsDiskAndShelf, CountsFileAndShelf, OnlyReadsFile};
 ghost use Rattle.snd_inputs.specs.Opening.{IsUnread};
 ghost use Rattle.snd_layout.specs.Opened.{EndsIn};
 ghost use Rattle.snd_layout.specs.Shape.{end, room};
 ghost use Rattle.snd_modes.specs.Handle.{known_of, loan_of};
-ghost use Rattle.snd_output.specs.Ends.{CountsStop};
+ghost use Rattle.snd_output.specs.Ends.{CountsStop, IsUnchanged};
 ghost use Rattle.snd_tools.specs.Shelves.{ChangesOne, Does, IsAllIn};
 ghost use Rattle.snd_words.specs.Stated.{IsStated};
+ghost use Rattle.snd_metadata.specs.Asking.{AsksToRetag, AsksToRetagLaid};
 ghost use Rattle.snd_metadata.specs.Making.{AnswersHalt, MakesUnder, Retags, RetagsLaid};
-ghost use Rattle.snd_metadata.specs.Planned.{IsReady};
+ghost use Rattle.snd_metadata.specs.Planned.{IsReady, bytes_planned};
 ghost use Rattle.snd_metadata.specs.Retagged.{retagged};
 
 use crate::chunks::PlannedChunk;
@@ -44,7 +45,10 @@ fn make_under<S: Shelf, D: Disk>(
     ensures made { MakesUnder D.state S.state name.now plan.now file.old shelf.old shelf.new result }
     ensures changes { ChangesOne S.Shelf name.now shelf.old shelf.new }
     ensures faults { CountsFileAndShelf D.state S.state file.old file.new shelf.old shelf.new result }
+    ensures unchanged { IsUnchanged result }
     ensures reads { OnlyReadsFile D.Disk file.old file.new }
+    ensures asked { AsksToCopy D.state (bytes_planned plan.now) file.old file.new }
+    ensures unasked { (S.state shelf.new).asked ≡ (S.state shelf.old).asked }
 {
     let mut disk = take_output(name, shelf)?;
     let made = make(alloc, file, &mut disk, plan);
@@ -77,7 +81,10 @@ fn retag_file<'a, S: Shelf, D: Disk>(
     ensures done { Retags D.state S.state change.now file.old shelf.old shelf.new result }
     ensures changes { ChangesOne S.Shelf change.now.output.now shelf.old shelf.new }
     ensures faults { CountsFileAndShelf D.state S.state file.old file.new shelf.old shelf.new result }
+    ensures unchanged { IsUnchanged result }
     ensures reads { OnlyReadsFile D.Disk file.old file.new }
+    ensures asked { AsksToRetag D.state file.old file.new }
+    ensures unasked { (S.state shelf.new).asked ≡ (S.state shelf.old).asked }
 {
     let frames = file.frames();
     let plan = match plan_of(alloc, &change.settings, file) {
@@ -101,13 +108,15 @@ fn retag_laid<'a, S: Shelf, D: Disk>(
     requires is_in { (S.state shelf.old).out change.now.output.now ≡ false }
     requires good { All IsStated change.now.settings }
     requires held { end layout layout.frames ≤ (D.state disk.old).size }
-    requires linear { is_none (fixed_of layout.params.codec) ≡ false }
     requires room_ends { layout.start + room layout + 8 ≤ 2 ^ 63 }
     requires pieces_held { All (EndsIn (D.state disk.old).size) layout.pieces }
     ensures done { RetagsLaid D.state S.state change.now disk.old layout shelf.old shelf.new result }
     ensures changes { ChangesOne S.Shelf change.now.output.now shelf.old shelf.new }
     ensures faults { CountsDiskAndShelf D.state S.state disk.old disk.new shelf.old shelf.new result }
+    ensures unchanged { IsUnchanged result }
     ensures reads { OnlyReadsOn D.state D.may_leave D.left_between disk.old disk.new }
+    ensures asked { AsksToRetagLaid D.state layout disk.old disk.new }
+    ensures unasked { (S.state shelf.new).asked ≡ (S.state shelf.old).asked }
 {
     let mut file = match open_laid(alloc, disk, layout) {
         Ok(file) => file,
@@ -130,14 +139,15 @@ fn retag_laid<'a, S: Shelf, D: Disk>(
 /// are not kept in a list that is changed. Each other file is as before, whatever comes.
 ///
 /// All that is refused is refused before the output is touched, in this order: `SameName`; `MissingFile`, or
-/// why the input does not open; `NoChunks` of an input of another kind; `ChunkTooLarge`, and then `BadBext`
-/// and `BadInfo`, where a chunk that is to be changed has more than 65536 bytes or does not read;
+/// why the input does not open; `NoChunks` of an input of another kind; `AdpcmUpdate` of one of ADPCM;
+/// `ChunkTooLarge`, and then `BadBext` and `BadInfo`, where a chunk that is to be changed has more than 65536
+/// bytes or does not read;
 /// `TextTooLong` where a text exceeds its field, or of the INFO list and the coding history 1024 bytes;
 /// `ChunkTooLarge` of the output where the changed list has more than 65536 bytes; why the output's kind does
 /// not hold the parameters; and `ContainerFull` where its head has no room for the data.
 ///
 /// `Fault` where a call of the shelf or of a disk failed, and `Memory` where there is none: then the output
-/// may stand there in part.
+/// may stand there in part. No more bytes are asked than twice the input has, and 164864.
 pub fn set_metadata<'a, S: Shelf>(
     alloc: Global,
     change: &MetadataChange<'a>,
@@ -148,6 +158,8 @@ pub fn set_metadata<'a, S: Shelf>(
     ensures done { Does S.state (retagged change.now.settings change.now.input.now change.now.output.now) shelf.old shelf.new result }
     ensures changes { ChangesOne S.Shelf change.now.output.now shelf.old shelf.new }
     ensures faults { CountsStop (S.state shelf.old).faults (S.state shelf.new).faults result }
+    ensures changed { IsUnchanged result }
+    ensures asked { AsksForEach 2 164864 S.state (change.now.input.now ∷ []) shelf.old shelf.new }
 {
     if change.input == change.output {
         return Ok(Answer::Refused(change.output, Refusal::SameName));

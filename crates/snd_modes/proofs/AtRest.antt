@@ -1,5 +1,6 @@
 -- What a call leaves of a file at rest.
-use Rattle.std.proofs.Common.{◌≡◌, ◌∙◌, ap, sym, subst, inl, inr, ℕ, ◌/◌, ◌≤◌, ℤ, true, List, length}
+use Rattle.std.proofs.Common.{◌≡◌, ◌∙◌, ap, sym, subst, inl, inr, ℕ, ◌/◌, ◌≤◌, ℤ, true, List, Err, length}
+use Rattle.std.specs.Prelude.{Result}
 use Rattle.snd_disk.specs.Device.{IsStable}
 use Rattle.snd_disk.specs.declared.disk.Disk.{Ghosts}
 use Rattle.snd_layout.specs.Shape.{Shape}
@@ -13,10 +14,13 @@ use Rattle.snd_modes.specs.Edits.{count_written, written_to}
 use Rattle.snd_modes.specs.Handle.{Stands, disk_of, known_of}
 use Rattle.snd_modes.specs.Laws.{writes}
 use Rattle.snd_modes.specs.Putting.{IsUnderWay, LeavesWritten}
-use Rattle.snd_modes.specs.Rest.{IsAtRest}
+use Rattle.snd_modes.specs.Outcomes.{write_outcome}
+use Rattle.snd_modes.specs.Rest.{IsAtRest, StaysAtRest}
 use Rattle.snd_modes.specs.Safe.{IsSafe}
 use Rattle.snd_modes.specs.SafeLaws.{data_then, frames_then}
-use Rattle.snd_modes.specs.WriteCalls.{MayWrite}
+use Rattle.snd_modes.specs.WriteCalls.{IsWriteRefusal, MayWrite}
+use Rattle.snd_modes.specs.declared.error.WriteError.{WriteError}
+use Rattle.snd_modes.specs.declared.error.WriteError.TheVariants as write
 use Rattle.snd_modes.proofs.EditedSteps.{leads_to_edited}
 use Rattle.snd_modes.proofs.PartlyPut.{leaves_still}
 use Rattle.snd_modes.proofs.SafeImages.{at_rest, wider}
@@ -68,3 +72,14 @@ module _ {D M : Type 0} {mode : ModeGhosts M} (d : Ghosts D) (old : File D M d m
           fit = then.0;
           sized = λ still. then.1;
         }
+
+-- what refuses frames leaves a file at rest
+pub stays_refused : {D M : Type 0} {mode : ModeGhosts M} (d : Ghosts D) (old new : File D M d mode) (step : Editing → Editing) (xs : List ℤ) (h : Shape) (place : ℕ) (error : WriteError)
+    → IsWriteRefusal xs h place error → ((opened : List ℕ) (e : Editing) → IsAtRest d opened old e → IsAtRest d opened new e) → StaysAtRest d (write_outcome {T = Unit} (Err error)) step old new
+stays_refused d old new step xs h place (write.DiskFault fault) why rests = absurd why
+stays_refused d old new step xs h place _ why rests = rests
+
+pub stays_refused_as : {D M : Type 0} {mode : ModeGhosts M} (d : Ghosts D) (old new : File D M d mode) (step : Editing → Editing) (xs : List ℤ) (h : Shape) (place : ℕ) (error : WriteError)
+    → IsWriteRefusal xs h place error → ((opened : List ℕ) (e : Editing) → IsAtRest d opened old e → IsAtRest d opened new e) → (r : Result Unit WriteError) → r ≡ Err error → StaysAtRest d (write_outcome r) step old new
+stays_refused_as d old new step xs h place error why rests r is =
+    subst (λ (q : Result Unit WriteError). StaysAtRest d (write_outcome q) step old new) (sym is) (stays_refused d old new step xs h place error why rests)

@@ -170,7 +170,7 @@ trimmed_is_edited file e ed may = elim (cases_Bool e.shape.trailing) [
 -- ---- frames written
 
 -- a layout with more frames, of which the head does not say
-more_frames : (h : Shape) (n : ℕ) → KeepsRule h → h.unknown_length ≡ false → end h n + 8 ≤ 2 ^ 63 → (n ≡ h.frames) ⊎ (data_bytes h.params n ≤ room h) → KeepsRule (record h { frames = n })
+pub more_frames : (h : Shape) (n : ℕ) → KeepsRule h → h.unknown_length ≡ false → end h n + 8 ≤ 2 ^ 63 → (n ≡ h.frames) ⊎ (data_bytes h.params n ≤ room h) → KeepsRule (record h { frames = n })
 more_frames h n rule known ends grows = record {
   fits = rule.fits;
   inner_size = rule.inner_size;
@@ -308,6 +308,7 @@ module _ (file : List ℕ) (e : Editing) (ed : IsEdited file e) (xs : List ℤ) 
     write_place = w + k;
     automatic = t;
     written = e.written || nat_lt 0 k;
+    given = e.given;
   }
 
   can : CanPut s e.bytes w k xs

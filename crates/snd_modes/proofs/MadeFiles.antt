@@ -1,6 +1,5 @@
 -- A file that is made is one that may be opened to be updated.
-use Rattle.std.proofs.Common.{◌≡◌, ◌∙◌, ap, sym, refl, inl, inr, Bool, false, cond, All, Option, None, Some, Ok, Err}
-use Rattle.std.proofs.lemmas.Bool.{cases_Bool}
+use Rattle.std.proofs.Common.{◌≡◌, ◌∙◌, ap, refl, false, All, Option, None, Some, Ok}
 use Rattle.std.specs.Prelude.{Result, is_none}
 use Rattle.snd_container.proofs.EveryKind.{made}
 use Rattle.snd_container.specs.Made.{new_file, new_shape}
@@ -10,7 +9,6 @@ use Rattle.snd_layout.specs.Fit.{fit_refusal}
 use Rattle.snd_layout.specs.Params.{AreParams, Parameters}
 use Rattle.snd_layout.specs.declared.kind.Kind.{Kind}
 use Rattle.snd_layout.specs.declared.refusal.OpenRefusal.{OpenRefusal}
-use Rattle.snd_layout.specs.declared.refusal.OpenRefusal.TheVariants.{NotBuilt}
 use Rattle.snd_modes.specs.Editing.{Editing, first_editing}
 use Rattle.snd_modes.specs.Laws.{MadeIsEdited, MadeIsUpdated}
 use Rattle.snd_modes.specs.Making.{making_as, making_of}
@@ -31,16 +29,13 @@ begins kind p e good fits linear is =
 
 pub made_is_updated : MadeIsUpdated
 unfolding making_of
-made_is_updated kind p e good is = by_fit (fit_refusal kind p) refl is
+made_is_updated kind p e good linear is = by_fit (fit_refusal kind p) refl is
   where
     by_fit : (r : Option OpenRefusal) → fit_refusal kind p ≡ r → making_as kind p r ≡ Ok e → All IsByte (new_file kind p) × (updating_of (new_file kind p) ≡ Ok e)
     by_fit (Some refusal) fits given = absurd (cc)
-    by_fit None fits given = elim (cases_Bool (is_none (fixed_of p.codec))) [
-      | inl law ↦ absurd (let h = rw law at given in cc)
-      | inr linear ↦ begins kind p e good fits linear (sym (ap (λ (t : Bool). cond t (Err NotBuilt) (Ok (first_editing (new_file kind p) (new_shape kind p)))) linear) ∙ given)
-    ]
+    by_fit None fits given = begins kind p e good fits linear given
 
 pub made_is_edited : MadeIsEdited
-made_is_edited kind p e good is =
-    let begun = made_is_updated kind p e good is in
+made_is_edited kind p e good linear is =
+    let begun = made_is_updated kind p e good linear is in
     updated_is_edited (new_file kind p) e begun.0 begun.1

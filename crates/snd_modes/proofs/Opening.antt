@@ -1,5 +1,5 @@
 -- What opening a file gives, and what its frames are.
-use Rattle.std.proofs.Common.{◌≡◌, ◌∙◌, ap, sym, refl, ℕ, ◌*◌, ◌≤◌, List, true, false, Option, None, Some, Ok, Err, length, take, drop, arith}
+use Rattle.std.proofs.Common.{◌≡◌, ◌∙◌, ap, sym, refl, ℕ, ◌*◌, ◌≤◌, List, false, Option, None, Some, Ok, Err, length, take, drop, arith}
 use Rattle.std.specs.Prelude.{is_none}
 use Rattle.snd_layout.specs.declared.refusal.OpenRefusal.{OpenRefusal}
 use Rattle.snd_layout.specs.Params.{data_bytes}

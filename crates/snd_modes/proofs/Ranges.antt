@@ -40,3 +40,10 @@ fits_form codec form xs is all = fits_by codec form xs (range_fixed codec form i
 pub fits_blocks : (codec : Codec) (xs : List ℤ) → is_adpcm codec ≡ true → All Is16Bit xs → FitCodec codec xs
 fits_blocks codec xs is all =
     fits_by codec (Linear (S16 Little)) xs (range_adpcm codec is) (All-weaker Is16Bit (InRange (Linear (S16 Little))) (λ x small. (small.least, small.most)) xs all)
+
+-- .. exactly
+pub fits_16_bits : (codec : Codec) (xs : List ℤ) → is_adpcm codec ≡ true → (All (InRange (Linear (S16 Little))) xs → FitCodec codec xs) × (FitCodec codec xs → All (InRange (Linear (S16 Little))) xs)
+fits_16_bits codec xs is = (λ all. fits_by codec (Linear (S16 Little)) xs (range_adpcm codec is) all, λ fit. fit (Linear (S16 Little)) (range_adpcm codec is))
+
+pub are_16_bits : (codec : Codec) (xs : List ℤ) → is_adpcm codec ≡ true → FitCodec codec xs → All Is16Bit xs
+are_16_bits codec xs is fit = All-weaker (InRange (Linear (S16 Little))) Is16Bit (λ x small. record { least = small.0; most = small.1 }) xs (fit (Linear (S16 Little)) (range_adpcm codec is))

@@ -1,5 +1,5 @@
 -- The further chunks of an open file stay, whatever is written, cut or sealed; also those that were put into a file that is made.
-use Rattle.std.specs.Prelude.{◌≡◌, ℕ, List, All, Ok}
+use Rattle.std.specs.Prelude.{◌≡◌, ℕ, Bool, false, List, All, Ok}
 use Rattle.snd_chunks.specs.Written.{NewChunk}
 use Rattle.snd_container.specs.Sound.{layout_of}
 use Rattle.snd_disk.specs.declared.disk.Disk.{Ghosts}
@@ -10,7 +10,7 @@ use Rattle.snd_layout.specs.declared.piece.Piece.{Piece}
 use Rattle.snd_wave.specs.Heads.{with_piece}
 use Rattle.snd_modes.specs.declared.handle.File.{File}
 use Rattle.snd_modes.specs.declared.mode.Mode.{Ghosts as ModeGhosts}
-use Rattle.snd_modes.specs.Editing.{Editing}
+use Rattle.snd_modes.specs.Editing.{Editing, opening_of}
 use Rattle.snd_modes.specs.Handle.{Stands}
 use Rattle.snd_modes.specs.Laws.{IsEdited, Leads}
 use Rattle.snd_modes.specs.Pieces.{body_of}
@@ -59,6 +59,10 @@ GivesChunksBack state file disk = (opened : List ℕ) (e : Editing) (b : List �
 abbrev pub HoldsPut : {D M : Type 0} {ghosts : Ghosts D} {mode : ModeGhosts M} → (D → State) → ℕ → NewChunk → File D M ghosts mode → File D M ghosts mode → Type 0
 HoldsPut state place piece old new = (e e' : Editing) → Stands state old e → Stands state new e' → pieces_held e' ≡ with_piece (pieces_held e) place piece
 
--- and it is one that is opened to be updated, in the state for which the handle stands
+-- and it is one that is opened in the state for which the handle stands: to be read, and to be updated, but for ADPCM
+pub record IsOpenedAs (encodes : Bool) (e : Editing) : Type 0 where
+  pub opens : opening_of e.bytes ≡ Ok e
+  pub updates : encodes ≡ false → updating_of e.bytes ≡ Ok e
+
 abbrev pub StandsAsOpened : {D M : Type 0} {ghosts : Ghosts D} {mode : ModeGhosts M} → (D → State) → File D M ghosts mode → Type 0
-StandsAsOpened state file = (e : Editing) → Stands state file e → updating_of e.bytes ≡ Ok e
+StandsAsOpened {mode = mode} state file = (e : Editing) → Stands state file e → IsOpenedAs mode.ENCODES e

@@ -1,6 +1,6 @@
 -- An open file, as whoever reads and writes it sees it: its bytes, what they say, its frames, and the frames to read and to
 -- write next. The code keeps none of the frames.
-use Rattle.std.specs.Prelude.{ℕ, ℤ, Bool, false, ◌+◌, ◌-◌, List, Result, Ok, Err, length, take, drop, min}
+use Rattle.std.specs.Prelude.{ℕ, ℤ, Bool, false, ◌+◌, ◌-◌, List, [], Result, Ok, Err, length, take, drop, min}
 use Rattle.snd_layout.specs.declared.refusal.OpenRefusal.{OpenRefusal}
 use Rattle.snd_layout.specs.Shape.{Shape}
 use Rattle.snd_container.specs.Sound.{layout_of}
@@ -17,6 +17,8 @@ pub record Editing : Type 0 where
   pub automatic : Bool
   -- whether a frame was written since the file was opened
   pub written : Bool
+  -- the numbers of all frames that were given to a file of ADPCM that is made: those of whole blocks are on the disk
+  pub given : List ℤ
 
 -- the state in which editing begins
 abbrev pub first_editing : List ℕ → Shape → Editing
@@ -28,6 +30,7 @@ first_editing b s = record {
   write_place = 0;
   automatic = false;
   written = false;
+  given = [];
 }
 
 abbrev pub opening_as : List ℕ → Result Shape OpenRefusal → Result Editing OpenRefusal

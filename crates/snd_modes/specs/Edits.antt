@@ -59,6 +59,7 @@ written_frames k xs e =
       write_place = e.write_place + k;
       automatic = e.automatic;
       written = e.written || nat_lt 0 k;
+      given = e.given;
     }
 
 abbrev pub written_to : List ℤ → Editing → Editing

@@ -1,12 +1,17 @@
 -- What is seen of a handle. Its fields are named here alone.
-use Rattle.std.specs.Prelude.{◌≡◌, ℕ, Bool, false, Option, None, Some, Result, IfOk, length}
+use Rattle.std.specs.Prelude.{◌≡◌, ℕ, ℤ, ◌*◌, ◌/◌, Bool, true, false, List, [], Option, None, Some, Result, IfOk, length}
 use Rattle.std.specs.Borrow.{GName}
+use Rattle.std.specs.Global.{Box}
+use Rattle.snd_disk.specs.Runs.{HasAt}
 use Rattle.snd_disk.specs.declared.disk.Disk.{Ghosts}
 use Rattle.snd_disk.specs.declared.disk.Step.{Step}
 use Rattle.snd_disk.specs.State.{State}
 use Rattle.snd_layout.specs.declared.codec.Codec.{Codec}
 use Rattle.snd_layout.specs.Shape.{Shape}
+use Rattle.snd_blocks.specs.Calls.{AreBlocks}
 use Rattle.snd_blocks.specs.Sound.{frames_in}
+use Rattle.snd_block_writer.specs.Coded as blocks
+use Rattle.snd_block_writer.specs.Writing.{StandsFor, Writing}
 use Rattle.snd_modes.specs.declared.handle.File.{File}
 use Rattle.snd_modes.specs.declared.mode.Mode.{Ghosts as ModeGhosts}
 use Rattle.snd_modes.specs.Editing.{Editing}
@@ -53,6 +58,19 @@ channels_of file = (known_of file).shape.params.channels
 abbrev pub codec_of : {D M : Type 0} {ghosts : Ghosts D} {mode : ModeGhosts M} → File D M ghosts mode → Codec
 codec_of file = (known_of file).shape.params.codec
 
+-- what makes the blocks of a file of ADPCM that is made
+abbrev pub writer_of : {D M : Type 0} {ghosts : Ghosts D} {mode : ModeGhosts M} → File D M ghosts mode → Option (Box Writing)
+writer_of file = file.writer
+
+-- It was given these numbers of whole frames, the last of which stands before the place; and b has the blocks that they fill for its
+-- data, whose frames the layout counts.
+pub record IsGiven (writer : Option (Box Writing)) (ys : List ℤ) (b : List ℕ) (h : Shape) (place : ℕ) : Type 0 where
+  pub form : AreBlocks h.params
+  pub stands : (w : Box Writing) → writer ≡ Some w → StandsFor w.value h.params ys
+  pub whole : length ys ≡ place * h.params.channels
+  pub frames : h.frames ≡ length (blocks.whole h.params ys) / h.params.channels
+  pub held : HasAt b h.start (blocks.coded h.params (blocks.whole h.params ys))
+
 -- The handle with its disk stands for an editing state. The disk tells its contents.
 pub record Stands {D M : Type 0} {ghosts : Ghosts D} {mode : ModeGhosts M} (state : D → State) (file : File D M ghosts mode) (e : Editing) : Type 0 where
   pub bytes : (state (disk_of file)).contents ≡ Some e.bytes
@@ -63,6 +81,8 @@ pub record Stands {D M : Type 0} {ghosts : Ghosts D} {mode : ModeGhosts M} (stat
   pub written : (known_of file).written ≡ e.written
   pub sound : e.frames ≡ frames_in e.bytes e.shape
   pub count : e.shape.frames ≡ length e.frames
+  pub none_given : mode.ENCODES ≡ false → e.given ≡ []
+  pub given : mode.ENCODES ≡ true → IsGiven (writer_of file) e.given e.bytes e.shape e.write_place
 
 -- what a call that succeeds answers is right by the editing state for which the handle stands
 abbrev pub IfOkStanding : {D M T E : Type 0} {ghosts : Ghosts D} {mode : ModeGhosts M} → (D → State) → File D M ghosts mode → Result T E → (Editing → T → Type 0) → Type 0

@@ -1,6 +1,6 @@
 -- What an editing state owes the file that was opened or made, and what this file says once it is sealed. Nothing is claimed of
 -- a file in the midst of a call or after one that failed, nor of what stands in it behind all that its head says it has.
-use Rattle.std.specs.Prelude.{◌≡◌, ◌⊎◌, ℕ, ℤ, ◌+◌, ◌<◌, ◌≤◌, Bool, true, false, List, All, Ok, get_or, is_none, length, max}
+use Rattle.std.specs.Prelude.{◌≡◌, ◌⊎◌, ℕ, ℤ, ◌+◌, ◌<◌, ◌≤◌, Bool, true, false, List, [], All, Ok, get_or, is_none, length, max}
 use Rattle.snd_container.specs.Made.{new_file}
 use Rattle.snd_container.specs.Laws.{FileSays}
 use Rattle.snd_blocks.specs.Sound.{frames_in}
@@ -61,12 +61,12 @@ OpenedHoldsFrames = (b : List ℕ) (e : Editing) → All IsByte b → opening_of
 abbrev pub UpdatedIsEdited : Type 0
 UpdatedIsEdited = (b : List ℕ) (e : Editing) → All IsByte b → updating_of b ≡ Ok e → IsEdited b e
 
--- a file that is made is one that is opened to be updated
+-- a file that is made is one that is opened to be updated, but for ADPCM
 abbrev pub MadeIsUpdated : Type 0
-MadeIsUpdated = (kind : Kind) (p : Parameters) (e : Editing) → AreParams p → making_of kind p ≡ Ok e → All IsByte (new_file kind p) × (updating_of (new_file kind p) ≡ Ok e)
+MadeIsUpdated = (kind : Kind) (p : Parameters) (e : Editing) → AreParams p → is_none (fixed_of p.codec) ≡ false → making_of kind p ≡ Ok e → All IsByte (new_file kind p) × (updating_of (new_file kind p) ≡ Ok e)
 
 abbrev pub MadeIsEdited : Type 0
-MadeIsEdited = (kind : Kind) (p : Parameters) (e : Editing) → AreParams p → making_of kind p ≡ Ok e → IsEdited (new_file kind p) e
+MadeIsEdited = (kind : Kind) (p : Parameters) (e : Editing) → AreParams p → is_none (fixed_of p.codec) ≡ false → making_of kind p ≡ Ok e → IsEdited (new_file kind p) e
 
 -- ---- the steps of calls that are carried out
 
@@ -127,7 +127,7 @@ ReachedIsEdited = (file : List ℕ) (e : Editing) → All IsByte file → Reache
 
 -- an editing state at its first frame, as a file that is opened
 abbrev pub as_opened : Editing → Editing
-as_opened e = record e { place = 0; write_place = 0; automatic = false; written = false }
+as_opened e = record e { place = 0; write_place = 0; automatic = false; written = false; given = [] }
 
 abbrev pub going_on : Bool → Editing → Editing
 going_on t e = record e { shape = record e.shape { trailing = t } }

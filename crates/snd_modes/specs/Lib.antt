@@ -1,8 +1,10 @@
+pub mod Blocks
 pub mod Caching
 pub mod Calls
 pub mod Chunks
 pub mod Closing
 pub mod Editing
+pub mod Encoding
 pub mod Edits
 pub mod Handle
 pub mod Heads
@@ -11,6 +13,7 @@ pub mod Loans
 pub mod Making
 pub mod Outcomes
 pub mod PieceCalls
+pub mod Pacing
 pub mod Pieces
 pub mod Putting
 pub mod Reading

@@ -1,5 +1,5 @@
 -- A file that is made, to be written.
-use Rattle.std.specs.Prelude.{◌≡◌, ℕ, List, Option, None, Some, Result, Ok, Err, is_none, if◌then◌else◌}
+use Rattle.std.specs.Prelude.{◌≡◌, ℕ, List, Option, None, Some, Result, Ok, Err}
 use Rattle.snd_disk.specs.declared.disk.Disk.{Ghosts}
 use Rattle.snd_disk.specs.Device.{Tells}
 use Rattle.snd_disk.specs.State.{State}
@@ -9,9 +9,7 @@ use Rattle.snd_layout.specs.declared.error.OpenError.{OpenError}
 use Rattle.snd_layout.specs.declared.error.OpenError.TheVariants.{Refused}
 use Rattle.snd_layout.specs.declared.kind.Kind.{Kind}
 use Rattle.snd_layout.specs.declared.refusal.OpenRefusal.{OpenRefusal}
-use Rattle.snd_layout.specs.declared.refusal.OpenRefusal.TheVariants.{NotBuilt}
 use Rattle.snd_container.specs.Made.{new_file, new_shape}
-use Rattle.snd_container.specs.Sound.{fixed_of}
 use Rattle.snd_modes.specs.declared.handle.File.{File}
 use Rattle.snd_modes.specs.declared.mode.Mode.{Ghosts as ModeGhosts}
 use Rattle.snd_modes.specs.Editing.{Editing, first_editing}
@@ -19,10 +17,10 @@ use Rattle.snd_modes.specs.Handle.{Stands}
 
 abbrev pub making_as : Kind → Parameters → Option OpenRefusal → Result Editing OpenRefusal
 making_as kind p (Some refusal) = Err refusal
-making_as kind p None = if is_none (fixed_of p.codec) then Err NotBuilt else Ok (first_editing (new_file kind p) (new_shape kind p))
+making_as kind p None = Ok (first_editing (new_file kind p) (new_shape kind p))
 
 -- The state in which a file of a kind begins that is made, or the first reason why it is not made: the kind does not hold the
--- parameters; or its samples stand in blocks of ADPCM, which are not written yet.
+-- parameters.
 unfoldable pub making_of : Kind → Parameters → Result Editing OpenRefusal
 making_of kind p = making_as kind p (fit_refusal kind p)
 

@@ -45,10 +45,10 @@ shrink_outcome (Ok value) = Done
 shrink_outcome (Err (shrink.DiskFault step)) = Faulted
 shrink_outcome (Err refusal) = Refused
 
--- A call that is carried out takes one step of the editing state; one that is refused leaves the disk as it was.
+-- A call that is carried out takes one step of the editing state; one that is refused leaves that, and the disk.
 abbrev pub StandsOn : {D M : Type 0} {ghosts : Ghosts D} {mode : ModeGhosts M} → Outcome → (D → State) → File D M ghosts mode → File D M ghosts mode → (Editing → Editing) → Type 0
 StandsOn Done state old new step = StandsAfter state old new step
-StandsOn Refused state old new step = disk_of new ≡ disk_of old
+StandsOn Refused state old new step = StandsAfter state old new (λ e. e) × (disk_of new ≡ disk_of old)
 StandsOn Faulted state old new step = Unit {0}
 
 -- the count of faults rises where the disk failed, and there alone

@@ -73,14 +73,14 @@ CopyLeaves id body old new result = PutLeaves (to_copy body old) (new_piece id b
 abbrev pub ReplaceLeaves : {T : Type 0} → List ℕ → List ℕ → Known → Known → Result T PieceError → Type 0
 ReplaceLeaves id body old new result = PutLeaves (to_replace id body old) (new_piece id body) old new result
 
--- A call that is carried out takes one step of the editing state. One that is refused leaves the disk as it was; one that has no
+-- A call that is carried out takes one step of the editing state. One that is refused leaves that, and the disk; one that has no
 -- memory leaves the state.
 abbrev pub StandsPut : {D M T : Type 0} {ghosts : Ghosts D} {mode : ModeGhosts M} → (D → State) → File D M ghosts mode → File D M ghosts mode
     → (Editing → Editing) → Result T PieceError → Type 0
 StandsPut state old new step (Ok done) = StandsAfter state old new step
 StandsPut state old new step (Err (piece_error.DiskFault fault)) = Unit {0}
 StandsPut state old new step (Err piece_error.Memory) = StandsAfter state old new (λ e. e)
-StandsPut state old new step (Err refusal) = disk_of new ≡ disk_of old
+StandsPut state old new step (Err refusal) = StandsAfter state old new (λ e. e) × (disk_of new ≡ disk_of old)
 
 -- the count of faults rises where the answer is a fault of the disk, and there alone
 abbrev pub CountsPut : {D T : Type 0} → (D → State) → D → D → Result T PieceError → Type 0

@@ -8,13 +8,14 @@ ghost use Rattle.snd_layout.specs.Shape.{KeepsRule};
 ghost use Rattle.snd_patch.specs.Steps.{KeepsBeside, StillTells};
 ghost use Rattle.snd_modes.specs.Calls.{AsksForFrames, CheckLeaves, CountsReading, ReadLeaves, SeekLeaves, count_read};
 ghost use Rattle.snd_modes.specs.Chunks.{GivesChunksBack};
-ghost use Rattle.snd_modes.specs.Closing.{ClosesFile, IsCloseCause};
+ghost use Rattle.snd_modes.specs.Closing.{ClosesFile, IsCloseCause, most_closed};
 ghost use Rattle.snd_modes.specs.Editing.{frames_read, state_read, state_sought};
 ghost use Rattle.snd_modes.specs.Handle.{IfOkStanding, StandsAfter, channels_of, codec_of, disk_of, known_of, loan_of};
 ghost use Rattle.snd_modes.specs.Loans.{disk_back, loan_back};
 ghost use Rattle.snd_modes.specs.Reading.{FindsBad, FitCodec, GivesFrames, front_of, rest_of};
 ghost use Rattle.snd_modes.specs.Rest.{ClosesSafely};
 
+use crate::encoding::seal_writer;
 use crate::error::{DiskFault, ReadError, SeekError};
 use crate::frames::{channels_of, check_any, frames_ahead, read_any};
 use crate::handle::File;
@@ -54,7 +55,8 @@ impl<'d, D: Disk, M: Mode> File<'d, D, M> {
     }
 
     /// Gives the disk back. In a mode that writes, the file is sealed first, as `update_now` does; else the
-    /// disk is as it was. It writes at most 72 bytes and takes no memory.
+    /// disk is as it was. In a file of ADPCM that is made the frames that wait are written before that, as a
+    /// block that zeros fill. It writes at most 72 bytes, and one such block, and takes no memory.
     ///
     /// The answer is the step at which the disk failed, where it did: before, and then nothing is done; or
     /// now, in a mode that writes.
@@ -73,19 +75,20 @@ impl<'d, D: Disk, M: Mode> File<'d, D, M> {
         ensures beside { KeepsBeside D.state (known_of self.entry).shape (known_of self.entry).shape.frames (disk_of self.entry) (disk_back result) }
         ensures tells { StillTells (D.state (disk_of self.entry)) (D.state (disk_back result)) }
         ensures time { GoesOnFrom D.state D.left_between (disk_of self.entry) (disk_back result) }
-        ensures written { WritesAtMost D.state 72 (disk_of self.entry) (disk_back result) }
+        ensures written { WritesAtMost D.state (most_closed M.ENCODES (known_of self.entry).shape.params) (disk_of self.entry) (disk_back result) }
         ensures asked { (D.state (disk_back result)).asked ≡ (D.state (disk_of self.entry)).asked }
     {
         let File {
             disk,
             mut layout,
             read_place: _,
-            write_place: _,
+            write_place,
             automatic: _,
             written: _,
             broken,
             block: _,
             cache: _,
+            mut writer,
             mode: _,
         } = self;
         if let Some(step) = broken {
@@ -95,6 +98,12 @@ impl<'d, D: Disk, M: Mode> File<'d, D, M> {
             return Ok(disk);
         }
         layout.keeps_rule();
+        if writer.is_some() {
+            if let Err(step) = seal_writer(disk, &mut layout, &mut writer, write_place) {
+                return Err((DiskFault(step), disk));
+            }
+            return Ok(disk);
+        }
         match seal(disk, &mut layout) {
             Ok(()) => Ok(disk),
             Err(step) => Err((DiskFault(step), disk)),

@@ -2,10 +2,12 @@
 //! nothing else reaches the disk, and it is closed to give the disk back.
 #![tactic(auto)]
 
+mod blocks;
 mod bodies;
 mod codec;
 mod coding;
 mod cutting;
+mod encoding;
 mod error;
 mod file;
 mod frames;
@@ -26,13 +28,14 @@ mod wanted;
 mod writes;
 mod writing;
 
+pub use blocks::{ima_codec, ms_codec};
 pub use error::{
     AutoError, DiskFault, GetError, PieceReadError, ReadError, SeekError, ShrinkError, UpdateError,
     WriteError,
 };
 pub use handle::File;
-pub use making::create;
-pub use mode::{CanRead, CanShrink, CanWrite, Mode, Read, Update, Write};
+pub use making::{create, create_blocks};
+pub use mode::{CanMake, CanRead, CanSeal, CanShrink, CanWrite, Encode, Mode, Read, Update, Write};
 pub use open::{open_laid, open_read};
 pub use updating::open_update;
 pub use wanted::may_be_piece;

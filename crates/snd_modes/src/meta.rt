@@ -17,7 +17,7 @@ ghost use Rattle.snd_modes.specs.Relaid.{added_to, place_named, put_to, replaced
 
 use crate::frames::keeps_rules;
 use crate::handle::File;
-use crate::mode::Write;
+use crate::mode::CanMake;
 use crate::wanted::{Wanted, holds_meta, holds_pieces, is_reserved, place_named};
 use snd_container::put_piece;
 use snd_disk::Disk;
@@ -59,7 +59,7 @@ fn put_ruled<D: Disk>(
     Ok(())
 }
 
-impl<'d, D: Disk> File<'d, D, Write> {
+impl<'d, D: Disk, M: CanMake> File<'d, D, M> {
     /// Puts a further chunk behind the others: the file holds those that it held, with this one. It writes at
     /// most 16777216 bytes and reads none.
     ///
@@ -167,7 +167,7 @@ impl<'d, D: Disk> File<'d, D, Write> {
         ensures asked { AsksAtMost D.state (if wanted.place == length (known_of self.old).shape.pieces then 0 else 16711680) (disk_of self.old) (disk_of self.new) }
     {
         self.may_put(&wanted)?;
-        self.layout.keeps_rule();
+        keeps_rules(&self.layout);
         match put_ruled(self.disk, &mut self.layout, wanted.place, id, body) {
             Ok(()) => Ok(()),
             Err(PieceError::DiskFault(step)) => {

@@ -10,6 +10,7 @@ ghost use Rattle.snd_modes.specs.Caching.{IsEmpty};
 ghost use Rattle.snd_modes.specs.Editing.{first_editing};
 ghost use Rattle.snd_modes.specs.Handle.{IsFresh, Stands, disk_of, known_of, loan_of};
 ghost use Rattle.snd_modes.specs.Heads.{HasHead};
+ghost use Rattle.snd_modes.specs.Pacing.{BeginsIn};
 ghost use Rattle.snd_modes.specs.Loans.{OpensFile, answer_of, disk_after, loan_after};
 
 use crate::codec::is_adpcm;
@@ -17,6 +18,7 @@ use crate::frames::keeps_rules;
 use crate::handle::File;
 use crate::mode::{Mode, Read};
 use crate::writes::BLOCK_BYTES;
+use snd_block_writer::BlockWriter;
 use snd_blocks::BlockCache;
 use snd_container::open_layout;
 use snd_disk::Disk;
@@ -29,11 +31,14 @@ pub(crate) fn at_first_frame<'d, D: Disk, M: Mode>(
     disk: &'d mut D,
     layout: Layout,
     cache: Option<Box<BlockCache>>,
+    writer: Option<Box<BlockWriter>>,
 ) -> File<'d, D, M>
     requires held { end layout layout.frames ≤ (D.state disk.old).size }
-    requires linear { M.WRITES ≡ true → is_none (fixed_of layout.params.codec) ≡ false }
-    requires blocks { is_some cache ≡ is_adpcm layout.params.codec }
+    requires linear { M.PLACES ≡ true → is_none (fixed_of layout.params.codec) ≡ false }
+    requires blocks { M.ENCODES ≡ false → is_some cache ≡ is_adpcm layout.params.codec }
     requires empty { IsEmpty cache }
+    requires encodes { is_some writer ≡ M.ENCODES }
+    requires begins { M.ENCODES ≡ true → BeginsIn layout writer }
     requires room_ends { layout.start + room layout + 8 ≤ 2 ^ 63 }
     requires sized { M.WRITES ≡ true → layout.unknown_length ≡ false }
     requires headed { M.MAKES ≡ true → HasHead (D.state disk.old) layout }
@@ -55,6 +60,7 @@ pub(crate) fn at_first_frame<'d, D: Disk, M: Mode>(
         broken: None,
         block: [0; BLOCK_BYTES],
         cache,
+        writer,
         mode: PhantomData,
     }
 }
@@ -89,7 +95,7 @@ pub fn open_laid<'d, D: Disk>(
     ensures stands { IfOk result (λ f. (b : List ℕ) → Tells D.state disk.old b → Stands D.state f (first_editing b layout)) }
 {
     match cache_for(alloc, layout.params.codec) {
-        Ok(cache) => Ok(at_first_frame(disk, layout, cache)),
+        Ok(cache) => Ok(at_first_frame(disk, layout, cache, None)),
         Err(error) => Err((error, disk)),
     }
 }
@@ -115,7 +121,7 @@ pub fn open_read<'d, D: Disk>(
         Err(error) => return Err((error, disk)),
     };
     match cache_for(alloc, layout.params.codec) {
-        Ok(cache) => Ok(at_first_frame(disk, layout, cache)),
+        Ok(cache) => Ok(at_first_frame(disk, layout, cache, None)),
         Err(AllocError) => Err((OpenError::Memory, disk)),
     }
 }

@@ -70,7 +70,7 @@ fn close_behind<D: Disk>(disk: &mut D, layout: &Layout, to: u64) -> Result<(), S
 }
 
 // Notes that there are so many frames, of which the head does not say.
-fn count(layout: &mut Layout, to: u64)
+pub(crate) fn count(layout: &mut Layout, to: u64)
     requires room { HasRoomFor layout.old to }
     requires on_disk { end layout.old to + 8 ≤ 2 ^ 63 }
     ensures { layout.new ≡ record layout.old { frames = to } }

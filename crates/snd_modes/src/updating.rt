@@ -48,5 +48,5 @@ pub fn open_update<'d, D: Disk>(
     if layout.unknown_length {
         return Err((OpenError::UnknownLength, disk));
     }
-    Ok(at_first_frame(disk, layout, None))
+    Ok(at_first_frame(disk, layout, None, None))
 }

@@ -11,9 +11,10 @@ ghost use Rattle.snd_modes.specs.Rest.{ComesToRest, LeavesSafe, SealsSafely, Sta
 ghost use Rattle.snd_modes.specs.WriteCalls.{AutoLeaves, SeekWriteLeaves, UpdateLeaves, WriteLeaves, known_sealed};
 
 use crate::error::{AutoError, SeekError, UpdateError, WriteError};
+use crate::frames::keeps_rules;
 use crate::growth::{end_of_write, has_whole_field};
 use crate::handle::File;
-use crate::mode::CanWrite;
+use crate::mode::{CanSeal, CanWrite};
 use crate::updates::write_over;
 use snd_disk::{Disk, Step};
 use snd_patch::seal;
@@ -96,7 +97,9 @@ impl<'d, D: Disk, M: CanWrite> File<'d, D, M> {
             }
         }
     }
+}
 
+impl<'d, D: Disk, M: CanSeal> File<'d, D, M> {
     /// Brings the head up to the frames, and makes the file stable: what closes the data is put behind it
     /// where it is missing. A file that goes on behind its data is made stable as it is. Each further chunk
     /// stays. The answer is how many frames the head then says. It writes at most 72 bytes and takes no
@@ -190,7 +193,7 @@ impl<'d, D: Disk, M: CanWrite> File<'d, D, M> {
         ensures written { WritesAtMost D.state 72 (disk_of self.old) (disk_of self.new) }
         ensures asked { AsksNothing D.state self.old self.new }
     {
-        self.layout.keeps_rule();
+        keeps_rules(&self.layout);
         match seal(self.disk, &mut self.layout) {
             Ok(()) => Ok(()),
             Err(step) => {

@@ -1,12 +1,15 @@
 -- Frames of one file that are put behind those of another, a block at a time.
 use Rattle.std.proofs.Common.{◌≡◌, ◌≢◌, ◌∙◌, ap, sym, subst, refl, inl, inr, ⊎_elim, ℕ, ◌+◌, ◌-◌, ◌*◌, ◌/◌, ◌%◌, ◌<◌, ◌≤◌, ℤ, Bool, true, false, cond, ◌||◌, List, ◌++◌, None, Some, length, take, drop, min, arith}
-use Rattle.std.proofs.Math.Nat.{mul-div_cancel_left, mul-le-mul_left, mul-mod_right}
-use Rattle.std.specs.Prelude.{Err, Result, is_none, nat_lt}
+use Rattle.std.proofs.Math.Nat.{add-div_right, div-add-mod, div-zero, mul-div_cancel_left, mul-le-mul_left, mul-mod_right}
+use Rattle.std.proofs.lemmas.Nat.{le-div}
+use Rattle.std.specs.Prelude.{Err, Result, is_none, is_some, nat_lt}
 use Rattle.std.proofs.lemmas.Bool.{cases_lt, le-ltb, lt-ltb}
-use Rattle.std.proofs.lemmas.List.{append-nil, append_assoc, length-map, length-take-le, map-append}
+use Rattle.std.proofs.lemmas.List.{append-nil, append_assoc, length-map, length-take-le, map-append, places, same_lists}
+use Rattle.snd_blocks.proofs.BlockFrames.{has_bad_part}
+use Rattle.snd_blocks.specs.Frames.{has_bad}
 use Rattle.snd_container.specs.Sound.{fixed_of}
 use Rattle.snd_disk.specs.State.{AtMost, Rises}
-use Rattle.snd_layout.specs.Blocks.{block_align, block_frames}
+use Rattle.snd_layout.specs.Blocks.{block_align, block_frames, is_adpcm}
 use Rattle.snd_layout.specs.Params.{Parameters, data_bytes}
 use Rattle.snd_layout.specs.Shape.{Shape, end, room}
 use Rattle.snd_layout.specs.declared.codec.Codec.{Codec}
@@ -19,13 +22,13 @@ use Rattle.snd_modes.specs.Calls.{IsReady, ReadLeaves, count_read}
 use Rattle.snd_modes.specs.Editing.{Editing, frames_read, moved_by}
 use Rattle.snd_modes.specs.Edits.{count_written, written_shape}
 use Rattle.snd_modes.specs.Handle.{Known}
-use Rattle.snd_modes.specs.Reading.{FitCodec, bytes_of_frames, bytes_to_read}
+use Rattle.snd_modes.specs.Reading.{FitCodec, bytes_to_read}
 use Rattle.snd_modes.specs.WriteCalls.{MayWrite, known_written}
-use Rattle.snd_modes.proofs.Rooms.{not_adpcm}
 use Rattle.snd_modes.proofs.Sealing.{ends_before}
 use Rattle.snd_output.specs.declared.stop.Stop.{Stop}
-use Rattle.snd_output.specs.declared.stop.Stop.TheVariants.{Fault, Memory}
-use Rattle.snd_output.specs.Appended.{CountsEither, CountsFault, IsAtEnd, MayAppend, left_in, longer, next_numbers, numbers_left, read_on}
+use Rattle.snd_output.specs.declared.stop.Stop.TheVariants.{Changed, Fault, Memory}
+use Rattle.snd_output.specs.Ends.{IfChanged}
+use Rattle.snd_output.specs.Appended.{AppendLeaves, CountsEither, CountsFault, CountsRead, IsAtEnd, MayAppend, SomeLeave, bytes_by_calls, left_in, longer, next_numbers, numbers_left, read_on}
 use Rattle.snd_output.specs.Widths.{change_numbers, joined, width_of}
 use Rattle.snd_output.proofs.Numbers.{joined_all, joined_groups, joined_on}
 
@@ -198,7 +201,6 @@ may_go_on from to j may within =
     let rest : to.shape.frames + j + (from.shape.frames - (from.place + j)) ≡ to.shape.frames + left_in from = omega (arith, within) in
     record {
       working = may.working;
-      linear = may.linear;
       at_end = record { working = may.at_end.working; by_hand = may.at_end.by_hand; free = may.at_end.free; behind = omega (arith, may.at_end.behind) };
       alike = may.alike;
       in_room = subst (λ (m : ℕ). data_bytes to.shape.params m ≤ room to.shape) (sym rest) may.in_room;
@@ -221,13 +223,15 @@ all_numbers r n is = ap (λ (m : ℕ). joined (take m (drop r.place r.frames))) 
 
 -- ---- faults
 
-pub read_failed : (T U : Type 0) (old new other : ℕ) (stop : Stop) (result : Result T Stop) → result ≡ Err stop → CountsFault {T = U} old new (Err stop) → CountsEither old new other other result
+pub read_failed : (T U : Type 0) (old new other : ℕ) (stop : Stop) (result : Result T Stop) → result ≡ Err stop → CountsRead {T = U} old new (Err stop) → CountsEither old new other other result
 read_failed T U old new other Fault result is counts = subst (CountsEither old new other other) (sym is) (counts.0, omega arith, inl counts.1)
 read_failed T U old new other Memory result is counts = absurd counts
+read_failed T U old new other Changed result is counts = subst (CountsEither old new other other) (sym is) (counts, refl)
 
 pub write_failed : (T U : Type 0) (same other old new : ℕ) (stop : Stop) (result : Result T Stop) → result ≡ Err stop → same ≡ other → CountsFault {T = U} old new (Err stop) → CountsEither other same old new result
 write_failed T U same other old new Fault result is calm counts = subst (CountsEither other same old new) (sym is) (omega (arith, calm), counts.0, inr counts.1)
 write_failed T U same other old new Memory result is calm counts = absurd counts
+write_failed T U same other old new Changed result is calm counts = absurd counts
 
 -- after calls that did not fail
 pub failed_later : (T U : Type 0) (old mid new old' mid' new' : ℕ) (stop : Stop) (result : Result T Stop) → result ≡ Err stop → mid ≡ old → mid' ≡ old' → CountsEither {T = U} mid new mid' new' (Err stop) → CountsEither old new old' new' result
@@ -238,57 +242,159 @@ failed_later T U old mid new old' mid' new' Fault result is calm calm' counts =
       ⊎_elim (λ rose. inl (subst (λ (n : ℕ). Rises n new) calm rose)) (λ rose. inr (subst (λ (n : ℕ). Rises n new') calm' rose)) counts.2,
     )
 failed_later T U old mid new old' mid' new' Memory result is calm calm' counts = absurd counts
+failed_later T U old mid new old' mid' new' Changed result is calm calm' counts = subst (CountsEither old new old' new') (sym is) (counts.0 ∙ calm, counts.1 ∙ calm')
 
--- a file that is ready, and whose frames stand in no blocks, is read but for a fault
-pub never_bad : (places : ℕ) (old new : Known) (result : Result ℕ ReadError) (error : ReadError) → IsReady places old → is_none (fixed_of old.shape.params.codec) ≡ false
-    → ReadLeaves places old new result → result ≡ Err error → ((step : Step) → error ≢ DiskFault step) → ⊥
-never_bad places old new result error ready linear left is other = by_error error (subst (ReadLeaves places old new) is left) other
+-- what the files know then, where none was read, where none was written, and after calls that did not fail
+pub left_unread : {T : Type 0} (n : ℕ) (from from' to : Known) (stop : Stop) (result : Result T Stop) → result ≡ Err stop → SomeLeave from from' (Err stop) → from.broken ≡ None → to.broken ≡ None → AppendLeaves n from from' to to result
+left_unread n from from' to Fault result is left working to_works = subst (AppendLeaves n from from' to to) (sym is) (inl left)
+left_unread n from from' to Memory result is left working to_works = subst (AppendLeaves n from from' to to) (sym is) (inl left)
+left_unread n from from' to Changed result is left working to_works =
+    subst (AppendLeaves n from from' to to) (sym is) (left.0, ap (λ (k : Known). k.broken) left.1 ∙ working, to_works)
+
+pub left_unwritten : {T : Type 0} (n old new : ℕ) (from from' to to' : Known) (stop : Stop) (result : Result T Stop) → result ≡ Err stop → CountsFault {T = T} old new (Err stop) → is_some to'.broken ≡ true
+    → AppendLeaves n from from' to to' result
+left_unwritten n old new from from' to to' Fault result is counts broken = subst (AppendLeaves n from from' to to') (sym is) (inr broken)
+left_unwritten n old new from from' to to' Memory result is counts broken = absurd counts
+left_unwritten n old new from from' to to' Changed result is counts broken = absurd counts
+
+pub left_later : {T : Type 0} (n m : ℕ) (first from from' to_first to to' : Known) (stop : Stop) (result : Result T Stop) → result ≡ Err stop → from.shape ≡ first.shape
+    → AppendLeaves {T = T} m from from' to to' (Err stop) → AppendLeaves n first from' to_first to' result
+left_later n m first from from' to_first to to' Fault result is same left = subst (AppendLeaves n first from' to_first to') (sym is) left
+left_later n m first from from' to_first to to' Memory result is same left = subst (AppendLeaves n first from' to_first to') (sym is) left
+left_later n m first from from' to_first to to' Changed result is same left =
+    subst (AppendLeaves n first from' to_first to') (sym is) (ap (λ (s : Shape). is_adpcm s.params.codec) (sym same) ∙ left.0, left.1, left.2)
+
+-- ---- a file that has changed
+
+pub never_changed : {T : Type 0} (P : Type 0) (old new : ℕ) (stop : Stop) (result : Result T Stop) → result ≡ Err stop → CountsFault {T = T} old new (Err stop) → IfChanged P result
+never_changed P old new Fault result is counts = subst (IfChanged P) (sym is) tt
+never_changed P old new Memory result is counts = absurd counts
+never_changed P old new Changed result is counts = absurd counts
+
+-- a frame that is bad is one of those that are left
+dropped_on : (frames : List (List ℤ)) (place j : ℕ) → drop (place + j) frames ≡ drop j (drop place frames)
+dropped_on frames place j = same_lists _ _ (grind (arith, places)) (λ k d lt. grind (arith, places))
+
+pub bad_ahead : (frames : List (List ℤ)) (place j k : ℕ) → has_bad (take k (drop (place + j) frames)) ≡ true → has_bad (drop place frames) ≡ true
+bad_ahead frames place j k bad =
+    has_bad_part (drop place frames) j k (sym (ap (λ (l : List (List ℤ)). has_bad (take k l)) (dropped_on frames place j)) ∙ bad)
+
+-- a file that is ready is read, but for a fault and for a bad block
+pub never_refused : (places : ℕ) (old new : Known) (result : Result ℕ ReadError) (error : ReadError) → IsReady places old
+    → ReadLeaves places old new result → result ≡ Err error → error ≢ BadBlock → ((step : Step) → error ≢ DiskFault step) → ⊥
+never_refused places old new result error ready left is good other = by_error error (subst (ReadLeaves places old new) is left) good other
   where
-    by_error : (why : ReadError) → ReadLeaves places old new (Err why) → ((step : Step) → why ≢ DiskFault step) → ⊥
-    by_error (Broken step) leaves none = let e : None ≡ Some step = sym ready.working ∙ leaves.0 in cc
-    by_error PartFrame leaves none = leaves.1 ready.whole
-    by_error BadBlock leaves none = let e : true ≡ false = sym leaves.1 ∙ not_adpcm old.shape.params.codec linear in cc
-    by_error (DiskFault step) leaves none = none step refl
+    by_error : (why : ReadError) → ReadLeaves places old new (Err why) → why ≢ BadBlock → ((step : Step) → why ≢ DiskFault step) → ⊥
+    by_error (Broken step) leaves sound none = let e : None ≡ Some step = sym ready.working ∙ leaves.0 in cc
+    by_error PartFrame leaves sound none = leaves.1 ready.whole
+    by_error BadBlock leaves sound none = sound refl
+    by_error (DiskFault step) leaves sound none = none step refl
 
 -- ---- what is asked of the file that is read
 
--- for frames that stand in no blocks their bytes
-reads_frames : (p : Parameters) (k : ℕ) → is_none (fixed_of p.codec) ≡ false → bytes_to_read p k ≡ bytes_of_frames p k
-reads_frames p k linear =
-    let align = block_align p.channels p.codec in
-    ap (λ (t : Bool). cond t ((k / block_frames p.codec + 2) * align) (k * align)) (not_adpcm p.codec linear)
+-- blocks of some frames and of some more
+pub div_sum : (m j k : ℕ) → j / m + k / m ≤ (j + k) / m
+div_sum m j k = elim (cases_lt 0 m) [
+  | inl some ↦
+      let first : m * (j / m) + j % m ≡ j = div-add-mod j m in
+      let second : m * (k / m) + k % m ≡ k = div-add-mod k m in
+      let times : (j / m + k / m) * m ≡ m * (j / m) + m * (k / m) = omega arith in
+      le-div (j / m + k / m) (j + k) m some (omega (arith, first, second, times))
+  | inr none ↦
+      let zero_is : m ≡ 0 = omega (arith, none) in
+      let by_none : j / 0 + k / 0 ≤ (j + k) / 0 = omega (arith, div-zero j, div-zero k, div-zero (j + k)) in
+      subst (λ (n : ℕ). j / n + k / n ≤ (j + k) / n) (sym zero_is) by_none
+]
 
-pub asked_none : (p : Parameters) (place asked : ℕ) → AtMost asked (bytes_of_frames p (place - place)) asked
-asked_none p place asked = record { later = omega arith; most = omega arith }
+-- how many calls may have read two blocks more, where j frames were read, so many in each, and so many are left
+abbrev turns : ℕ → ℕ → ℕ → ℕ → ℕ
+turns each j left count = j / each + (1 - min 1 left) + (1 - min 1 count)
 
--- after the bytes of j frames those of k more, by a file with the same parameters
-pub asked_on : (now : Known) (p : Parameters) (j k i old mid new : ℕ) → is_none (fixed_of p.codec) ≡ false → now.shape.params ≡ p → i ≡ j + k
-    → AtMost old (bytes_of_frames p j) mid → AtMost mid (bytes_to_read now.shape.params k) new → AtMost old (bytes_of_frames p i) new
-asked_on now p j k i old mid new linear same is before asked =
-    let align = block_align p.channels p.codec in
-    let times : (j + k) * align ≡ j * align + k * align = omega arith in
-    let read : bytes_to_read now.shape.params k ≡ k * align = ap (λ (q : Parameters). bytes_to_read q k) same ∙ reads_frames p k linear in
-    let both : AtMost old (bytes_of_frames p (j + k)) new =
-    record { later = omega (arith, before.later, asked.later); most = omega (arith, times, read, before.most, asked.most) } in
-    subst (λ (n : ℕ). AtMost old (bytes_of_frames p n) new) (sym is) both
+-- what was asked by then
+abbrev asked_as : Bool → ℕ → ℕ → ℕ → ℕ → ℕ → ℕ → ℕ
+asked_as blocks per align each j left count = cond blocks ((j / per + 2 * turns each j left count) * align) (j * align)
 
--- .. which are all in the end
-pub asked_all : (p : Parameters) (k left old new : ℕ) → k ≡ left → AtMost old (bytes_of_frames p k) new → AtMost old (bytes_of_frames p left) new
-asked_all p k left old new all asked = subst (λ (n : ℕ). AtMost old (bytes_of_frames p n) new) all asked
+abbrev pub asked_by : Parameters → ℕ → ℕ → ℕ → ℕ → ℕ
+asked_by p each j left count = asked_as (is_adpcm p.codec) (block_frames p.codec) (block_align p.channels p.codec) each j left count
 
--- also where the last call failed
-pub asked_failed : (now : Known) (p : Parameters) (places left j old mid new : ℕ) → is_none (fixed_of p.codec) ≡ false → now.shape.params ≡ p → left_in now ≡ left - j → j ≤ left
-    → AtMost old (bytes_of_frames p j) mid → AtMost mid (bytes_to_read now.shape.params (count_read places now)) new → AtMost old (bytes_of_frames p left) new
-asked_failed now p places left j old mid new linear same ahead within before asked =
-    let k = count_read places now in
-    let align = block_align p.channels p.codec in
-    let few : k ≤ left_in now = least (places / now.shape.params.channels) (left_in now) in
-    let all : j + k ≤ left = omega (arith, few, ahead, within) in
-    let times : align * (j + k) ≤ align * left = mul-le-mul_left align all in
-    let turned : align * (j + k) ≡ (j + k) * align = omega arith in
-    let turned' : align * left ≡ left * align = omega arith in
-    let some = asked_on now p j k (j + k) old mid new linear same refl before asked in
-    record { later = some.later; most = omega (arith, times, turned, turned', some.most) }
+one_turn : (each j left k : ℕ) → 1 ≤ each → k ≡ min each left → turns each j left 1 + 1 ≤ turns each (j + k) (left - k) k
+one_turn each j left k some is = elim (cases_lt left each) [
+  | inl fewer ↦
+      let all : k ≡ left = omega (arith, is, fewer) in
+      let sum = div_sum each j k in
+      omega (arith, all, sum)
+  | inr more ↦
+      let whole : k ≡ each = omega (arith, is, more) in
+      let next : (j + each) / each ≡ j / each + 1 = add-div_right j some in
+      let same : (j + k) / each ≡ (j + each) / each = ap (λ (n : ℕ). (j + n) / each) whole in
+      omega (arith, whole, next, same, some)
+]
+
+asked_more : (blocks : Bool) (per align each j left k : ℕ) → 1 ≤ each → k ≡ min each left
+    → asked_as blocks per align each j left 1 + cond blocks ((k / per + 2) * align) (k * align) ≤ asked_as blocks per align each (j + k) (left - k) k
+asked_more true per align each j left k some is =
+    let before = j / per + 2 * turns each j left 1 in
+    let after = (j + k) / per + 2 * turns each (j + k) (left - k) k in
+    let fewer : before + (k / per + 2) ≤ after = omega (arith, div_sum per j k, one_turn each j left k some is) in
+    let times : align * (before + (k / per + 2)) ≤ align * after = mul-le-mul_left align fewer in
+    sums before (k / per + 2) after times
   where
-    least : (q l : ℕ) → min q l ≤ l
-    least q l = omega arith
+    sums : (x y z : ℕ) → align * (x + y) ≤ align * z → x * align + y * align ≤ z * align
+    sums x y z le = omega (arith, le)
+asked_more false per align each j left k some is = omega arith
+
+asked_end : (blocks : Bool) (per align each n j left count : ℕ) → j ≤ n → asked_as blocks per align each j left count ≤ cond blocks ((n / per + 2 * (n / each + 2)) * align) (n * align)
+asked_end true per align each n j left count within =
+    let rest : j + (n - j) ≡ n = omega (arith, within) in
+    let frames : j / per ≤ n / per = omega (arith, div_sum per j (n - j), ap (λ (i : ℕ). i / per) rest) in
+    let calls : j / each ≤ n / each = omega (arith, div_sum each j (n - j), ap (λ (i : ℕ). i / each) rest) in
+    let before = j / per + 2 * turns each j left count in
+    let after = n / per + 2 * (n / each + 2) in
+    let fewer : before ≤ after = omega (arith, frames, calls) in
+    let times : align * before ≤ align * after = mul-le-mul_left align fewer in
+    turned before after times
+  where
+    turned : (x z : ℕ) → align * x ≤ align * z → x * align ≤ z * align
+    turned x z le = omega (arith, le)
+asked_end false per align each n j left count within =
+    let times : align * j ≤ align * n = mul-le-mul_left align within in
+    omega (arith, times)
+
+pub asked_none : (p : Parameters) (each place left count asked : ℕ) → AtMost asked (asked_by p each (place - place) left count) asked
+asked_none p each place left count asked = record { later = omega arith; most = omega arith }
+
+-- after what was asked for j frames, that for k more, by a file with the same parameters
+pub asked_on : (now : Known) (p : Parameters) (each j left k i old mid new : ℕ) → now.shape.params ≡ p → 1 ≤ each → k ≡ min each left → i ≡ j + k
+    → AtMost old (asked_by p each j left 1) mid → AtMost mid (bytes_to_read now.shape.params k) new → AtMost old (asked_by p each i (left - k) k) new
+asked_on now p each j left k i old mid new same some is sum before asked =
+    let read : bytes_to_read now.shape.params k ≡ bytes_to_read p k = ap (λ (q : Parameters). bytes_to_read q k) same in
+    let more = asked_more (is_adpcm p.codec) (block_frames p.codec) (block_align p.channels p.codec) each j left k some is in
+    let both : AtMost old (asked_by p each (j + k) (left - k) k) new =
+    record { later = omega (arith, before.later, asked.later); most = most_of (asked_by p each j left 1) (bytes_to_read p k) (bytes_to_read now.shape.params k) (asked_by p each (j + k) (left - k) k) read more before asked } in
+    subst (λ (n : ℕ). AtMost old (asked_by p each n (left - k) k) new) (sym sum) both
+  where
+    most_of : (x y y' z : ℕ) → y' ≡ y → x + y ≤ z → AtMost old x mid → AtMost mid y' new → new ≤ old + z
+    most_of x y y' z e le one two = omega (arith, e, le, one.most, two.most)
+
+-- while some were read
+pub asked_before : (p : Parameters) (each j left count old new : ℕ) → 1 ≤ count → AtMost old (asked_by p each j left count) new → AtMost old (asked_by p each j left 1) new
+asked_before p each j left count old new some asked =
+    let same : 1 - min 1 count ≡ 1 - min 1 1 = omega (arith, some) in
+    let blocks : (j / block_frames p.codec + 2 * turns each j left count) * block_align p.channels p.codec ≡ (j / block_frames p.codec + 2 * turns each j left 1) * block_align p.channels p.codec =
+    ap (λ (n : ℕ). (j / block_frames p.codec + 2 * (j / each + (1 - min 1 left) + n)) * block_align p.channels p.codec) same in
+    subst (λ (n : ℕ). AtMost old (cond (is_adpcm p.codec) n (j * block_align p.channels p.codec)) new) blocks asked
+
+-- in the end no more than for all
+pub asked_all : (p : Parameters) (each n j left count old new : ℕ) → j ≤ n → AtMost old (asked_by p each j left count) new → AtMost old (bytes_by_calls p each n) new
+asked_all p each n j left count old new within asked =
+    let most = asked_end (is_adpcm p.codec) (block_frames p.codec) (block_align p.channels p.codec) each n j left count within in
+    most_by (asked_by p each j left count) (bytes_by_calls p each n) most asked
+  where
+    most_by : (x z : ℕ) → x ≤ z → AtMost old x new → AtMost old z new
+    most_by x z le was = record { later = was.later; most = omega (arith, le, was.most) }
+
+-- how many frames a block has places for, whose places are for whole ones
+pub each_whole : (n c : ℕ) → 1 ≤ c → (n - n % c) / c ≡ n / c
+each_whole n c some =
+    let same : n - n % c ≡ c * (n / c) = omega (arith, some) in
+    ap (λ (i : ℕ). i / c) same ∙ mul-div_cancel_left (n / c) (let e : 0 < c = omega (arith, some) in e)

@@ -21,9 +21,9 @@ use Rattle.snd_modes.specs.Laws.{IsEdited}
 use Rattle.snd_modes.specs.Making.{making_of}
 use Rattle.snd_modes.specs.Relaid.{head_with, shape_with}
 use Rattle.snd_modes.proofs.MadeFiles.{made_is_edited}
-use Rattle.snd_modes.proofs.NewFiles.{making_blocks, making_ok, making_refused, never_refused}
+use Rattle.snd_modes.proofs.NewFiles.{making_ok, making_refused, never_refused}
 use Rattle.snd_output.specs.declared.stop.Stop.{Stop}
-use Rattle.snd_output.specs.Ends.{IsStopCause, stop_of}
+use Rattle.snd_output.specs.Ends.{IsStopCause, IsUnchanged, stop_of}
 use Rattle.snd_output.specs.Laws.{BegunIsMaking}
 use Rattle.snd_output.specs.Made.{IsMaking, closing_so_far, frame_count}
 use Rattle.snd_output.proofs.Bytes.{coded_none}
@@ -63,7 +63,7 @@ module _ (kind : Kind) (p : Parameters) (good : AreParams p) (fits : fit_refusal
   no_frames = let some = good.some_channel in omega (arith, some)
 
   edited : IsEdited (new_file kind p) first
-  edited = made_is_edited kind p first good (making_ok kind p fits linear)
+  edited = made_is_edited kind p first good linear (making_ok kind p fits)
 
   bytes_are : (n : ℕ) → n ≡ 0 → new_file kind p ≡ head ++ coded p [] ++ closing_so_far says n
   bytes_are n none =
@@ -89,32 +89,25 @@ module _ (kind : Kind) (p : Parameters) (good : AreParams p) (fits : fit_refusal
         automatic = refl;
       }
 
--- what is made holds its parameters, and does not stand in blocks
-pub record MayMake (kind : Kind) (p : Parameters) : Type 0 where
-  pub fits : fit_refusal kind p ≡ None
-  pub linear : is_none (fixed_of p.codec) ≡ false
-
-pub may_make : (kind : Kind) (p : Parameters) (e : Editing) → making_of kind p ≡ Ok e → MayMake kind p
+-- what is made holds its parameters
+pub may_make : (kind : Kind) (p : Parameters) (e : Editing) → making_of kind p ≡ Ok e → fit_refusal kind p ≡ None
 may_make kind p e is = by_fit (fit_refusal kind p) refl
   where
-    by_fit : (r : Option OpenRefusal) → fit_refusal kind p ≡ r → MayMake kind p
+    by_fit : (r : Option OpenRefusal) → fit_refusal kind p ≡ r → fit_refusal kind p ≡ None
     by_fit (Some refusal) refused = absurd (let no : ◌≡◌ {A = Result Editing OpenRefusal} (Err refusal) (Ok e) = sym (making_refused kind p refusal refused) ∙ is in cc)
-    by_fit None fits = elim (cases_Bool (is_none (fixed_of p.codec))) [
-      | inl blocks ↦ absurd (let no = sym (making_blocks kind p fits blocks) ∙ is in cc)
-      | inr linear ↦ record { fits = fits; linear = linear }
-    ]
+    by_fit None fits = fits
 
 pub begun_is_making : BegunIsMaking
-begun_is_making kind p e good is =
-    let may = may_make kind p e is in
-    let given : ◌≡◌ {A = Result Editing OpenRefusal} (Ok (first_editing (new_file kind p) (new_shape kind p))) (Ok e) = sym (making_ok kind p may.fits may.linear) ∙ is in
+begun_is_making kind p e good linear is =
+    let fits = may_make kind p e is in
+    let given : ◌≡◌ {A = Result Editing OpenRefusal} (Ok (first_editing (new_file kind p) (new_shape kind p))) (Ok e) = sym (making_ok kind p fits) ∙ is in
     let same : first_editing (new_file kind p) (new_shape kind p) ≡ e = cc in
-    subst (IsMaking kind p [] []) same (first_is_making kind p good may.fits may.linear)
+    subst (IsMaking kind p [] []) same (first_is_making kind p good fits linear)
 
 -- where no refusal is left, the reason that a file is not begun is a fault, or want of memory
 counts_by : (kind : Kind) (p : Parameters) → fit_refusal kind p ≡ None → is_none (fixed_of p.codec) ≡ false → (old new : ℕ) (error : OpenError)
     → ((r : OpenRefusal) → error ≡ Refused r → making_of kind p ≡ Err r) → IsCause old new error → IsStopCause old new (stop_of error)
-counts_by kind p fits linear old new (Refused r) refused cause = absurd (never_refused kind p fits linear r (refused r refl))
+counts_by kind p fits linear old new (Refused r) refused cause = absurd (never_refused kind p fits r (refused r refl))
 counts_by kind p fits linear old new (DiskFault step) refused cause = cause
 counts_by kind p fits linear old new Memory refused cause = cause
 counts_by kind p fits linear old new _ refused cause = absurd cause
@@ -123,3 +116,11 @@ pub begun_counts : (kind : Kind) (p : Parameters) → fit_refusal kind p ≡ Non
     → ((r : OpenRefusal) → error ≡ Refused r → making_of kind p ≡ Err r) → IsCause old new error → IsStopCause old new stop
 begun_counts kind p fits linear old new error stop is refused cause =
     subst (IsStopCause old new) (sym is) (counts_by kind p fits linear old new error refused cause)
+
+-- .. and no file is read
+stopped : (error : OpenError) → IsUnchanged {T = Unit {0}} (Err (stop_of error))
+stopped Memory = tt
+stopped error = tt
+
+pub begun_unchanged : (error : OpenError) (stop : Stop) → stop ≡ stop_of error → IsUnchanged {T = Unit {0}} (Err stop)
+begun_unchanged error stop is = subst (λ (s : Stop). IsUnchanged {T = Unit {0}} (Err s)) (sym is) (stopped error)

@@ -1,6 +1,6 @@
 -- A file into which chunks were carried is one that is being made.
 use Rattle.std.proofs.Common.{◌≡◌, ◌∙◌, ap, sym, subst, refl, ℕ, ◌-◌, ◌≤◌, Bool, true, false, cond, List, [], ◌∷◌, ◌++◌, All, None, Ok, length, map, arith}
-use Rattle.std.proofs.lemmas.List.{append-nil}
+use Rattle.std.proofs.lemmas.List.{append-nil, nil_from_length}
 use Rattle.std.proofs.lemmas.List.Elements.{All-append, All-cons, All-head, All-nil, All-replicate, All-tail, All-weaker}
 use Rattle.std.specs.Prelude.{codes, is_none}
 use Rattle.snd_chunks.specs.Chunks.{padded_end}
@@ -33,7 +33,9 @@ use Rattle.snd_modes.specs.Relaid.{head_with, shape_with}
 use Rattle.snd_modes.specs.Updating.{updating_of}
 use Rattle.snd_modes.proofs.EditedFiles.{updated_is_edited}
 use Rattle.snd_modes.proofs.HeadLaws.{HeadLaws, SaysNone}
-use Rattle.snd_modes.proofs.PutHeads.{begins_again, no_sound}
+use Rattle.snd_blocks.specs.Sound.{frames_in}
+use Rattle.snd_modes.proofs.FixedFrames.{count_opened}
+use Rattle.snd_modes.proofs.PutHeads.{begins_again}
 use Rattle.snd_modes.proofs.Rf64Heads.{rf64_laws}
 use Rattle.snd_modes.proofs.Rooms.{not_adpcm}
 use Rattle.snd_modes.proofs.WaveHeads.{wave_laws}
@@ -215,7 +217,9 @@ module _ (kind : Kind) (p : Parameters) (pieces : List NewChunk) (meta : holds_m
       let some : 1 ≤ says.params.channels = subst (λ (q : Parameters). 1 ≤ q.channels) (sym said.params_are) good.some_channel in
       let none : data_bytes says.params says.frames ≡ 0 = ap (data_bytes says.params) said.frames ∙ ap (λ (q : Parameters). data_bytes q 0) said.params_are ∙ said.no_bytes in
       let within : end says says.frames ≤ length head = omega (arith, said.start, none) in
-      begins_again state ((laws_of kind meta).opens p pieces may) says_linear said.known (no_sound head says [] says_linear some said.frames within refl) refl refl refl refl
+      let frames : [] ≡ frames_in head says = sym (nil_from_length (frames_in head says) (sym (count_opened head says says_linear some within) ∙ said.frames)) in
+      (begins_again false state ((laws_of kind meta).opens p pieces may) said.known (λ by_place. says_linear)
+      (record { frames = frames; place = refl; write_place = refl; automatic = refl; written = refl; given = refl })).updates refl
 
   edited : IsEdited head state
   edited = updated_is_edited head state (head_is kind p pieces meta (not_adpcm p.codec linear) are) updated
@@ -245,6 +249,4 @@ module _ (kind : Kind) (p : Parameters) (pieces : List NewChunk) (meta : holds_m
   }
 
 pub carried_is_making : CarriedIsMaking
-carried_is_making kind p pieces e good is meta are =
-    let allowed = may_make kind p e is in
-    state_is_making kind p pieces meta good allowed.fits allowed.linear are
+carried_is_making kind p pieces e good linear is meta are = state_is_making kind p pieces meta good (may_make kind p e is) linear are

@@ -2,6 +2,7 @@ pub mod Appending
 pub mod Begun
 pub mod Bytes
 pub mod Carried
+pub mod Changing
 pub mod Finished
 pub mod Lengthened
 pub mod Lists

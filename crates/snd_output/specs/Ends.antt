@@ -15,13 +15,14 @@ use Rattle.snd_modes.specs.Editing.{Editing}
 use Rattle.snd_modes.specs.Handle.{Known, Stands, disk_of, known_of}
 use Rattle.snd_modes.specs.Making.{making_of}
 use Rattle.snd_output.specs.declared.stop.Stop.{Stop}
-use Rattle.snd_output.specs.declared.stop.Stop.TheVariants.{Fault, Memory}
+use Rattle.snd_output.specs.declared.stop.Stop.TheVariants.{Changed, Fault, Memory}
 use Rattle.snd_output.specs.Made.{IsMaking, made_file}
 
 -- the count of faults rises where the answer is a fault, and there alone
 abbrev pub IsStopCause : ℕ → ℕ → Stop → Type 0
 IsStopCause old new Fault = (old ≤ new) × Rises old new
 IsStopCause old new Memory = new ≡ old
+IsStopCause old new Changed = new ≡ old
 
 abbrev pub CountsStop : {T : Type 0} → ℕ → ℕ → Result T Stop → Type 0
 CountsStop old new (Ok done) = new ≡ old
@@ -32,6 +33,17 @@ abbrev pub CountsOneOf : {T : Type 0} → ℕ → ℕ → ℕ → ℕ → Result
 CountsOneOf old new old' new' (Ok done) = (new ≡ old) × (new' ≡ old')
 CountsOneOf old new old' new' (Err Fault) = (old ≤ new) × (old' ≤ new') × (Rises old new ⊎ Rises old' new')
 CountsOneOf old new old' new' (Err Memory) = (new ≡ old) × (new' ≡ old')
+CountsOneOf old new old' new' (Err Changed) = (new ≡ old) × (new' ≡ old')
+
+-- no file that is read is said to have changed
+abbrev pub IsUnchanged : {T : Type 0} → Result T Stop → Type 0
+IsUnchanged (Err Changed) = ⊥
+IsUnchanged other = Unit {0}
+
+-- .. or something is so where one is
+abbrev pub IfChanged : {T : Type 0} → Type 0 → Result T Stop → Type 0
+IfChanged P (Err Changed) = P
+IfChanged P other = Unit {0}
 
 -- a fault alone may break a file
 abbrev pub BreaksByFault : {T : Type 0} → Known → Result T Stop → Type 0

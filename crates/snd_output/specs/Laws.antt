@@ -1,7 +1,7 @@
 -- What is said of every file that is made.
-use Rattle.std.specs.Prelude.{◌≡◌, ℤ, true, List, [], ◌++◌, Ok}
+use Rattle.std.specs.Prelude.{◌≡◌, ℤ, true, false, List, [], ◌++◌, Ok, is_none}
 use Rattle.snd_chunks.specs.Written.{NewChunk}
-use Rattle.snd_container.specs.Sound.{sound_of}
+use Rattle.snd_container.specs.Sound.{fixed_of, sound_of}
 use Rattle.snd_layout.specs.Params.{AreParams, Parameters}
 use Rattle.snd_layout.specs.declared.kind.Kind.{Kind}
 use Rattle.snd_modes.specs.Editing.{Editing}
@@ -11,13 +11,13 @@ use Rattle.snd_modes.specs.Making.{making_of}
 use Rattle.snd_modes.specs.WriteCalls.{MayWrite}
 use Rattle.snd_output.specs.Made.{AreChunks, IsMaking, made_file, made_sound, made_with}
 
--- a file begins without chunks and numbers
+-- a file whose samples have a fixed number of bytes each begins without chunks and numbers
 abbrev pub BegunIsMaking : Type 0
-BegunIsMaking = (kind : Kind) (p : Parameters) (e : Editing) → AreParams p → making_of kind p ≡ Ok e → IsMaking kind p [] [] e
+BegunIsMaking = (kind : Kind) (p : Parameters) (e : Editing) → AreParams p → is_none (fixed_of p.codec) ≡ false → making_of kind p ≡ Ok e → IsMaking kind p [] [] e
 
 -- and one into which chunks were carried is one that is being made with these
 abbrev pub CarriedIsMaking : Type 0
-CarriedIsMaking = (kind : Kind) (p : Parameters) (pieces : List NewChunk) (e : Editing) → AreParams p → making_of kind p ≡ Ok e →
+CarriedIsMaking = (kind : Kind) (p : Parameters) (pieces : List NewChunk) (e : Editing) → AreParams p → is_none (fixed_of p.codec) ≡ false → making_of kind p ≡ Ok e →
     holds_meta kind ≡ true → AreChunks pieces → IsMaking kind p pieces [] (made_with kind p pieces)
 
 -- frames that are written stand behind those that it holds

@@ -66,6 +66,7 @@ made_with kind p pieces = record {
   write_place = 0;
   automatic = false;
   written = false;
+  given = [];
 }
 
 -- a chunk of bytes that a WAVE or RF64 file may keep beside its sound, and chunks with which such a file may be made

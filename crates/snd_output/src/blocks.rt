@@ -5,9 +5,9 @@ ghost use Rattle.snd_container.specs.Sound.{fixed_of};
 ghost use Rattle.snd_disk.specs.Device.{GoesOnFrom, OnlyReadsOn};
 ghost use Rattle.snd_modes.specs.Calls.{AsksForFrames, count_read};
 ghost use Rattle.snd_modes.specs.Handle.{StandsAfter, channels_of, codec_of, disk_of, known_of, loan_of};
-ghost use Rattle.snd_modes.specs.Editing.{moved_by};
+ghost use Rattle.snd_modes.specs.Editing.{frames_read, moved_by};
 ghost use Rattle.snd_modes.specs.Outcomes.{AsksNothing, TellsOn};
-ghost use Rattle.snd_output.specs.Appended.{AppendLeaves, AsksForLeft, CountsEither, Lengthens, MayAppend, left_in, next_numbers, numbers_left};
+ghost use Rattle.snd_output.specs.Appended.{AppendLeaves, AsksForLeft, CountsEither, FindsChanged, Lengthens, MayAppend, frames_ahead, left_in, next_numbers, numbers_left};
 
 use crate::steps::{read_some, write_all};
 use crate::stop::Stop;
@@ -21,7 +21,7 @@ fn numbers_of<D: Disk, M: Mode>(file: &File<'_, D, M>) -> (usize, Codec)
     ensures channels { result.0 ≡ channels_of file.now }
     ensures some { 1 ≤ result.0 }
     ensures codec { result.1 ≡ codec_of file.now }
-    ensures linear { M.WRITES ≡ true → is_none (fixed_of result.1) ≡ false }
+    ensures linear { M.PLACES ≡ true → is_none (fixed_of result.1) ≡ false }
 {
     let params = file.params();
     params.are_good();
@@ -41,6 +41,7 @@ fn append_block<D: Disk, E: Disk>(
     ensures to_loan { loan_of to.new ≡ loan_of to.old }
     ensures count { IfOk result (λ k. k ≡ count_read (length block.old) (known_of from.old)) }
     ensures left { AppendLeaves (count_read (length block.old) (known_of from.old)) (known_of from.old) (known_of from.new) (known_of to.old) (known_of to.new) result }
+    ensures changed { FindsChanged D.state (λ e. frames_read e (count_read (length block.old) (known_of from.old))) from.old result }
     ensures stands { IfOk result (λ k. StandsAfter D.state from.old from.new (moved_by k)) }
     ensures lengthens { IfOk result (λ k. Lengthens D.state E.state (next_numbers k) from.old to.old to.new) }
     ensures faults { CountsEither (D.state (disk_of from.old)).faults (D.state (disk_of from.new)).faults (E.state (disk_of to.old)).faults (E.state (disk_of to.new)).faults result }
@@ -62,10 +63,13 @@ fn append_block<D: Disk, E: Disk>(
 /// Puts the frames that are left in one file, from the one to read next on, behind those of another, a
 /// block at a time. Where the codecs have numbers of different widths, each number is changed: a wider
 /// one is a multiple by a power of two, a narrower one is divided by it and rounded toward minus infinity.
-/// What the block held is lost; it has places for one frame at least. The codec of the file that is read is
-/// not ADPCM. It takes no memory, and asks the disk that is read for at most the bytes of the frames.
+/// What the block held is lost; it has places for one frame at least. It takes no memory, and asks the disk
+/// that is read for at most the bytes of the frames; in ADPCM for those of their blocks, and in each call for
+/// two more.
 ///
-/// The answer is `Fault` where a call of one of the two disks failed: from then on its file is broken.
+/// The answer is `Fault` where a call of one of the two disks failed: from then on its file is broken; and
+/// `Changed` where a block of the file that is read is bad, so never where `check_blocks` passed them all and
+/// the file has not changed since.
 pub fn append<D: Disk, E: Disk>(
     from: &mut File<'_, D, Read>,
     to: &mut File<'_, E, Write>,
@@ -76,12 +80,13 @@ pub fn append<D: Disk, E: Disk>(
     ensures loan { loan_of from.new ≡ loan_of from.old }
     ensures to_loan { loan_of to.new ≡ loan_of to.old }
     ensures left { AppendLeaves (left_in (known_of from.old)) (known_of from.old) (known_of from.new) (known_of to.old) (known_of to.new) result }
+    ensures changed { FindsChanged D.state frames_ahead from.old result }
     ensures lengthens { OnOk result (Lengthens D.state E.state numbers_left from.old to.old to.new) }
     ensures faults { CountsEither (D.state (disk_of from.old)).faults (D.state (disk_of from.new)).faults (E.state (disk_of to.old)).faults (E.state (disk_of to.new)).faults result }
     ensures reads { OnlyReadsOn D.state D.may_leave D.left_between (disk_of from.old) (disk_of from.new) }
     ensures tells { TellsOn E.state to.old to.new }
     ensures time { GoesOnFrom E.state E.left_between (disk_of to.old) (disk_of to.new) }
-    ensures asked { AsksForLeft D.state from.old from.new }
+    ensures asked { AsksForLeft D.state (length block.old) from.old from.new }
     ensures to_asked { AsksNothing E.state to.old to.new }
 {
     let (channels, _) = numbers_of(from);

@@ -8,7 +8,7 @@ ghost use Rattle.snd_modes.specs.Handle.{IsFresh, disk_of, known_of, loan_of};
 ghost use Rattle.snd_modes.specs.Loans.{answer_of, disk_after, disk_back, loan_after, loan_back};
 ghost use Rattle.snd_modes.specs.Relaid.{shape_with};
 ghost use Rattle.snd_patch.specs.Steps.{StillTells};
-ghost use Rattle.snd_output.specs.Ends.{BeginsFile, CountsStop, IsFinishCause, MakesWhole, stop_of};
+ghost use Rattle.snd_output.specs.Ends.{BeginsFile, CountsStop, IsFinishCause, IsUnchanged, MakesWhole, stop_of};
 
 use crate::stop::Stop;
 use snd_disk::Disk;
@@ -43,6 +43,7 @@ pub fn begin<'d, E: Disk>(
     ensures fresh { IfOk result (λ f. IsFresh (known_of f)) }
     ensures shape { IfOk result (λ f. (known_of f).shape ≡ shape_with kind params []) }
     ensures faults { CountsStop (E.state disk.old).faults (E.state (disk_after result)).faults (answer_of result) }
+    ensures unchanged { IsUnchanged (answer_of result) }
     ensures tells { StillTells (E.state disk.old) (E.state (disk_after result)) }
     ensures time { GoesOnFrom E.state E.left_between disk.old (disk_after result) }
     ensures written { WritesAtMost E.state 2048 disk.old (disk_after result) }

@@ -12,6 +12,8 @@ pub enum Stop {
     Fault,
     /// There was no memory.
     Memory,
+    /// A file that is read has changed meanwhile: a block of its samples is bad.
+    Changed,
 }
 
 impl From<AllocError> for Stop {

@@ -9,6 +9,8 @@ mod containers;
 #[cfg(test)]
 mod crash;
 #[cfg(test)]
+mod encoding;
+#[cfg(test)]
 mod kinds;
 mod memory;
 #[cfg(test)]

@@ -222,8 +222,8 @@ static SCRIPTS: [(&str, &str, u8); 15] = [
         1,
     ),
     (
-        "create au pcm_8 1 1 a\ncreate wave ima 1 8000 a\ntap peak\nget chunks\nseek w 0\n",
-        "error 40 BadCommand\nerror 99 NotBuilt\nerror 42 NotOpen\nerror 42 NotOpen\nerror 42 NotOpen\n",
+        "create au pcm_8 1 1 a\ncreate wave ima 3 8000 a\ntap peak\nget chunks\nseek w 0\n",
+        "error 40 BadCommand\nerror 18 BadPair\nerror 42 NotOpen\nerror 42 NotOpen\nerror 42 NotOpen\n",
         1,
     ),
     // each frame that is read is fed to each tap that is on, and one that was dropped never comes back

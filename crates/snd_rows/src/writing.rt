@@ -100,7 +100,7 @@ static PINNED: [Row; 3] = [
         name: "a.wav",
         before: Some(PLAIN),
         script: "create wave ima 1 8000 b.wav\ncreate wave pcm_u8 1 8000 b.wav\nopen r b.wav\nopen u a.wav\nauto off\nauto on\nclosed\nseek w 2\nwrite 7\nseek w 0\nwrite 5\nread 1\n",
-        answers: "ok 2 1 8000 wave pcm_16_le\nok 2\nerror 99 NotBuilt\nerror 65 Pinned\nerror 65 Pinned\nerror 65 Pinned\nerror 65 Pinned\nerror 65 Pinned\nerror 40 BadCommand\nok 2\nok 1\nok 0\nok 1\nok 1\n5\n",
+        answers: "ok 2 1 8000 wave pcm_16_le\nok 2\nerror 65 Pinned\nerror 65 Pinned\nerror 65 Pinned\nerror 65 Pinned\nerror 65 Pinned\nerror 65 Pinned\nerror 40 BadCommand\nok 2\nok 1\nok 0\nok 1\nok 1\n5\n",
         status: 1,
         after: GROWN,
     },

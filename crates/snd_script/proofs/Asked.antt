@@ -9,7 +9,7 @@ use Rattle.snd_modes.specs.Editing.{Editing, frames_left}
 use Rattle.snd_modes.specs.Handle.{Known}
 use Rattle.snd_modes.specs.Reading.{bytes_to_read}
 use Rattle.snd_script.specs.Rules.{read_known}
-use Rattle.snd_script.proofs.BlockBytes.{most_read}
+use Rattle.snd_modes.proofs.BlockBytes.{most_read}
 
 whole_frames : (size count channels : ℕ) → size ≡ count * channels → 1 ≤ channels → size / channels ≡ count
 whole_frames size count channels e some = ap (λ n. n / channels) e ∙ mul-div_cancel count some

@@ -13,8 +13,8 @@ use Rattle.snd_modes.specs.Handle.{Known, Stands, known_of}
 use Rattle.snd_modes.specs.declared.handle.File.{File}
 use Rattle.snd_modes.specs.declared.mode.Mode.{Ghosts as ModeGhosts}
 use Rattle.snd_pcm.specs.Groups.{first_groups, groups}
-use Rattle.snd_script.specs.Desk.{Mode, makes, pinned, reading, reads, updating, writes, writing}
-use Rattle.snd_script.specs.Rules.{Rule, auto_rule, in_mode, read_rule, refused_rule, seek_read_rule, seek_rule, seek_write_rule, set_bext_rule, trim_rule, truncate_rule, unless_pinned, update_rule, write_rule}
+use Rattle.snd_script.specs.Desk.{Mode, encodes, encoding, makes, pinned, reading, reads, updating, writes, writing}
+use Rattle.snd_script.specs.Rules.{Rule, auto_rule, by_blocks, encode_rule, in_mode, read_rule, refused_rule, seek_read_rule, seek_rule, seek_write_rule, set_bext_rule, trim_rule, truncate_rule, unless_pinned, update_rule, write_rule}
 use Rattle.snd_script.specs.Stepped.{LeavesTaps}
 use Rattle.snd_script.specs.Work.{FeedsFile, FeedsWork, IsReadFault, IsSent, asking_rule, setting_rule, work_rule}
 use Rattle.snd_script.specs.declared.handle.Reply.{Reply}
@@ -25,8 +25,8 @@ use Rattle.snd_script.specs.declared.work.Asking.TheVariants as asking
 use Rattle.snd_script.specs.declared.work.Setting.{Setting}
 use Rattle.snd_script.specs.declared.work.Setting.TheVariants as setting
 use Rattle.snd_script.specs.declared.work.Work.{Work}
-use Rattle.snd_script.specs.declared.work.Work.TheVariants.{Open, Update, Make, Close, Tell, SeekRead, SeekWrite, SeekBoth, Read, Write, Truncate, Trim, BringUp, Auto, Set, Ask, Tap, Untap, NotBuilt}
-use Rattle.snd_lines.specs.declared.refusal.Refusal.TheVariants.{AlreadyOpen}
+use Rattle.snd_script.specs.declared.work.Work.TheVariants.{Open, Update, Make, Close, Tell, SeekRead, SeekWrite, SeekBoth, Read, Write, Truncate, Trim, BringUp, Auto, Set, Ask, Tap, Untap}
+use Rattle.snd_lines.specs.declared.refusal.Refusal.TheVariants.{AdpcmSeek, AdpcmUpdate, AlreadyOpen}
 
 -- a rule that feeds nothing, and leaves the taps
 pub record StaysFed (rule : Rule) : Type 0 where
@@ -101,6 +101,10 @@ stays_in : (has : Bool) (rule : Rule) → StaysFed rule → StaysFed (in_mode ha
 stays_in true rule stays = stays
 stays_in false rule stays = record { feeds = λ e. refl; taps = λ codec frames taps. refl }
 
+stays_by : (blocks : Bool) (rule rule' : Rule) → StaysFed rule → StaysFed rule' → StaysFed (by_blocks blocks rule rule')
+stays_by true rule rule' stays stays' = stays
+stays_by false rule rule' stays stays' = stays'
+
 stays_unread : (has : Bool) (rule : Rule) → not has ≡ true → StaysFed (in_mode has rule)
 stays_unread true rule quiet = absurd (cc)
 stays_unread false rule quiet = record { feeds = λ e. refl; taps = λ codec frames taps. refl }
@@ -108,12 +112,14 @@ stays_unread false rule quiet = record { feeds = λ e. refl; taps = λ codec fra
 stays_held : (mode : Mode) (rule : Rule) → StaysFed rule → StaysFed (unless_pinned true mode rule)
 stays_held reading rule stays = stays
 stays_held writing rule stays = stays
+stays_held encoding rule stays = stays
 stays_held updating rule stays = stays
 stays_held pinned rule stays = record { feeds = λ e. refl; taps = λ codec frames taps. refl }
 
 seek_stays : (mode : Mode) (n : ℕ) → StaysFed (seek_rule mode n)
 seek_stays reading n = record { feeds = λ e. refl; taps = λ codec frames taps. refl }
 seek_stays writing n = record { feeds = λ e. refl; taps = λ codec frames taps. refl }
+seek_stays encoding n = record { feeds = λ e. refl; taps = λ codec frames taps. refl }
 seek_stays updating n = record { feeds = λ e. refl; taps = λ codec frames taps. refl }
 seek_stays pinned n = record { feeds = λ e. refl; taps = λ codec frames taps. refl }
 
@@ -123,17 +129,16 @@ opens_none mode = stays_held mode (refused_rule AlreadyOpen) (record { feeds = �
 work_stays : (mode : Mode) (taps : List Gauge) (work : Work) → is_quiet mode work ≡ true → StaysFed (work_rule mode taps work)
 work_stays mode taps Tell quiet = record { feeds = λ e. refl; taps = λ codec frames taps. refl }
 work_stays mode taps (SeekRead n) quiet = stays_in (reads mode) (seek_read_rule n) (record { feeds = λ e. refl; taps = λ codec frames taps. refl })
-work_stays mode taps (SeekWrite n) quiet = stays_in (writes mode) (seek_write_rule n) (record { feeds = λ e. refl; taps = λ codec frames taps. refl })
+work_stays mode taps (SeekWrite n) quiet = stays_in (writes mode) _ (stays_by (encodes mode) (refused_rule AdpcmSeek) (seek_write_rule n) (record { feeds = λ e. refl; taps = λ codec frames taps. refl }) (record { feeds = λ e. refl; taps = λ codec frames taps. refl }))
 work_stays mode taps (SeekBoth n) quiet = seek_stays mode n
 work_stays mode taps (Read n) quiet = stays_unread (reads mode) (read_rule n) quiet
-work_stays mode taps (Write xs) quiet = stays_in (writes mode) (write_rule xs.now) (record { feeds = λ e. refl; taps = λ codec frames taps. refl })
-work_stays mode taps (Truncate n) quiet = stays_in (writes mode) (truncate_rule n) (record { feeds = λ e. refl; taps = λ codec frames taps. refl })
-work_stays mode taps Trim quiet = stays_in (writes mode) trim_rule (record { feeds = λ e. refl; taps = λ codec frames taps. refl })
+work_stays mode taps (Write xs) quiet = stays_in (writes mode) _ (stays_by (encodes mode) (encode_rule xs.now) (write_rule xs.now) (record { feeds = λ e. refl; taps = λ codec frames taps. refl }) (record { feeds = λ e. refl; taps = λ codec frames taps. refl }))
+work_stays mode taps (Truncate n) quiet = stays_in (writes mode) _ (stays_by (encodes mode) (refused_rule AdpcmUpdate) (truncate_rule n) (record { feeds = λ e. refl; taps = λ codec frames taps. refl }) (record { feeds = λ e. refl; taps = λ codec frames taps. refl }))
+work_stays mode taps Trim quiet = stays_in (writes mode) _ (stays_by (encodes mode) (refused_rule AdpcmUpdate) trim_rule (record { feeds = λ e. refl; taps = λ codec frames taps. refl }) (record { feeds = λ e. refl; taps = λ codec frames taps. refl }))
 work_stays mode taps BringUp quiet = stays_in (writes mode) update_rule (record { feeds = λ e. refl; taps = λ codec frames taps. refl })
 work_stays mode taps (Auto on) quiet = stays_held mode (in_mode (writes mode) (auto_rule on)) (stays_in (writes mode) (auto_rule on) (record { feeds = λ e. refl; taps = λ codec frames taps. refl }))
 work_stays mode taps (Set setting) quiet = stays_in (makes mode) (setting_rule setting) (setting_stays setting)
 work_stays mode taps (Ask asking) quiet = asking_stays asking
-work_stays mode taps NotBuilt quiet = record { feeds = λ e. refl; taps = λ codec frames taps. refl }
 work_stays mode taps (Tap kind) quiet = absurd (cc)
 work_stays mode taps (Untap kind) quiet = absurd (cc)
 work_stays mode taps (Open name) quiet = opens_none mode

@@ -96,7 +96,7 @@ module _ {D M O : Type 0} {mode : ModeGhosts M} (d : Ghosts D) (o : SinkMeaning 
       → StillTells (d.state (disk_of old)) (d.state (disk_of new)) → GoesOnFrom d.state d.left_between (disk_of old) (disk_of new)
       → (rule.changes ≡ false → OnlyReadsOn d.state d.may_leave d.left_between (disk_of old) (disk_of new))
       → (rule.changes ≡ true → LeavesDone) → (rule.changes ≡ true → RestsDone)
-      → AsksAtMost d.state rule.asked (disk_of old) (disk_of new) → WritesAtMost d.state rule.written (disk_of old) (disk_of new) → Follows d o rule r old out new out'
+      → AsksAtMost d.state rule.asked (disk_of old) (disk_of new) → WritesAtMost d.state (rule.written (known_of old).shape.params) (disk_of old) (disk_of new) → Follows d o rule r old out new out'
   carried_out text loan free sent said answer stands known calm tells time reads leaves rests asked written = record {
     loan = loan;
     stands = λ e here. subst (λ (x : FileEdited). LeavesFile r x e (Stands d.state new)) (edited_on None free e here) (sent_stands r _ _ (rule.done e) e _ sent (stands e here));
@@ -123,10 +123,10 @@ module _ {D M O : Type 0} {mode : ModeGhosts M} (d : Ghosts D) (o : SinkMeaning 
 
   -- one that was refused, and that left what the handle knows, and the disk
   pub refused_on : (refusal : Refusal) → loan_of new ≡ loan_of old → refusal_by rule (known_of old) ≡ Some refusal → IsSent r (o.faults out) (o.faults out') → IsSaid r (refuses refusal) (o.told out) (o.told out')
-      → known_of new ≡ known_of old → disk_of new ≡ disk_of old → Follows d o rule r old out new out'
-  refused_on refusal loan why sent said known disk = record {
+      → known_of new ≡ known_of old → ((e : Editing) → Stands d.state old e → Stands d.state new e) → disk_of new ≡ disk_of old → Follows d o rule r old out new out'
+  refused_on refusal loan why sent said known stands disk = record {
     loan = loan;
-    stands = λ e here. subst (λ (x : FileEdited). LeavesFile r x e (Stands d.state new)) (edited_on (Some refusal) why e here) (sent_stands r _ _ _ e _ sent (same_stands e here));
+    stands = λ e here. subst (λ (x : FileEdited). LeavesFile r x e (Stands d.state new)) (edited_on (Some refusal) why e here) (sent_stands r _ _ _ e _ sent (stands e here));
     said = λ e here. subst (λ (x : FileEdited). IsSaid r x.answer (o.told out) (o.told out')) (edited_on (Some refusal) why e here) said;
     silent = sent_silent r _ _ _ _ sent;
     cause = sent_cause r _ _ _ _ sent (ap (λ x. (d.state x).faults) disk);
@@ -139,7 +139,7 @@ module _ {D M O : Type 0} {mode : ModeGhosts M} (d : Ghosts D) (o : SinkMeaning 
     leaves = λ changes. absurd (let none = unchanged in cc);
     rests = λ changes. absurd (let none = unchanged in cc);
     asked = subst (λ (x : D). AsksAtMost d.state rule.asked (disk_of old) x) (sym disk) (record { later = omega arith; most = omega arith });
-    written = subst (λ (x : D). WritesAtMost d.state rule.written (disk_of old) x) (sym disk) (record { later = omega arith; most = omega arith });
+    written = subst (λ (x : D). WritesAtMost d.state (rule.written (known_of old).shape.params) (disk_of old) x) (sym disk) (record { later = omega arith; most = omega arith });
   }
     where
       and_none : (b : Bool) → (b && false) ≡ false
@@ -149,25 +149,13 @@ module _ {D M O : Type 0} {mode : ModeGhosts M} (d : Ghosts D) (o : SinkMeaning 
       unchanged : changes_by rule (known_of old) ≡ false
       unchanged = ap (λ x. rule.changes && is_none x) why ∙ and_none rule.changes
 
-      same_stands : (e : Editing) → Stands d.state old e → Stands d.state new e
-      same_stands e here = record {
-        bytes = ap (λ x. (d.state x).contents) disk ∙ here.bytes;
-        shape = ap (λ (k : Known). k.shape) known ∙ here.shape;
-        place = ap (λ (k : Known). k.place) known ∙ here.place;
-        write_place = ap (λ (k : Known). k.write_place) known ∙ here.write_place;
-        automatic = ap (λ (k : Known). k.automatic) known ∙ here.automatic;
-        written = ap (λ (k : Known). k.written) known ∙ here.written;
-        sound = here.sound;
-        count = here.count;
-      }
-
 -- the disk failed at a command that changes the file and was not refused
 pub failed : {D M O : Type 0} {mode : ModeGhosts M} (d : Ghosts D) (o : SinkMeaning O) (rule : Rule) (old : File D M d mode) (out : O) (new : File D M d mode)
     → loan_of new ≡ loan_of old → refusal_by rule (known_of old) ≡ None → rule.changes ≡ true → Rose (d.state (disk_of old)).faults (d.state (disk_of new)).faults
     → ((step : Step) × IsBrokenAt rule.seals_first step (known_of old) (known_of new))
     → StillTells (d.state (disk_of old)) (d.state (disk_of new)) → GoesOnFrom d.state d.left_between (disk_of old) (disk_of new)
     → LeavesDone d o rule (Err Disk) old out new out
-    → AsksAtMost d.state rule.asked (disk_of old) (disk_of new) → WritesAtMost d.state rule.written (disk_of old) (disk_of new) → Follows d o rule (Err Disk) old out new out
+    → AsksAtMost d.state rule.asked (disk_of old) (disk_of new) → WritesAtMost d.state (rule.written (known_of old).shape.params) (disk_of old) (disk_of new) → Follows d o rule (Err Disk) old out new out
 failed d o rule old out new loan free changes rose broken tells time leaves asked written = record {
   loan = loan;
   stands = λ e here. tt;

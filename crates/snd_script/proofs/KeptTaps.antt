@@ -5,15 +5,15 @@ use Rattle.std.proofs.Common.{◌≡◌, ℕ, ℤ, List, [], ◌∷◌, Bool, tr
 use Rattle.snd_command.specs.Said.{Said}
 use Rattle.snd_layout.specs.declared.codec.Codec.{Codec}
 use Rattle.snd_lines.specs.declared.refusal.Refusal.{Refusal}
-use Rattle.snd_lines.specs.declared.refusal.Refusal.TheVariants.{NoSuchTap, NotBuilt, Pinned, TapOn}
+use Rattle.snd_lines.specs.declared.refusal.Refusal.TheVariants.{AdpcmSeek, AdpcmUpdate, NoSuchTap, Pinned, TapOn}
 use Rattle.snd_meta.specs.declared.bext.BextKey.{BextKey}
 use Rattle.snd_meta.specs.declared.bext.BextKey.TheVariants.{Description, Originator, OrigRef, OrigDate, OrigTime, TimeRef, CodingHist}
 use Rattle.snd_meters.specs.Gauge.{Gauge, waiting, on, is_on, is_waiting, same_kind, started_gauge}
 use Rattle.snd_meters.specs.Gauges.{after_start, after_stop, first_changed, start_answer, stop_answer, without_first}
 use Rattle.snd_pcm.specs.Pcm.{high, low}
-use Rattle.snd_script.specs.Desk.{Mode, is_pinned, makes, pinned, reading, reads, updating, writes, writing}
+use Rattle.snd_script.specs.Desk.{Mode, encodes, encoding, is_pinned, makes, pinned, reading, reads, updating, writes, writing}
 use Rattle.snd_script.specs.Laws.{RefusedLeavesTaps}
-use Rattle.snd_script.specs.Rules.{Grounds, Rule, auto_rule, built_rule, in_mode, is_built, is_held, read_rule, refused_rule, seek_read_rule, seek_rule, seek_write_rule, set_bext_rule, set_chunk_rule, set_cue_rule, set_string_rule, tap_range, trim_rule, truncate_rule, unless_pinned, update_rule, why_not, write_rule}
+use Rattle.snd_script.specs.Rules.{Grounds, Rule, auto_rule, by_blocks, encode_rule, in_mode, is_held, plain_rule, read_rule, refused_rule, seek_read_rule, seek_rule, seek_write_rule, set_bext_rule, set_chunk_rule, set_cue_rule, set_string_rule, tap_range, trim_rule, truncate_rule, unless_pinned, update_rule, why_not, write_rule}
 use Rattle.snd_taps.specs.declared.tap.TapKind.{TapKind}
 
 -- ---- a tap that does not begin, and one that does not end
@@ -61,9 +61,14 @@ stays_in : (taps : List Gauge) (has : Bool) (rule : Rule) → StaysRefused taps 
 stays_in taps true rule stays = stays
 stays_in taps false rule stays = record { same = λ g codec frames refused. refl }
 
+stays_by : (taps : List Gauge) (blocks : Bool) (rule rule' : Rule) → StaysRefused taps rule → StaysRefused taps rule' → StaysRefused taps (by_blocks blocks rule rule')
+stays_by taps true rule rule' stays stays' = stays
+stays_by taps false rule rule' stays stays' = stays'
+
 stays_seek : (mode : Mode) (taps : List Gauge) (n : ℕ) → StaysRefused taps (seek_rule mode n)
 stays_seek reading taps n = record { same = λ g codec frames refused. refl }
 stays_seek writing taps n = record { same = λ g codec frames refused. refl }
+stays_seek encoding taps n = record { same = λ g codec frames refused. refl }
 stays_seek updating taps n = record { same = λ g codec frames refused. refl }
 stays_seek pinned taps n = record { same = λ g codec frames refused. refl }
 
@@ -76,36 +81,32 @@ stays_bext taps OrigTime text = record { same = λ g codec frames refused. refl 
 stays_bext taps TimeRef text = record { same = λ g codec frames refused. refl }
 stays_bext taps CodingHist text = record { same = λ g codec frames refused. refl }
 
-stays_built : (mode : Mode) (taps : List Gauge) (said : Said) → StaysRefused taps (built_rule mode taps said)
-stays_built mode taps (Said.open_read name) = record { same = λ g codec frames refused. refl }
-stays_built mode taps (Said.open_update name) = record { same = λ g codec frames refused. refl }
-stays_built mode taps (Said.create kind codec channels rate name) = record { same = λ g codec frames refused. refl }
-stays_built mode taps Said.info = record { same = λ g codec frames refused. refl }
-stays_built mode taps Said.close = record { same = λ g codec frames refused. refl }
-stays_built mode taps (Said.seek_read n) = stays_in taps (reads mode) (seek_read_rule n) (record { same = λ g codec frames refused. refl })
-stays_built mode taps (Said.seek_write n) = stays_in taps (writes mode) (seek_write_rule n) (record { same = λ g codec frames refused. refl })
-stays_built mode taps (Said.seek_both n) = stays_seek mode taps n
-stays_built mode taps (Said.read n) = stays_in taps (reads mode) (read_rule n) (record { same = λ g codec frames refused. absurd (cc) })
-stays_built mode taps (Said.write xs) = stays_in taps (writes mode) (write_rule xs) (record { same = λ g codec frames refused. refl })
-stays_built mode taps (Said.truncate n) = stays_in taps (writes mode) (truncate_rule n) (record { same = λ g codec frames refused. refl })
-stays_built mode taps Said.trim = stays_in taps (writes mode) trim_rule (record { same = λ g codec frames refused. refl })
-stays_built mode taps Said.update = stays_in taps (writes mode) update_rule (record { same = λ g codec frames refused. refl })
-stays_built mode taps (Said.auto automatic) = stays_in taps (writes mode) (auto_rule automatic) (record { same = λ g codec frames refused. refl })
-stays_built mode taps (Said.set_chunk id hex) = stays_in taps (makes mode) (set_chunk_rule id hex) (record { same = λ g codec frames refused. refl })
-stays_built mode taps (Said.set_string key text) = stays_in taps (makes mode) (set_string_rule key text) (record { same = λ g codec frames refused. refl })
-stays_built mode taps (Said.set_bext key text) = stays_in taps (makes mode) (set_bext_rule key text) (stays_bext taps key text)
-stays_built mode taps (Said.set_cue places) = stays_in taps (makes mode) (set_cue_rule places) (record { same = λ g codec frames refused. refl })
-stays_built mode taps (Said.get_chunk id) = record { same = λ g codec frames refused. refl }
-stays_built mode taps Said.get_chunks = record { same = λ g codec frames refused. refl }
-stays_built mode taps Said.get_strings = record { same = λ g codec frames refused. refl }
-stays_built mode taps Said.get_bext = record { same = λ g codec frames refused. refl }
-stays_built mode taps Said.get_cues = record { same = λ g codec frames refused. refl }
-stays_built mode taps (Said.tap kind) = record { same = λ g codec frames refused. start_refused kind (low (tap_range codec)) (high (tap_range codec)) taps refused }
-stays_built mode taps (Said.untap kind) = record { same = λ g codec frames refused. stop_refused kind taps refused }
-
-stays_if : (taps : List Gauge) (built : Bool) (rule : Rule) → StaysRefused taps rule → StaysRefused taps (if built then rule else refused_rule NotBuilt)
-stays_if taps true rule stays = stays
-stays_if taps false rule stays = record { same = λ g codec frames refused. refl }
+stays_plain : (mode : Mode) (taps : List Gauge) (said : Said) → StaysRefused taps (plain_rule mode taps said)
+stays_plain mode taps (Said.open_read name) = record { same = λ g codec frames refused. refl }
+stays_plain mode taps (Said.open_update name) = record { same = λ g codec frames refused. refl }
+stays_plain mode taps (Said.create kind codec channels rate name) = record { same = λ g codec frames refused. refl }
+stays_plain mode taps Said.info = record { same = λ g codec frames refused. refl }
+stays_plain mode taps Said.close = record { same = λ g codec frames refused. refl }
+stays_plain mode taps (Said.seek_read n) = stays_in taps (reads mode) (seek_read_rule n) (record { same = λ g codec frames refused. refl })
+stays_plain mode taps (Said.seek_write n) = stays_in taps (writes mode) _ (stays_by taps (encodes mode) (refused_rule AdpcmSeek) (seek_write_rule n) (record { same = λ g codec frames refused. refl }) (record { same = λ g codec frames refused. refl }))
+stays_plain mode taps (Said.seek_both n) = stays_seek mode taps n
+stays_plain mode taps (Said.read n) = stays_in taps (reads mode) (read_rule n) (record { same = λ g codec frames refused. absurd (cc) })
+stays_plain mode taps (Said.write xs) = stays_in taps (writes mode) _ (stays_by taps (encodes mode) (encode_rule xs) (write_rule xs) (record { same = λ g codec frames refused. refl }) (record { same = λ g codec frames refused. refl }))
+stays_plain mode taps (Said.truncate n) = stays_in taps (writes mode) _ (stays_by taps (encodes mode) (refused_rule AdpcmUpdate) (truncate_rule n) (record { same = λ g codec frames refused. refl }) (record { same = λ g codec frames refused. refl }))
+stays_plain mode taps Said.trim = stays_in taps (writes mode) _ (stays_by taps (encodes mode) (refused_rule AdpcmUpdate) trim_rule (record { same = λ g codec frames refused. refl }) (record { same = λ g codec frames refused. refl }))
+stays_plain mode taps Said.update = stays_in taps (writes mode) update_rule (record { same = λ g codec frames refused. refl })
+stays_plain mode taps (Said.auto automatic) = stays_in taps (writes mode) (auto_rule automatic) (record { same = λ g codec frames refused. refl })
+stays_plain mode taps (Said.set_chunk id hex) = stays_in taps (makes mode) (set_chunk_rule id hex) (record { same = λ g codec frames refused. refl })
+stays_plain mode taps (Said.set_string key text) = stays_in taps (makes mode) (set_string_rule key text) (record { same = λ g codec frames refused. refl })
+stays_plain mode taps (Said.set_bext key text) = stays_in taps (makes mode) (set_bext_rule key text) (stays_bext taps key text)
+stays_plain mode taps (Said.set_cue places) = stays_in taps (makes mode) (set_cue_rule places) (record { same = λ g codec frames refused. refl })
+stays_plain mode taps (Said.get_chunk id) = record { same = λ g codec frames refused. refl }
+stays_plain mode taps Said.get_chunks = record { same = λ g codec frames refused. refl }
+stays_plain mode taps Said.get_strings = record { same = λ g codec frames refused. refl }
+stays_plain mode taps Said.get_bext = record { same = λ g codec frames refused. refl }
+stays_plain mode taps Said.get_cues = record { same = λ g codec frames refused. refl }
+stays_plain mode taps (Said.tap kind) = record { same = λ g codec frames refused. start_refused kind (low (tap_range codec)) (high (tap_range codec)) taps refused }
+stays_plain mode taps (Said.untap kind) = record { same = λ g codec frames refused. stop_refused kind taps refused }
 
 stays_pinned : (taps : List Gauge) (pins : Bool) (rule : Rule) → StaysRefused taps rule → StaysRefused taps (if pins then refused_rule Pinned else rule)
 stays_pinned taps true rule stays = record { same = λ g codec frames refused. refl }
@@ -117,4 +118,4 @@ stays_held taps false mode rule stays = stays
 
 pub refused_leaves : RefusedLeavesTaps
 refused_leaves mode taps said g codec frames refused =
-    (stays_if taps (is_built said) _ (stays_held taps (is_held said) mode (built_rule mode taps said) (stays_built mode taps said))).same g codec frames refused
+    (stays_held taps (is_held said) mode (plain_rule mode taps said) (stays_plain mode taps said)).same g codec frames refused

@@ -1,10 +1,11 @@
 pub mod Asked
-pub mod BlockBytes
 pub mod Chains
 pub mod Ends
 pub mod Followed
+pub mod HeadParams
 pub mod Lines
 pub mod Makings
+pub mod MadeBlocks
 pub mod Names
 pub mod NeedsOpen
 pub mod NotOpened

@@ -9,7 +9,7 @@ use Rattle.snd_layout.specs.declared.refusal.OpenRefusal.{OpenRefusal}
 use Rattle.snd_layout.specs.declared.refusal.OpenRefusal.TheVariants as chunk
 use Rattle.snd_layout.specs.Names.{codec_name, kind_name, refusal_name as open_name}
 use Rattle.snd_lines.specs.declared.refusal.Refusal.{Refusal}
-use Rattle.snd_lines.specs.declared.refusal.Refusal.TheVariants.{Open, AdpcmUpdate, UnknownLength, PartFrame, SampleRange, SeekRange, TrailingData, ContainerFull, Straddle, FramesWritten, ReservedChunk, NoChunks, ChunkTooLarge, AutoOn, NoSuchChunk, BadBlock, BadCommand, LineTooLong, NotOpen, AlreadyOpen, WrongMode, SameName, MixedParams, NotMono, UnknownSuffix, MissingFile, BadInfo, BadCue, BadBext, TextTooLong, Pinned, NotBuilt, NoSuchTap, TapOn}
+use Rattle.snd_lines.specs.declared.refusal.Refusal.TheVariants.{Open, AdpcmUpdate, UnknownLength, PartFrame, SampleRange, SeekRange, TrailingData, ContainerFull, Straddle, FramesWritten, ReservedChunk, NoChunks, ChunkTooLarge, AutoOn, AdpcmSeek, NoSuchChunk, BadBlock, BadCommand, LineTooLong, NotOpen, AlreadyOpen, WrongMode, SameName, MixedParams, NotMono, UnknownSuffix, MissingFile, BadInfo, BadCue, BadBext, TextTooLong, Pinned, NoSuchTap, TapOn}
 use Rattle.snd_lines.specs.Refusals.{refusal_name}
 use Rattle.snd_taps.specs.Names.{tap_name}
 use Rattle.snd_taps.specs.declared.tap.TapKind.{TapKind}
@@ -85,6 +85,7 @@ short_refusal ReservedChunk = lit≤ tt
 short_refusal NoChunks = lit≤ tt
 short_refusal ChunkTooLarge = lit≤ tt
 short_refusal AutoOn = lit≤ tt
+short_refusal AdpcmSeek = lit≤ tt
 short_refusal NoSuchChunk = lit≤ tt
 short_refusal BadBlock = lit≤ tt
 short_refusal BadInfo = lit≤ tt
@@ -92,7 +93,6 @@ short_refusal BadCue = lit≤ tt
 short_refusal BadBext = lit≤ tt
 short_refusal TextTooLong = lit≤ tt
 short_refusal Pinned = lit≤ tt
-short_refusal NotBuilt = lit≤ tt
 short_refusal NoSuchTap = lit≤ tt
 short_refusal TapOn = lit≤ tt
 

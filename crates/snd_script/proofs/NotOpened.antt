@@ -1,9 +1,11 @@
 -- What is known of a run where a file was not opened.
-use Rattle.std.proofs.Common.{◌≡◌, ℕ, List, Bool, true, false, Option, Some, Result, Ok, Err, refl, sym, ◌∙◌, ap, subst}
+use Rattle.std.proofs.Common.{◌≡◌, ℕ, List, Bool, true, false, ◌&&◌, Option, Some, Result, Ok, Err, refl, sym, ◌∙◌, ap, subst}
+use Rattle.std.specs.Str.{bytes_eq}
 use Rattle.snd_disk.proofs.Names.{same_bytes}
 use Rattle.snd_disk.specs.Device.{Tells}
 use Rattle.snd_disk.specs.State.{State}
 use Rattle.snd_disk.specs.declared.disk.Disk.{Ghosts}
+use Rattle.snd_layout.specs.Blocks.{is_adpcm}
 use Rattle.snd_layout.specs.declared.error.OpenError.{OpenError}
 use Rattle.snd_layout.specs.declared.error.OpenError.TheVariants as cause
 use Rattle.snd_layout.specs.declared.kind.Kind.{Kind}
@@ -11,8 +13,8 @@ use Rattle.snd_layout.specs.declared.params.Params.{Params}
 use Rattle.snd_meters.specs.Gauge.{Gauge}
 use Rattle.snd_modes.specs.Editing.{Editing}
 use Rattle.snd_modes.specs.Making.{making_of}
-use Rattle.snd_script.specs.Desk.{Desk, Mode, OpenFile, Store, closed_desk, makes_name}
-use Rattle.snd_script.specs.Edit.{Edited, Opening, as_opened, mode_for, open_edit_of, open_refusal, opened_as, opened_edit, refused}
+use Rattle.snd_script.specs.Desk.{Desk, Mode, OpenFile, Store, closed_desk, makes, makes_name}
+use Rattle.snd_script.specs.Edit.{Edited, Opening, as_opened, mode_for, mode_made, open_edit_of, open_refusal, opened_as, opened_edit, refused}
 use Rattle.snd_script.specs.Lines.{Reading}
 use Rattle.snd_script.specs.Opened.{IsMakeable, OnlyOpens, RefusesOpen, is_making, opening_by}
 use Rattle.snd_script.specs.Replies.{refuses}
@@ -24,6 +26,7 @@ use Rattle.snd_lines.specs.declared.refusal.Refusal.{Refusal}
 use Rattle.snd_script.specs.declared.stop.Stop.{Stop}
 use Rattle.snd_script.specs.declared.stop.Stop.TheVariants.{File, Memory}
 use Rattle.snd_script.proofs.Chains.{line_stops}
+use Rattle.snd_script.proofs.Makings.{made_makes}
 use Rattle.snd_script.proofs.OpenChains.{answered_one, longer_as}
 use Rattle.snd_script.proofs.Openings.{answer_stops}
 
@@ -40,7 +43,8 @@ made_lost : (store : Store) (name : List ℕ) (kind : Kind) (params : Params) (e
 made_lost store name kind params e made kept =
     let is : makes_name (open_edit_of store name (Opening.for_making kind params) (as_opened (Ok e))).desk.open_file name ≡ false =
     ap (λ m. makes_name (open_edit_of store name (Opening.for_making kind params) (as_opened m)).desk.open_file name) (sym made) ∙ kept in
-    let no : true ≡ false = sym (same_bytes name) ∙ is in
+    let made_so : (makes (mode_made (is_adpcm params.codec)) && bytes_eq name name) ≡ bytes_eq name name = ap (λ (b : Bool). b && bytes_eq name name) (made_makes (is_adpcm params.codec)) in
+    let no : true ≡ false = sym (same_bytes name) ∙ sym made_so ∙ is in
     cc
 
 not_both : (r : Result Editing OpenError) (e : Editing) (why : OpenError) → r ≡ Ok e → r ≡ Err why → ⊥

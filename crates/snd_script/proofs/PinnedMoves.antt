@@ -27,13 +27,13 @@ use Rattle.snd_script.specs.Edit.{Edited, close_edit, edit_by, edit_file, edit_o
 use Rattle.snd_script.specs.Handled.{HandleAtRest, HandleStands, handle_disk, handle_known}
 use Rattle.snd_script.specs.Replies.{bext_text, body_text, done_line, error_line, ok_line, frame_line, frames_text, points_text, refuses, says, text_of, texts_text}
 use Rattle.snd_lines.specs.Refusals.{refusal_name, refusal_number}
-use Rattle.snd_script.specs.Rules.{FileEdited, Rule, answered, chunk_of, found_answer, frames_wanted, get_bext_rule, get_chunk_rule, get_chunks_rule, get_cues_rule, get_strings_rule, grounds_of, is_built, is_close, is_held, read_rule, refused_rule, report_of, rule_of, says_of, seek_both_rule, seek_read_rule, seek_write_rule, tap_rule, tell_rule, trim_rule, truncate_rule, untap_rule, update_rule, write_rule}
+use Rattle.snd_script.specs.Rules.{FileEdited, Rule, answered, chunk_of, found_answer, frames_wanted, get_bext_rule, get_chunk_rule, get_chunks_rule, get_cues_rule, get_strings_rule, grounds_of, is_close, is_held, read_rule, refused_rule, report_of, rule_of, says_of, seek_both_rule, seek_read_rule, seek_write_rule, tap_rule, tell_rule, trim_rule, truncate_rule, untap_rule, update_rule, write_rule}
 use Rattle.snd_script.specs.Trail.{MovesSafely, RestsAt, pinned_file, state_behind}
 use Rattle.snd_script.proofs.StaysOpen.{carried}
 use Rattle.snd_script.specs.declared.handle.Handle.{Handle}
-use Rattle.snd_script.specs.declared.handle.Handle.TheVariants.{R, W, U}
+use Rattle.snd_script.specs.declared.handle.Handle.TheVariants.{R, W, B, U}
 use Rattle.snd_lines.specs.declared.refusal.Refusal.{Refusal}
-use Rattle.snd_lines.specs.declared.refusal.Refusal.TheVariants.{BadBext, BadBlock, BadCommand, BadCue, BadInfo, ChunkTooLarge, LineTooLong, NoSuchChunk, NotBuilt, Pinned, WrongMode}
+use Rattle.snd_lines.specs.declared.refusal.Refusal.TheVariants.{BadBext, BadBlock, BadCommand, BadCue, BadInfo, ChunkTooLarge, LineTooLong, NoSuchChunk, Pinned, WrongMode}
 use Rattle.snd_script.specs.declared.stop.Stop.{Stop}
 use Rattle.snd_script.specs.declared.stop.Stop.TheVariants as stop
 
@@ -85,11 +85,6 @@ answering rule some same = record {
 refusing : (refusal : Refusal) → IsAnswering (refused_rule refusal)
 refusing refusal = record { speaks = λ e. error_speaks refusal; automatic = λ e. refl }
 
--- a file that is made is refused, whether or not its kind is built
-making : (built : Bool) → IsAnswering (if built then refused_rule Pinned else refused_rule NotBuilt)
-making true = refusing Pinned
-making false = refusing NotBuilt
-
 cutting_on : (fewer : Bool) (n : ℕ) (e : Editing) → (cond fewer (cut_to n e) (sealed_to e)).automatic ≡ e.automatic
 cutting_on true n e = refl
 cutting_on false n e = refl
@@ -120,8 +115,8 @@ report_speaks kind (Err refusal) = error_speaks refusal
 answers : (taps : List Gauge) (said : Said) → IsAnswering (rule_of pinned taps said)
 answers taps (Said.open_read name) = refusing Pinned
 answers taps (Said.open_update name) = refusing Pinned
-answers taps (Said.create kind codec channels rate name) = making (is_built (Said.create kind codec channels rate name))
-answers taps Said.info = answering tell_rule (λ e. ok_speaks _) (λ e. refl)
+answers taps (Said.create kind word channels rate name) = refusing Pinned
+answers taps Said.info = answering (tell_rule pinned) (λ e. ok_speaks _) (λ e. refl)
 answers taps Said.close = refusing Pinned
 answers taps (Said.seek_read n) = answering (seek_read_rule n) (λ e. ok_speaks _) (λ e. refl)
 answers taps (Said.seek_write n) = answering (seek_write_rule n) (λ e. ok_speaks _) (λ e. refl)
@@ -199,11 +194,13 @@ carried_behind mode taps said e is other = ap (λ (rule : Rule). (edit_by rule e
 pub automatic_of : {D : Type 0} (d : Ghosts D) (opened : List ℕ) (handle : Handle D d) (e : Editing) → HandleAtRest d opened handle e → (handle_known handle).automatic ≡ e.automatic
 automatic_of d opened (R held) e rest = rest.stands.automatic
 automatic_of d opened (W held) e rest = rest.stands.automatic
+automatic_of d opened (B held) e rest = rest.stands.automatic
 automatic_of d opened (U held) e rest = rest.stands.automatic
 
 pub stands_of : {D : Type 0} (d : Ghosts D) (opened : List ℕ) (handle : Handle D d) (e : Editing) → HandleAtRest d opened handle e → HandleStands d.state handle e
 stands_of d opened (R held) e rest = rest.stands
 stands_of d opened (W held) e rest = rest.stands
+stands_of d opened (B held) e rest = rest.stands
 stands_of d opened (U held) e rest = rest.stands
 
 rests_still : {D T : Type 0} (d : Ghosts D) (opened : List ℕ) (r : Result T Stop) (e : Editing) (handle : Handle D d) → HandleAtRest d opened handle e → RestsAt d opened r e e handle
@@ -219,6 +216,7 @@ module _ {D T : Type 0} (d : Ghosts D) (only_now : (disk : D) (s t : ℕ) (x : L
   pub leaves_still : (handle : Handle D d) → HandleAtRest d opened handle e → LeavesEach d (handle_disk handle) (handle_disk handle) (IsSafe e e)
   leaves_still (R held) rest = unchanged d opened held e rest only_now e
   leaves_still (W held) rest = unchanged d opened held e rest only_now e
+  leaves_still (B held) rest = unchanged d opened held e rest only_now e
   leaves_still (U held) rest = unchanged d opened held e rest only_now e
 
   -- nothing is done

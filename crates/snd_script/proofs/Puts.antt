@@ -72,7 +72,7 @@ module _ {D M O : Type 0} {mode : ModeGhosts M} (d : Ghosts D) (o : SinkMeaning 
   IsByHand = changes_by rule (known_of old) ≡ true → IsAutomatic rule (known_of old) → ⊥
 
   -- there was no memory
-  pub lacked : IsAsBefore d rule.asked rule.written old new → rule.takes_memory ≡ true → IsByHand → Follows d o rule (Err Memory) old out new out
+  pub lacked : IsAsBefore d rule.asked (rule.written (known_of old).shape.params) old new → rule.takes_memory ≡ true → IsByHand → Follows d o rule (Err Memory) old out new out
   lacked same takes by_hand = record {
     loan = same.loan;
     stands = same.stands;
@@ -95,7 +95,7 @@ module _ {D M O : Type 0} {mode : ModeGhosts M} (d : Ghosts D) (o : SinkMeaning 
       → ((step : Step) × IsBrokenAt rule.seals_first step (known_of old) (known_of new))
       → StillTells (d.state (disk_of old)) (d.state (disk_of new)) → GoesOnFrom d.state d.left_between (disk_of old) (disk_of new)
       → (changes_by rule (known_of old) ≡ false → OnlyReadsOn d.state d.may_leave d.left_between (disk_of old) (disk_of new)) → IsByHand
-      → AsksAtMost d.state rule.asked (disk_of old) (disk_of new) → WritesAtMost d.state rule.written (disk_of old) (disk_of new) → Follows d o rule (Err Disk) old out new out
+      → AsksAtMost d.state rule.asked (disk_of old) (disk_of new) → WritesAtMost d.state (rule.written (known_of old).shape.params) (disk_of old) (disk_of new) → Follows d o rule (Err Disk) old out new out
   faulted loan rose broken tells time reads by_hand asked written = record {
     loan = loan;
     stands = λ e here. tt;
@@ -120,7 +120,7 @@ module _ {D M O : Type 0} {mode : ModeGhosts M} (d : Ghosts D) (o : SinkMeaning 
       subst (λ (x : Result Reply StepFault). Follows d o rule x old out new out') (sym nothing.0) (subst (λ (x : O). Follows d o rule (Err fault) old out new x) (sym nothing.1) follows)
 
   -- a command that was refused, as every disk has it
-  pub refused_reading : (refusal : Refusal) → IsAsBefore d rule.asked rule.written old new → refusal_by rule (known_of old) ≡ Some refusal → Sends o (refuses refusal) r out out' → Follows d o rule r old out new out'
+  pub refused_reading : (refusal : Refusal) → IsAsBefore d rule.asked (rule.written (known_of old).shape.params) old new → refusal_by rule (known_of old) ≡ Some refusal → Sends o (refuses refusal) r out out' → Follows d o rule r old out new out'
   refused_reading refusal same why sends = record {
     loan = same.loan;
     stands = λ e here. subst (λ (x : FileEdited). LeavesFile r x e (Stands d.state new)) (edited_on d o rule r old out new out' (Some refusal) why e here) (sent_stands r _ _ _ e _ sends.sent (same.stands e here));
@@ -143,7 +143,7 @@ module _ {D M O : Type 0} {mode : ModeGhosts M} (d : Ghosts D) (o : SinkMeaning 
       unchanged = ap (λ x. rule.changes && is_none x) why ∙ and_right rule.changes false refl
 
   -- .. and as the disk alone has it
-  pub found_out : (refusal : Refusal) → IsAsBefore d rule.asked rule.written old new → refusal_by rule (known_of old) ≡ None → rule.finds (known_grounds (known_of old)) refusal ≡ true → IsByHand d o rule old out new
+  pub found_out : (refusal : Refusal) → IsAsBefore d rule.asked (rule.written (known_of old).shape.params) old new → refusal_by rule (known_of old) ≡ None → rule.finds (known_grounds (known_of old)) refusal ≡ true → IsByHand d o rule old out new
       → ((e : Editing) → Stands d.state old e → rule.done e ≡ answered (refuses refusal) e) → Sends o (refuses refusal) r out out' → Follows d o rule r old out new out'
   found_out refusal same free finds by_hand done sends = record {
     loan = same.loan;
@@ -416,17 +416,17 @@ module _ {D M O : Type 0} {mode : ModeGhosts M} (d : Ghosts D) (o : SinkMeaning 
   follows_adding {T} (Err piece_error.Memory) was = silently d o adds r old out new out' Memory was.said (add_lacked T was)
   follows_adding (Err (piece_error.Broken step)) was = absurd was.said
   follows_adding (Err piece_error.FramesWritten) was =
-      refused_on d o adds r old out new out' FramesWritten was.loan (add_refused id body known piece_error.FramesWritten was.left.0 was.working) was.said.sent was.said.said was.left.1 was.stands
+      refused_on d o adds r old out new out' FramesWritten was.loan (add_refused id body known piece_error.FramesWritten was.left.0 was.working) was.said.sent was.said.said was.left.1 was.stands.0 was.stands.1
   follows_adding (Err piece_error.AutoOn) was =
-      refused_on d o adds r old out new out' AutoOn was.loan (add_refused id body known piece_error.AutoOn was.left.0 was.working) was.said.sent was.said.said was.left.1 was.stands
+      refused_on d o adds r old out new out' AutoOn was.loan (add_refused id body known piece_error.AutoOn was.left.0 was.working) was.said.sent was.said.said was.left.1 was.stands.0 was.stands.1
   follows_adding (Err piece_error.ReservedChunk) was =
-      refused_on d o adds r old out new out' ReservedChunk was.loan (add_refused id body known piece_error.ReservedChunk was.left.0 was.working) was.said.sent was.said.said was.left.1 was.stands
+      refused_on d o adds r old out new out' ReservedChunk was.loan (add_refused id body known piece_error.ReservedChunk was.left.0 was.working) was.said.sent was.said.said was.left.1 was.stands.0 was.stands.1
   follows_adding (Err piece_error.NoChunks) was =
-      refused_on d o adds r old out new out' NoChunks was.loan (add_refused id body known piece_error.NoChunks was.left.0 was.working) was.said.sent was.said.said was.left.1 was.stands
+      refused_on d o adds r old out new out' NoChunks was.loan (add_refused id body known piece_error.NoChunks was.left.0 was.working) was.said.sent was.said.said was.left.1 was.stands.0 was.stands.1
   follows_adding (Err piece_error.ChunkTooLarge) was =
-      refused_on d o adds r old out new out' ChunkTooLarge was.loan (add_refused id body known piece_error.ChunkTooLarge was.left.0 was.working) was.said.sent was.said.said was.left.1 was.stands
+      refused_on d o adds r old out new out' ChunkTooLarge was.loan (add_refused id body known piece_error.ChunkTooLarge was.left.0 was.working) was.said.sent was.said.said was.left.1 was.stands.0 was.stands.1
   follows_adding (Err piece_error.TooManyChunks) was =
-      refused_on d o adds r old out new out' (Open TooManyChunks) was.loan (add_refused id body known piece_error.TooManyChunks was.left.0 was.working) was.said.sent was.said.said was.left.1 was.stands
+      refused_on d o adds r old out new out' (Open TooManyChunks) was.loan (add_refused id body known piece_error.TooManyChunks was.left.0 was.working) was.said.sent was.said.said was.left.1 was.stands.0 was.stands.1
 
 -- ---- texts
 

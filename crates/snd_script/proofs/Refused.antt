@@ -1,21 +1,25 @@
 -- Why a command on an open file is refused, in the words of the calls and in those of the rules.
-use Rattle.std.proofs.Common.{◌≡◌, ◌≢◌, ℕ, ℤ, ◌%◌, ◌<◌, ◌≤◌, Bool, true, false, not, T, ◌&&◌, List, Option, None, Some, inl, inr, length, refl, sym, ap, ◌∙◌, subst, arith}
-use Rattle.std.specs.Prelude.{All, int_le, is_none, nat_lt}
-use Rattle.std.proofs.lemmas.Bool.{and_from, and_left, and_parts, cases_lt, cases_Bool, lt-ltb, le-ltb}
+use Rattle.std.proofs.Common.{◌≡◌, ◌≢◌, ℕ, ℤ, ◌%◌, ◌^◌, ◌<◌, ◌≤◌, Bool, true, false, not, T, ◌&&◌, ◌||◌, List, Option, None, Some, inl, inr, length, refl, sym, ap, ◌∙◌, subst, arith}
+use Rattle.std.specs.Prelude.{All, int_le, nat_le, nat_lt}
+use Rattle.std.proofs.lemmas.Bool.{and_from, and_left, and_parts, cases_lt, cases_Bool, leb-false, lt-leb, lt-ltb, le-ltb, ltb-false}
 use Rattle.std.proofs.lemmas.List.Elements.{All-weaker}
 use Rattle.std.proofs.lemmas.List.Sums.{AllPass-from_list_all, list_all-from_AllPass}
 use Rattle.snd_container.specs.Sound.{fixed_of}
 use Rattle.snd_layout.specs.Params.{data_bytes}
 use Rattle.snd_layout.specs.Shape.{Shape, room}
 use Rattle.snd_layout.specs.declared.codec.Codec.{Codec}
+use Rattle.snd_layout.specs.declared.codec.Codec.TheVariants.{U8, S8, S16, S24, S32, MuLaw, ALaw, Ima, Ms}
+use Rattle.snd_layout.specs.declared.kind.Kind.{Kind}
+use Rattle.snd_layout.specs.declared.kind.Kind.TheVariants.{Wave, Rf64, W64, Au, Dns, Voc, Svx, Sphere}
+use Rattle.snd_modes.specs.Encoding.{MayEncode}
 use Rattle.snd_modes.specs.Handle.{Known}
-use Rattle.snd_modes.specs.Reading.{FitCodec}
-use Rattle.snd_modes.proofs.Ranges.{fits_form, in_form}
+use Rattle.snd_modes.specs.Pacing.{HasRoomToEncode}
+use Rattle.snd_modes.specs.Reading.{FitCodec, range_of}
 use Rattle.snd_modes.specs.WriteCalls.{AreFrames, MayCut, MayTrim, MayWrite, end_written, is_whole_field}
 use Rattle.snd_container.specs.Fixed.{InRange, range_form}
 use Rattle.snd_container.specs.declared.fixed.Fixed.{Fixed}
 use Rattle.snd_pcm.specs.Pcm.{high, low}
-use Rattle.snd_script.specs.Rules.{are_between, auto_refusal, growth_refusal, is_between, is_voc, refused_if, trim_refusal, truncate_refusal, write_refusal}
+use Rattle.snd_script.specs.Rules.{are_between, auto_refusal, blocks_refusal, encode_refusal, form_of, growth_refusal, is_between, is_voc, is_wave, lacks_room, refused_if, trim_refusal, truncate_refusal, write_refusal}
 use Rattle.snd_lines.specs.declared.refusal.Refusal.{Refusal}
 use Rattle.snd_lines.specs.declared.refusal.Refusal.TheVariants.{PartFrame, SampleRange, SeekRange, TrailingData, ContainerFull, Straddle}
 
@@ -71,27 +75,30 @@ in_between form x test =
     let both = and_parts (int_le (low (range_form form)) x) (int_le x (high (range_form form))) test in
     (record { le = subst T (sym both.0) tt }, record { le = subst T (sym both.1) tt })
 
-fit_between : (form : Option Fixed) (xs : List ℤ) → ((f : Fixed) → form ≡ Some f → All (InRange f) xs) → are_between form xs ≡ true
-fit_between None xs fit = refl
-fit_between (Some form) xs fit = list_all-from_AllPass (is_between form) xs (All-weaker (InRange form) (λ x. is_between form x ≡ true) (between_in form) xs (fit form refl))
-
-between_fit : (form : Option Fixed) (xs : List ℤ) → are_between form xs ≡ true → (f : Fixed) → form ≡ Some f → All (InRange f) xs
-between_fit None xs test f is = absurd (cc)
-between_fit (Some form) xs test f is =
-    let all : All (InRange form) xs = All-weaker (λ x. is_between form x ≡ true) (InRange form) (in_between form) xs (AllPass-from_list_all (is_between form) xs test) in
-    let same : form ≡ f = cc in
-    subst (λ (l : Fixed). All (InRange l) xs) same all
+-- the range is that of 16 bits where numbers have no fixed size
+range_is : (codec : Codec) → range_of codec ≡ Some (form_of (fixed_of codec))
+range_is U8 = refl
+range_is S8 = refl
+range_is (S16 order) = refl
+range_is (S24 order) = refl
+range_is (S32 order) = refl
+range_is MuLaw = refl
+range_is ALaw = refl
+range_is (Ima align per_block) = refl
+range_is (Ms align per_block) = refl
 
 are_fit : (codec : Codec) (xs : List ℤ) → FitCodec codec xs → not (are_between (fixed_of codec) xs) ≡ false
-are_fit codec xs fit = ap not (fit_between (fixed_of codec) xs (λ form is. in_form codec form xs is fit))
+are_fit codec xs fit =
+    let form = form_of (fixed_of codec) in
+    ap not (list_all-from_AllPass (is_between form) xs (All-weaker (InRange form) (λ x. is_between form x ≡ true) (between_in form) xs (fit form (range_is codec))))
 
-fit_by : (codec : Codec) (form : Option Fixed) (xs : List ℤ) → fixed_of codec ≡ form → is_none form ≡ false → are_between form xs ≡ true → FitCodec codec xs
-fit_by codec None xs is linear test = absurd (cc)
-fit_by codec (Some form) xs is linear test = fits_form codec form xs is (between_fit (Some form) xs test form refl)
-
-are_unfit : (codec : Codec) (xs : List ℤ) → is_none (fixed_of codec) ≡ false → (FitCodec codec xs → ⊥) → not (are_between (fixed_of codec) xs) ≡ true
-are_unfit codec xs linear unfit = elim (cases_Bool (are_between (fixed_of codec) xs)) [
-  | inl fit ↦ absurd (unfit (fit_by codec (fixed_of codec) xs refl linear fit))
+are_unfit : (codec : Codec) (xs : List ℤ) → (FitCodec codec xs → ⊥) → not (are_between (fixed_of codec) xs) ≡ true
+are_unfit codec xs unfit = elim (cases_Bool (are_between (fixed_of codec) xs)) [
+  | inl fit ↦ absurd (unfit (λ f is.
+      let form = form_of (fixed_of codec) in
+      let same : form ≡ f = let both : Some form ≡ Some f = sym (range_is codec) ∙ is in cc in
+      let all : All (InRange form) xs = All-weaker (λ x. is_between form x ≡ true) (InRange form) (in_between form) xs (AllPass-from_list_all (is_between form) xs fit) in
+      subst (λ (l : Fixed). All (InRange l) xs) same all))
   | inr none ↦ ap not none
 ]
 
@@ -100,10 +107,10 @@ are_unfit codec xs linear unfit = elim (cases_Bool (are_between (fixed_of codec)
 pub write_part : (xs : List ℤ) (h : Shape) (place : ℕ) → length xs % h.params.channels ≢ 0 → write_refusal xs place h ≡ Some PartFrame
 write_part xs h place part = is_refused (nat_lt 0 (length xs % h.params.channels)) PartFrame _ (some_rest _ part)
 
-pub write_range : (xs : List ℤ) (h : Shape) (place : ℕ) → is_none (fixed_of h.params.codec) ≡ false → length xs % h.params.channels ≡ 0 → (FitCodec h.params.codec xs → ⊥) → write_refusal xs place h ≡ Some SampleRange
-write_range xs h place linear whole unfit =
+pub write_range : (xs : List ℤ) (h : Shape) (place : ℕ) → length xs % h.params.channels ≡ 0 → (FitCodec h.params.codec xs → ⊥) → write_refusal xs place h ≡ Some SampleRange
+write_range xs h place whole unfit =
     not_refused (nat_lt 0 (length xs % h.params.channels)) PartFrame _ (no_rest _ whole)
-    ∙ is_refused (not (are_between (fixed_of h.params.codec) xs)) SampleRange _ (are_unfit h.params.codec xs linear unfit)
+    ∙ is_refused (not (are_between (fixed_of h.params.codec) xs)) SampleRange _ (are_unfit h.params.codec xs unfit)
 
 write_frames : (xs : List ℤ) (h : Shape) (place : ℕ) → AreFrames xs h → write_refusal xs place h ≡ growth_refusal (end_written xs h place) h
 write_frames xs h place are =
@@ -129,6 +136,66 @@ growth_free to h free fits = elim (cases_lt h.frames to) [
 
 pub write_free : (xs : List ℤ) (h : Shape) (place : ℕ) → MayWrite xs h place → write_refusal xs place h ≡ None
 write_free xs h place may = write_frames xs h place may.frames ∙ growth_free _ h may.free may.in_room
+
+-- ---- frames that are made blocks
+
+pub encode_part : (xs : List ℤ) (h : Shape) (place : ℕ) → length xs % h.params.channels ≢ 0 → encode_refusal xs place h ≡ Some PartFrame
+encode_part xs h place part = is_refused (nat_lt 0 (length xs % h.params.channels)) PartFrame _ (some_rest _ part)
+
+pub encode_range : (xs : List ℤ) (h : Shape) (place : ℕ) → length xs % h.params.channels ≡ 0 → (FitCodec h.params.codec xs → ⊥) → encode_refusal xs place h ≡ Some SampleRange
+encode_range xs h place whole unfit =
+    not_refused (nat_lt 0 (length xs % h.params.channels)) PartFrame _ (no_rest _ whole)
+    ∙ is_refused (not (are_between (fixed_of h.params.codec) xs)) SampleRange _ (are_unfit h.params.codec xs unfit)
+
+encode_frames : (xs : List ℤ) (h : Shape) (place : ℕ) → AreFrames xs h → encode_refusal xs place h ≡ blocks_refusal place (end_written xs h place) h
+encode_frames xs h place are =
+    not_refused (nat_lt 0 (length xs % h.params.channels)) PartFrame _ (no_rest _ are.whole)
+    ∙ not_refused (not (are_between (fixed_of h.params.codec) xs)) SampleRange _ (are_fit h.params.codec xs are.in_range)
+
+wave_only : (kind : Kind) → is_wave kind ≡ true → kind ≡ Wave
+wave_only Wave is = refl
+wave_only Rf64 is = absurd (cc)
+wave_only W64 is = absurd (cc)
+wave_only Au is = absurd (cc)
+wave_only Dns is = absurd (cc)
+wave_only Voc is = absurd (cc)
+wave_only Svx is = absurd (cc)
+wave_only Sphere is = absurd (cc)
+
+-- there is room where neither test fails, and none where one does
+has_room : (to : ℕ) (h : Shape) → lacks_room to h ≡ false → HasRoomToEncode h to
+has_room to h has =
+    let both = or_parts (nat_lt (room h) (data_bytes h.params to)) (is_wave h.kind && nat_le (2 ^ 32) to) has in
+    record {
+      in_room = ltb-false (room h) (data_bytes h.params to) both.0;
+      few = λ wave. leb-false (2 ^ 32) to (ap (λ (k : Kind). is_wave k && nat_le (2 ^ 32) to) (sym wave) ∙ both.1);
+    }
+  where
+    or_parts : (a b : Bool) → (a || b) ≡ false → (a ≡ false) × (b ≡ false)
+    or_parts true b is = absurd (cc)
+    or_parts false b is = (refl, is)
+
+few_lacks : (to : ℕ) (h : Shape) → HasRoomToEncode h to → lacks_room to h ≡ false
+few_lacks to h has = elim (cases_Bool (is_wave h.kind)) [
+  | inl wave ↦ none_of _ _ (le-ltb (room h) (data_bytes h.params to) has.in_room) (ap (λ (b : Bool). b && nat_le (2 ^ 32) to) wave ∙ lt-leb (2 ^ 32) to (has.few (wave_only h.kind wave)))
+  | inr other ↦ none_of _ _ (le-ltb (room h) (data_bytes h.params to) has.in_room) (ap (λ (b : Bool). b && nat_le (2 ^ 32) to) other)
+]
+  where
+    none_of : (a b : Bool) → a ≡ false → b ≡ false → (a || b) ≡ false
+    none_of true b not_a not_b = absurd (cc)
+    none_of false b not_a not_b = not_b
+
+pub encode_full : (xs : List ℤ) (h : Shape) (place : ℕ) → AreFrames xs h → place < end_written xs h place → (HasRoomToEncode h (end_written xs h place) → ⊥) → encode_refusal xs place h ≡ Some ContainerFull
+encode_full xs h place are more full = elim (cases_Bool (lacks_room (end_written xs h place) h)) [
+  | inl lacks ↦ encode_frames xs h place are ∙ is_refused (nat_lt place (end_written xs h place) && lacks_room (end_written xs h place) h) ContainerFull None (and_from _ _ (lt-ltb _ _ more) lacks)
+  | inr has ↦ absurd (full (has_room (end_written xs h place) h has))
+]
+
+pub encode_free : (xs : List ℤ) (h : Shape) (place : ℕ) → MayEncode xs h place → encode_refusal xs place h ≡ None
+encode_free xs h place may = encode_frames xs h place may.frames ∙ not_refused _ ContainerFull None (elim (cases_lt place (end_written xs h place)) [
+  | inl more ↦ ap (λ (b : Bool). b && lacks_room (end_written xs h place) h) (lt-ltb _ _ more) ∙ few_lacks (end_written xs h place) h (may.fits more)
+  | inr none ↦ and_left (nat_lt place (end_written xs h place)) (lacks_room (end_written xs h place) h) (le-ltb _ _ none)
+])
 
 -- ---- updates, and what stands behind the data
 

@@ -23,16 +23,16 @@ use Rattle.snd_modes.proofs.SafeImages.{same_file}
 use Rattle.snd_patch.proofs.Moments.{leaves_weaker}
 use Rattle.snd_patch.specs.Images.{LeavesEach}
 use Rattle.snd_meters.specs.Gauge.{Gauge}
-use Rattle.snd_script.specs.Desk.{Mode, is_pinned, makes, pinned, reading, reads, updating, writes, writing}
+use Rattle.snd_script.specs.Desk.{Mode, encodes, encoding, is_pinned, makes, pinned, reading, reads, updating, writes, writing}
 use Rattle.snd_script.specs.Edit.{edit_by, edit_unless}
-use Rattle.snd_script.specs.Rules.{FileEdited, Grounds, Rule, answered, auto_rule, frames_wanted, grounds_of, in_mode, read_rule, refused_if, refused_rule, seek_both_rule, seek_read_rule, seek_rule, seek_write_rule, set_bext_rule, set_chunk_rule, set_cue_rule, set_string_rule, trim_rule, truncate_rule, unless_pinned, update_rule, write_rule}
+use Rattle.snd_script.specs.Rules.{FileEdited, Grounds, Rule, answered, auto_rule, by_blocks, encode_rule, frames_wanted, grounds_of, in_mode, read_rule, refused_if, refused_rule, seek_both_rule, seek_read_rule, seek_rule, seek_write_rule, set_bext_rule, set_chunk_rule, set_cue_rule, set_string_rule, trim_rule, truncate_rule, unless_pinned, update_rule, write_rule}
 use Rattle.snd_script.specs.Stepped.{IsAutomatic, LeavesFile, changes_by}
 use Rattle.snd_script.specs.Work.{Follows, asking_rule, setting_rule, work_rule}
 use Rattle.snd_script.specs.declared.handle.Reply.{Reply}
 use Rattle.snd_script.specs.declared.handle.StepFault.{StepFault}
 use Rattle.snd_script.specs.declared.handle.StepFault.TheVariants.{Disk, Out, Memory}
 use Rattle.snd_lines.specs.declared.refusal.Refusal.{Refusal}
-use Rattle.snd_lines.specs.declared.refusal.Refusal.TheVariants.{AlreadyOpen, Pinned, SeekRange}
+use Rattle.snd_lines.specs.declared.refusal.Refusal.TheVariants.{AdpcmSeek, AdpcmUpdate, AlreadyOpen, Pinned, SeekRange}
 use Rattle.snd_script.specs.declared.work.Asking.{Asking}
 use Rattle.snd_script.specs.declared.work.Asking.TheVariants as asking
 use Rattle.snd_script.specs.declared.work.Setting.{Setting}
@@ -41,7 +41,7 @@ use Rattle.snd_script.specs.declared.work.Work.{Work}
 use Rattle.snd_script.specs.Replies.{Answer, done_line, says}
 use Rattle.snd_script.proofs.ReadFrames.{bad_read, good_read}
 use Rattle.snd_script.proofs.Followed.{same_grounds}
-use Rattle.snd_script.specs.declared.work.Work.TheVariants.{Open, Update, Make, Close, Tell, SeekRead, SeekWrite, SeekBoth, Read, Write, Truncate, Trim, BringUp, Auto, Set, Ask, Tap, Untap, NotBuilt}
+use Rattle.snd_script.specs.declared.work.Work.TheVariants.{Open, Update, Make, Close, Tell, SeekRead, SeekWrite, SeekBoth, Read, Write, Truncate, Trim, BringUp, Auto, Set, Ask, Tap, Untap}
 
 -- ---- commands that change no file move at most its places
 
@@ -97,6 +97,21 @@ module _ (e : Editing) (holds : HoldsFrames e) where
       refused_stays (rule.refusal (grounds_of e)) (rule.done e) (ap (λ b. b && is_none (rule.refusal (grounds_of e))) (sym changes) ∙ is)
   by_refusal false rule changes is = stays
 
+  -- .. or is done otherwise by blocks
+  abbrev Keeps : Rule → Type 0
+  Keeps rule = (rule.changes && is_none (rule.refusal (grounds_of e))) ≡ false → IsMoved e (edit_by rule e).editing
+
+  keeps_in : (has : Bool) (rule : Rule) → Keeps rule → Keeps (in_mode has rule)
+  keeps_in true rule keeps = keeps
+  keeps_in false rule keeps = λ is. stays
+
+  keeps_by : (blocks : Bool) (coded placed : Rule) → Keeps coded → Keeps placed → Keeps (by_blocks blocks coded placed)
+  keeps_by true coded placed by_coded by_placed = by_coded
+  keeps_by false coded placed by_coded by_placed = by_placed
+
+  keeps_changing : (rule : Rule) → rule.changes ≡ true → Keeps rule
+  keeps_changing rule changes is = by_refusal true rule changes is
+
   -- .. or which a file that stays open refuses
   by_held : (pins : Bool) (rule : Rule) → ((rule.changes && is_none (rule.refusal (grounds_of e))) ≡ false → IsMoved e (edit_by rule e).editing)
       → ((if pins then refused_rule Pinned else rule).changes && is_none ((if pins then refused_rule Pinned else rule).refusal (grounds_of e))) ≡ false
@@ -107,6 +122,7 @@ module _ (e : Editing) (holds : HoldsFrames e) where
   already_open : (mode : Mode) → IsMoved e (edit_by (unless_pinned true mode (refused_rule AlreadyOpen)) e).editing
   already_open reading = stays
   already_open writing = stays
+  already_open encoding = stays
   already_open updating = stays
   already_open pinned = stays
 
@@ -125,6 +141,7 @@ module _ (e : Editing) (holds : HoldsFrames e) where
   sought_by_mode : (mode : Mode) (n : ℕ) → IsMoved e (edit_by (seek_rule mode n) e).editing
   sought_by_mode reading n = sought_read n
   sought_by_mode writing n = sought_write n
+  sought_by_mode encoding n = stays
   sought_by_mode updating n = sought_both n
   sought_by_mode pinned n = sought_both n
 
@@ -154,19 +171,18 @@ module _ (e : Editing) (holds : HoldsFrames e) where
   moves : (mode : Mode) (taps : List Gauge) (work : Work) → ((work_rule mode taps work).changes && is_none ((work_rule mode taps work).refusal (grounds_of e))) ≡ false → IsMoved e (edit_by (work_rule mode taps work) e).editing
   moves mode taps Tell is = stays
   moves mode taps (SeekRead n) is = by_mode (reads mode) (seek_read_rule n) (sought_read n)
-  moves mode taps (SeekWrite n) is = by_mode (writes mode) (seek_write_rule n) (sought_write n)
+  moves mode taps (SeekWrite n) is = keeps_in (writes mode) _ (keeps_by (encodes mode) (refused_rule AdpcmSeek) (seek_write_rule n) (λ is. stays) (λ is. sought_write n)) is
   moves mode taps (SeekBoth n) is = sought_by_mode mode n
   moves mode taps (Read n) is = by_mode (reads mode) (read_rule n) (read_on n)
-  moves mode taps (Write xs) is = by_refusal (writes mode) (write_rule xs.now) refl is
-  moves mode taps (Truncate n) is = by_refusal (writes mode) (truncate_rule n) refl is
-  moves mode taps Trim is = by_refusal (writes mode) trim_rule refl is
+  moves mode taps (Write xs) is = keeps_in (writes mode) _ (keeps_by (encodes mode) (encode_rule xs.now) (write_rule xs.now) (keeps_changing (encode_rule xs.now) refl) (keeps_changing (write_rule xs.now) refl)) is
+  moves mode taps (Truncate n) is = keeps_in (writes mode) _ (keeps_by (encodes mode) (refused_rule AdpcmUpdate) (truncate_rule n) (λ is. stays) (keeps_changing (truncate_rule n) refl)) is
+  moves mode taps Trim is = keeps_in (writes mode) _ (keeps_by (encodes mode) (refused_rule AdpcmUpdate) trim_rule (λ is. stays) (keeps_changing trim_rule refl)) is
   moves mode taps BringUp is = by_refusal (writes mode) update_rule refl is
   moves mode taps (Auto on) is = by_held (is_pinned mode) (in_mode (writes mode) (auto_rule on)) (λ is. by_refusal (writes mode) (auto_rule on) refl is) is
   moves mode taps (Set setting) is = set_moves mode setting is
   moves mode taps (Ask asking) is = asked_stays asking
   moves mode taps (Tap kind) is = told_stays _ (says done_line)
   moves mode taps (Untap kind) is = told_stays _ _
-  moves mode taps NotBuilt is = stays
   moves mode taps (Open name) is = already_open mode
   moves mode taps (Update name) is = already_open mode
   moves mode taps (Make kind codec channels rate name) is = already_open mode

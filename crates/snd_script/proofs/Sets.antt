@@ -3,7 +3,7 @@ use Rattle.std.proofs.Common.{◌≡◌, false, refl}
 use Rattle.snd_script.specs.Work.{work_sets}
 use Rattle.snd_script.specs.declared.work.Setting.{Setting}
 use Rattle.snd_script.specs.declared.work.Work.{Work}
-use Rattle.snd_script.specs.declared.work.Work.TheVariants.{Open, Update, Make, Close, Tell, SeekRead, SeekWrite, SeekBoth, Read, Write, Truncate, Trim, BringUp, Auto, Set, Ask, Tap, Untap, NotBuilt}
+use Rattle.snd_script.specs.declared.work.Work.TheVariants.{Open, Update, Make, Close, Tell, SeekRead, SeekWrite, SeekBoth, Read, Write, Truncate, Trim, BringUp, Auto, Set, Ask, Tap, Untap}
 
 pub sets_nothing : (work : Work) → ((setting : Setting) → work ≡ Set setting → ⊥) → work_sets work ≡ false
 sets_nothing (Set setting) other = absurd (other setting refl)
@@ -24,4 +24,3 @@ sets_nothing (Auto on) other = refl
 sets_nothing (Ask asking) other = refl
 sets_nothing (Tap kind) other = refl
 sets_nothing (Untap kind) other = refl
-sets_nothing NotBuilt other = refl

@@ -1,7 +1,8 @@
 -- A line while no file is open: it is refused, or the file that it opens is served and stands on the shelf again.
-use Rattle.std.proofs.Common.{◌≡◌, inl, inr, ℕ, List, [], ◌∷◌, Bool, false, true, Option, None, Some, Result, Ok, Err, refl, sym, ◌∙◌, ap, subst}
+use Rattle.std.proofs.Common.{◌≡◌, inl, inr, ℕ, List, [], ◌∷◌, Bool, false, true, ◌&&◌, Option, None, Some, Result, Ok, Err, refl, sym, ◌∙◌, ap, subst}
 use Rattle.std.specs.Str.{bytes_eq}
 use Rattle.snd_disk.specs.Shelf.{Files, SameFiles}
+use Rattle.snd_layout.specs.Blocks.{is_adpcm}
 use Rattle.snd_layout.specs.declared.refusal.OpenRefusal.{OpenRefusal}
 use Rattle.snd_modes.specs.Editing.{Editing}
 use Rattle.snd_script.specs.Desk.{Desk, Store, closed_desk, makes_name}
@@ -17,6 +18,7 @@ use Rattle.snd_lines.specs.declared.refusal.Refusal.TheVariants.{MissingFile}
 use Rattle.snd_script.specs.declared.stop.Stop.{Stop}
 use Rattle.snd_script.specs.declared.stop.Stop.TheVariants.{Ended, TooLong, Script, Sink, File, Memory}
 use Rattle.snd_script.proofs.Chains.{appends_none, line_stops, or_none, serves_one}
+use Rattle.snd_script.proofs.Makings.{made_makes}
 
 -- ---- a line that leaves no file open and the files as they are
 
@@ -81,7 +83,7 @@ made_is_name : (store : Store) (name : List ℕ) (how : OpenAs) → IsMakeable h
 made_is_name store name Read able make n = absurd (cc)
 made_is_name store name Update able make n = absurd (cc)
 made_is_name store name (Make kind p) able make n =
-    ap (λ (r : Result Editing OpenRefusal). makes_name (open_edit_of store name (Opening.for_making kind p) (as_opened r)).desk.open_file n) able.1
+    ap (λ (r : Result Editing OpenRefusal). makes_name (open_edit_of store name (Opening.for_making kind p) (as_opened r)).desk.open_file n) able.1 ∙ ap (λ (b : Bool). b && bytes_eq n name) (made_makes (is_adpcm p.codec))
 
 -- the file of the name may stand there, empty, where it was to be made
 module _ (store : Store) (text name : List ℕ) (how : OpenAs) (make : Bool) (m : Moment) (s : List ℕ) (stands : (List ℕ → Bool) → Desk → Type 0) (same : text ≡ name) (making : make ≡ is_making how) (able : IsMakeable how)

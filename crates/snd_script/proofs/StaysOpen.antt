@@ -10,7 +10,7 @@ use Rattle.snd_script.specs.Edit.{close_edit, edit_open, keep_open, refused}
 use Rattle.snd_script.specs.Handled.{mode_of, open_as}
 use Rattle.snd_script.specs.Rules.{Rule, is_close, is_held, refused_rule, rule_of}
 use Rattle.snd_script.specs.declared.handle.Handle.{Handle}
-use Rattle.snd_script.specs.declared.handle.Handle.TheVariants.{R, W, U}
+use Rattle.snd_script.specs.declared.handle.Handle.TheVariants.{R, W, B, U}
 use Rattle.snd_lines.specs.declared.refusal.Refusal.{Refusal}
 
 -- a command that is not refused
@@ -49,6 +49,7 @@ carried (Said.untap kind) other = record { rule = λ taps. refl; stays = refl }
 pub plain_mode : {D : Type 0} {ghosts : Ghosts D} (handle : Handle D ghosts) → is_pinned (mode_of handle) ≡ false
 plain_mode (R file) = refl
 plain_mode (W file) = refl
+plain_mode (B file) = refl
 plain_mode (U file) = refl
 
 -- ---- a command on an open file, which may be pinned

@@ -63,6 +63,7 @@ module _ {D : Type 0} {ghosts : Ghosts D} (state : D → State) (store : Store) 
 pub leaves_handle_none : {D : Type 0} {ghosts : Ghosts D} (state : D → State) (may_leave : D → List ℕ → Type 0) (left_between : D → ℕ → ℕ → List ℕ → Type 0) (a : Handle D ghosts) → LeavesHandle state may_leave left_between a a
 leaves_handle_none state may_leave left_between a = record {
   mode = refl;
+  params = refl;
   loan = refl;
   tells = record { told = refl; name = refl };
   time = record { later = omega arith; same = λ s t x le left. left; kept = λ s t x left. left };
@@ -74,6 +75,7 @@ pub leaves_handle_then : {D : Type 0} {ghosts : Ghosts D} (state : D → State) 
     → LeavesHandle state may_leave left_between a b → LeavesHandle state may_leave left_between b c → LeavesHandle state may_leave left_between a c
 leaves_handle_then state may_leave left_between a b c first second = record {
   mode = second.mode ∙ first.mode;
+  params = second.params ∙ first.params;
   loan = second.loan ∙ first.loan;
   tells = record { told = second.tells.told ∙ first.tells.told; name = second.tells.name ∙ first.tells.name };
   time = goes_on_then _ _ _ (left_between (handle_disk a)) (left_between (handle_disk b)) (left_between (handle_disk c)) first.time second.time;

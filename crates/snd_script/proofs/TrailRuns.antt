@@ -17,7 +17,7 @@ use Rattle.snd_script.specs.Handled.{HandleAtRest, handle_disk, handle_known}
 use Rattle.snd_script.specs.Replies.{text_of}
 use Rattle.snd_script.specs.Trail.{Going, Trail, TrailTo, TrailsOn, reached, state_behind}
 use Rattle.snd_script.specs.declared.handle.Handle.{Handle}
-use Rattle.snd_script.specs.declared.handle.Handle.TheVariants.{R, W, U}
+use Rattle.snd_script.specs.declared.handle.Handle.TheVariants.{R, W, B, U}
 use Rattle.snd_script.proofs.Trails.{going_by, going_trail, trail_starts, trail_stays, trail_then}
 
 -- ---- the states that bytes of the answers show
@@ -73,11 +73,13 @@ two_back past e next = reverse-append (reverse past) (e ∷ next ∷ []) ∙ ap 
 pub edited_of : {D : Type 0} (d : Ghosts D) (opened : List ℕ) (handle : Handle D d) (e : Editing) → HandleAtRest d opened handle e → IsEdited opened e
 edited_of d opened (R file) e rest = rest.edited
 edited_of d opened (W file) e rest = rest.edited
+edited_of d opened (B file) e rest = rest.edited
 edited_of d opened (U file) e rest = rest.edited
 
 pub handle_left : {D : Type 0} (d : Ghosts D) (opened : List ℕ) (handle : Handle D d) (e : Editing) → HandleAtRest d opened handle e → (e' : Editing) (x : List ℕ) → d.may_leave (handle_disk handle) x → IsSafe e e' x
 handle_left d opened (R file) e rest = left_at_rest d opened file e rest
 handle_left d opened (W file) e rest = left_at_rest d opened file e rest
+handle_left d opened (B file) e rest = left_at_rest d opened file e rest
 handle_left d opened (U file) e rest = left_at_rest d opened file e rest
 
 -- ---- a run so far, which began behind some states, with n bytes of answers: these steps are left, from the state e on

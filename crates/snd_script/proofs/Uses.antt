@@ -82,6 +82,18 @@ closed_where_stopped stop stop' most close before s after left old mid new uses 
   within = omega (arith, uses.within, within);
 }
 
+-- .. or at a line that closes it, whatever then comes of it
+pub closed_where_owed : {T U : Type 0} (r : Result U Stop) (most : Said → ℕ) (close : ℕ) (before : Reading) (s : List ℕ) (after : Reading) (left : Option (List ℕ)) (old mid new : ℕ) {x : T}
+    → Uses {T = T} (Ok x) most 0 close 0 before s after left old mid → mid ≤ new → new ≤ mid + close → Uses {T = U} r most 0 0 close before s after left old new
+closed_where_owed (Ok y) most close before s after left old mid new uses later within = record {
+  later = omega (arith, uses.later, later);
+  within = (uses.within.0, uses.within.1, omega (arith, uses.within.2, within));
+}
+closed_where_owed (Err stop) most close before s after left old mid new uses later within = record {
+  later = omega (arith, uses.later, later);
+  within = omega (arith, uses.within.2, within);
+}
+
 -- so much is used before
 pub uses_behind : {T : Type 0} (r : Result T Stop) (most : Said → ℕ) (hand over : ℕ) (before : Reading) (s : List ℕ) (after : Reading) (left : Option (List ℕ)) (old mid new : ℕ)
     → old ≤ mid → mid ≤ old + hand → Uses r most 0 0 over before s after left mid new → Uses r most hand 0 over before s after left old new

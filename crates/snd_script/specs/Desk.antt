@@ -2,16 +2,20 @@
 use Rattle.std.specs.Prelude.{ℕ, Bool, true, false, ◌&&◌, List, map, Option, None, Some}
 use Rattle.std.specs.Str.{bytes_eq}
 use Rattle.snd_disk.specs.Shelf.{Files, put}
+use Rattle.snd_layout.specs.Shape.{Shape}
 use Rattle.snd_meters.specs.Gauge.{Gauge, waiting}
 use Rattle.snd_meters.specs.Gauges.{after_rest}
 use Rattle.snd_modes.specs.Editing.{Editing}
 use Rattle.snd_modes.specs.Edits.{sealed_to}
+use Rattle.snd_modes.specs.Encoding.{encoded_whole}
 use Rattle.snd_taps.specs.declared.tap.TapKind.{TapKind}
 
 -- how a file was opened
 pub data Mode : Type 0 where
   reading : Mode
   writing : Mode
+  -- made, of ADPCM: frames are given from front to back, and whole blocks of them reach the file
+  encoding : Mode
   updating : Mode
   -- updated automatically from the start, and open to the end
   pinned : Mode
@@ -20,12 +24,14 @@ pub data Mode : Type 0 where
 abbrev pub reads : Mode → Bool
 reads reading = true
 reads writing = false
+reads encoding = false
 reads updating = true
 reads pinned = true
 
 abbrev pub writes : Mode → Bool
 writes reading = false
 writes writing = true
+writes encoding = true
 writes updating = true
 writes pinned = true
 
@@ -37,7 +43,18 @@ is_pinned mode = false
 -- the file was made
 abbrev pub makes : Mode → Bool
 makes writing = true
+makes encoding = true
 makes mode = false
+
+-- .. by blocks of ADPCM
+abbrev pub encodes : Mode → Bool
+encodes encoding = true
+encodes mode = false
+
+-- how many frames are told of a file: all that it was given, also those that wait for their block
+abbrev pub frames_told : Mode → Shape → ℕ → ℕ
+frames_told encoding h given = given
+frames_told mode h given = h.frames
 
 pub record OpenFile : Type 0 where
   pub name : List ℕ
@@ -67,13 +84,14 @@ open_desk store file = record { store = store; open_file = Some file }
 abbrev pub stored : Files → List TapKind → Store
 stored files kinds = record { files = files; taps = map waiting kinds }
 
--- what a file holds once it is closed: it is sealed in a mode that writes
-abbrev pub closed_as : Bool → Editing → Editing
-closed_as true e = sealed_to e
-closed_as false e = e
+-- what a file holds once it is closed: it is sealed in a mode that writes, and the frames that wait are made a block before
+abbrev pub closed_as : Mode → Editing → Editing
+closed_as reading e = e
+closed_as encoding e = encoded_whole e
+closed_as mode e = sealed_to e
 
 abbrev pub closed_bytes : OpenFile → List ℕ
-closed_bytes file = (closed_as (writes file.mode) file.editing).bytes
+closed_bytes file = (closed_as file.mode file.editing).bytes
 
 -- the files once the open one is closed
 abbrev pub files_with : Files → Option OpenFile → Files

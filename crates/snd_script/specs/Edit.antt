@@ -1,11 +1,11 @@
 -- One command: what is answered, and the state of the run afterwards. A refused command leaves all as it was.
-use Rattle.std.specs.Prelude.{◌≡◌, ◌&&◌, ℕ, List, not, Option, None, Some, Result, Ok, Err, if◌then◌else◌}
+use Rattle.std.specs.Prelude.{◌≡◌, ◌&&◌, ℕ, Bool, List, not, Option, None, Some, Result, Ok, Err, if◌then◌else◌}
 use Rattle.snd_command.specs.Line.{command_of}
 use Rattle.snd_command.specs.Said.{Said}
 use Rattle.snd_command.specs.declared.refusal.ScriptRefusal.{ScriptRefusal}
 use Rattle.snd_command.specs.declared.refusal.ScriptRefusal.TheVariants as line
+use Rattle.snd_layout.specs.Blocks.{is_adpcm}
 use Rattle.snd_layout.specs.Params.{Parameters, params_of}
-use Rattle.snd_layout.specs.declared.codec.Codec.{Codec}
 use Rattle.snd_layout.specs.declared.error.OpenError.{OpenError}
 use Rattle.snd_layout.specs.declared.error.OpenError.TheVariants as error
 use Rattle.snd_layout.specs.declared.kind.Kind.{Kind}
@@ -14,11 +14,11 @@ use Rattle.snd_meters.specs.Gauge.{Gauge}
 use Rattle.snd_modes.specs.Editing.{Editing, opening_of}
 use Rattle.snd_modes.specs.Making.{making_of}
 use Rattle.snd_modes.specs.Updating.{updating_of}
-use Rattle.snd_script.specs.Desk.{Desk, Mode, OpenFile, Store, is_pinned, pinned, reading, updating, writing, closed_desk, open_desk, store_closed}
-use Rattle.snd_script.specs.Rules.{FileEdited, Rule, fixed_word, grounds_of, is_built, is_close, rule_of}
+use Rattle.snd_script.specs.Desk.{Desk, Mode, OpenFile, Store, encoding, frames_told, is_pinned, pinned, reading, updating, writing, closed_desk, open_desk, store_closed}
+use Rattle.snd_script.specs.Rules.{FileEdited, Rule, codec_of, grounds_of, is_close, rule_of}
 use Rattle.snd_script.specs.Replies.{Answer, nothing, says, refuses, file_line, ok_line}
 use Rattle.snd_lines.specs.declared.refusal.Refusal.{Refusal}
-use Rattle.snd_lines.specs.declared.refusal.Refusal.TheVariants.{Open, AdpcmUpdate, UnknownLength, BadCommand, LineTooLong, NotOpen, MissingFile, NotBuilt}
+use Rattle.snd_lines.specs.declared.refusal.Refusal.TheVariants.{Open, AdpcmUpdate, UnknownLength, BadCommand, LineTooLong, NotOpen, MissingFile}
 
 -- what is answered, and the state afterwards
 pub record Edited : Type 0 where
@@ -37,11 +37,15 @@ pub data Opening : Type 0 where
   for_pinning : Opening
   for_making : Kind → Parameters → Opening
 
+-- one that is made is open by its codec
+abbrev pub mode_made : Bool → Mode
+mode_made in_blocks = if in_blocks then encoding else writing
+
 abbrev pub mode_for : Opening → Mode
 mode_for Opening.for_reading = reading
 mode_for Opening.for_updating = updating
 mode_for Opening.for_pinning = pinned
-mode_for (Opening.for_making kind p) = writing
+mode_for (Opening.for_making kind p) = mode_made (is_adpcm p.codec)
 
 abbrev pub as_opened : Result Editing OpenRefusal → Result Editing OpenError
 as_opened (Ok e) = Ok e
@@ -59,7 +63,7 @@ abbrev pub open_refusal : OpenError → Refusal
 open_refusal (error.Refused refusal) = Open refusal
 open_refusal error.AdpcmUpdate = AdpcmUpdate
 open_refusal error.UnknownLength = UnknownLength
-open_refusal other = NotBuilt
+open_refusal other = NotOpen
 
 abbrev pub file_opened : List ℕ → Opening → Editing → List Gauge → OpenFile
 file_opened name opening e taps = record { name = name; mode = mode_for opening; editing = e; taps = taps }
@@ -81,20 +85,13 @@ abbrev pub make_edit : Store → List ℕ → Kind → Result Parameters OpenRef
 make_edit store name kind (Err refusal) = refused (Open refusal) (closed_desk store)
 make_edit store name kind (Ok p) = open_edit_of store name (Opening.for_making kind p) (as_opened (making_of kind p))
 
-abbrev pub make_edit_of : Store → List ℕ → Kind → ℕ → ℕ → Option Codec → Edited
-make_edit_of store name kind channels rate None = refused NotBuilt (closed_desk store)
-make_edit_of store name kind channels rate (Some codec) = make_edit store name kind (params_of channels rate codec)
-
 -- ---- with no file open
 
-abbrev pub edit_first : Store → Said → Edited
-edit_first store (Said.open_read name) = open_edit store name Opening.for_reading (store.files name)
-edit_first store (Said.open_update name) = open_edit store name Opening.for_updating (store.files name)
-edit_first store (Said.create kind codec channels rate name) = make_edit_of store name kind channels rate (fixed_word codec)
-edit_first store said = refused NotOpen (closed_desk store)
-
 abbrev pub edit_closed : Store → Said → Edited
-edit_closed store said = if is_built said then edit_first store said else refused NotBuilt (closed_desk store)
+edit_closed store (Said.open_read name) = open_edit store name Opening.for_reading (store.files name)
+edit_closed store (Said.open_update name) = open_edit store name Opening.for_updating (store.files name)
+edit_closed store (Said.create kind word channels rate name) = make_edit store name kind (params_of channels rate (codec_of word channels rate))
+edit_closed store said = refused NotOpen (closed_desk store)
 
 -- ---- with a file open
 
@@ -120,8 +117,11 @@ abbrev pub keep_open : Store → OpenFile → Rule → Edited
 keep_open store file rule = record { answer = (edit_by rule file.editing).answer; desk = open_desk store (file_by rule file) }
 
 -- closing says how many frames there are
+abbrev pub frames_of : OpenFile → ℕ
+frames_of file = frames_told file.mode file.editing.shape file.editing.write_place
+
 abbrev pub close_edit : Store → OpenFile → Edited
-close_edit store file = record { answer = says (ok_line file.editing.shape.frames); desk = closed_desk (store_closed (open_desk store file)) }
+close_edit store file = record { answer = says (ok_line (frames_of file)); desk = closed_desk (store_closed (open_desk store file)) }
 
 -- a file that is pinned is not closed
 abbrev pub edit_open : Store → OpenFile → Said → Edited

@@ -1,5 +1,5 @@
 -- What is seen of an open file in whichever mode.
-use Rattle.std.specs.Prelude.{◌≡◌, ◌⊎◌, ℕ, List, Bool, true, false, Option, None, Some, Result, Ok, Err, IfErr, IsErrOf}
+use Rattle.std.specs.Prelude.{◌≡◌, ◌⊎◌, ◌*◌, ◌≤◌, ℕ, List, Bool, true, false, Option, None, Some, Result, Ok, Err, IfErr, IsErrOf}
 use Rattle.std.specs.Borrow.{GName, MutBor}
 use Rattle.snd_command.specs.Said.{Said}
 use Rattle.snd_disk.specs.Device.{AsksAtMost, GoesOnFrom, IsStable, OnlyReadsOn, Tells, WritesAtMost}
@@ -7,19 +7,23 @@ use Rattle.snd_disk.specs.declared.disk.Disk.{Ghosts}
 use Rattle.snd_disk.specs.declared.disk.Step.{Step}
 use Rattle.snd_disk.specs.declared.streams.Sink.{Ghosts as SinkMeaning}
 use Rattle.snd_disk.specs.State.{State}
+use Rattle.snd_layout.specs.Blocks.{block_align, block_frames, is_adpcm}
+use Rattle.snd_layout.specs.Params.{Parameters}
+use Rattle.snd_layout.specs.declared.codec.Codec.{Codec}
 use Rattle.snd_meters.specs.Gauge.{Gauge}
+use Rattle.snd_modes.specs.Closing.{most_closed}
 use Rattle.snd_modes.specs.Editing.{Editing}
 use Rattle.snd_modes.specs.Handle.{Known, Stands, disk_of, known_of, loan_of}
 use Rattle.snd_modes.specs.Rest.{IsAtRest}
 use Rattle.snd_modes.specs.Safe.{IsSafe}
 use Rattle.snd_patch.specs.Images.{LeavesEach}
 use Rattle.snd_patch.specs.Steps.{StillTells}
-use Rattle.snd_script.specs.Desk.{Mode, closed_as, pinned, reading, updating, writes, writing}
+use Rattle.snd_script.specs.Desk.{Mode, closed_as, encodes, encoding, frames_told, pinned, reading, updating, writes, writing}
 use Rattle.snd_script.specs.Edit.{edit_file}
 use Rattle.snd_script.specs.Rules.{Rule, rule_of}
 use Rattle.snd_script.specs.Stepped.{IsAutomatic, IsSaid, IsSilent, IsStepCause, Knows, LeavesFile, LeavesTaps, Rose, changes_by}
 use Rattle.snd_script.specs.declared.handle.Handle.{Handle}
-use Rattle.snd_script.specs.declared.handle.Handle.TheVariants.{R, W, U}
+use Rattle.snd_script.specs.declared.handle.Handle.TheVariants.{R, W, B, U}
 use Rattle.snd_script.specs.declared.handle.Reply.{Reply}
 use Rattle.snd_script.specs.declared.handle.StepFault.{StepFault}
 use Rattle.snd_script.specs.declared.handle.StepFault.TheVariants.{Memory}
@@ -27,6 +31,7 @@ use Rattle.snd_script.specs.declared.handle.StepFault.TheVariants.{Memory}
 abbrev pub mode_of : {D : Type 0} {ghosts : Ghosts D} → Handle D ghosts → Mode
 mode_of (R file) = reading
 mode_of (W file) = writing
+mode_of (B file) = encoding
 mode_of (U file) = updating
 
 -- .. or pinned, where it is to stay open
@@ -42,35 +47,59 @@ rule_for taps handle said = rule_of (mode_of handle) taps said
 abbrev pub handle_disk : {D : Type 0} {ghosts : Ghosts D} → Handle D ghosts → D
 handle_disk (R file) = disk_of file
 handle_disk (W file) = disk_of file
+handle_disk (B file) = disk_of file
 handle_disk (U file) = disk_of file
 
 abbrev pub handle_loan : {D : Type 0} {ghosts : Ghosts D} → Handle D ghosts → GName
 handle_loan (R file) = loan_of file
 handle_loan (W file) = loan_of file
+handle_loan (B file) = loan_of file
 handle_loan (U file) = loan_of file
 
 -- what it knows over every disk
 abbrev pub handle_known : {D : Type 0} {ghosts : Ghosts D} → Handle D ghosts → Known
 handle_known (R file) = known_of file
 handle_known (W file) = known_of file
+handle_known (B file) = known_of file
 handle_known (U file) = known_of file
 
 -- it stands for an editing state
 abbrev pub HandleStands : {D : Type 0} {ghosts : Ghosts D} → (D → State) → Handle D ghosts → Editing → Type 0
 HandleStands state (R file) e = Stands state file e
 HandleStands state (W file) e = Stands state file e
+HandleStands state (B file) e = Stands state file e
 HandleStands state (U file) e = Stands state file e
 
 -- .. and is at rest in it
 abbrev pub HandleAtRest : {D : Type 0} (d : Ghosts D) → List ℕ → Handle D d → Editing → Type 0
 HandleAtRest d opened (R file) e = IsAtRest d opened file e
 HandleAtRest d opened (W file) e = IsAtRest d opened file e
+HandleAtRest d opened (B file) e = IsAtRest d opened file e
 HandleAtRest d opened (U file) e = IsAtRest d opened file e
 
--- Commands leave it in its mode, with the same disk by the same loan: the disk has its name, tells what it told, and time has
--- gone on for it. In a mode that does not write it was only read.
+-- its parameters
+abbrev pub handle_params : {D : Type 0} {ghosts : Ghosts D} → Handle D ghosts → Parameters
+handle_params handle = (handle_known handle).shape.params
+
+-- Blocks of ADPCM that scripts make have at most 2048 bytes, and at most 4 for each of their numbers.
+abbrev pub HasSmallBlocks : ℕ → Codec → Type 0
+HasSmallBlocks channels codec = is_adpcm codec ≡ true → block_align channels codec ≤ 2048
+
+pub record AreSmall (p : Parameters) : Type 0 where
+  pub bytes : block_align p.channels p.codec ≤ 2048
+  pub numbers : block_align p.channels p.codec ≤ 4 * p.channels * block_frames p.codec
+
+abbrev pub IsSmallIn : Mode → Parameters → Type 0
+IsSmallIn mode p = encodes mode ≡ true → AreSmall p
+
+abbrev pub IsSmall : {D : Type 0} {ghosts : Ghosts D} → Handle D ghosts → Type 0
+IsSmall handle = IsSmallIn (mode_of handle) (handle_params handle)
+
+-- Commands leave it in its mode, with its parameters, and with the same disk by the same loan: the disk has its name, tells what it
+-- told, and time has gone on for it. In a mode that does not write it was only read.
 pub record LeavesHandle {D : Type 0} {ghosts : Ghosts D} (state : D → State) (may_leave : D → List ℕ → Type 0) (left_between : D → ℕ → ℕ → List ℕ → Type 0) (old new : Handle D ghosts) : Type 0 where
   pub mode : mode_of new ≡ mode_of old
+  pub params : handle_params new ≡ handle_params old
   pub loan : handle_loan new ≡ handle_loan old
   pub tells : StillTells (state (handle_disk old)) (state (handle_disk new))
   pub time : GoesOnFrom state left_between (handle_disk old) (handle_disk new)
@@ -93,7 +122,7 @@ abbrev pub AsksByRule : {D : Type 0} (d : Ghosts D) → List Gauge → Said → 
 AsksByRule d taps said old new = HandleAsks d.state (rule_for taps old said).asked old new
 
 abbrev pub WritesByRule : {D : Type 0} (d : Ghosts D) → List Gauge → Said → Handle D d → Handle D d → Type 0
-WritesByRule d taps said old new = HandleWrites d.state (rule_for taps old said).written old new
+WritesByRule d taps said old new = HandleWrites d.state ((rule_for taps old said).written (handle_params old)) old new
 
 -- there is no memory only for a command that takes some
 abbrev pub LacksMemory : {D : Type 0} {ghosts : Ghosts D} → List Gauge → Result Reply StepFault → Said → Handle D ghosts → Type 0
@@ -155,18 +184,25 @@ abbrev pub back_of : {D : Type 0} → Result (ℕ × MutBor D) (Step × MutBor D
 back_of (Ok r) = r.1
 back_of (Err e) = e.1
 
--- the disk comes back as it was, where the mode does not write; else it holds the file sealed, where that succeeds
+-- the disk comes back as it was, where the mode does not write; else it holds the file closed, where that succeeds
 abbrev pub FinishesAs : {D : Type 0} {ghosts : Ghosts D} → Bool → (D → State) → (D → List ℕ → Type 0) → Handle D ghosts → Result (ℕ × MutBor D) (Step × MutBor D) → Type 0
 FinishesAs false state may_leave handle result = (back_of result).now ≡ handle_disk handle
 FinishesAs true state may_leave handle (Ok r) =
-    ((e : Editing) → HandleStands state handle e → Tells state r.1.now (closed_as true e).bytes) × IsStable state may_leave r.1.now
+    ((e : Editing) → HandleStands state handle e → Tells state r.1.now (closed_as (mode_of handle) e).bytes) × IsStable state may_leave r.1.now
 FinishesAs true state may_leave handle (Err e) = Unit {0}
+
+-- the frames of a file that is closed, also those that waited, and how many bytes that writes at most
+abbrev pub frames_closed : {D : Type 0} {ghosts : Ghosts D} → Handle D ghosts → ℕ
+frames_closed handle = frames_told (mode_of handle) (handle_known handle).shape (handle_known handle).write_place
+
+abbrev pub most_finished : {D : Type 0} {ghosts : Ghosts D} → Handle D ghosts → ℕ
+most_finished handle = most_closed (encodes (mode_of handle)) (handle_params handle)
 
 -- so many frames has the file; it fails where the disk failed before, and then all is as it was; or, in a mode that writes,
 -- where it fails now
 abbrev pub IsFinishCause : {D : Type 0} {ghosts : Ghosts D} → (D → State) → Handle D ghosts → Result (ℕ × MutBor D) (Step × MutBor D) → Type 0
 IsFinishCause state handle (Ok r) =
-    ((handle_known handle).broken ≡ None) × (r.0 ≡ (handle_known handle).shape.frames) × ((state r.1.now).faults ≡ (state (handle_disk handle)).faults)
+    ((handle_known handle).broken ≡ None) × (r.0 ≡ frames_closed handle) × ((state r.1.now).faults ≡ (state (handle_disk handle)).faults)
 IsFinishCause state handle (Err e) =
     (((handle_known handle).broken ≡ Some e.0) × (e.1.now ≡ handle_disk handle))
     ⊎ (((handle_known handle).broken ≡ None) × (writes (mode_of handle) ≡ true) × Rose (state (handle_disk handle)).faults (state e.1.now).faults)

@@ -16,7 +16,7 @@ use Rattle.snd_script.specs.Desk.{Store, closed_desk}
 use Rattle.snd_script.specs.Edit.{Edited, Opening, make_edit, open_edit, open_edit_of, opened_as, refused}
 use Rattle.snd_modes.specs.Safe.{IsFit}
 use Rattle.snd_modes.specs.Updating.{updating_of}
-use Rattle.snd_script.specs.Handled.{HandleAtRest, HandleStands, handle_disk, handle_loan}
+use Rattle.snd_script.specs.Handled.{HandleAtRest, HandleStands, HasSmallBlocks, handle_disk, handle_loan}
 use Rattle.snd_script.specs.declared.handle.Handle.{Handle}
 use Rattle.snd_script.specs.declared.open.OpenAs.{OpenAs}
 use Rattle.snd_script.specs.declared.open.OpenAs.TheVariants.{Read, Update, Make}
@@ -31,9 +31,9 @@ abbrev pub is_making : OpenAs → Bool
 is_making (Make kind params) = true
 is_making how = false
 
--- what is to be made can be
+-- what is to be made can be, with small blocks
 abbrev pub IsMakeable : OpenAs → Type 0
-IsMakeable (Make kind params) = (e : Editing) × (making_of kind params ≡ Ok e)
+IsMakeable (Make kind params) = (e : Editing) × (making_of kind params ≡ Ok e) × HasSmallBlocks params.channels params.codec
 IsMakeable how = Unit {0}
 
 -- a head that is made has at most 2048 bytes

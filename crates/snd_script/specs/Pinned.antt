@@ -8,7 +8,7 @@ use Rattle.snd_script.specs.Desk.{OpenFile, Store, pinned}
 use Rattle.snd_script.specs.Edit.{Edited, Opening, keep_open, open_edit}
 use Rattle.snd_script.specs.Replies.{is_refusal}
 use Rattle.snd_script.specs.Rules.{auto_rule, is_held, refused_rule, rule_of}
-use Rattle.snd_script.specs.Script.{any_writes, asked_by, by_lines, ending, is_too_long, lines_within, most_bytes, most_in, script_steps, steps, written_by}
+use Rattle.snd_script.specs.Script.{any_writes, asked_by, by_lines, ending, is_too_long, lines_within, most_bytes, most_in, script_steps, steps, written_by, written_in}
 use Rattle.snd_lines.specs.declared.refusal.Refusal.{Refusal}
 
 -- ---- what is answered
@@ -76,5 +76,5 @@ run_asks None lines = by_lines asked_by lines
 run_asks (Some name) lines = 16384 + by_lines (most_in true asked_by) lines
 
 abbrev pub run_puts : Option (List ℕ) → List (List ℕ) → ℕ
-run_puts None lines = by_lines written_by lines + 72
-run_puts (Some name) lines = 144 + by_lines (most_in true written_by) lines
+run_puts None lines = by_lines written_by lines + 2120
+run_puts (Some name) lines = 144 + by_lines (written_in true) lines

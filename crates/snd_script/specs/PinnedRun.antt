@@ -15,7 +15,7 @@ use Rattle.snd_script.specs.Edit.{Edited, Opening, open_edit_of, opened_as, open
 use Rattle.snd_script.specs.Handled.{HandleStands, handle_disk}
 use Rattle.snd_script.specs.Kept.{KeepsUnless, lines_to_serve}
 use Rattle.snd_script.specs.Pinned.{pinned_opening, pinned_steps, pins, run_asks, run_puts, run_writes}
-use Rattle.snd_script.specs.Script.{asked_by, most_in, written_by}
+use Rattle.snd_script.specs.Script.{asked_by, most_in, written_in}
 use Rattle.snd_script.specs.Served.{HasFiles, HasStore}
 use Rattle.snd_script.specs.Serving.{DiskStands, IsStopped, Moment, OpenStands, ShelfStands, is_longer, lines_left, moment_of, steps_left}
 use Rattle.snd_script.specs.Tapped.{TapMeter, taps_of}
@@ -64,14 +64,14 @@ stopped stop = Err stop
 
 -- at most so many bytes are used, and what the lines that are left may
 abbrev pub UsesPinned : {V : Type 0} {Z : V → Type 0} {X R : Type 0} → (X → ℕ) → (R → Option (List ℕ)) → (Said → ℕ) → ℕ → X → Run V Z → R → X → Type 0
-UsesPinned count left most hand x run script x' = (s : List ℕ) → left script ≡ Some s → AtMost (count x) (hand + use_left (most_in true most) run.lines s) (count x')
+UsesPinned count left most hand x run script x' = (s : List ℕ) → left script ≡ Some s → AtMost (count x) (hand + use_left most run.lines s) (count x')
 
 -- .. of a disk, of one that a handle holds, up to when it has come back, and of a shelf
 abbrev pub PinnedAsks : {V : Type 0} {Z : V → Type 0} {D R : Type 0} (d : Ghosts D) → SourceMeaning R → ℕ → D → Run V Z → R → D → Type 0
-PinnedAsks d r hand disk run script disk' = UsesPinned (λ x. (d.state x).asked) r.left asked_by hand disk run script disk'
+PinnedAsks d r hand disk run script disk' = UsesPinned (λ x. (d.state x).asked) r.left (most_in true asked_by) hand disk run script disk'
 
 abbrev pub PinnedWrites : {V : Type 0} {Z : V → Type 0} {D R : Type 0} (d : Ghosts D) → SourceMeaning R → ℕ → D → Run V Z → R → D → Type 0
-PinnedWrites d r hand disk run script disk' = UsesPinned (λ x. (d.state x).written) r.left written_by hand disk run script disk'
+PinnedWrites d r hand disk run script disk' = UsesPinned (λ x. (d.state x).written) r.left (written_in true) hand disk run script disk'
 
 abbrev pub ClosedAsks : {V : Type 0} {Z : V → Type 0} {D R : Type 0} (d : Ghosts D) → SourceMeaning R → ℕ → Handle D d → Run V Z → R → D → Type 0
 ClosedAsks d r hand handle run script disk = PinnedAsks d r hand (handle_disk handle) run script disk
@@ -86,10 +86,10 @@ abbrev pub OpenWrites : {V : Type 0} {Z : V → Type 0} {D R : Type 0} (d : Ghos
 OpenWrites d r hand handle run script handle' = ClosedWrites d r hand handle run script (handle_disk handle')
 
 abbrev pub ShelfAsks : {V : Type 0} {Z : V → Type 0} {S D R : Type 0} → ShelfMeaning S D → SourceMeaning R → ℕ → S → Run V Z → R → S → Type 0
-ShelfAsks s r hand shelf run script shelf' = UsesPinned (λ x. (s.state x).asked) r.left asked_by hand shelf run script shelf'
+ShelfAsks s r hand shelf run script shelf' = UsesPinned (λ x. (s.state x).asked) r.left (most_in true asked_by) hand shelf run script shelf'
 
 abbrev pub ShelfWrites : {V : Type 0} {Z : V → Type 0} {S D R : Type 0} → ShelfMeaning S D → SourceMeaning R → ℕ → S → Run V Z → R → S → Type 0
-ShelfWrites s r hand shelf run script shelf' = UsesPinned (λ x. (s.state x).written) r.left written_by hand shelf run script shelf'
+ShelfWrites s r hand shelf run script shelf' = UsesPinned (λ x. (s.state x).written) r.left (written_in true) hand shelf run script shelf'
 
 -- nothing is taken of the script where one of the two commands is refused
 abbrev pub UnreadPinned : {S R : Type 0} → (S → ShelfState) → List ℕ → S → R → R → Type 0

@@ -1,5 +1,5 @@
 -- What each command does on an open file: why it is refused, and what it does where it is not.
-use Rattle.std.specs.Prelude.{ℕ, ℤ, ◌+◌, ◌-◌, ◌*◌, ◌/◌, ◌%◌, ◌==◌, Bool, true, false, not, ◌&&◌, List, [], Option, None, Some, Result, Ok, Err, codes, is_none, is_some, length, min, int_le, nat_le, nat_lt, if◌then◌else◌}
+use Rattle.std.specs.Prelude.{ℕ, ℤ, ◌+◌, ◌-◌, ◌*◌, ◌/◌, ◌%◌, ◌^◌, ◌==◌, Bool, true, false, not, ◌&&◌, ◌||◌, List, [], Option, None, Some, Result, Ok, Err, codes, is_none, length, min, int_le, nat_le, nat_lt, if◌then◌else◌}
 use Rattle.std.specs.List.{list_all}
 use Rattle.std.specs.Option.{unwrap_or}
 use Rattle.snd_command.specs.Forms.{is_text}
@@ -9,13 +9,13 @@ use Rattle.snd_command.specs.declared.tables.CodecWord.{CodecWord}
 use Rattle.snd_command.specs.declared.tables.CodecWord.TheVariants as word
 use Rattle.snd_container.specs.Sound.{fixed_of}
 use Rattle.snd_blocks.specs.Frames.{has_bad}
-use Rattle.snd_layout.specs.Blocks.{is_adpcm}
-use Rattle.snd_layout.specs.Params.{data_bytes}
+use Rattle.snd_layout.specs.Blocks.{block_align, block_frames, is_adpcm}
+use Rattle.snd_layout.specs.Params.{Parameters, data_bytes}
 use Rattle.snd_layout.specs.Shape.{Shape, room}
 use Rattle.snd_layout.specs.declared.codec.Codec.{Codec}
 use Rattle.snd_layout.specs.declared.codec.Codec.TheVariants as codec
 use Rattle.snd_layout.specs.declared.kind.Kind.{Kind}
-use Rattle.snd_layout.specs.declared.kind.Kind.TheVariants.{Voc}
+use Rattle.snd_layout.specs.declared.kind.Kind.TheVariants.{Voc, Wave}
 use Rattle.snd_layout.specs.declared.piece.Piece.{Piece}
 use Rattle.snd_layout.specs.declared.refusal.OpenRefusal.TheVariants.{TooManyChunks}
 use Rattle.snd_meta.specs.Broadcast.{field_size}
@@ -29,6 +29,8 @@ use Rattle.snd_meters.specs.Report.{report_line}
 use Rattle.snd_modes.specs.declared.error.GetError.TheVariants as get
 use Rattle.snd_modes.specs.Editing.{Editing, frames_left, frames_read, moved_by, moved_to}
 use Rattle.snd_modes.specs.Edits.{automatic_to, moved_write_to, sealed_to, trimmed_to, truncated_to, written_to}
+use Rattle.snd_modes.specs.Blocks.{ima_made, ms_made}
+use Rattle.snd_modes.specs.Encoding.{encoded_to, known_encoded}
 use Rattle.snd_modes.specs.Handle.{Known}
 use Rattle.snd_modes.specs.Heads.{holds_meta, holds_pieces, is_reserved}
 use Rattle.snd_modes.specs.PieceCalls.{known_put}
@@ -41,6 +43,7 @@ use Rattle.snd_pcm.specs.declared.linear.Linear.{Linear}
 use Rattle.snd_pcm.specs.declared.linear.Linear.TheVariants.{S16}
 use Rattle.snd_container.specs.Fixed.{range_form}
 use Rattle.snd_container.specs.declared.fixed.Fixed.{Fixed}
+use Rattle.snd_container.specs.declared.fixed.Fixed.TheVariants as fixed
 use Rattle.snd_tags.specs.Drafts.{bext_timed, bext_with, info_with}
 use Rattle.snd_tags.specs.Found.{broadcast_of, points_of, read_as, texts_of}
 use Rattle.snd_tags.specs.declared.error.TagError.{TagError}
@@ -48,11 +51,11 @@ use Rattle.snd_tags.specs.declared.error.TagError.TheVariants.{Get, BadBody}
 use Rattle.snd_taps.specs.declared.tap.TapKind.{TapKind}
 use Rattle.snd_taps.specs.declared.tap.TapState.{TapState}
 use Rattle.snd_wave.specs.Heads.{new_piece}
-use Rattle.snd_script.specs.Desk.{Mode, is_pinned, makes, pinned, reading, reads, updating, writes, writing}
+use Rattle.snd_script.specs.Desk.{Mode, encodes, encoding, frames_told, is_pinned, makes, pinned, reading, reads, updating, writes, writing}
 use Rattle.snd_script.specs.Hex.{bytes_of_hex}
-use Rattle.snd_script.specs.Replies.{Answer, nothing, refuses, says, bext_text, body_text, chunks_text, done_line, file_line, frames_text, ok_line, points_text, texts_text}
+use Rattle.snd_script.specs.Replies.{Answer, nothing, refuses, says, bext_text, body_text, chunks_text, described, done_line, frames_text, ok_line, points_text, texts_text}
 use Rattle.snd_lines.specs.declared.refusal.Refusal.{Refusal}
-use Rattle.snd_lines.specs.declared.refusal.Refusal.TheVariants.{PartFrame, SampleRange, SeekRange, TrailingData, ContainerFull, Straddle, FramesWritten, ReservedChunk, NoChunks, ChunkTooLarge, AutoOn, NoSuchChunk, BadBlock, Open, BadCommand, AlreadyOpen, WrongMode, BadInfo, BadCue, BadBext, TextTooLong, Pinned, NotBuilt}
+use Rattle.snd_lines.specs.declared.refusal.Refusal.TheVariants.{AdpcmUpdate, PartFrame, SampleRange, SeekRange, TrailingData, ContainerFull, Straddle, FramesWritten, ReservedChunk, NoChunks, ChunkTooLarge, AutoOn, AdpcmSeek, NoSuchChunk, BadBlock, Open, BadCommand, AlreadyOpen, WrongMode, BadInfo, BadCue, BadBext, TextTooLong, Pinned}
 
 -- ---- why a command is refused
 
@@ -76,13 +79,16 @@ refused_if so refusal else_by = if so then Some refusal else else_by
 abbrev pub seek_refusal : ℕ → Shape → Option Refusal
 seek_refusal n h = refused_if (nat_lt h.frames n) SeekRange None
 
--- each number lies in the range of a codec
+-- each number lies in the range of a codec, which is that of 16 bits for ADPCM
 abbrev pub is_between : Fixed → ℤ → Bool
 is_between form x = int_le (low (range_form form)) x && int_le x (high (range_form form))
 
+abbrev pub form_of : Option Fixed → Fixed
+form_of None = fixed.Linear (S16 Little)
+form_of (Some form) = form
+
 abbrev pub are_between : Option Fixed → List ℤ → Bool
-are_between None xs = true
-are_between (Some form) xs = list_all (is_between form) xs
+are_between form xs = list_all (is_between (form_of form)) xs
 
 -- the end would move to this frame, and the file goes on behind its data, or its head has no room for them
 abbrev pub growth_refusal : ℕ → Shape → Option Refusal
@@ -94,6 +100,23 @@ abbrev pub write_refusal : List ℤ → ℕ → Shape → Option Refusal
 write_refusal xs place h =
     refused_if (nat_lt 0 (length xs % h.params.channels)) PartFrame
     (refused_if (not (are_between (fixed_of h.params.codec) xs)) SampleRange (growth_refusal (end_written xs h place) h))
+
+-- numbers are given behind so many frames, to be made blocks: the head has no room for all blocks, or the count of a WAVE file
+-- none for the number of the frames
+abbrev pub is_wave : Kind → Bool
+is_wave Wave = true
+is_wave kind = false
+
+abbrev pub lacks_room : ℕ → Shape → Bool
+lacks_room to h = nat_lt (room h) (data_bytes h.params to) || (is_wave h.kind && nat_le (2 ^ 32) to)
+
+abbrev pub blocks_refusal : ℕ → ℕ → Shape → Option Refusal
+blocks_refusal place to h = refused_if (nat_lt place to && lacks_room to h) ContainerFull None
+
+abbrev pub encode_refusal : List ℤ → ℕ → Shape → Option Refusal
+encode_refusal xs place h =
+    refused_if (nat_lt 0 (length xs % h.params.channels)) PartFrame
+    (refused_if (not (are_between (fixed_of h.params.codec) xs)) SampleRange (blocks_refusal place (end_written xs h place) h))
 
 -- the file is cut to so many frames, or cut behind its data
 abbrev pub truncate_refusal : ℕ → Shape → Option Refusal
@@ -139,9 +162,9 @@ pub record Rule : Type 0 where
   -- whether it changes the file; and whether that is sealed before something else is done
   pub changes : Bool
   pub seals_first : Bool
-  -- how many bytes are asked of the disk, and written, at most
+  -- how many bytes are asked of the disk, and written, at most, on a file with these parameters
   pub asked : ℕ
-  pub written : ℕ
+  pub written : Parameters → ℕ
   -- whether it takes memory
   pub takes_memory : Bool
 
@@ -158,7 +181,7 @@ telling done known = record {
   changes = false;
   seals_first = false;
   asked = 0;
-  written = 0;
+  written = λ p. 0;
   takes_memory = false;
 }
 
@@ -169,9 +192,13 @@ refused_rule refusal = record (telling (answered nothing) (λ k. k)) { refusal =
 abbrev pub in_mode : Bool → Rule → Rule
 in_mode has rule = if has then rule else refused_rule WrongMode
 
+-- .. or is done otherwise where frames are given to be made blocks
+abbrev pub by_blocks : Bool → Rule → Rule → Rule
+by_blocks encodes blocks frames = if encodes then blocks else frames
+
 -- `info`: the line of the file
-abbrev pub tell_rule : Rule
-tell_rule = telling (λ e. says_of (file_line e.shape) e) (λ k. k)
+abbrev pub tell_rule : Mode → Rule
+tell_rule mode = telling (λ e. says_of (described (frames_told mode e.shape e.write_place) e.shape.params e.shape.kind) e) (λ k. k)
 
 -- `seek r`, `seek w` and `seek rw`: the frame to read next, the one to write next, and both
 abbrev pub seek_read_rule : ℕ → Rule
@@ -244,11 +271,21 @@ untap_rule taps kind = record (telling (answered (report_of kind (stop_answer ki
 
 -- a command that changes the file, with how many bytes it writes at most
 abbrev pub changing : ℕ → (Grounds → Option Refusal) → (Editing → FileEdited) → (Known → Known) → Rule
-changing written refusal done known = record (telling done known) { refusal = refusal; changes = true; written = written }
+changing written refusal done known = record (telling done known) { refusal = refusal; changes = true; written = λ p. written }
 
 -- `write`: frames over others and past the end; a number has at most 4 bytes
 abbrev pub write_rule : List ℤ → Rule
 write_rule xs = changing (4 * length xs + 72) (λ g. write_refusal xs g.write_place g.shape) (λ e. says_of (ok_line (length xs / e.shape.params.channels)) (written_to xs e)) (known_written xs)
+
+-- .. or behind all that were given, of which whole blocks reach the file: those that the frames of the numbers fill, and one more
+abbrev pub most_blocks : ℕ → Parameters → ℕ
+most_blocks numbers p = (numbers / p.channels / block_frames p.codec + 1) * block_align p.channels p.codec + 72
+
+abbrev pub encode_edit : List ℤ → Editing → FileEdited
+encode_edit xs e = says_of (ok_line (length xs / e.shape.params.channels)) (encoded_to xs e)
+
+abbrev pub encode_rule : List ℤ → Rule
+encode_rule xs = record (changing 0 (λ g. encode_refusal xs g.write_place g.shape) (encode_edit xs) (known_encoded xs)) { written = most_blocks (length xs) }
 
 -- `truncate`: to so many frames
 abbrev pub truncate_rule : ℕ → Rule
@@ -389,21 +426,17 @@ set_cue_rule places = drafting (codes "cue ") draft_refusal (λ e. cue_body (nam
 
 -- ---- which commands there are
 
--- the codec that a word names, where its samples have a fixed number of bytes; ADPCM is not built yet
-abbrev pub fixed_word : CodecWord → Option Codec
-fixed_word word.U8 = Some codec.U8
-fixed_word word.S8 = Some codec.S8
-fixed_word (word.S16 order) = Some (codec.S16 order)
-fixed_word (word.S24 order) = Some (codec.S24 order)
-fixed_word (word.S32 order) = Some (codec.S32 order)
-fixed_word word.MuLaw = Some codec.MuLaw
-fixed_word word.ALaw = Some codec.ALaw
-fixed_word other = None
-
--- codecs that are not built yet are refused before all else
-abbrev pub is_built : Said → Bool
-is_built (Said.create kind codec channels rate name) = is_some (fixed_word codec)
-is_built said = true
+-- the codec that a word names, in a file that is made with so many channels and frames a second
+abbrev pub codec_of : CodecWord → ℕ → ℕ → Codec
+codec_of word.U8 channels rate = codec.U8
+codec_of word.S8 channels rate = codec.S8
+codec_of (word.S16 order) channels rate = codec.S16 order
+codec_of (word.S24 order) channels rate = codec.S24 order
+codec_of (word.S32 order) channels rate = codec.S32 order
+codec_of word.MuLaw channels rate = codec.MuLaw
+codec_of word.ALaw channels rate = codec.ALaw
+codec_of word.Ima channels rate = ima_made channels rate
+codec_of word.Ms channels rate = ms_made channels rate
 
 -- the command that closes a file
 abbrev pub is_close : Said → Bool
@@ -431,41 +464,55 @@ is_set said = false
 abbrev pub most_on : Mode → (Said → ℕ) → Said → ℕ
 most_on mode most said = if is_set said && not (makes mode) then 0 else most said
 
--- the places that the mode has
+-- the places that the mode has: that of frames which are made blocks is not sought
 abbrev pub seek_rule : Mode → ℕ → Rule
 seek_rule reading n = seek_read_rule n
 seek_rule writing n = seek_write_rule n
+seek_rule encoding n = refused_rule AdpcmSeek
 seek_rule updating n = seek_both_rule n
 seek_rule pinned n = seek_both_rule n
 
--- any built command but `close`; no file is opened while one is open
-abbrev pub built_rule : Mode → List Gauge → Said → Rule
-built_rule mode taps Said.info = tell_rule
-built_rule mode taps (Said.seek_read n) = in_mode (reads mode) (seek_read_rule n)
-built_rule mode taps (Said.seek_write n) = in_mode (writes mode) (seek_write_rule n)
-built_rule mode taps (Said.seek_both n) = seek_rule mode n
-built_rule mode taps (Said.read n) = in_mode (reads mode) (read_rule n)
-built_rule mode taps (Said.write xs) = in_mode (writes mode) (write_rule xs)
-built_rule mode taps (Said.truncate n) = in_mode (writes mode) (truncate_rule n)
-built_rule mode taps Said.trim = in_mode (writes mode) trim_rule
-built_rule mode taps Said.update = in_mode (writes mode) update_rule
-built_rule mode taps (Said.auto on) = in_mode (writes mode) (auto_rule on)
-built_rule mode taps (Said.set_chunk id hex) = in_mode (makes mode) (set_chunk_rule id hex)
-built_rule mode taps (Said.set_string key text) = in_mode (makes mode) (set_string_rule key text)
-built_rule mode taps (Said.set_bext key text) = in_mode (makes mode) (set_bext_rule key text)
-built_rule mode taps (Said.set_cue places) = in_mode (makes mode) (set_cue_rule places)
-built_rule mode taps (Said.get_chunk id) = get_chunk_rule id
-built_rule mode taps Said.get_chunks = get_chunks_rule
-built_rule mode taps Said.get_strings = get_strings_rule
-built_rule mode taps Said.get_bext = get_bext_rule
-built_rule mode taps Said.get_cues = get_cues_rule
-built_rule mode taps (Said.tap kind) = tap_rule taps kind
-built_rule mode taps (Said.untap kind) = untap_rule taps kind
-built_rule mode taps said = refused_rule AlreadyOpen
+abbrev pub seek_write_in : Mode → ℕ → Rule
+seek_write_in mode n = in_mode (writes mode) (by_blocks (encodes mode) (refused_rule AdpcmSeek) (seek_write_rule n))
+
+-- what is written in it, and cut
+abbrev pub write_in : Mode → List ℤ → Rule
+write_in mode xs = in_mode (writes mode) (by_blocks (encodes mode) (encode_rule xs) (write_rule xs))
+
+abbrev pub truncate_in : Mode → ℕ → Rule
+truncate_in mode n = in_mode (writes mode) (by_blocks (encodes mode) (refused_rule AdpcmUpdate) (truncate_rule n))
+
+abbrev pub trim_in : Mode → Rule
+trim_in mode = in_mode (writes mode) (by_blocks (encodes mode) (refused_rule AdpcmUpdate) trim_rule)
+
+-- any command but `close`; no file is opened while one is open
+abbrev pub plain_rule : Mode → List Gauge → Said → Rule
+plain_rule mode taps Said.info = tell_rule mode
+plain_rule mode taps (Said.seek_read n) = in_mode (reads mode) (seek_read_rule n)
+plain_rule mode taps (Said.seek_write n) = seek_write_in mode n
+plain_rule mode taps (Said.seek_both n) = seek_rule mode n
+plain_rule mode taps (Said.read n) = in_mode (reads mode) (read_rule n)
+plain_rule mode taps (Said.write xs) = write_in mode xs
+plain_rule mode taps (Said.truncate n) = truncate_in mode n
+plain_rule mode taps Said.trim = trim_in mode
+plain_rule mode taps Said.update = in_mode (writes mode) update_rule
+plain_rule mode taps (Said.auto on) = in_mode (writes mode) (auto_rule on)
+plain_rule mode taps (Said.set_chunk id hex) = in_mode (makes mode) (set_chunk_rule id hex)
+plain_rule mode taps (Said.set_string key text) = in_mode (makes mode) (set_string_rule key text)
+plain_rule mode taps (Said.set_bext key text) = in_mode (makes mode) (set_bext_rule key text)
+plain_rule mode taps (Said.set_cue places) = in_mode (makes mode) (set_cue_rule places)
+plain_rule mode taps (Said.get_chunk id) = get_chunk_rule id
+plain_rule mode taps Said.get_chunks = get_chunks_rule
+plain_rule mode taps Said.get_strings = get_strings_rule
+plain_rule mode taps Said.get_bext = get_bext_rule
+plain_rule mode taps Said.get_cues = get_cues_rule
+plain_rule mode taps (Said.tap kind) = tap_rule taps kind
+plain_rule mode taps (Said.untap kind) = untap_rule taps kind
+plain_rule mode taps said = refused_rule AlreadyOpen
 
 -- .. of which one that is pinned refuses some
 abbrev pub unless_pinned : Bool → Mode → Rule → Rule
 unless_pinned held mode rule = if held && is_pinned mode then refused_rule Pinned else rule
 
 abbrev pub rule_of : Mode → List Gauge → Said → Rule
-rule_of mode taps said = if is_built said then unless_pinned (is_held said) mode (built_rule mode taps said) else refused_rule NotBuilt
+rule_of mode taps said = unless_pinned (is_held said) mode (plain_rule mode taps said)

@@ -5,10 +5,10 @@ use Rattle.std.specs.Str.{bytes_eq}
 use Rattle.snd_command.specs.Line.{command_of}
 use Rattle.snd_command.specs.Said.{Said}
 use Rattle.snd_command.specs.declared.refusal.ScriptRefusal.{ScriptRefusal}
-use Rattle.snd_script.specs.Desk.{Desk, OpenFile, Store, closed_desk, open_desk, store_closed}
+use Rattle.snd_script.specs.Desk.{Desk, Mode, OpenFile, Store, closed_desk, encodes, open_desk, store_closed}
 use Rattle.snd_script.specs.Edit.{Edited, edit_line}
 use Rattle.snd_script.specs.Replies.{nothing, text_of, is_refusal}
-use Rattle.snd_script.specs.Rules.{is_held, is_set}
+use Rattle.snd_script.specs.Rules.{is_held, is_set, most_on}
 
 -- a script has at most this many bytes
 abbrev pub most_bytes : ℕ
@@ -88,25 +88,41 @@ asked_by Said.get_bext = 81920
 asked_by Said.get_cues = 81920
 asked_by said = 0
 
--- bytes written; a file that is made or open is closed with 72 more
+-- bytes written, where a block of ADPCM has at most so many; a file that is made or open is closed with 72 more, and such a block
+abbrev pub written_with : ℕ → Said → ℕ
+written_with block (Said.create kind codec channels rate name) = 2048
+written_with block (Said.write xs) = 4 * length xs + 72 + block
+written_with block (Said.truncate n) = 72
+written_with block Said.trim = 80
+written_with block Said.update = 72
+written_with block (Said.auto on) = 72
+written_with block Said.close = 72 + block
+written_with block (Said.set_chunk id hex) = 16777216
+written_with block (Said.set_string key text) = 16777216
+written_with block (Said.set_bext key text) = 16777216
+written_with block (Said.set_cue places) = 16777216
+written_with block said = 0
+
+-- .. blocks of a file that a script makes have at most 2048
 abbrev pub written_by : Said → ℕ
-written_by (Said.create kind codec channels rate name) = 2048
-written_by (Said.write xs) = 4 * length xs + 72
-written_by (Said.truncate n) = 72
-written_by Said.trim = 80
-written_by Said.update = 72
-written_by (Said.auto on) = 72
-written_by Said.close = 72
-written_by (Said.set_chunk id hex) = 16777216
-written_by (Said.set_string key text) = 16777216
-written_by (Said.set_bext key text) = 16777216
-written_by (Said.set_cue places) = 16777216
-written_by said = 0
+written_by said = written_with 2048 said
 
 -- in a pinned run the commands that it refuses use nothing
 abbrev pub most_in : Bool → (Said → ℕ) → Said → ℕ
 most_in true most = λ said. if is_held said || is_set said then 0 else most said
 most_in false most = most
+
+-- .. of a file that is open in a mode
+abbrev pub most_block : Mode → ℕ
+most_block mode = if encodes mode then 2048 else 0
+
+abbrev pub written_on : Mode → Said → ℕ
+written_on mode said = most_on mode (written_with (most_block mode)) said
+
+-- .. of one that stays open there are none
+abbrev pub written_in : Bool → Said → ℕ
+written_in true = most_in true (written_with 0)
+written_in false = written_by
 
 abbrev pub by_command : (Said → ℕ) → Result (Option Said) ScriptRefusal → ℕ
 by_command most (Ok (Some said)) = most said

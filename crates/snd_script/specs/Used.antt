@@ -8,7 +8,7 @@ use Rattle.snd_disk.specs.declared.shelf.Shelf.{Ghosts as ShelfMeaning}
 use Rattle.snd_disk.specs.declared.streams.Source.{Ghosts as SourceMeaning}
 use Rattle.snd_script.specs.Handled.{handle_disk}
 use Rattle.snd_script.specs.Lines.{Reading}
-use Rattle.snd_script.specs.Script.{asked_by, by_command, by_lines, lines_within, most_in, written_by}
+use Rattle.snd_script.specs.Script.{asked_by, by_command, by_lines, lines_within, most_in, written_by, written_in}
 use Rattle.snd_script.specs.declared.handle.Handle.{Handle}
 use Rattle.snd_script.specs.declared.open.OpenAs.{OpenAs}
 use Rattle.snd_script.specs.declared.open.OpenAs.TheVariants as how
@@ -83,18 +83,18 @@ abbrev pub CommandAsks : {D : Type 0} (d : Ghosts D) → Bool → Result Next St
 CommandAsks d stays result said handle handle' = HandleUses (λ x. (d.state x).asked) result (most_in stays asked_by) (most_in stays asked_by said) handle handle'
 
 abbrev pub CommandWrites : {D : Type 0} (d : Ghosts D) → Bool → Result Next Stop → Said → Handle D d → Handle D d → Type 0
-CommandWrites d stays result said handle handle' = HandleUses (λ x. (d.state x).written) result (most_in stays written_by) (most_in stays written_by said) handle handle'
+CommandWrites d stays result said handle handle' = HandleUses (λ x. (d.state x).written) result (written_in stays) (written_in stays said) handle handle'
 
 -- .. or is answered so
 abbrev pub LineAsks : {D : Type 0} (d : Ghosts D) → Bool → Result Next Stop → Result (Option Said) ScriptRefusal → Handle D d → Handle D d → Type 0
 LineAsks d stays result answer handle handle' = HandleUses (λ x. (d.state x).asked) result (most_in stays asked_by) (by_command (most_in stays asked_by) answer) handle handle'
 
 abbrev pub LineWrites : {D : Type 0} (d : Ghosts D) → Bool → Result Next Stop → Result (Option Said) ScriptRefusal → Handle D d → Handle D d → Type 0
-LineWrites d stays result answer handle handle' = HandleUses (λ x. (d.state x).written) result (most_in stays written_by) (by_command (most_in stays written_by) answer) handle handle'
+LineWrites d stays result answer handle handle' = HandleUses (λ x. (d.state x).written) result (written_in stays) (by_command (written_in stays) answer) handle handle'
 
 -- .. up to where the run stops: the bytes that are asked of the disks, and written, have a bound for each line that is left
 abbrev pub BoundsLines : {V : Type 0} {Z : V → Type 0} {S D R : Type 0} → ShelfMeaning S D → SourceMeaning R → S → Run V Z → R → S → Type 0
 BoundsLines s r shelf run script shelf' =
     (b : List ℕ) → r.left script ≡ Some b →
     AtMost (s.state shelf).asked (use_left asked_by run.lines b) (s.state shelf').asked
-    × AtMost (s.state shelf).written (use_left written_by run.lines b + 72) (s.state shelf').written
+    × AtMost (s.state shelf).written (use_left written_by run.lines b + 2120) (s.state shelf').written

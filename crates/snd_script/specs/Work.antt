@@ -1,8 +1,7 @@
 -- What is done for a command, and how that leaves a file.
-use Rattle.std.specs.Prelude.{◌≡◌, ◌⊎◌, ◌≤◌, ℕ, ℤ, List, Bool, true, false, Option, None, Some, Result, Ok, Err, IfErr, IfOk, IsErrOf, MatchResult, is_none}
+use Rattle.std.specs.Prelude.{◌≡◌, ◌⊎◌, ◌≤◌, ℕ, ℤ, List, Bool, true, false, Option, None, Some, Result, Ok, Err, IfErr, IfOk, IsErrOf, MatchResult}
 use Rattle.std.specs.Borrow.{MutBor}
 use Rattle.snd_command.specs.Said.{Said}
-use Rattle.snd_container.specs.Sound.{fixed_of}
 use Rattle.snd_disk.specs.Device.{AsksAtMost, GoesOnFrom, IsStable, OnlyReadsOn, Tells, WritesAtMost}
 use Rattle.snd_disk.specs.State.{State}
 use Rattle.snd_disk.specs.declared.disk.Disk.{Ghosts}
@@ -12,8 +11,8 @@ use Rattle.snd_blocks.specs.Frames.{has_bad}
 use Rattle.snd_layout.specs.Blocks.{is_adpcm}
 use Rattle.snd_layout.specs.Params.{params_of}
 use Rattle.snd_meters.specs.Gauge.{Gauge}
+use Rattle.snd_modes.specs.Closing.{closed_to, most_closed}
 use Rattle.snd_modes.specs.Editing.{Editing, frames_left, moved_by}
-use Rattle.snd_modes.specs.Edits.{sealed_to}
 use Rattle.snd_modes.specs.Handle.{Known, Stands, channels_of, disk_of, known_of, loan_of}
 use Rattle.snd_modes.specs.declared.handle.File.{File}
 use Rattle.snd_modes.specs.declared.mode.Mode.{Ghosts as ModeGhosts}
@@ -24,8 +23,8 @@ use Rattle.snd_patch.specs.Images.{LeavesEach}
 use Rattle.snd_patch.specs.Steps.{StillTells}
 use Rattle.snd_script.specs.Desk.{Mode, Store, closed_desk, makes, reads, writes}
 use Rattle.snd_script.specs.Edit.{Edited, Opening, edit_by, edit_closed, make_edit, open_edit, refused}
-use Rattle.snd_script.specs.Rules.{Rule, auto_rule, frames_wanted, get_bext_rule, get_chunk_rule, get_chunks_rule, get_cues_rule, get_strings_rule, in_mode, is_close, read_known, read_rule, refused_rule, rule_of, seek_read_rule, seek_rule, seek_write_rule, set_bext_rule, set_chunk_rule, set_cue_rule, set_string_rule, tap_rule, tell_rule, trim_rule, truncate_rule, unless_pinned, untap_rule, update_rule, write_rule}
-use Rattle.snd_script.specs.Handled.{back_of}
+use Rattle.snd_script.specs.Rules.{Rule, auto_rule, frames_wanted, get_bext_rule, get_chunk_rule, get_chunks_rule, get_cues_rule, get_strings_rule, in_mode, is_close, read_known, read_rule, refused_rule, rule_of, seek_read_rule, seek_rule, seek_write_in, set_bext_rule, set_chunk_rule, set_cue_rule, set_string_rule, tap_rule, tell_rule, trim_in, truncate_in, unless_pinned, untap_rule, update_rule, write_in}
+use Rattle.snd_script.specs.Handled.{HasSmallBlocks, back_of}
 use Rattle.snd_script.specs.Kept.{work_writes}
 use Rattle.snd_script.specs.Used.{work_asks, work_makes}
 use Rattle.snd_script.specs.Script.{asked_by, writes_name, written_by}
@@ -39,7 +38,7 @@ use Rattle.snd_script.specs.declared.work.Asking.TheVariants as asking
 use Rattle.snd_script.specs.declared.work.Setting.{Setting}
 use Rattle.snd_script.specs.declared.work.Setting.TheVariants as setting
 use Rattle.snd_script.specs.declared.work.Work.{Work}
-use Rattle.snd_script.specs.declared.work.Work.TheVariants.{Open, Update, Make, Close, Tell, SeekRead, SeekWrite, SeekBoth, Read, Write, Truncate, Trim, BringUp, Auto, Set, Ask, Tap, Untap, NotBuilt}
+use Rattle.snd_script.specs.declared.work.Work.TheVariants.{Open, Update, Make, Close, Tell, SeekRead, SeekWrite, SeekBoth, Read, Write, Truncate, Trim, BringUp, Auto, Set, Ask, Tap, Untap}
 
 -- the rule of what is set, and of what is asked
 abbrev pub setting_rule : Setting → Rule
@@ -57,21 +56,20 @@ asking_rule asking.Points = get_cues_rule
 
 -- the rule of what is done on an open file, unless it is closed
 abbrev pub work_rule : Mode → List Gauge → Work → Rule
-work_rule mode taps Tell = tell_rule
+work_rule mode taps Tell = tell_rule mode
 work_rule mode taps (SeekRead n) = in_mode (reads mode) (seek_read_rule n)
-work_rule mode taps (SeekWrite n) = in_mode (writes mode) (seek_write_rule n)
+work_rule mode taps (SeekWrite n) = seek_write_in mode n
 work_rule mode taps (SeekBoth n) = seek_rule mode n
 work_rule mode taps (Read n) = in_mode (reads mode) (read_rule n)
-work_rule mode taps (Write xs) = in_mode (writes mode) (write_rule xs.now)
-work_rule mode taps (Truncate n) = in_mode (writes mode) (truncate_rule n)
-work_rule mode taps Trim = in_mode (writes mode) trim_rule
+work_rule mode taps (Write xs) = write_in mode xs.now
+work_rule mode taps (Truncate n) = truncate_in mode n
+work_rule mode taps Trim = trim_in mode
 work_rule mode taps BringUp = in_mode (writes mode) update_rule
 work_rule mode taps (Auto on) = unless_pinned true mode (in_mode (writes mode) (auto_rule on))
 work_rule mode taps (Set setting) = in_mode (makes mode) (setting_rule setting)
 work_rule mode taps (Ask asking) = asking_rule asking
 work_rule mode taps (Tap kind) = tap_rule taps kind
 work_rule mode taps (Untap kind) = untap_rule taps kind
-work_rule mode taps NotBuilt = refused_rule refusal.NotBuilt
 work_rule mode taps work = unless_pinned true mode (refused_rule refusal.AlreadyOpen)
 
 -- with none open
@@ -79,7 +77,6 @@ abbrev pub work_closed : Work → Store → Edited
 work_closed (Open name) store = open_edit store name.now Opening.for_reading (store.files name.now)
 work_closed (Update name) store = open_edit store name.now Opening.for_updating (store.files name.now)
 work_closed (Make kind codec channels rate name) store = make_edit store name.now kind (params_of channels rate codec)
-work_closed NotBuilt store = refused refusal.NotBuilt (closed_desk store)
 work_closed work store = refused refusal.NotOpen (closed_desk store)
 
 abbrev pub work_closes : Work → Bool
@@ -99,10 +96,10 @@ work_name (Update name) = Some name.now
 work_name (Make kind codec channels rate name) = Some name.now
 work_name work = None
 
--- what is made has samples of a fixed number of bytes each
-abbrev pub IsBuiltWork : Work → Type 0
-IsBuiltWork (Make kind codec channels rate name) = is_none (fixed_of codec) ≡ false
-IsBuiltWork work = Unit {0}
+-- what is made has small blocks
+abbrev pub MakesSmall : Work → Type 0
+MakesSmall (Make kind codec channels rate name) = HasSmallBlocks channels codec
+MakesSmall work = Unit {0}
 
 -- this is done for what is said
 pub record WorksFor (said : Said) (work : Work) : Type 0 where
@@ -110,7 +107,7 @@ pub record WorksFor (said : Said) (work : Work) : Type 0 where
   pub closed : (store : Store) → edit_closed store said ≡ work_closed work store
   pub named : (n : List ℕ) → work_name work ≡ Some n → name_of said ≡ Some n
   pub closes : is_close said ≡ work_closes work
-  pub built : IsBuiltWork work
+  pub small : MakesSmall work
   pub asked : work_asks work ≤ asked_by said
   pub made : work_makes work ≤ written_by said
   pub writes : (n : List ℕ) → writes_name said n ≡ false → work_writes work n ≡ false
@@ -160,7 +157,7 @@ pub record Follows {D M O : Type 0} {mode : ModeGhosts M} (d : Ghosts D) (o : Si
   pub leaves : ChangesSafely d rule old new
   pub rests : ChangesToRest d rule result old new
   pub asked : AsksAtMost d.state rule.asked (disk_of old) (disk_of new)
-  pub written : WritesAtMost d.state rule.written (disk_of old) (disk_of new)
+  pub written : WritesAtMost d.state (rule.written (known_of old).shape.params) (disk_of old) (disk_of new)
 
 -- .. the rule of what is done
 abbrev pub FollowsWork : {D M O : Type 0} {mode : ModeGhosts M} (d : Ghosts D) → SinkMeaning O → Mode → List Gauge → Work → Result Reply StepFault → File D M d mode → O → File D M d mode → O → Type 0
@@ -223,16 +220,16 @@ MovesOn state result old new =
 abbrev pub FileCalm : {D M : Type 0} {ghosts : Ghosts D} {mode : ModeGhosts M} → (D → State) → File D M ghosts mode → File D M ghosts mode → Type 0
 FileCalm state old new = (state (disk_of new)).faults ≡ (state (disk_of old)).faults
 
--- A file is closed: with its disk, by the number of frames or by the step that failed. The flag is whether its mode writes.
-pub record ClosesAs {D M : Type 0} {mode : ModeGhosts M} (d : Ghosts D) (writing : Bool) (file : File D M d mode) (result : Result (ℕ × MutBor D) (Step × MutBor D)) : Type 0 where
+-- A file of so many frames is closed: with its disk, by their number or by the step that failed. The flag is whether its mode writes.
+pub record ClosesAs {D M : Type 0} {mode : ModeGhosts M} (d : Ghosts D) (writing : Bool) (frames : ℕ) (file : File D M d mode) (result : Result (ℕ × MutBor D) (Step × MutBor D)) : Type 0 where
   pub same : writing ≡ false → (back_of result).now ≡ disk_of file
-  pub sealed : writing ≡ true → IfOk result (λ r. (e : Editing) → Stands d.state file e → Tells d.state r.1.now (sealed_to e).bytes)
+  pub sealed : writing ≡ true → IfOk result (λ r. (e : Editing) → Stands d.state file e → Tells d.state r.1.now (closed_to mode.ENCODES e).bytes)
   pub stable : writing ≡ true → IfOk result (λ r. IsStable d.state d.may_leave r.1.now)
-  pub frames : IfOk result (λ r. ((known_of file).broken ≡ None) × (r.0 ≡ (known_of file).shape.frames) × ((d.state r.1.now).faults ≡ (d.state (disk_of file)).faults))
+  pub told : IfOk result (λ r. ((known_of file).broken ≡ None) × (r.0 ≡ frames) × ((d.state r.1.now).faults ≡ (d.state (disk_of file)).faults))
   pub cause : IfErr result (λ e. (((known_of file).broken ≡ Some e.0) × (e.1.now ≡ disk_of file))
       ⊎ (((known_of file).broken ≡ None) × (writing ≡ true) × Rose (d.state (disk_of file)).faults (d.state e.1.now).faults))
   pub tells : StillTells (d.state (disk_of file)) (d.state (back_of result).now)
   pub time : GoesOnFrom d.state d.left_between (disk_of file) (back_of result).now
   pub leaves : writing ≡ true → (opened : List ℕ) (e : Editing) → IsAtRest d opened file e → LeavesEach d (disk_of file) (back_of result).now (IsSafe e e)
-  pub written : WritesAtMost d.state 72 (disk_of file) (back_of result).now
+  pub written : WritesAtMost d.state (most_closed mode.ENCODES (known_of file).shape.params) (disk_of file) (back_of result).now
   pub asked : (d.state (back_of result).now).asked ≡ (d.state (disk_of file)).asked

@@ -1,6 +1,7 @@
 //! What a command does to an open file that it does not change, and its reply.
 
 ghost use Rattle.std.specs.Prelude.{◌≡◌, None};
+ghost use Rattle.snd_script.specs.Desk.{encoding, reading};
 ghost use Rattle.snd_modes.specs.Handle.{known_of};
 ghost use Rattle.snd_script.specs.Rules.{read_rule, refused_rule, seek_both_rule, seek_read_rule, seek_write_rule, tell_rule};
 ghost use Rattle.snd_script.specs.Tapped.{meter_taps};
@@ -13,7 +14,7 @@ use crate::say::{refuse, say_file, say_frames, say_ok};
 use snd_disk::{Disk, Sink};
 use snd_lines::Refusal;
 use snd_meters::Meters;
-use snd_modes::{CanRead, CanWrite, File, Mode, SeekError, Update};
+use snd_modes::{CanRead, CanWrite, Encode, File, Mode, SeekError, Update};
 use snd_taps::Tap;
 
 /// Refuses a command.
@@ -32,12 +33,22 @@ pub fn tell<'d, D: Disk, M: Mode, O: Sink>(
     file: &File<'d, D, M>,
     out: &mut O,
 ) -> Result<Reply, StepFault>
-    ensures { Follows D.Disk O.Sink tell_rule result file.now out.old file.now out.new }
+    ensures { Follows D.Disk O.Sink (tell_rule reading) result file.now out.old file.now out.new }
 {
     say_file(out, file.frames(), file.params(), file.kind())
 }
 
-// Why a frame is not sought in a file that is whole; none of ADPCM is written here.
+/// Tells of a file of ADPCM that is made, with all frames that it was given.
+pub fn tell_given<'d, D: Disk, O: Sink>(
+    file: &File<'d, D, Encode>,
+    out: &mut O,
+) -> Result<Reply, StepFault>
+    ensures { Follows D.Disk O.Sink (tell_rule encoding) result file.now out.old file.now out.new }
+{
+    say_file(out, file.frames_given(), file.params(), file.kind())
+}
+
+// Why a frame is not sought in a file that is whole. In ADPCM no call seeks the frame to write next.
 fn seek_refusal(error: SeekError) -> Refusal
     requires { error ≡ SeekError.SeekRange }
     ensures { result ≡ Refusal.SeekRange }

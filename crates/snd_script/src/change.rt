@@ -2,14 +2,16 @@
 
 ghost use Rattle.std.specs.Prelude.{◌≡◌, None};
 ghost use Rattle.snd_modes.specs.Handle.{known_of};
-ghost use Rattle.snd_script.specs.Rules.{auto_rule, trim_rule, truncate_rule, update_rule, write_rule};
+ghost use Rattle.snd_script.specs.Rules.{auto_rule, encode_rule, trim_rule, truncate_rule, update_rule, write_rule};
 ghost use Rattle.snd_script.specs.Work.{Follows};
 
 use crate::handle::{Reply, StepFault};
 use crate::say::{refuse, say_ok};
 use snd_disk::{Disk, Sink};
 use snd_lines::Refusal;
-use snd_modes::{AutoError, CanShrink, CanWrite, File, ShrinkError, UpdateError, WriteError};
+use snd_modes::{
+    AutoError, CanSeal, CanShrink, CanWrite, Encode, File, ShrinkError, UpdateError, WriteError,
+};
 
 /// Writes the frames of these numbers.
 #[tactic(auto, using(crate::proofs::Refused::write_part))]
@@ -31,6 +33,30 @@ pub fn write<'d, D: Disk, M: CanWrite, O: Sink>(
         Err(WriteError::TrailingData) => refuse(out, Refusal::TrailingData),
         Err(WriteError::ContainerFull) => refuse(out, Refusal::ContainerFull),
         Err(WriteError::DiskFault(_)) => Err(StepFault::Disk),
+        Err(WriteError::Broken(_)) => unreachable!(),
+    }
+}
+
+/// Gives a file of ADPCM the frames of these numbers, behind all that it was given.
+#[tactic(auto, using(crate::proofs::Refused::encode_part))]
+pub fn encode<'d, D: Disk, O: Sink>(
+    file: &mut File<'d, D, Encode>,
+    samples: &[i32],
+    out: &mut O,
+) -> Result<Reply, StepFault>
+    requires { (known_of file.old).broken ≡ None }
+    ensures { Follows D.Disk O.Sink (encode_rule samples.now) result file.old out.old file.new out.new }
+{
+    let params = file.params();
+    params.are_good();
+    let frames = samples.len() / usize::from(params.channels);
+    match file.encode_frames(samples) {
+        Ok(()) => say_ok(out, frames as u64),
+        Err(WriteError::PartFrame) => refuse(out, Refusal::PartFrame),
+        Err(WriteError::SampleRange) => refuse(out, Refusal::SampleRange),
+        Err(WriteError::ContainerFull) => refuse(out, Refusal::ContainerFull),
+        Err(WriteError::DiskFault(_)) => Err(StepFault::Disk),
+        Err(WriteError::TrailingData) => unreachable!(),
         Err(WriteError::Broken(_)) => unreachable!(),
     }
 }
@@ -75,7 +101,7 @@ pub fn trim<'d, D: Disk, M: CanShrink, O: Sink>(
 }
 
 /// Brings the head up to the frames.
-pub fn bring_up<'d, D: Disk, M: CanWrite, O: Sink>(
+pub fn bring_up<'d, D: Disk, M: CanSeal, O: Sink>(
     file: &mut File<'d, D, M>,
     out: &mut O,
 ) -> Result<Reply, StepFault>
@@ -90,7 +116,7 @@ pub fn bring_up<'d, D: Disk, M: CanWrite, O: Sink>(
 }
 
 /// Brings the head up to the frames, and from then on after each write, or after none.
-pub fn set_auto<'d, D: Disk, M: CanWrite, O: Sink>(
+pub fn set_auto<'d, D: Disk, M: CanSeal, O: Sink>(
     file: &mut File<'d, D, M>,
     on: bool,
     out: &mut O,

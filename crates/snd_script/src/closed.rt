@@ -1,13 +1,13 @@
 //! The lines of a script while no file is open.
 
-ghost use Rattle.std.specs.Prelude.{◌≡◌, ◌≤◌, List, ℕ, Some, false, true, is_none, OnOk};
+ghost use Rattle.std.specs.Prelude.{◌≡◌, ◌≤◌, List, ℕ, Some, false, true, OnOk};
 ghost use Rattle.snd_command.specs.Forms.{is_name};
 ghost use Rattle.snd_command.specs.Line.{command_of};
 ghost use Rattle.snd_command.specs.Said.{line_said};
-ghost use Rattle.snd_container.specs.Sound.{fixed_of};
 ghost use Rattle.snd_layout.specs.Params.{params_of};
 ghost use Rattle.snd_script.specs.Desk.{closed_desk};
 ghost use Rattle.snd_script.specs.Edit.{edit_closed, edit_line};
+ghost use Rattle.snd_script.specs.Handled.{HasSmallBlocks};
 ghost use Rattle.snd_script.specs.Kept.{KeepsUnless, LeavesLines, how_writes};
 ghost use Rattle.snd_script.specs.Opened.{IsMakeable, is_making, MakesOf, most_made, opens_edit};
 ghost use Rattle.snd_script.specs.Script.{asked_by, by_command, by_writing, writes_name, written_by};
@@ -86,7 +86,7 @@ fn serve_name<S: Shelf, R: Source, O: Sink>(
 
 // The parameters of a file that is to be made, where its kind holds them.
 fn params_for(kind: Kind, codec: Codec, channels: u64, rate: u64) -> Result<Params, OpenRefusal>
-    requires linear { is_none (fixed_of codec) ≡ false }
+    requires small { HasSmallBlocks channels codec }
     ensures made { MakesOf kind (params_of channels rate codec) result }
 {
     let params = Params::new(channels, rate, codec)?;
@@ -127,7 +127,6 @@ fn closed_command<S: Shelf, R: Source, O: Sink>(
                 Err(refusal) => run.refuse(Refusal::Open(refusal), out),
             }
         }
-        Work::NotBuilt => run.refuse(Refusal::NotBuilt, out),
         Work::Close
         | Work::Tell
         | Work::SeekRead(_)

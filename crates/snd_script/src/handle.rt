@@ -1,7 +1,7 @@
 //! The handle of one open file in whichever mode, and how a command on it ends.
 
 use snd_disk::Disk;
-use snd_modes::{File, Read, Update, Write};
+use snd_modes::{Encode, File, Read, Update, Write};
 
 /// An open file, by its mode.
 pub enum Handle<'d, D: Disk> {
@@ -9,6 +9,8 @@ pub enum Handle<'d, D: Disk> {
     R(File<'d, D, Read>),
     /// Made, to be written.
     W(File<'d, D, Write>),
+    /// Made, to be written by blocks of ADPCM.
+    B(File<'d, D, Encode>),
     /// Opened to be read and updated in place.
     U(File<'d, D, Update>),
 }

@@ -3,7 +3,6 @@
 ghost use Rattle.snd_command.specs.Said.{line_said};
 ghost use Rattle.snd_script.specs.Pinned.{RefusesHeld};
 
-use crate::work::is_made;
 use snd_command::LineCommand;
 use snd_lines::Refusal;
 
@@ -16,7 +15,6 @@ pub fn held_refusal(stays: bool, said: LineCommand<'_, '_>) -> Option<Refusal>
         return None;
     }
     match said {
-        LineCommand::Create { codec, .. } if !is_made(codec) => Some(Refusal::NotBuilt),
         LineCommand::OpenRead { .. }
         | LineCommand::OpenUpdate { .. }
         | LineCommand::Create { .. }

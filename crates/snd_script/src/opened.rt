@@ -5,9 +5,9 @@ ghost use Rattle.snd_command.specs.Line.{command_of};
 ghost use Rattle.snd_command.specs.Said.{line_said};
 ghost use Rattle.snd_script.specs.Desk.{updating};
 ghost use Rattle.snd_script.specs.Edit.{edit_open};
-ghost use Rattle.snd_script.specs.Handled.{handle_known, LeavesHandle, mode_of};
+ghost use Rattle.snd_script.specs.Handled.{handle_known, IsSmall, LeavesHandle, mode_of};
 ghost use Rattle.snd_script.specs.Kept.{LeavesLines};
-ghost use Rattle.snd_script.specs.Script.{asked_by, most_in, written_by};
+ghost use Rattle.snd_script.specs.Script.{asked_by, most_in, written_in};
 ghost use Rattle.snd_script.specs.Rules.{is_close};
 ghost use Rattle.snd_script.specs.declared.stop.Next.TheVariants as next;
 ghost use Rattle.snd_script.specs.Used.{CommandAsks, CommandWrites, LineAsks, LineWrites, UsesOpen};
@@ -35,6 +35,7 @@ fn open_command<'d, D: Disk, O: Sink>(
 ) -> Result<Next, Stop>
     requires working { (handle_known handle.old).broken ≡ None }
     requires updated { stays ≡ true → mode_of handle.old ≡ updating }
+    requires small { IsSmall handle.old }
     ensures answered { (name : List ℕ) → AnswersOpen (λ b. meter b) D.state O.told name stays (λ store file. edit_open store file (line_said said.entry)) result handle.old run.old out.old handle.new run.new out.new }
     ensures lines { run.new.lines ≡ run.old.lines }
     ensures whole { IsWhole result (handle_known handle.new).broken }
@@ -66,6 +67,7 @@ fn open_line<'d, D: Disk, O: Sink>(
 ) -> Result<Next, Stop>
     requires working { (handle_known handle.old).broken ≡ None }
     requires updated { stays ≡ true → mode_of handle.old ≡ updating }
+    requires small { IsSmall handle.old }
     ensures answered { (name : List ℕ) → AnswersOpen (λ b. meter b) D.state O.told name stays (edit_open_line line.old) result handle.old run.old out.old handle.new run.new out.new }
     ensures lines { run.new.lines ≡ run.old.lines }
     ensures whole { IsWhole result (handle_known handle.new).broken }
@@ -98,6 +100,7 @@ pub fn serve_open<'d, D: Disk, R: Source, O: Sink>(
 ) -> Result<(), Stop>
     requires working { (handle_known handle.old).broken ≡ None }
     requires updated { stays ≡ true → mode_of handle.old ≡ updating }
+    requires small { IsSmall handle.old }
     ensures served { (name : List ℕ) → ServesOpen (λ b. meter b) D.state R.left O.told name stays result handle.old run.old script.old out.old handle.new run.new script.new out.new }
     ensures fewer { OnOk result (run.new.lines.room ≤ run.old.lines.room) }
     ensures given { TakesLines R.given run.old script.old run.new script.new }
@@ -106,7 +109,7 @@ pub fn serve_open<'d, D: Disk, R: Source, O: Sink>(
     ensures leaves { LeavesHandle D.state D.may_leave D.left_between handle.old handle.new }
     ensures trail { TrailsOpen (λ b. meter b) D.Disk R.Source O.Sink stays handle.old run.old script.old out.old handle.new out.new }
     ensures asked { UsesOpen (λ d. (D.state d).asked) R.left result (most_in stays asked_by) handle.old run.old script.old handle.new run.new script.new }
-    ensures written { UsesOpen (λ d. (D.state d).written) R.left result (most_in stays written_by) handle.old run.old script.old handle.new run.new script.new }
+    ensures written { UsesOpen (λ d. (D.state d).written) R.left result (written_in stays) handle.old run.old script.old handle.new run.new script.new }
     ensures tail { LeavesLines R.left result run.old script.old run.new script.new }
     ensures closes { OnOk result (stays ≡ false) }
 {

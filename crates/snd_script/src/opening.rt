@@ -4,7 +4,7 @@ ghost use Rattle.std.specs.Prelude.{◌≡◌, ◌≤◌, List, ℕ, None, OnOk}
 ghost use Rattle.snd_disk.specs.Device.{GoesOnFrom};
 ghost use Rattle.snd_modes.specs.Handle.{known_of};
 ghost use Rattle.snd_patch.specs.Steps.{StillTells};
-ghost use Rattle.snd_script.specs.Handled.{LeavesDisk, LeavesHandle, handle_known, handle_loan};
+ghost use Rattle.snd_script.specs.Handled.{IsSmall, LeavesDisk, LeavesHandle, handle_known, handle_loan};
 ghost use Rattle.snd_script.specs.Kept.{LeavesLines};
 ghost use Rattle.snd_script.specs.Opened.{IsMakeable, OnlyServes, most_made};
 ghost use Rattle.snd_script.specs.Script.{asked_by, written_by};
@@ -44,6 +44,7 @@ pub fn reply_opened<'d, D: Disk, O: Sink>(handle: &Handle<'d, D>, out: &mut O) -
     match handle {
         Handle::R(file) => tell_file(file, out),
         Handle::W(file) => tell_file(file, out),
+        Handle::B(file) => tell_file(file, out),
         Handle::U(file) => tell_file(file, out),
     }
 }
@@ -55,7 +56,8 @@ fn serve_opened<'d, D: Disk, R: Source, O: Sink>(
     out: &mut O,
     run: &mut Run,
 ) -> Result<(), Stop>
-    requires { (handle_known handle.old).broken ≡ None }
+    requires working { (handle_known handle.old).broken ≡ None }
+    requires small { IsSmall handle.old }
     ensures served { (name : List ℕ) → ServesToClose (λ b. meter b) D.state R.left O.told name result handle.old run.old script.old out.old handle.new run.new script.new out.new }
     ensures fewer { OnOk result (run.new.lines.room ≤ run.old.lines.room) }
     ensures given { TakesLines R.given run.old script.old run.new script.new }
@@ -90,7 +92,8 @@ fn serve_handle<'d, D: Disk, R: Source, O: Sink>(
     out: &mut O,
     run: &mut Run,
 ) -> (Result<(), Stop>, &'d mut D)
-    requires { (handle_known handle).broken ≡ None }
+    requires working { (handle_known handle).broken ≡ None }
+    requires small { IsSmall handle }
     ensures lends { result.1.ghost_name ≡ handle_loan handle.entry }
     ensures served { (name : List ℕ) → ServesHandle (λ b. meter b) D.state R.left O.told name result.0 handle.entry run.old script.old out.old result.1.now run.new script.new out.new }
     ensures fewer { OnOk result.0 (run.new.lines.room ≤ run.old.lines.room) }

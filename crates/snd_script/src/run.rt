@@ -3,9 +3,9 @@
 ghost use Rattle.std.specs.Prelude.{◌≡◌, ◌<◌, ◌≤◌, Bool, List, ℕ, false, None, OnOk};
 ghost use Rattle.snd_script.specs.Rules.{is_close, most_on};
 ghost use Rattle.snd_command.specs.Said.{line_said};
-ghost use Rattle.snd_script.specs.Handled.{handle_known, mode_of, HandleAsks, HandleWrites, LeavesHandle};
+ghost use Rattle.snd_script.specs.Handled.{handle_known, mode_of, HandleAsks, HandleWrites, IsSmall, LeavesHandle};
 ghost use Rattle.snd_script.specs.Replies.{refuses};
-ghost use Rattle.snd_script.specs.Script.{asked_by, written_by};
+ghost use Rattle.snd_script.specs.Script.{asked_by, written_on};
 ghost use Rattle.snd_script.specs.Tapped.{taps_of};
 ghost use Rattle.snd_script.specs.Trail.{StepMoves};
 ghost use Rattle.snd_script.specs.Serving.{IsScriptCounted, IsSinkCounted, IsWhole, Answers, CountsLine, TakesLines, BringsLine, AnswersStep};
@@ -70,6 +70,7 @@ impl Run {
     ) -> Result<(), Stop>
         requires whole { (handle_known handle.old).broken ≡ None }
         requires step { is_close (line_said said) ≡ false }
+        requires small { IsSmall handle.old }
         ensures answered { (name : List ℕ) (stays : Bool) → AnswersStep (λ b. meter b) D.state O.told name stays (line_said said.entry) result handle.old self.old out.old handle.new self.new out.new }
         ensures lines { self.new.lines ≡ self.old.lines }
         ensures whole { IsWhole result (handle_known handle.new).broken }
@@ -77,7 +78,7 @@ impl Run {
         ensures leaves { LeavesHandle D.state D.may_leave D.left_between handle.old handle.new }
         ensures moves { StepMoves D.Disk (taps_of (λ b. meter b) self.old) (line_said said.entry) result handle.old handle.new }
         ensures asked { HandleAsks D.state (most_on (mode_of handle.old) asked_by (line_said said.entry)) handle.old handle.new }
-        ensures written { HandleWrites D.state (most_on (mode_of handle.old) written_by (line_said said.entry)) handle.old handle.new }
+        ensures written { HandleWrites D.state (written_on (mode_of handle.old) (line_said said.entry)) handle.old handle.new }
     {
         match self.session.carry_out(handle, said, out) {
             Ok(Reply::Ok) => Ok(()),

@@ -136,8 +136,9 @@ fn end_at(stop: Stop, refused: bool) -> ScriptEnd
 /// failed, it is left as the failing call left it, and all others are as before.
 ///
 /// The lines bound how many bytes are asked of the files, and written: a line that opens a file asks at
-/// most 16384, one that makes a file writes at most 2048, and one that closes it at most 72; a file that is
-/// open at the end is closed with 72 more. Other commands ask and write as much as `Session::step` says.
+/// most 16384, one that makes a file writes at most 2048, and one that closes it at most 2120, as blocks of
+/// ADPCM that a script makes have at most 2048; a file that is open at the end is closed with as many more. A
+/// write of v numbers writes at most `4 v + 2120`. Other commands ask and write as much as `Session::step` says.
 ///
 /// Where there is a name to be pinned, `open u` of it and `auto on` come before the script and are answered
 /// like its commands. The file stays open to the end: commands that would open or close a file, or say

@@ -6,7 +6,7 @@ ghost use Rattle.snd_meters.specs.Gauge.{waiting};
 ghost use Rattle.snd_meters.specs.Gauges.{after_rest};
 ghost use Rattle.snd_modes.specs.Handle.{loan_of};
 ghost use Rattle.snd_script.specs.Desk.{writes};
-ghost use Rattle.snd_script.specs.Handled.{AsksByRule, CountsStep, FeedsTaps, FinishesAs, FinishesSafely, IsFinishCause, KnowsAfter, LacksMemory, LeavesDisk, LeavesHandle, LeavesOpen, OnlyChanges, SaysReply, Steps, StepsSafely, StepsToRest, WritesByRule, back_of, handle_disk, handle_known, handle_loan, mode_of};
+ghost use Rattle.snd_script.specs.Handled.{AsksByRule, CountsStep, FeedsTaps, FinishesAs, FinishesSafely, IsFinishCause, KnowsAfter, LacksMemory, LeavesDisk, LeavesHandle, LeavesOpen, OnlyChanges, SaysReply, Steps, StepsSafely, StepsToRest, WritesByRule, back_of, handle_disk, handle_known, handle_loan, mode_of, most_finished};
 ghost use Rattle.snd_script.specs.Stepped.{IsSilent};
 ghost use Rattle.snd_script.specs.Rules.{is_close};
 ghost use Rattle.snd_script.specs.Tapped.{meter_taps, session_taps};
@@ -15,7 +15,7 @@ ghost use Rattle.snd_disk.specs.Device.{WritesAtMost};
 
 use crate::handle::{Handle, Reply, StepFault};
 use crate::room::Room;
-use crate::step::{step_made, step_read, step_update};
+use crate::step::{step_blocks, step_made, step_read, step_update};
 use crate::work::work_of;
 use arrayvec::ArrayVec;
 use snd_command::{Command, LineCommand};
@@ -68,7 +68,8 @@ impl Session {
     /// not write. Unless the disk fails, the file is then at rest again.
     ///
     /// A read asks at most 1024 bytes of the disk for each frame that is wanted, and 16384 more. A write of
-    /// v numbers writes at most `4 v + 72` bytes, `trim` 80, and `truncate`, `update` and `auto` 72. A `get`
+    /// v numbers writes at most `4 v + 72` bytes, or in ADPCM the blocks that their frames fill, one more and 72
+    /// bytes; `trim` writes 80, and `truncate`, `update` and `auto` 72. A `get`
     /// asks at most 81920; a `set` writes at most 16777216 and asks at most so many. Other commands ask and
     /// write nothing.
     pub fn step<'d, D: Disk, O: Sink>(
@@ -113,12 +114,14 @@ impl Session {
         match handle {
             Handle::R(file) => step_read(file, work, &mut self.room, meters, out),
             Handle::W(file) => step_made(file, work, self.room.alloc, meters, out),
+            Handle::B(file) => step_blocks(file, work, self.room.alloc, meters, out),
             Handle::U(file) => step_update(file, work, &mut self.room, meters, out),
         }
     }
 
     /// Closes a file and gives its disk back, with the number of its frames, or with the step at which
-    /// the disk failed, where it did. In a mode that writes the file is sealed first, with at most 72 bytes.
+    /// the disk failed, where it did. In a mode that writes the file is sealed first, with at most 72 bytes; in
+    /// ADPCM the frames that wait are made a block before that.
     /// Where it is at rest, a crash at any moment leaves a file that opens, with all its frames. The taps
     /// that are on wait again, at their old places, and nothing is said of them.
     pub fn finish<'d, D: Disk>(
@@ -131,14 +134,15 @@ impl Session {
         ensures cause { IsFinishCause D.state handle.entry result }
         ensures leaves { LeavesDisk D.state D.may_leave D.left_between handle.entry (back_of result).now }
         ensures safe { FinishesSafely D.Disk handle.entry (back_of result).now }
-        ensures written { WritesAtMost D.state 72 (handle_disk handle.entry) (back_of result).now }
+        ensures written { WritesAtMost D.state (most_finished handle.entry) (handle_disk handle.entry) (back_of result).now }
         ensures asked { (D.state (back_of result).now).asked ≡ (D.state (handle_disk handle.entry)).asked }
     {
         rest_all(&mut self.meters);
         match handle {
-            Handle::R(file) => close_file(file),
-            Handle::W(file) => close_file(file),
-            Handle::U(file) => close_file(file),
+            Handle::R(file) => close_file(file.frames(), file),
+            Handle::W(file) => close_file(file.frames(), file),
+            Handle::B(file) => close_file(file.frames_given(), file),
+            Handle::U(file) => close_file(file.frames(), file),
         }
     }
 }
@@ -159,14 +163,14 @@ fn rest_all(meters: &mut Meters)
     meters.rest();
 }
 
-// Closes a file in any mode.
+// Closes a file of so many frames, in any mode.
 fn close_file<'d, D: Disk, M: Mode>(
+    frames: u64,
     file: File<'d, D, M>,
 ) -> Result<(u64, &'d mut D), (Step, &'d mut D)>
     ensures lends { (back_of result).ghost_name ≡ loan_of file.entry }
-    ensures closes { ClosesAs D.Disk M.WRITES file.entry result }
+    ensures closes { ClosesAs D.Disk M.WRITES frames file.entry result }
 {
-    let frames = file.frames();
     match file.close() {
         Ok(disk) => Ok((frames, disk)),
         Err((fault, disk)) => Err((fault.0, disk)),

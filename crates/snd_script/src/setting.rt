@@ -17,13 +17,13 @@ use snd_fields::{Id4, decimal};
 use snd_layout::{OpenRefusal, PieceError};
 use snd_lines::Refusal;
 use snd_meta::{BextKey, InfoKey};
-use snd_modes::{File, Write};
+use snd_modes::{CanMake, File};
 use snd_tags::{SetError, set_field, set_points, set_text, set_time};
 use std::alloc::Global;
 
 /// Sets something in the head of a file.
-pub fn set<'d, D: Disk, O: Sink>(
-    file: &mut File<'d, D, Write>,
+pub fn set<'d, D: Disk, M: CanMake, O: Sink>(
+    file: &mut File<'d, D, M>,
     alloc: Global,
     setting: Setting<'_>,
     out: &mut O,
@@ -73,8 +73,8 @@ fn say_put<O: Sink>(put: Result<(), SetError>, out: &mut O) -> Result<Reply, Ste
 }
 
 // Puts a further chunk behind the others.
-fn put_chunk<'d, D: Disk, O: Sink>(
-    file: &mut File<'d, D, Write>,
+fn put_chunk<'d, D: Disk, M: CanMake, O: Sink>(
+    file: &mut File<'d, D, M>,
     alloc: Global,
     id: Id4,
     hex: &[u8],
@@ -93,8 +93,8 @@ fn put_chunk<'d, D: Disk, O: Sink>(
 }
 
 // Sets a text of the INFO list.
-fn put_text<'d, D: Disk, O: Sink>(
-    file: &mut File<'d, D, Write>,
+fn put_text<'d, D: Disk, M: CanMake, O: Sink>(
+    file: &mut File<'d, D, M>,
     alloc: Global,
     key: InfoKey,
     text: &[u8],
@@ -110,8 +110,8 @@ fn put_text<'d, D: Disk, O: Sink>(
 }
 
 // Sets a text of the broadcast extension.
-fn put_field<'d, D: Disk, O: Sink>(
-    file: &mut File<'d, D, Write>,
+fn put_field<'d, D: Disk, M: CanMake, O: Sink>(
+    file: &mut File<'d, D, M>,
     alloc: Global,
     key: BextKey,
     text: &[u8],
@@ -128,8 +128,8 @@ fn put_field<'d, D: Disk, O: Sink>(
 }
 
 // Sets the time reference of the broadcast extension, where a number is given.
-fn put_time<'d, D: Disk, O: Sink>(
-    file: &mut File<'d, D, Write>,
+fn put_time<'d, D: Disk, M: CanMake, O: Sink>(
+    file: &mut File<'d, D, M>,
     alloc: Global,
     time: Option<u64>,
     out: &mut O,
@@ -144,8 +144,8 @@ fn put_time<'d, D: Disk, O: Sink>(
 }
 
 // Sets the cue points.
-fn put_points<'d, D: Disk, O: Sink>(
-    file: &mut File<'d, D, Write>,
+fn put_points<'d, D: Disk, M: CanMake, O: Sink>(
+    file: &mut File<'d, D, M>,
     alloc: Global,
     places: &ArrayVec<u32, MOST_CUES>,
     out: &mut O,

@@ -2,13 +2,13 @@
 
 ghost use Rattle.std.specs.Prelude.{◌≡◌, None, false};
 ghost use Rattle.snd_modes.specs.Handle.{known_of};
-ghost use Rattle.snd_script.specs.Desk.{reading, updating, writing};
+ghost use Rattle.snd_script.specs.Desk.{encoding, reading, updating, writing};
 ghost use Rattle.snd_script.specs.Tapped.{meter_taps};
 ghost use Rattle.snd_script.specs.Work.{FeedsWork, FollowsWork, work_closes, work_sets};
 
 use crate::asking::ask;
-use crate::carry::{read, refuse_on, seek_both, seek_read, seek_write, tell};
-use crate::change::{bring_up, set_auto, trim, truncate, write};
+use crate::carry::{read, refuse_on, seek_both, seek_read, seek_write, tell, tell_given};
+use crate::change::{bring_up, encode, set_auto, trim, truncate, write};
 use crate::handle::{Reply, StepFault};
 use crate::room::Room;
 use crate::setting::set;
@@ -17,7 +17,7 @@ use crate::work::Work;
 use snd_disk::{Disk, Sink};
 use snd_lines::Refusal;
 use snd_meters::Meters;
-use snd_modes::{CanShrink, File, Read, Update, Write};
+use snd_modes::{CanShrink, Encode, File, Read, Update, Write};
 use snd_taps::Tap;
 use std::alloc::Global;
 
@@ -51,7 +51,6 @@ pub fn step_read<'d, D: Disk, O: Sink>(
         }
         Work::Tap(kind) => tap(file, meters, kind, out),
         Work::Untap(kind) => untap(file, meters, kind, out),
-        Work::NotBuilt => refuse_on(file, Refusal::NotBuilt, out),
         Work::Close => unreachable!(),
     }
 }
@@ -73,6 +72,38 @@ pub fn step_made<'d, D: Disk, O: Sink>(
     match work {
         Work::Set(setting) => set(file, alloc, setting, out),
         other => step_write(file, other, alloc, meters, out),
+    }
+}
+
+/// On a file of ADPCM that was made.
+pub fn step_blocks<'d, D: Disk, O: Sink>(
+    file: &mut File<'d, D, Encode>,
+    work: Work<'_>,
+    alloc: Global,
+    meters: &mut Meters,
+    out: &mut O,
+) -> Result<Reply, StepFault>
+    requires working { (known_of file.old).broken ≡ None }
+    requires stays { work_closes work ≡ false }
+    ensures follows { FollowsWork D.Disk O.Sink encoding (meter_taps (λ b. meter b) meters.old) work.entry result file.old out.old file.new out.new }
+    ensures taps { FeedsWork D.state encoding work.entry result file.old (meter_taps (λ b. meter b) meters.old) (meter_taps (λ b. meter b) meters.new) }
+{
+    match work {
+        Work::Tell => tell_given(file, out),
+        Work::Write(samples) => encode(file, samples, out),
+        Work::BringUp => bring_up(file, out),
+        Work::Auto(on) => set_auto(file, on, out),
+        Work::Set(setting) => set(file, alloc, setting, out),
+        Work::Ask(asking) => ask(file, alloc, asking, out),
+        Work::SeekWrite(_) | Work::SeekBoth(_) => refuse_on(file, Refusal::AdpcmSeek, out),
+        Work::Truncate(_) | Work::Trim => refuse_on(file, Refusal::AdpcmUpdate, out),
+        Work::SeekRead(_) | Work::Read(_) => refuse_on(file, Refusal::WrongMode, out),
+        Work::Open(_) | Work::Update(_) | Work::Make(..) => {
+            refuse_on(file, Refusal::AlreadyOpen, out)
+        }
+        Work::Tap(kind) => tap(file, meters, kind, out),
+        Work::Untap(kind) => untap(file, meters, kind, out),
+        Work::Close => unreachable!(),
     }
 }
 
@@ -105,7 +136,6 @@ fn step_write<'d, D: Disk, M: CanShrink, O: Sink>(
         }
         Work::Tap(kind) => tap(file, meters, kind, out),
         Work::Untap(kind) => untap(file, meters, kind, out),
-        Work::NotBuilt => refuse_on(file, Refusal::NotBuilt, out),
         Work::Close | Work::Set(_) => unreachable!(),
     }
 }

@@ -1,8 +1,8 @@
 //! What is done for a command.
 
-ghost use Rattle.std.specs.Prelude.{◌≡◌, ◌&&◌, is_some};
+ghost use Rattle.std.specs.Prelude.{◌≡◌};
 ghost use Rattle.snd_command.specs.Said.{Said, line_said};
-ghost use Rattle.snd_script.specs.Rules.{fixed_word};
+ghost use Rattle.snd_script.specs.Rules.{codec_of};
 ghost use Rattle.snd_script.specs.Work.{SetsFor, WorksFor, WritesFor};
 
 use arrayvec::ArrayVec;
@@ -10,6 +10,7 @@ use snd_command::{CodecWord, LineCommand, MOST_CUES, MOST_SAMPLES};
 use snd_fields::Id4;
 use snd_layout::{Codec, Kind};
 use snd_meta::{BextKey, InfoKey};
+use snd_modes::{ima_codec, ms_codec};
 use snd_taps::TapKind;
 
 /// What is set in a file that is made.
@@ -79,41 +80,30 @@ pub enum Work<'a> {
     Tap(TapKind),
     /// The one of a kind that is on reports, and is dropped.
     Untap(TapKind),
-    /// Nothing: the codec of a file that is to be made is not built yet.
-    NotBuilt,
 }
 
-// The codec that a word names, where its samples have a fixed number of bytes.
-fn fixed_word(word: CodecWord) -> Option<Codec>
-    ensures { result ≡ fixed_word word }
+// The codec that a word names, in a file that is made with so many channels and frames a second.
+fn codec_of(word: CodecWord, channels: u64, rate: u64) -> Codec
+    ensures { result ≡ codec_of word channels rate }
 {
     match word {
-        CodecWord::U8 => Some(Codec::U8),
-        CodecWord::S8 => Some(Codec::S8),
-        CodecWord::S16(order) => Some(Codec::S16(order)),
-        CodecWord::S24(order) => Some(Codec::S24(order)),
-        CodecWord::S32(order) => Some(Codec::S32(order)),
-        CodecWord::MuLaw => Some(Codec::MuLaw),
-        CodecWord::ALaw => Some(Codec::ALaw),
-        CodecWord::Ima | CodecWord::Ms => None,
+        CodecWord::U8 => Codec::U8,
+        CodecWord::S8 => Codec::S8,
+        CodecWord::S16(order) => Codec::S16(order),
+        CodecWord::S24(order) => Codec::S24(order),
+        CodecWord::S32(order) => Codec::S32(order),
+        CodecWord::MuLaw => Codec::MuLaw,
+        CodecWord::ALaw => Codec::ALaw,
+        CodecWord::Ima => ima_codec(channels, rate),
+        CodecWord::Ms => ms_codec(channels, rate),
     }
-}
-
-/// Whether a file with the samples that a word names is made.
-pub fn is_made(word: CodecWord) -> bool
-    ensures { result ≡ is_some (fixed_word word) }
-{
-    fixed_word(word).is_some()
 }
 
 // What is done to make a file.
 fn make_of(kind: Kind, word: CodecWord, channels: u64, rate: u64, name: &[u8]) -> Work<'_>
     ensures { WorksFor (Said.create kind word channels rate name.now) result }
 {
-    match fixed_word(word) {
-        Some(codec) => Work::Make(kind, codec, channels, rate, name),
-        None => Work::NotBuilt,
-    }
+    Work::Make(kind, codec_of(word, channels, rate), channels, rate, name)
 }
 
 // What is done to write the frames of these numbers.

@@ -15,7 +15,7 @@ use snd_disk::Disk;
 use snd_fields::Id4;
 use snd_layout::PieceError;
 use snd_meta::{BextKey, InfoKey};
-use snd_modes::{File, Write};
+use snd_modes::{CanMake, File};
 use std::alloc::Global;
 
 /// The most bytes of a text of an INFO list.
@@ -33,8 +33,8 @@ const CUE: Id4 = Id4(*b"cue ");
 ///
 /// `TextTooLong` exactly where the text has more than 1024 bytes; then the answers of `File::put_meta`, of
 /// which `Broken`, `DiskFault` and `Memory` may also come as the list is read, before the others.
-pub fn set_text<'d, D: Disk>(
-    file: &mut File<'d, D, Write>,
+pub fn set_text<'d, D: Disk, M: CanMake>(
+    file: &mut File<'d, D, M>,
     alloc: Global,
     key: InfoKey,
     text: &[u8],
@@ -64,8 +64,8 @@ pub fn set_text<'d, D: Disk>(
 ///
 /// `TextTooLong` exactly where the text exceeds its field, or a coding history 1024 bytes; then the answers
 /// of `File::put_meta`.
-pub fn set_field<'d, D: Disk>(
-    file: &mut File<'d, D, Write>,
+pub fn set_field<'d, D: Disk, M: CanMake>(
+    file: &mut File<'d, D, M>,
     alloc: Global,
     key: BextKey,
     text: &[u8],
@@ -93,8 +93,8 @@ pub fn set_field<'d, D: Disk>(
 
 /// Sets the time reference of the broadcast extension in the same way: the first sample's place since
 /// midnight, in samples. `TextTooLong` never comes.
-pub fn set_time<'d, D: Disk>(
-    file: &mut File<'d, D, Write>,
+pub fn set_time<'d, D: Disk, M: CanMake>(
+    file: &mut File<'d, D, M>,
     alloc: Global,
     time: u64,
 ) -> Result<(), SetError>
@@ -116,8 +116,8 @@ pub fn set_time<'d, D: Disk>(
 
 /// Sets the cue points of a file: one at each place, a frame, with the names 1, 2, 3 and so on. It writes at
 /// most 16777216 bytes, and reads at most so many. `TextTooLong` never comes.
-pub fn set_points<'d, D: Disk>(
-    file: &mut File<'d, D, Write>,
+pub fn set_points<'d, D: Disk, M: CanMake>(
+    file: &mut File<'d, D, M>,
     alloc: Global,
     places: &[u32],
 ) -> Result<(), SetError>

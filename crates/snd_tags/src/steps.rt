@@ -10,12 +10,12 @@ use crate::error::SetError;
 use snd_disk::Disk;
 use snd_fields::Id4;
 use snd_layout::PieceError;
-use snd_modes::{File, GetError, Write};
+use snd_modes::{CanMake, File, GetError};
 use std::alloc::Global;
 
 /// The body of the first chunk with an identifier, where there is one of at most 65536 bytes.
-pub(crate) fn body_held<'d, D: Disk>(
-    file: &mut File<'d, D, Write>,
+pub(crate) fn body_held<'d, D: Disk, M: CanMake>(
+    file: &mut File<'d, D, M>,
     alloc: Global,
     id: Id4,
 ) -> Result<Option<Vec<u8>>, SetError>
@@ -35,8 +35,8 @@ pub(crate) fn body_held<'d, D: Disk>(
 }
 
 /// Puts a chunk of this body, in the place of the first with its identifier or behind the others.
-pub(crate) fn put_body<'d, D: Disk>(
-    file: &mut File<'d, D, Write>,
+pub(crate) fn put_body<'d, D: Disk, M: CanMake>(
+    file: &mut File<'d, D, M>,
     id: Id4,
     body: &[u8],
 ) -> Result<(), SetError>

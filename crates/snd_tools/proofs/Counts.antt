@@ -3,7 +3,7 @@ use Rattle.std.proofs.Common.{◌≡◌, inl, inr, ◌⊎◌, ℕ, ◌≤◌, �
 use Rattle.std.proofs.lemmas.Bool.{cases_lt}
 use Rattle.snd_disk.specs.State.{Adds, Rises}
 use Rattle.snd_output.specs.declared.stop.Stop.{Stop}
-use Rattle.snd_output.specs.declared.stop.Stop.TheVariants.{Fault, Memory}
+use Rattle.snd_output.specs.declared.stop.Stop.TheVariants.{Changed, Fault, Memory}
 use Rattle.snd_output.specs.Ends.{CountsStop}
 use Rattle.snd_tools.specs.Shelves.{CountsOneOf}
 
@@ -30,6 +30,7 @@ module _ (old mid fresh disk new : ℕ) (same : mid ≡ old) (none : fresh ≡ 0
   pub counts_given : {T : Type 0} (r : Result T Stop) (file file' : ℕ) → CountsOneOf file file' fresh disk r → Adds mid disk new → CountsOneOf file file' old new r
   counts_given (Ok x) file file' counts adds = (counts.0, omega (arith, same, none, counts.1, adds.later, adds.most))
   counts_given (Err Memory) file file' counts adds = (counts.0, omega (arith, same, none, counts.1, adds.later, adds.most))
+  counts_given (Err Changed) file file' counts adds = (counts.0, omega (arith, same, none, counts.1, adds.later, adds.most))
   counts_given (Err Fault) file file' counts adds =
       (counts.0, omega (arith, same, adds.later), elim counts.2 [ inl rose ↦ inl rose | inr rose ↦ inr (rose_from mid same (rose_with rose mid adds)) ])
 
@@ -37,6 +38,7 @@ module _ (old mid fresh disk new : ℕ) (same : mid ≡ old) (none : fresh ≡ 0
   pub counts_back : {T : Type 0} (r : Result T Stop) (mid' : ℕ) → CountsOneOf fresh disk mid mid' r → Adds mid' disk new → CountsStop old new r
   counts_back (Ok x) mid' counts adds = omega (arith, same, none, counts.0, counts.1, adds.later, adds.most)
   counts_back (Err Memory) mid' counts adds = omega (arith, same, none, counts.0, counts.1, adds.later, adds.most)
+  counts_back (Err Changed) mid' counts adds = omega (arith, same, none, counts.0, counts.1, adds.later, adds.most)
   counts_back (Err Fault) mid' counts adds = (
     omega (arith, same, counts.1, adds.later),
     elim counts.2 [

@@ -5,8 +5,9 @@ use Rattle.snd_disk.specs.State.{GoesOn, Rises}
 use Rattle.snd_disk.specs.Shelf.{Files, ShelfState}
 use Rattle.snd_disk.specs.Shelves.{KeepsImagesOf, TellsFiles}
 use Rattle.snd_disk.specs.declared.shelf.Shelf.{Ghosts as ShelfMeaning}
+use Rattle.snd_output.specs.Ends.{IfChanged}
 use Rattle.snd_output.specs.declared.stop.Stop.{Stop}
-use Rattle.snd_output.specs.declared.stop.Stop.TheVariants.{Fault, Memory}
+use Rattle.snd_output.specs.declared.stop.Stop.TheVariants.{Changed, Fault, Memory}
 use Rattle.snd_tools.specs.declared.answer.Answer.{Answer}
 use Rattle.snd_tools.specs.Done.{Done, files_after, said_by, said_of}
 
@@ -27,6 +28,10 @@ abbrev pub Does : {S : Type 0} → (S → ShelfState) → (Files → Done) → S
 Does state todo old new (Ok answer) = (files : Files) → TellsFiles state old files → IsDone state new answer (todo files) files
 Does state todo old new (Err stop) = Unit {0}
 
+-- No file is said to have changed where the shelf tells its files.
+abbrev pub NeverChanged : {S T : Type 0} → (S → ShelfState) → S → Result T Stop → Type 0
+NeverChanged state old result = IfChanged ((files : Files) → TellsFiles state old files → ⊥) result
+
 -- Whatever came of it, each disk is back, and only the file of one name has changed: time has gone on for it, and it is not gone.
 pub record ChangesOne {S D : Type 0} (s : ShelfMeaning S D) (name : List ℕ) (old new : S) : Type 0 where
   pub back : (n : List ℕ) → (s.state new).out n ≡ (s.state old).out n
@@ -42,3 +47,4 @@ abbrev pub CountsOneOf : {T : Type 0} → ℕ → ℕ → ℕ → ℕ → Result
 CountsOneOf old new old' new' (Ok done) = (new ≡ old) × (new' ≡ old')
 CountsOneOf old new old' new' (Err Fault) = (old ≤ new) × (old' ≤ new') × (Rises old new ⊎ Rises old' new')
 CountsOneOf old new old' new' (Err Memory) = (new ≡ old) × (new' ≡ old')
+CountsOneOf old new old' new' (Err Changed) = (new ≡ old) × (new' ≡ old')

@@ -79,6 +79,9 @@ fn write_blocks<D: Disk, M: CanWrite>(file: &mut File<'_, D, M>, frames: u64) ->
 fn create_file<D: Disk>(alloc: Global, disk: &mut D, creation: Creation) -> Option<u64>
     ensures { (D.state disk.new).name ≡ (D.state disk.old).name }
 {
+    if fixed_form(creation.params.codec).is_none() {
+        return None;
+    }
     let mut file = match create(alloc, disk, Kind::Wave, creation.params) {
         Ok(file) => file,
         Err((_, back)) => {

@@ -16,6 +16,18 @@ const TITLED: &[u8] =
 const BLOCKS: &[u8] =
     b"RIFF4\0\0\0WAVEfmt \x14\0\0\0\x11\0\x01\0@\x1f\0\0\xd7\x0f\0\0\0\x01\x04\0\x02\0\xf9\x01fact\x04\0\0\0\0\0\0\0data\0\0\0\0";
 
+/// A block of IMA ADPCM, of 9 frames.
+const IMA: &[u8] =
+    b"RIFF<\0\0\0WAVEfmt \x14\0\0\0\x11\0\x01\0@\x1f\0\0\xc7\x1b\0\0\x08\0\x04\0\x02\0\x09\0fact\x04\0\0\0\x09\0\0\0data\x08\0\0\0d\0\x05\0\x17\x8f \xc3";
+
+/// Two blocks of Microsoft ADPCM, of 4 frames each.
+const MICROSOFT: &[u8] =
+    b"RIFFb\0\0\0WAVEfmt 2\0\0\0\x02\0\x01\0@\x1f\0\0\x80>\0\0\x08\0\x04\0 \0\x04\0\x07\0\0\x01\0\0\0\x02\0\xff\0\0\0\0\xc0\0@\0\xf0\0\0\0\xcc\x010\xff\x88\x01\x18\xfffact\x04\0\0\0\x08\0\0\0data\x10\0\0\0\x01\x10\0\x01\0\x02\0~\x02\x10\0\x01\0\x02\09";
+
+/// One whose predictor is none.
+const BAD: &[u8] =
+    b"RIFFZ\0\0\0WAVEfmt 2\0\0\0\x02\0\x01\0@\x1f\0\0\x80>\0\0\x08\0\x04\0 \0\x04\0\x07\0\0\x01\0\0\0\x02\0\xff\0\0\0\0\xc0\0@\0\xf0\0\0\0\xcc\x010\xff\x88\x01\x18\xfffact\x04\0\0\0\x04\0\0\0data\x08\0\0\0\x07\0\0\0\0\0\0\0";
+
 /// Two channels, with one frame.
 const STEREO: &[u8] =
     b"RIFF(\0\0\0WAVEfmt \x10\0\0\0\x01\0\x02\0@\x1f\0\0\0}\0\0\x04\0\x10\0data\x04\0\0\0\x01\0\x02\0";
@@ -32,11 +44,14 @@ const CHUNKED: &[u8] =
     b"RIFFH\0\0\0WAVEfmt \x10\0\0\0\x01\0\x01\0@\x1f\0\0@\x1f\0\0\x01\0\x08\0abcd\x03\0\0\0xyz\0data\x02\0\0\0\x80\x81LIST\x0e\0\0\0INFOINAM\x02\0\0\0A\0";
 
 /// The files that are there in each row.
-pub static FILES: [(&str, &[u8]); 8] = [
+pub static FILES: [(&str, &[u8]); 11] = [
     ("a.wav", TWO),
     ("b.wav", ONE),
     ("t.wav", TITLED),
     ("i.wav", BLOCKS),
+    ("m.wav", IMA),
+    ("n.wav", MICROSOFT),
+    ("p.wav", BAD),
     ("s.wav", STEREO),
     ("r.wav", FAST),
     ("v.au", SMALL),
@@ -58,7 +73,7 @@ pub struct Refused {
     pub output: &'static str,
 }
 
-pub static MADE: [Made; 23] = [
+pub static MADE: [Made; 27] = [
     // a wider number is a multiple, and a narrower one is rounded down
     Made {
         words: &["convert", "-pcm24", "a.wav", "w.wav"],
@@ -210,9 +225,34 @@ pub static MADE: [Made; 23] = [
         output: "e.rf64",
         bytes: b"RF64\xff\xff\xff\xffWAVEds64\x1c\0\0\0l\0\0\0\0\0\0\0\x02\0\0\0\0\0\0\0\x02\0\0\0\0\0\0\0\0\0\0\0fmt \x10\0\0\0\x01\0\x01\0@\x1f\0\0@\x1f\0\0\x01\0\x08\0abcd\x03\0\0\0xyz\0LIST\x0e\0\0\0INFOINAM\x02\0\0\0A\0data\xff\xff\xff\xff\x80\x81",
     },
+    // the samples of ADPCM, as sox decodes them
+    Made {
+        words: &["convert", "-pcm16", "m.wav", "x.au"],
+        out: "ok 9\n",
+        output: "x.au",
+        bytes: b".snd\0\0\0\x18\0\0\0\x12\0\0\0\x03\0\0\x1f@\0\0\0\x01\0d\0z\0\x83\0Z\0T\0Y\0r\0\x91\0k",
+    },
+    Made {
+        words: &["convert", "-pcm16", "n.wav", "x.au"],
+        out: "ok 8\n",
+        output: "x.au",
+        bytes: b".snd\0\0\0\x18\0\0\0\x10\0\0\0\x03\0\0\x1f@\0\0\0\x01\0\x02\0\x01\0p\0\x93\0\x02\0\x01\00\xff\x90",
+    },
+    Made {
+        words: &["concat", "b.wav", "m.wav", "x.wav"],
+        out: "ok 10\n",
+        output: "x.wav",
+        bytes: b"RIFF8\0\0\0WAVEfmt \x10\0\0\0\x01\0\x01\0@\x1f\0\0\x80>\0\0\x02\0\x10\0data\x14\0\0\0\x05\0d\0z\0\x83\0Z\0T\0Y\0r\0\x91\0k\0",
+    },
+    Made {
+        words: &["interleave", "b.wav", "m.wav", "-o", "x.wav"],
+        out: "ok 9\n",
+        output: "x.wav",
+        bytes: b"RIFFH\0\0\0WAVEfmt \x10\0\0\0\x01\0\x02\0@\x1f\0\0\0}\0\0\x04\0\x10\0data$\0\0\0\x05\0d\0\0\0z\0\0\0\x83\0\0\0Z\0\0\0T\0\0\0Y\0\0\0r\0\0\0\x91\0\0\0k\0",
+    },
 ];
 
-pub static REFUSED: [Refused; 25] = [
+pub static REFUSED: [Refused; 29] = [
     // each refusal, in their order
     Refused {
         words: &["convert", "a.wav", "a.wav"],
@@ -241,7 +281,7 @@ pub static REFUSED: [Refused; 25] = [
     },
     Refused {
         words: &["convert", "i.wav", "x.wav"],
-        err: "snd: i.wav: error 99 NotBuilt\n",
+        err: "snd: x.wav: error 99 NotBuilt\n",
         output: "x.wav",
     },
     Refused {
@@ -307,8 +347,8 @@ pub static REFUSED: [Refused; 25] = [
         output: "x.wav",
     },
     Refused {
-        words: &["concat", "a.wav", "i.wav", "x.wav"],
-        err: "snd: i.wav: error 99 NotBuilt\n",
+        words: &["concat", "i.wav", "a.wav", "x.wav"],
+        err: "snd: x.wav: error 99 NotBuilt\n",
         output: "x.wav",
     },
     Refused {
@@ -351,6 +391,27 @@ pub static REFUSED: [Refused; 25] = [
             "x.wav",
         ],
         err: "snd: x.wav: error 64 TextTooLong\n",
+        output: "x.wav",
+    },
+    // a bad block comes last
+    Refused {
+        words: &["convert", "-pcm16", "p.wav", "q.au"],
+        err: "snd: p.wav: error 35 BadBlock\n",
+        output: "q.au",
+    },
+    Refused {
+        words: &["concat", "a.wav", "p.wav", "x.wav"],
+        err: "snd: p.wav: error 35 BadBlock\n",
+        output: "x.wav",
+    },
+    Refused {
+        words: &["interleave", "a.wav", "p.wav", "-o", "x.wav"],
+        err: "snd: p.wav: error 35 BadBlock\n",
+        output: "x.wav",
+    },
+    Refused {
+        words: &["metadata-set", "--str-title", "A", "m.wav", "x.wav"],
+        err: "snd: m.wav: error 20 AdpcmUpdate\n",
         output: "x.wav",
     },
 ];

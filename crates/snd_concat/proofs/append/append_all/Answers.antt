@@ -1,18 +1,20 @@
-use Rattle.std.proofs.Common.{◌≡◌, ◌∙◌, ◌+◌, ◌≤◌, ℕ, List, [], ◌∷◌, Some, length, slice_get, get_or, take, false, refl, rules, arith, ap, sym, subst}
+use Rattle.std.proofs.Common.{◌≡◌, ◌∙◌, ◌+◌, ◌≤◌, ℕ, List, [], ◌∷◌, Option, Some, Ok, length, slice_get, get_or, take, true, false, refl, rules, arith, ap, sym, subst}
 use Rattle.std.proofs.lemmas.List.{take_all}
 use Rattle.std.proofs.lemmas.Option.{get_or_from_slice_get, slice_get_within}
 use Rattle.snd_disk.proofs.Chains.{goes_on_then}
 use Rattle.snd_inputs.proofs.Asking.{asks_next, each_front, each_then, one_more}
 use Rattle.snd_inputs.specs.Asking.{AsksForEach}
-use Rattle.snd_inputs.proofs.Lists.{length-inputs}
+use Rattle.snd_inputs.proofs.Lists.{input_at, length-inputs, none_bad}
 use Rattle.snd_inputs.proofs.Reading.{reads_then}
+use Rattle.snd_inputs.specs.Inputs.{input_in, is_bad}
+use Rattle.snd_output.proofs.Changing.{changed_as}
 use Rattle.snd_layout.specs.Shape.{Shape, room}
 use Rattle.snd_modes.specs.Editing.{Editing}
 use Rattle.snd_modes.specs.Handle.{codec_of, disk_of, known_of}
 use Rattle.snd_tools.specs.Done.{Said}
 use Rattle.snd_concat.specs.Concat.{all_frames, all_numbers, numbers_for, shapes_of}
 use Rattle.snd_concat.proofs.Doing.{refused_not_ok}
-use Rattle.snd_concat.proofs.Gains.{gains_same, gains_then, made_then}
+use Rattle.snd_concat.proofs.Gains.{gains_same, gains_then, made_later, made_then}
 use Rattle.snd_concat.proofs.Joined.{follows_at, frames_next, numbers_next}
 use Rattle.snd_concat.proofs.append.append_all.Goals as goal
 
@@ -32,6 +34,25 @@ append_input-requires-clause-room g c = c.requires.room ∙ sym (ap (λ (h : Sha
 
 pub returns-in_err-append_input-clause-reads : goal.returns-in_err-append_input-clause-reads
 returns-in_err-append_input-clause-reads g c = reads_then g.S.Shelf _ _ _ c.loop-at.invariant.reads c.append_input.ensures.reads
+
+pub returns-in_err-append_input-clause-left : goal.returns-in_err-append_input-clause-left
+returns-in_err-append_input-clause-left g c =
+    made_later (known_of c.args.to.now) (known_of c.loop-at.to) (known_of c.append_input.new.to) c.in_err-append_input.field-0.0 c.from_residual.result (search rules) c.loop-at.invariant.made c.in_err-append_input.ensures.left
+
+pub returns-in_err-append_input-clause-changed : goal.returns-in_err-append_input-clause-changed
+returns-in_err-append_input-clause-changed g c =
+    changed_as _ _ c.in_err-append_input.field-0.0 c.from_residual.result (search rules)
+    (λ bad files es told all good.
+    let name = c.in-Some.name.now in
+    let at = c.loop-at.at in
+    let there : slice_get c.args.names.now at ≡ Some name = search rules in
+    let mid = c.loop-at.invariant.reads.files files told in
+    let this = input_at files c.args.names.now es at name all there in
+    let opened : input_in (mid.0 name) ≡ Ok this.0 = ap (λ (o : Option (List ℕ)). input_in o) (mid.2 name) ∙ this.2 in
+    let sound : is_bad this.0 ≡ false = ap is_bad (sym (get_or_from_slice_get es at this.0 this.0 this.1)) ∙ none_bad es good at this.0 (slice_get_within es at this.0 this.1) in
+    let no : true ≡ false = sym (bad mid.0 this.0 mid.1 opened) ∙ sound in
+    absurd (cc))
+    c.in_err-append_input.ensures.changed
 
 pub returns-in-Err-clause-reads : goal.returns-in-Err-clause-reads
 returns-in-Err-clause-reads g c = reads_then g.S.Shelf _ _ _ c.loop-at.invariant.reads c.append_input.ensures.reads

@@ -1,15 +1,16 @@
-use Rattle.std.proofs.Common.{◌≡◌, ◌+◌, ◌∙◌, Result, Ok, Err, ap, refl, subst, sym}
+use Rattle.std.proofs.Common.{◌≡◌, ◌+◌, ◌∙◌, Result, Ok, Err, ap, refl, rules, subst, sym}
 use Rattle.std.specs.Prelude.{IsOk}
 use Rattle.std.proofs.lemmas.Result.{IfOk-weaker}
 use Rattle.snd_inputs.proofs.Asking.{asks_whole}
 use Rattle.snd_inputs.proofs.Held.{held_beside, only_read}
 use Rattle.snd_inputs.proofs.Lists.{opened_same}
 use Rattle.snd_inputs.proofs.Seen.{read_as}
-use Rattle.snd_inputs.specs.Inputs.{input_in}
+use Rattle.snd_inputs.specs.Inputs.{input_in, is_bad}
 use Rattle.snd_inputs.specs.Opening.{IsOpen, OpensInput}
 use Rattle.snd_lines.specs.declared.refusal.Refusal.{Refusal}
 use Rattle.snd_modes.specs.Editing.{Editing, first_editing}
 use Rattle.snd_modes.specs.Handle.{codec_of, known_of}
+use Rattle.snd_output.proofs.Changing.{if_changed, unchanged_as}
 use Rattle.snd_concat.specs.Appending.{Follows, Gains}
 use Rattle.snd_concat.specs.Concat.{numbers_for}
 use Rattle.snd_concat.proofs.append.append_input.Goals as goal
@@ -40,7 +41,7 @@ returns-clause-appended g c =
     (λ done appended files e told is follows.
     let found = opens.opened files told in
     let same : first_editing found.0 layout ≡ e =
-    opened_same (input_in (files c.args.name.now)) (first_editing found.0 layout) e (ap input_in found.1 ∙ read_as found.0 layout c.in-Ok.input.linear found.2) is in
+    opened_same (input_in (files c.args.name.now)) (first_editing found.0 layout) e (ap input_in found.1 ∙ read_as found.0 layout found.2) is in
     let first : Follows layout (known_of to).shape = subst (λ (x : Editing). Follows x.shape (known_of to).shape) (sym same) follows in
     subst (λ (x : Editing). IsOk done × ((known_of to').shape.frames ≡ (known_of to).shape.frames + x.shape.frames) × Gains g.E.Disk.state (numbers_for (codec_of to) x) to to') same
     (appended found.0 found.3.bytes first))
@@ -66,3 +67,19 @@ returns-clause-asked g c =
     subst (λ r. OpensInput g.S.Shelf g.S.Disk.Disk c.args.name.now c.args.shelf.now c.open_input.new.shelf (Ok r)) c.in-Ok.is c.in_ok-input.ensures.opened in
     asks_whole g.S.Shelf g.S.Disk.Disk c.args.shelf.now c.open_input.new.shelf c.give.new.self c.in-Ok.input _ _ _ c.args.name.now opens refl refl c.give.ensures.given
     _ refl (g.met.S.Disk.Disk.size_told c.in-Ok.input.disk) c.append_laid-appended.ensures.asked
+
+pub returns-in_err-input-clause-changed : goal.returns-in_err-input-clause-changed
+returns-in_err-input-clause-changed g c = unchanged_as _ c.in_err-input.field-0.0 c.from_residual.result (search rules) c.in_err-input.ensures.unchanged
+
+pub returns-clause-changed : goal.returns-clause-changed
+returns-clause-changed g c =
+    let opens : IsOpen g.S.Shelf g.S.Disk.Disk c.args.name.now c.args.shelf.now c.open_input.new.shelf c.in-Ok.input =
+    subst (λ r. OpensInput g.S.Shelf g.S.Disk.Disk c.args.name.now c.args.shelf.now c.open_input.new.shelf (Ok r)) c.in-Ok.is c.in_ok-input.ensures.opened in
+    let layout = c.in-Ok.input.layout in
+    if_changed _ _ c.append_laid-appended.result
+    (λ bad files e told is.
+    let found = opens.opened files told in
+    let same : first_editing found.0 layout ≡ e =
+    opened_same (input_in (files c.args.name.now)) (first_editing found.0 layout) e (ap input_in found.1 ∙ read_as found.0 layout found.2) is in
+    ap is_bad (sym same) ∙ bad found.0 found.3.bytes)
+    c.append_laid-appended.ensures.changed

@@ -1,11 +1,12 @@
 use Rattle.std.proofs.Common.{◌≡◌, ◌∙◌, ◌++◌, ◌∷◌, [], ℕ, List, None, Some, Ok, arith, get_or, rules, ap, refl, subst, sym}
-use Rattle.snd_inputs.proofs.Asking.{asks_looks, both_then, each_less}
+use Rattle.snd_inputs.proofs.Asking.{asks_looks, both_then}
 use Rattle.snd_inputs.proofs.Between.{changes_after}
 use Rattle.snd_inputs.proofs.Lists.{same_inputs}
 use Rattle.snd_inputs.proofs.Reading.{reads_changes}
 use Rattle.snd_inputs.specs.Inputs.{inputs_in}
 use Rattle.snd_inputs.specs.Looking.{seen_by}
 use Rattle.snd_lines.specs.declared.refusal.Refusal.TheVariants.{SameName}
+use Rattle.snd_output.proofs.Changing.{if_changed, unchanged_err}
 use Rattle.snd_tools.specs.Done.{Done, Said, files_after, said_of}
 use Rattle.snd_tools.specs.Shelves.{HasFiles}
 use Rattle.snd_words.specs.Repeats.{first_repeated}
@@ -59,9 +60,23 @@ returns-in-Ok-Refused-clause-changes g c = reads_changes g.S.Shelf c.args.concat
 pub returns-in-Err-clause-changes : goal.returns-in-Err-clause-changes
 returns-in-Err-clause-changes g c = reads_changes g.S.Shelf c.args.concatenation.now.output.now _ _ c.look_all.ensures.reads
 
+pub returns-in-Ok-Sound-clause-changed : goal.returns-in-Ok-Sound-clause-changed
+returns-in-Ok-Sound-clause-changed g c =
+    if_changed _ _ c.concat_laid.result
+    (λ never files told.
+    let inputs = c.args.concatenation.now.inputs in
+    let read = c.look_all.ensures.reads.files files told in
+    let shown : seen_by c.in-Ok-Sound.field-0 ≡ Ok c.in-Ok-Sound.layouts.items = search rules in
+    let seen = seen_sound (inputs_in files inputs) c.in-Ok-Sound.layouts.items (sym shown ∙ c.in-Ok-Sound.ensures.seen files told) in
+    let opened : inputs_in read.0 inputs ≡ Ok seen.0 = same_inputs files read.0 inputs (λ k d lt. read.2 (get_or inputs k d)) ∙ seen.1 in
+    never read.0 seen.0 read.1 opened)
+    c.concat_laid.ensures.changed
+
+pub returns-in-Err-clause-changed : goal.returns-in-Err-clause-changed
+returns-in-Err-clause-changed g c = unchanged_err _ c.in-Err.stop c.in-Err.ensures.unchanged
+
 pub returns-in-Ok-Sound-clause-asked : goal.returns-in-Ok-Sound-clause-asked
 returns-in-Ok-Sound-clause-asked g c =
     let inputs = c.args.concatenation.now.inputs in
-    each_less g.S.Shelf.state 1 49152 2 49152 inputs c.args.shelf.now c.concat_laid.new.shelf (omega arith) (omega arith)
-    (both_then g.S.Shelf.state 0 16384 1 32768 inputs c.args.shelf.now c.look_all.new.shelf c.concat_laid.new.shelf c.look_all.ensures.reads.files
-    (asks_looks g.S.Shelf.state 0 16384 inputs c.args.shelf.now c.look_all.new.shelf (omega arith) c.look_all.ensures.asked) c.concat_laid.ensures.asked)
+    both_then g.S.Shelf.state 0 16384 2 32768 inputs c.args.shelf.now c.look_all.new.shelf c.concat_laid.new.shelf c.look_all.ensures.reads.files
+    (asks_looks g.S.Shelf.state 0 16384 inputs c.args.shelf.now c.look_all.new.shelf (omega arith) c.look_all.ensures.asked) c.concat_laid.ensures.asked

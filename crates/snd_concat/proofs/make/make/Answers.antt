@@ -1,4 +1,5 @@
-use Rattle.std.proofs.Common.{◌≡◌, ◌∙◌, ◌+◌, [], ◌++◌, ap, rules, arith, subst}
+use Rattle.std.proofs.Common.{◌≡◌, ◌∙◌, ◌+◌, [], ◌++◌, ap, refl, rules, arith, subst}
+use Rattle.snd_output.proofs.Changing.{fault_only, unchanged_err}
 use Rattle.snd_layout.specs.Params.{AreParams, Parameters}
 use Rattle.snd_layout.specs.declared.kind.Kind.{Kind}
 use Rattle.snd_modes.specs.Handle.{codec_of, known_of}
@@ -42,3 +43,9 @@ returns-in-Ok-finish-clause-made g c =
       told_as g.E.Disk.state c.in-Ok-finish.back.now _ _ (bytes_made h es) (search rules) (same_bytes h k good fits fresh shape es) whole,
     ))
     c.append_all-appended.ensures.appended
+
+pub returns-in-Err-clause-changed : goal.returns-in-Err-clause-changed
+returns-in-Err-clause-changed g c = unchanged_err _ c.in-Err.stop c.in-Err.ensures.unchanged
+
+pub returns-in-Err-finish-clause-changed : goal.returns-in-Err-finish-clause-changed
+returns-in-Err-finish-clause-changed g c = fault_only _ c.in-Err-finish.stop c.in-Err-finish.ensures.cause.0

@@ -1,4 +1,5 @@
-use Rattle.std.proofs.Common.{◌≡◌, ◌∙◌, true, None, Ok, get_or}
+use Rattle.std.proofs.Common.{◌≡◌, ◌∙◌, true, None, Ok, get_or, rules}
+use Rattle.snd_output.proofs.Changing.{if_changed, unchanged_as}
 use Rattle.snd_inputs.proofs.Asking.{asks_beside}
 use Rattle.snd_inputs.proofs.Between.{between_changes, between_files}
 use Rattle.snd_inputs.proofs.Lists.{same_inputs}
@@ -25,6 +26,21 @@ returns-clause-made g c =
     ))
     c.make_apart-made.ensures.made
 
+pub returns-in_err-disk-clause-changed : goal.returns-in_err-disk-clause-changed
+returns-in_err-disk-clause-changed g c = unchanged_as _ c.in_err-disk.field-0.0 c.from_residual.result (search rules) c.in_err-disk.ensures.unchanged
+
+pub returns-clause-changed : goal.returns-clause-changed
+returns-clause-changed g c =
+    if_changed _ _ c.make_apart-made.result
+    (λ never files es told all good.
+    let names = c.args.names.now in
+    let output = c.args.output.now in
+    let out = c.in_ok-disk.ensures.out.takes.files files told in
+    let opened : inputs_in out.0 names ≡ Ok es =
+    same_inputs files out.0 names (λ k d lt. out.2 (get_or names k d) ∙ put_beside files output (get_or names k d) None (c.requires.apart k d lt)) ∙ all in
+    never out.0 es out.1 opened good)
+    c.make_apart-made.ensures.changed
+
 pub returns-clause-changes : goal.returns-clause-changes
 returns-clause-changes g c =
     between_changes g.S.Shelf g.S.Disk.Disk c.args.shelf.now c.take_output.new.shelf c.make_apart-made.new.shelf c.give.new.self c.in_ok-disk.disk c.make_apart-made.new.disk c.args.output.now true c.in_ok-disk.ensures.out.takes c.make_apart-made.ensures.reads
@@ -33,5 +49,5 @@ returns-clause-changes g c =
 pub returns-clause-asked : goal.returns-clause-asked
 returns-clause-asked g c =
     let out = c.in_ok-disk.ensures.out in
-    asks_beside g.S.Shelf.state 1 32768 c.args.names.now c.args.output.now c.args.shelf.now c.take_output.new.shelf c.make_apart-made.new.shelf c.give.new.self _ out.takes.files out.bytes.asked c.make_apart-made.ensures.asked
+    asks_beside g.S.Shelf.state 1 16384 c.args.names.now c.args.output.now c.args.shelf.now c.take_output.new.shelf c.make_apart-made.new.shelf c.give.new.self _ out.takes.files out.bytes.asked c.make_apart-made.ensures.asked
     (c.make_apart-made.ensures.unasked ∙ out.takes.fresh.2) c.give.ensures.given.asked

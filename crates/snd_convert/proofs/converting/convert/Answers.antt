@@ -6,6 +6,7 @@ use Rattle.snd_inputs.proofs.Held.{held_counts, held_done, held_one, still_in}
 use Rattle.snd_inputs.proofs.Reading.{reads_changes}
 use Rattle.snd_inputs.specs.Opening.{IsOpen, OpensInput}
 use Rattle.snd_modes.specs.Editing.{first_editing}
+use Rattle.snd_output.proofs.Changing.{if_changed, unchanged_as}
 use Rattle.snd_tools.proofs.Names.{apart_back}
 use Rattle.snd_words.specs.Suffix.{kind_by_suffix}
 use Rattle.snd_convert.specs.Convert.{converted, done_by_plan}
@@ -57,7 +58,7 @@ returns-clause-done g c =
     let e = first_editing found.0 c.in-Ok.input.layout in
     let todo = done_by_plan asked e (planned asked kind e.shape.params) in
     let d = done out.0 found.0 out.1 found.3.bytes in
-    done_same g.S.Shelf.state c.give.new.self files answer todo (converted asked files) (converted_as asked files kind found.0 c.in-Ok.input.layout apart suffix found.1 c.in-Ok.input.linear found.2) (
+    done_same g.S.Shelf.state c.give.new.self files answer todo (converted asked files) (converted_as asked files kind found.0 c.in-Ok.input.layout apart suffix found.1 found.2) (
       d.0,
       held_done g.S.Shelf g.S.Disk.Disk c.args.shelf.now c.open_input.new.shelf c.convert_laid-answer.new.shelf c.give.new.self c.in-Ok.input _ _ _ asked.input opens refl refl c.convert_laid-answer.ensures.reads c.give.ensures.given asked.output apart
           todo files told (makes_by_plan asked e (planned asked kind e.shape.params)) d.1,
@@ -89,3 +90,13 @@ returns-clause-asked g c =
     subst (λ r. OpensInput g.S.Shelf g.S.Disk.Disk input c.args.shelf.now c.open_input.new.shelf (Ok r)) c.in-Ok.is c.in_ok-input.ensures.opened in
     asked_held g.S.Shelf g.S.Disk.Disk c.args.shelf.now c.open_input.new.shelf c.convert_laid-answer.new.shelf c.give.new.self c.in-Ok.input _ _ _ input opens refl refl c.give.ensures.given
     c.convert_laid-answer.ensures.unasked (g.met.S.Disk.Disk.size_told c.in-Ok.input.disk) c.convert_laid-answer.ensures.asked
+
+pub returns-in_err-input-clause-changed : goal.returns-in_err-input-clause-changed
+returns-in_err-input-clause-changed g c = unchanged_as _ c.in_err-input.field-0.0 c.from_residual.result (search rules) c.in_err-input.ensures.unchanged
+
+pub returns-clause-changed : goal.returns-clause-changed
+returns-clause-changed g c =
+    let input = c.args.conversion.now.input.now in
+    let opens : IsOpen g.S.Shelf g.S.Disk.Disk input c.args.shelf.now c.open_input.new.shelf c.in-Ok.input =
+    subst (λ r. OpensInput g.S.Shelf g.S.Disk.Disk input c.args.shelf.now c.open_input.new.shelf (Ok r)) c.in-Ok.is c.in_ok-input.ensures.opened in
+    if_changed _ _ c.convert_laid-answer.result (λ never files told. let found = opens.opened files told in never found.0 found.3.bytes) c.convert_laid-answer.ensures.changed

@@ -1,12 +1,19 @@
-use Rattle.std.proofs.Common.{◌≡◌, ◌∙◌, ap, sym}
-use Rattle.snd_layout.specs.Shape.{Shape}
+use Rattle.std.proofs.Common.{◌≡◌, ◌∙◌, Bool, cond, false, ap, sym}
+use Rattle.std.proofs.lemmas.Result.{IfOk-weaker}
+use Rattle.snd_inputs.proofs.Answering.{done_same}
+use Rattle.snd_lines.specs.declared.refusal.Refusal.TheVariants.{ContainerFull}
+use Rattle.snd_tools.specs.Done.{Done}
+use Rattle.snd_convert.specs.Convert.{is_full, made_if_good, made_of}
 use Rattle.snd_convert.specs.Planning.{asked_of, planned_by}
-use Rattle.snd_convert.proofs.Doing.{output_made}
 use Rattle.snd_convert.proofs.converting.convert_as.Goals as goal
 
-pub returns-in-Ok-clause-done : goal.returns-in-Ok-clause-done
-returns-in-Ok-clause-done g c =
-    λ files e told stands.
+pub returns-clause-done : goal.returns-clause-done
+returns-clause-done g c =
+    IfOk-weaker c.convert_good.result _ _
+    (λ answer done files e told stands.
+    let asked = asked_of c.args.conversion.now in
     let plan = planned_by c.args.plan.now in
-    let same : c.frames-frames.result ≡ e.shape.frames = c.frames-frames.ensures ∙ ap (λ (h : Shape). h.frames) stands.shape in
-    output_made g.S.Shelf.state c.make_under.new.shelf (asked_of c.args.conversion.now) files plan e c.frames-frames.result (sym (c.is_full.ensures.told e stands) ∙ c.if-is_full.false) same (c.in-Ok.ensures.made files e told stands)
+    let room : is_full plan e ≡ false = sym (c.is_full.ensures.told e stands) ∙ c.if-is_full.false in
+    done_same g.S.Shelf.state c.convert_good.new.shelf files answer (made_if_good asked plan e) (made_of asked plan e)
+    (ap (λ (t : Bool). cond t (Done.refuses asked.output ContainerFull) (made_if_good asked plan e)) room) (done files e told stands))
+    c.convert_good.ensures.done

@@ -1,15 +1,15 @@
-use Rattle.std.proofs.Common.{◌≡◌, ◌∙◌, ap, sym, subst, [], ℕ, ℤ, List, arith}
+use Rattle.std.proofs.Common.{◌≡◌, ◌∙◌, ap, sym, subst, refl, [], ℕ, ◌/◌, ℤ, List, arith, rules}
 use Rattle.snd_layout.specs.Params.{Parameters}
 use Rattle.snd_layout.specs.Shape.{Shape}
 use Rattle.snd_disk.specs.State.{AtMost}
 use Rattle.snd_modes.specs.Handle.{Known, codec_of, disk_of, known_of}
-use Rattle.snd_modes.specs.Reading.{bytes_of_frames}
-use Rattle.snd_output.specs.Appended.{left_in}
+use Rattle.snd_output.proofs.Changing.{if_changed, unchanged_as}
+use Rattle.snd_output.specs.Appended.{bytes_by_calls, left_in}
 use Rattle.snd_output.specs.Made.{IsMaking}
 use Rattle.snd_convert.specs.Convert.{chunks_for}
 use Rattle.snd_convert.specs.Planning.{planned_by}
-use Rattle.snd_inputs.proofs.Asking.{asks_then}
-use Rattle.snd_inputs.proofs.Copying.{copies_then, counts_appended, still_works}
+use Rattle.snd_inputs.proofs.Asking.{asks_then, asks_to_copy}
+use Rattle.snd_inputs.proofs.Copying.{all_ahead, copies_then, counts_appended, still_works}
 use Rattle.snd_convert.proofs.Making.{begun_with, may_append, numbers_same}
 use Rattle.std.proofs.lemmas.Result.{on_ok_weaker}
 use Rattle.snd_convert.proofs.make.fill.Goals as goal
@@ -46,11 +46,17 @@ returns-clause-copies g c =
       time = c.append.ensures.time;
     })
 
+pub returns-in_err-carry-clause-changed : goal.returns-in_err-carry-clause-changed
+returns-in_err-carry-clause-changed g c = unchanged_as _ c.in_err-carry.field-0.0 c.from_residual.result (search rules) c.in_err-carry.ensures.unchanged
+
+pub returns-clause-changed : goal.returns-clause-changed
+returns-clause-changed g c =
+    if_changed _ _ c.append.result
+    (λ bad e stands. all_ahead e (sym stands.place ∙ c.requires.unread.first) (bad e (c.in_ok-carry.ensures.stands e stands))) c.append.ensures.changed
+
 pub returns-clause-asked : goal.returns-clause-asked
 returns-clause-asked g c =
     let k : Known = known_of c.args.from.now in
-    let first : left_in k ≡ k.shape.frames = omega (arith, c.requires.unread.first) in
-    let frames : AtMost (g.D.Disk.state (disk_of c.carry.new.from)).asked (bytes_of_frames k.shape.params (left_in k)) (g.D.Disk.state (disk_of c.append.new.from)).asked =
-    subst (λ (x : Known). AtMost (g.D.Disk.state (disk_of c.carry.new.from)).asked (bytes_of_frames x.shape.params (left_in x)) (g.D.Disk.state (disk_of c.append.new.from)).asked)
+    let frames = subst (λ (x : Known). AtMost (g.D.Disk.state (disk_of c.carry.new.from)).asked (bytes_by_calls x.shape.params (16384 / x.shape.params.channels) (left_in x)) (g.D.Disk.state (disk_of c.append.new.from)).asked)
     c.in_ok-carry.ensures.same c.append.ensures.asked in
-    asks_then _ _ _ _ _ _ c.carry.ensures.asked frames (omega (arith, ap (λ (n : ℕ). bytes_of_frames k.shape.params n) first))
+    asks_then _ _ _ _ _ _ c.carry.ensures.asked (asks_to_copy k 16384 _ _ c.requires.unread refl frames) (omega arith)

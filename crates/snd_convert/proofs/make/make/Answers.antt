@@ -2,6 +2,7 @@ use Rattle.std.proofs.Common.{rules}
 use Rattle.snd_convert.specs.Convert.{chunks_for, file_made, numbers_for}
 use Rattle.snd_convert.specs.Planning.{planned_by}
 use Rattle.snd_inputs.proofs.Told.{told_as}
+use Rattle.snd_output.proofs.Changing.{fault_only}
 use Rattle.std.proofs.lemmas.Result.{on_ok_weaker}
 use Rattle.snd_convert.proofs.make.make.Goals as goal
 
@@ -14,3 +15,6 @@ returns-in-Ok-finish-clause-made g c =
     let full = fills r begun.0 stands begun.3 begun.1 in
     told_as g.E.Disk.state c.in-Ok-finish.back.now _ (file_made plan r) (search rules) (c.in-Ok-finish.ensures.made plan.kind plan.params (chunks_for plan r) (numbers_for plan r) full.0 full.1 full.2))
     c.fill-filled.ensures.fills
+
+pub returns-in-Err-finish-clause-changed : goal.returns-in-Err-finish-clause-changed
+returns-in-Err-finish-clause-changed g c = fault_only _ c.in-Err-finish.stop c.in-Err-finish.ensures.cause.0

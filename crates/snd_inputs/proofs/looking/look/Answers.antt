@@ -16,7 +16,7 @@ returns-clause-seen g c = λ files told.
     let opens : IsOpen g.S.Shelf g.S.Disk.Disk c.args.name.now c.args.shelf.now c.open_input.new.shelf c.in-Ok.input =
     subst (λ r. OpensInput g.S.Shelf g.S.Disk.Disk c.args.name.now c.args.shelf.now c.open_input.new.shelf (Ok r)) c.in-Ok.is c.in_ok-input.ensures.opened in
     let found = opens.opened files told in
-    seen_open files c.args.name.now found.0 c.in-Ok.input.layout c.in-Ok.input.linear found.1 found.2
+    seen_open files c.args.name.now found.0 c.in-Ok.input.layout found.1 found.2
 
 pub returns-clause-reads : goal.returns-clause-reads
 returns-clause-reads g c =

@@ -1,4 +1,4 @@
-use Rattle.std.proofs.Common.{◌≡◌, ◌≤◌, ◌∙◌, ap, sym, subst, ℕ, ◌*◌, ℤ, List, ◌++◌, length}
+use Rattle.std.proofs.Common.{rules, ◌≡◌, ◌≤◌, ◌∙◌, ap, sym, subst, ℕ, ◌*◌, ℤ, List, ◌++◌, length}
 use Rattle.snd_layout.specs.Shape.{Shape}
 use Rattle.snd_layout.specs.declared.codec.Codec.{Codec}
 use Rattle.snd_modes.specs.Edits.{written_to}
@@ -11,6 +11,8 @@ use Rattle.snd_output.specs.Made.{IsMaking}
 use Rattle.snd_interleave.specs.Beside.{frames_from}
 use Rattle.snd_interleave.specs.Interleave.{channels_in}
 use Rattle.snd_interleave.proofs.Adding.{may_add}
+use Rattle.snd_interleave.proofs.Bad.{only_writes}
+use Rattle.snd_output.proofs.Changing.{changed_as}
 use Rattle.std.proofs.lemmas.Result.{on_ok_weaker}
 use Rattle.snd_interleave.proofs.blocks.add_block.Goals as goal
 
@@ -49,3 +51,9 @@ returns-clause-lengthens g c =
       subst (λ (l : List ℤ). IsMaking kind p pieces (xs ++ l) (written_to block e)) are (written_is_making kind p pieces xs block e making there),
     ))
     c.write_all.ensures.stands
+
+pub returns-in_err-fill_block-clause-changed : goal.returns-in_err-fill_block-clause-changed
+returns-in_err-fill_block-clause-changed g c = changed_as _ _ c.in_err-fill_block.field-0.0 c.from_residual.result (search rules) (λ never. never) c.in_err-fill_block.ensures.changed
+
+pub returns-clause-changed : goal.returns-clause-changed
+returns-clause-changed g c = only_writes _ _ _ c.write_all.result c.write_all.ensures.faults

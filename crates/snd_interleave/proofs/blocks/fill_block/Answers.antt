@@ -3,13 +3,17 @@ use Rattle.std.proofs.lemmas.List.{get_or_default, length-map}
 use Rattle.snd_output.proofs.Ranges.{width_fits}
 use Rattle.snd_output.specs.Widths.{changed_all, width_of}
 use Rattle.snd_pcm.specs.Width.{HasWidth, changed}
+use Rattle.snd_interleave.specs.Asking.{AsksInput, bytes_from}
 use Rattle.snd_interleave.specs.Beside.{FitsChannel, HasChannel, KeepsChannels, frame_at}
 use Rattle.snd_interleave.specs.Channels.{CountsInputs}
 use Rattle.snd_interleave.specs.Interleave.{channels_in}
+use Rattle.snd_interleave.proofs.Asking.{first_each, first_more, first_none}
 use Rattle.snd_interleave.proofs.Counts.{calm_itself, calm_then, counts_one, inputs_then}
 use Rattle.snd_interleave.proofs.Filling.{block_is, channel_is}
 use Rattle.snd_interleave.proofs.Frames.{each_place}
-use Rattle.snd_interleave.proofs.Inputs.{all_unread, one_read, read_then, still_mono}
+use Rattle.snd_interleave.proofs.Bad.{one_bad}
+use Rattle.snd_output.proofs.Changing.{changed_as}
+use Rattle.snd_interleave.proofs.Inputs.{all_unread, hold_still, one_read, read_then, still_mono}
 use Rattle.snd_interleave.proofs.Numbers.{fit_more, numbers_more}
 use Rattle.snd_interleave.proofs.blocks.fill_block.Goals as goal
 
@@ -19,6 +23,7 @@ loop-i-init g c = record {
   fit = λ j k below lt. absurd (omega (arith, lt));
   calm = calm_itself g.D.Disk.state c.args.inputs.now;
   reads = all_unread g.D.Disk c.args.inputs.now;
+  asked = first_none g.D.Disk.state (bytes_from c.args.place (length c.args.buffer.now)) c.args.inputs.now;
 }
 
 pub read_numbers-requires : goal.read_numbers-requires
@@ -61,6 +66,8 @@ loop-i-preserved g c =
       fit = fit_more n i (length c.args.buffer.now) block block' ys c.loop-i-test.true many put others (HasWidth (width_of codec)) fits inv.fit;
       calm = calm_then g.D.Disk.state first now (set now i y) c.loop-i.auto.inputs inv.calm (counts_one g.D.Disk.state now i x y within is {T = Unit {0}} (Ok (tt {0})) got.faults);
       reads = read_then g.D.Disk first now (set now i y) inv.reads (one_read g.D.Disk now i x y within is got.reads);
+      asked = first_more g.D.Disk.state (bytes_from c.args.place (length c.args.buffer.now)) first now i x y within is inv.reads
+          (subst (λ (k : ℕ). AsksInput g.D.Disk.state (bytes_from c.args.place k) x y) c.loop-i.auto.buffer c.read_numbers.ensures.asked) inv.asked;
     }
 
 pub returns-in_err-read_numbers-clause-faults : goal.returns-in_err-read_numbers-clause-faults
@@ -102,3 +109,32 @@ returns-clause-in_range g c =
     width_fits c.args.codec c.loop-i.block
     (each_place (HasWidth (width_of c.args.codec)) n (length c.args.buffer.now) c.loop-i.block (c.loop-i.auto.block ∙ c.requires.size)
     (λ j k below lt. c.loop-i.invariant.fit j k below (omega (arith, lt, c.loop-i-test.false))))
+
+pub returns-in_err-read_numbers-clause-asked : goal.returns-in_err-read_numbers-clause-asked
+returns-in_err-read_numbers-clause-asked g c =
+    let inv = c.loop-i.invariant in
+    let first = c.args.inputs.now in
+    let now = c.loop-i.inputs in
+    let i = c.loop-i.i in
+    let x = get_or now i c.index-inputs-i.result in
+    let y = c.read_numbers.new.input in
+    let within : i < length now = omega (arith, c.loop-i-test.true, c.loop-i.auto.inputs) in
+    let is : x ≡ get_or now i x = get_or_default now i c.index-inputs-i.result x within in
+    first_each g.D.Disk.state (i + 1) (bytes_from c.args.place (length c.args.buffer.now)) first (set now i y)
+    (first_more g.D.Disk.state (bytes_from c.args.place (length c.args.buffer.now)) first now i x y within is inv.reads
+    (subst (λ (k : ℕ). AsksInput g.D.Disk.state (bytes_from c.args.place k) x y) c.loop-i.auto.buffer c.read_numbers.ensures.asked) inv.asked)
+
+pub returns-clause-asked : goal.returns-clause-asked
+returns-clause-asked g c = first_each g.D.Disk.state c.loop-i.i (bytes_from c.args.place (length c.args.buffer.now)) c.args.inputs.now c.loop-i.inputs c.loop-i.invariant.asked
+
+pub returns-in_err-read_numbers-clause-changed : goal.returns-in_err-read_numbers-clause-changed
+returns-in_err-read_numbers-clause-changed g c =
+    let inv = c.loop-i.invariant in
+    let now = c.loop-i.inputs in
+    let i = c.loop-i.i in
+    let x = get_or now i c.index-inputs-i.result in
+    let within : i < length now = omega (arith, c.loop-i-test.true, c.loop-i.auto.inputs) in
+    let is : x ≡ get_or now i x = get_or_default now i c.index-inputs-i.result x within in
+    changed_as _ _ c.in_err-read_numbers.field-0.0 c.from_residual.result (search rules)
+    (λ bad es hold none. one_bad g.D.Disk.state now es i x within is (hold_still g.D.Disk c.args.inputs.now now es inv.reads hold) none bad)
+    c.in_err-read_numbers.ensures.changed

@@ -2,6 +2,7 @@ use Rattle.std.proofs.Common.{◌≡◌, ◌+◌, ◌*◌, ◌<◌, ℕ, List, g
 use Rattle.snd_modes.specs.Editing.{Editing}
 use Rattle.snd_output.specs.Widths.{width_of}
 use Rattle.snd_pcm.specs.Width.{HasWidth}
+use Rattle.snd_interleave.specs.Asking.{AsksFirst, bytes_from}
 use Rattle.snd_interleave.specs.Beside.{frame_at}
 use Rattle.snd_interleave.specs.Channels.{AreCalm, HoldAll, ReadAll}
 use Rattle.snd_interleave.specs.Interleave.{channels_in}
@@ -14,4 +15,5 @@ invariant-loop-i g l = record {
   fit : (j c : ℕ) → j < length l.fn.buffer → c < l.i → HasWidth (width_of l.fn.codec) (get_or l.block (j * l.channels + c) (pos 0));
   calm : AreCalm g.D.Disk.state l.fn.inputs l.inputs;
   reads : ReadAll g.D.Disk l.fn.inputs l.inputs;
+  asked : AsksFirst g.D.Disk.state l.i (bytes_from l.fn.place (length l.fn.buffer)) l.fn.inputs l.inputs;
 }

@@ -5,16 +5,21 @@ use Rattle.std.proofs.lemmas.Result.{IfOk-weaker}
 use Rattle.std.specs.Prelude.{drop}
 use Rattle.std.specs.Str.{bytes_eq}
 use Rattle.std.specs.Vec.{vec_len}
+use Rattle.snd_inputs.proofs.Asking.{asks_none}
 use Rattle.snd_inputs.proofs.Answering.{done_same, refused_as}
 use Rattle.snd_inputs.proofs.Held.{held_done, held_one, only_read}
 use Rattle.snd_inputs.proofs.Reading.{reads_changes, reads_none}
+use Rattle.snd_inputs.specs.Asking.{AsksForEach}
 use Rattle.snd_inputs.specs.Inputs.{inputs_in}
 use Rattle.snd_inputs.specs.Opening.{IsOpen, OpensInput}
 use Rattle.snd_modes.specs.Editing.{first_editing}
+use Rattle.snd_interleave.specs.Asking.{AsksWhole, bytes_whole}
 use Rattle.snd_interleave.specs.Channels.{CountsWith, HoldAll}
 use Rattle.snd_interleave.specs.Opening.{AreOut, done_rest, opened_behind}
 use Rattle.snd_interleave.specs.Interleave.{done_beside}
 use Rattle.snd_inputs.proofs.Seen.{read_as}
+use Rattle.snd_interleave.proofs.Asking.{each_none, once_front, once_last, rest_held, rest_is, rest_looks}
+use Rattle.snd_output.proofs.Changing.{if_changed, unchanged_as}
 use Rattle.snd_interleave.proofs.Counts.{counts_apart}
 use Rattle.snd_interleave.proofs.Inputs.{front_of, hold_more, last_of}
 use Rattle.snd_interleave.proofs.Joining.{makes_output}
@@ -57,6 +62,19 @@ returns-in_default-clause-faults g t c =
     let whole : take c.args.inputs.now.len (ys ++ drop (length ys) items) ≡ ys = take_at ys (drop (length ys) items) c.args.inputs.now.len (sym long) in
     subst (λ l. CountsWith g.S.Disk.Disk.state items l a b c.join.result) (sym whole) (subst (λ l. CountsWith g.S.Disk.Disk.state l ys a b c.join.result) same c.join.ensures.faults)
 
+pub returns-in_default-clause-asked : goal.returns-in_default-clause-asked
+returns-in_default-clause-asked g t c =
+    let items = c.args.inputs.now.items in
+    let ys = c.join.new.inputs in
+    let same : c.as_mut_slice.result.now ≡ items = c.as_mut_slice.ensures.value in
+    let long : c.args.inputs.now.len ≡ length ys = sym (c.join.auto.inputs ∙ c.as_mut_slice.ensures.len) in
+    let whole : take c.args.inputs.now.len (ys ++ drop (length ys) items) ≡ ys = take_at ys (drop (length ys) items) c.args.inputs.now.len (sym long) in
+    subst (λ l. AsksWhole g.S.Disk.Disk.state items l) (sym whole) (subst (λ l. AsksWhole g.S.Disk.Disk.state l ys) same c.join.ensures.asked)
+
+pub returns-in_default-clause-asked_rest : goal.returns-in_default-clause-asked_rest
+returns-in_default-clause-asked_rest g t c =
+    asks_none g.S.Shelf.state 1 16384 (drop (vec_len c.args.inputs.now) c.args.interleaving.now.inputs) c.args.shelf.now c.join.new.shelf c.join.ensures.unasked
+
 -- ---- the next one
 
 pub open_input-requires : goal.open_input-requires
@@ -67,6 +85,16 @@ open_input-requires g t c =
 
 pub returns-in_err-input-clause-changes : goal.returns-in_err-input-clause-changes
 returns-in_err-input-clause-changes g t c = reads_changes g.S.Shelf c.args.interleaving.now.output.now _ _ c.in_err-input.ensures.opened.reads
+
+pub returns-in_err-input-clause-asked : goal.returns-in_err-input-clause-asked
+returns-in_err-input-clause-asked g t c = each_none g.S.Disk.Disk.state bytes_whole c.args.inputs.now.items
+
+pub returns-in_err-input-clause-asked_rest : goal.returns-in_err-input-clause-asked_rest
+returns-in_err-input-clause-asked_rest g t c =
+    let names = c.args.interleaving.now.inputs in
+    let k = vec_len c.args.inputs.now in
+    let there : slice_get names k ≡ Some c.in-Some.name.now = search rules in
+    rest_looks g.S.Shelf.state names k c.in-Some.name.now there c.args.shelf.now c.open_input.new.shelf c.in_err-input.ensures.opened.asked
 
 -- it is refused
 pub returns-in-Err-clause-done : goal.returns-in-Err-clause-done
@@ -84,6 +112,18 @@ pub returns-in-Err-clause-changes : goal.returns-in-Err-clause-changes
 returns-in-Err-clause-changes g t c =
     let looks = subst (λ r. OpensInput g.S.Shelf g.S.Disk.Disk c.in-Some.name.now c.args.shelf.now c.open_input.new.shelf (Ok r)) c.in-Err.is c.in_ok-input.ensures.opened in
     reads_changes g.S.Shelf c.args.interleaving.now.output.now _ _ looks.0.reads
+
+pub returns-in-Err-clause-asked : goal.returns-in-Err-clause-asked
+returns-in-Err-clause-asked g t c = each_none g.S.Disk.Disk.state bytes_whole c.args.inputs.now.items
+
+pub returns-in-Err-clause-asked_rest : goal.returns-in-Err-clause-asked_rest
+returns-in-Err-clause-asked_rest g t c =
+    let names = c.args.interleaving.now.inputs in
+    let name = c.in-Some.name.now in
+    let k = vec_len c.args.inputs.now in
+    let there : slice_get names k ≡ Some name = search rules in
+    let looks = subst (λ r. OpensInput g.S.Shelf g.S.Disk.Disk name c.args.shelf.now c.open_input.new.shelf (Ok r)) c.in-Err.is c.in_ok-input.ensures.opened in
+    rest_looks g.S.Shelf.state names k name there c.args.shelf.now c.open_input.new.shelf looks.0.asked
 
 -- it is open
 pub open_rest-answer-requires : goal.open_rest-answer-requires
@@ -143,7 +183,7 @@ returns-clause-done g t c =
     let more = es ++ e ∷ [] in
     let all : HoldAll g.S.Disk.Disk.state c.push.new.self.items more = subst (λ l. HoldAll g.S.Disk.Disk.state l more) (sym pushed) (hold_more g.S.Disk.Disk.state xs es x e hold found.3) in
     let todo = done_rest names output files es in
-    let same : todo ≡ done_rest names output out.0 more = rest_open names output files es name at c.requires.apart out.0 found.0 e found.1 out.2 (read_as found.0 x.layout x.linear found.2) in
+    let same : todo ≡ done_rest names output out.0 more = rest_open names output files es name at c.requires.apart out.0 found.0 e found.1 out.2 (read_as found.0 x.layout found.2) in
     let d = done_same g.S.Shelf.state one.new.shelf out.0 answer (done_rest names output out.0 more) todo same (done out.0 more out.1 all) in (
       d.0,
       held_done g.S.Shelf g.S.Disk.Disk c.args.shelf.now c.open_input.new.shelf one.new.shelf c.give-2.new.self x x.disk y.disk y.disk name opens refl refl (last_of g.S.Disk.Disk xs ys x y _ _ pushed popped one.ensures.reads).disk c.give-2.ensures.given output apart
@@ -200,7 +240,59 @@ returns-clause-reads g t c =
     let popped : c.open_rest-answer.new.inputs.items ≡ ys ++ y ∷ [] = search rules in
     front_of g.S.Disk.Disk xs ys x y _ _ pushed popped c.open_rest-answer.ensures.reads
 
+pub returns-clause-asked : goal.returns-clause-asked
+returns-clause-asked g t c =
+    let xs = c.args.inputs.now.items in
+    let ys = c.pop.new.self.items in
+    let x = c.in-Ok.input in
+    let y = c.in-Some-pop.input in
+    let pushed : c.push.new.self.items ≡ xs ++ x ∷ [] = search rules in
+    let popped : c.open_rest-answer.new.inputs.items ≡ ys ++ y ∷ [] = search rules in
+    once_front g.S.Disk.Disk.state xs ys x y _ _ pushed popped c.open_rest-answer.ensures.reads c.open_rest-answer.ensures.asked
+
+pub returns-clause-asked_rest : goal.returns-clause-asked_rest
+returns-clause-asked_rest g t c =
+    let names = c.args.interleaving.now.inputs in
+    let name = c.in-Some.name.now in
+    let xs = c.args.inputs.now.items in
+    let ys = c.pop.new.self.items in
+    let x = c.in-Ok.input in
+    let y = c.in-Some-pop.input in
+    let k = vec_len c.args.inputs.now in
+    let opens : IsOpen g.S.Shelf g.S.Disk.Disk name c.args.shelf.now c.open_input.new.shelf x =
+    subst (λ r. OpensInput g.S.Shelf g.S.Disk.Disk name c.args.shelf.now c.open_input.new.shelf (Ok r)) c.in-Ok.is c.in_ok-input.ensures.opened in
+    let there : slice_get names k ≡ Some name = search rules in
+    let pushed : c.push.new.self.items ≡ xs ++ x ∷ [] = search rules in
+    let popped : c.open_rest-answer.new.inputs.items ≡ ys ++ y ∷ [] = search rules in
+    let one = c.open_rest-answer in
+    let last = once_last g.S.Disk.Disk.state xs ys x y _ _ pushed popped one.ensures.reads one.ensures.asked in
+    let rest : AsksForEach 1 16384 g.S.Shelf.state (drop (k + 1) names) c.open_input.new.shelf one.new.shelf =
+    subst (λ (n : ℕ). AsksForEach 1 16384 g.S.Shelf.state (drop n names) c.open_input.new.shelf one.new.shelf) c.in_default-push.ensures.len one.ensures.asked_rest in
+    rest_is g.S.Shelf.state names k name there c.args.shelf.now c.give-2.new.self
+    (rest_held g.S.Shelf g.S.Disk.Disk c.args.shelf.now c.open_input.new.shelf one.new.shelf c.give-2.new.self x name opens (drop (k + 1) names) (g.met.S.Disk.Disk.size_told x.disk) y last rest c.give-2.ensures.given)
+
 -- .. but there is no memory for it
+pub returns-in-Err-push-clause-asked : goal.returns-in-Err-push-clause-asked
+returns-in-Err-push-clause-asked g t c =
+    let items = c.args.inputs.now.items in
+    let same : c.push.new.self.items ≡ items = search rules in
+    subst (λ l. AsksWhole g.S.Disk.Disk.state items l) (sym same) (each_none g.S.Disk.Disk.state bytes_whole items)
+
+pub returns-in-Err-push-clause-asked_rest : goal.returns-in-Err-push-clause-asked_rest
+returns-in-Err-push-clause-asked_rest g t c =
+    let names = c.args.interleaving.now.inputs in
+    let name = c.in-Some.name.now in
+    let x = c.in-Ok.input in
+    let k = vec_len c.args.inputs.now in
+    let opens : IsOpen g.S.Shelf g.S.Disk.Disk name c.args.shelf.now c.open_input.new.shelf x =
+    subst (λ r. OpensInput g.S.Shelf g.S.Disk.Disk name c.args.shelf.now c.open_input.new.shelf (Ok r)) c.in-Ok.is c.in_ok-input.ensures.opened in
+    let there : slice_get names k ≡ Some name = search rules in
+    let same : c.in-Err-push.failed.value.disk ≡ x.disk = search rules in
+    let none : (g.S.Disk.Disk.state c.in-Err-push.failed.value.disk).asked ≡ (g.S.Disk.Disk.state x.disk).asked = ap (λ d. (g.S.Disk.Disk.state d).asked) same in
+    let adds = c.give.ensures.given.asked in
+    rest_looks g.S.Shelf.state names k name there c.args.shelf.now c.give.new.self
+    (record { later = omega (arith, opens.out.bytes.asked, adds.later); most = omega (arith, opens.out.bytes.asked, adds.most, none, opens.asked) })
+
 pub returns-in-Err-push-clause-changes : goal.returns-in-Err-push-clause-changes
 returns-in-Err-push-clause-changes g t c =
     let names = c.args.interleaving.now.inputs in
@@ -214,3 +306,32 @@ returns-in-Err-push-clause-changes g t c =
     reads_changes g.S.Shelf output _ _
     (only_read g.S.Shelf g.S.Disk.Disk c.args.shelf.now c.open_input.new.shelf c.give.new.self c.in-Ok.input c.in-Ok.input.disk c.in-Ok.input.disk c.in-Err-push.failed.value.disk name opens refl same (reads_none g.S.Disk.Disk.state g.S.Disk.Disk.may_leave g.S.Disk.Disk.left_between c.in-Ok.input.disk) c.give.ensures.given
     c.give.ensures.images c.give.ensures.others (c.requires.out name ∙ new_name names output c.requires.apart k name there))
+
+-- ---- when one is said to have changed
+
+pub returns-in_default-clause-changed : goal.returns-in_default-clause-changed
+returns-in_default-clause-changed g t c =
+    let same : c.as_mut_slice.result.now ≡ c.args.inputs.now.items = c.as_mut_slice.ensures.value in
+    if_changed _ _ c.join.result (λ never files es told hold. never es (subst (λ l. HoldAll g.S.Disk.Disk.state l es) (sym same) hold)) c.join.ensures.changed
+
+pub returns-in_err-input-clause-changed : goal.returns-in_err-input-clause-changed
+returns-in_err-input-clause-changed g t c = unchanged_as _ c.in_err-input.field-0.0 c.from_residual.result (search rules) c.in_err-input.ensures.unchanged
+
+pub returns-clause-changed : goal.returns-clause-changed
+returns-clause-changed g t c =
+    let names = c.args.interleaving.now.inputs in
+    let name = c.in-Some.name.now in
+    let xs = c.args.inputs.now.items in
+    let x = c.in-Ok.input in
+    let opens : IsOpen g.S.Shelf g.S.Disk.Disk name c.args.shelf.now c.open_input.new.shelf x =
+    subst (λ r. OpensInput g.S.Shelf g.S.Disk.Disk name c.args.shelf.now c.open_input.new.shelf (Ok r)) c.in-Ok.is c.in_ok-input.ensures.opened in
+    let pushed : c.push.new.self.items ≡ xs ++ x ∷ [] = search rules in
+    if_changed _ _ c.open_rest-answer.result
+    (λ never files es told hold.
+    let found = opens.opened files told in
+    let e = first_editing found.0 x.layout in
+    let out = opens.out.takes.files files told in
+    let more = es ++ e ∷ [] in
+    let all : HoldAll g.S.Disk.Disk.state c.push.new.self.items more = subst (λ l. HoldAll g.S.Disk.Disk.state l more) (sym pushed) (hold_more g.S.Disk.Disk.state xs es x e hold found.3) in
+    never out.0 more out.1 all)
+    c.open_rest-answer.ensures.changed

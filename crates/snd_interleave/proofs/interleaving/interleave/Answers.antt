@@ -1,10 +1,14 @@
-use Rattle.std.proofs.Common.{rules, ◌≡◌, ◌∙◌, ap, sym, subst, [], ◌∷◌, ◌++◌, None, Some, get_or}
+use Rattle.std.proofs.Common.{rules, ◌≡◌, ◌∙◌, ap, refl, sym, subst, ℕ, [], ◌∷◌, ◌++◌, None, Some, drop, get_or, length}
+use Rattle.std.specs.Vec.{vec_len}
 use Rattle.snd_lines.specs.declared.refusal.Refusal.TheVariants.{SameName}
 use Rattle.snd_words.specs.Repeats.{first_repeated}
 use Rattle.snd_interleave.specs.Channels.{HoldAll}
 use Rattle.snd_interleave.specs.Interleave.{interleaved}
 use Rattle.snd_interleave.specs.Opening.{done_rest}
+use Rattle.snd_output.proofs.Changing.{if_changed}
 use Rattle.snd_interleave.proofs.Inputs.{hold_none}
+use Rattle.snd_inputs.proofs.Asking.{asks_none}
+use Rattle.snd_inputs.specs.Asking.{AsksForEach}
 use Rattle.snd_inputs.proofs.Answering.{does_so, done_same}
 use Rattle.snd_interleave.proofs.Joining.{refused_as}
 use Rattle.snd_interleave.proofs.Lists.{named_at}
@@ -38,3 +42,17 @@ returns-clause-done g c =
     (λ answer done files told.
     done_same g.S.Shelf.state c.open_rest-answer.new.shelf files answer (done_rest names output files []) (interleaved names output files) (none_open names output files none) (done files [] told hold))
     c.open_rest-answer.ensures.done)
+
+pub returns-in-Some-clause-asked : goal.returns-in-Some-clause-asked
+returns-in-Some-clause-asked g c = asks_none g.S.Shelf.state 1 16384 c.args.interleaving.now.inputs c.args.shelf.now c.args.shelf.now refl
+
+pub returns-clause-asked : goal.returns-clause-asked
+returns-clause-asked g c =
+    let names = c.args.interleaving.now.inputs in
+    let none : vec_len c.new-inputs.result ≡ 0 = c.new-inputs.result.ok.0 ∙ ap length c.new-inputs.ensures.items in
+    subst (λ (n : ℕ). AsksForEach 1 16384 g.S.Shelf.state (drop n names) c.args.shelf.now c.open_rest-answer.new.shelf) none c.open_rest-answer.ensures.asked_rest
+
+pub returns-clause-changed : goal.returns-clause-changed
+returns-clause-changed g c =
+    let hold : HoldAll g.S.Disk.Disk.state c.new-inputs.result.items [] = subst (λ l. HoldAll g.S.Disk.Disk.state l []) (sym c.new-inputs.ensures.items) (hold_none g.S.Disk.Disk.state) in
+    if_changed _ _ c.open_rest-answer.result (λ never files told. never files [] told hold) c.open_rest-answer.ensures.changed

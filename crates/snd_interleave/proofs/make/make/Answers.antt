@@ -8,7 +8,10 @@ use Rattle.snd_output.specs.Made.{made_file}
 use Rattle.snd_interleave.specs.Beside.{frames_from}
 use Rattle.snd_interleave.specs.Channels.{CountsWith, bytes_made}
 use Rattle.snd_interleave.specs.Interleave.{channels_in}
+use Rattle.snd_output.proofs.Changing.{fault_only, unchanged_err}
 use Rattle.snd_inputs.proofs.Told.{told_as}
+use Rattle.snd_interleave.proofs.Asking.{each_none}
+use Rattle.snd_interleave.specs.Asking.{bytes_copied}
 use Rattle.snd_interleave.proofs.Making.{begun_at_end, begun_room, counts_not_finished, is_begun}
 use Rattle.snd_interleave.proofs.Numbers.{most_numbers}
 use Rattle.std.proofs.lemmas.Result.{on_ok_weaker}
@@ -57,3 +60,12 @@ pub returns-in-Err-finish-clause-time : goal.returns-in-Err-finish-clause-time
 returns-in-Err-finish-clause-time g c =
     subst (λ d. GoesOnFrom g.E.Disk.state g.E.Disk.left_between c.args.disk.now d) (search rules)
     (goes_on_then _ _ _ _ _ _ (goes_on_then _ _ _ _ _ _ c.in-Ok.ensures.time c.add_frames-added.ensures.time) c.in-Err-finish.ensures.time)
+
+pub returns-in-Err-clause-asked : goal.returns-in-Err-clause-asked
+returns-in-Err-clause-asked g c = each_none g.D.Disk.state bytes_copied c.args.inputs.now
+
+pub returns-in-Err-clause-changed : goal.returns-in-Err-clause-changed
+returns-in-Err-clause-changed g c = unchanged_err _ c.in-Err.stop c.in-Err.ensures.unchanged
+
+pub returns-in-Err-finish-clause-changed : goal.returns-in-Err-finish-clause-changed
+returns-in-Err-finish-clause-changed g c = fault_only _ c.in-Err-finish.stop c.in-Err-finish.ensures.cause.0

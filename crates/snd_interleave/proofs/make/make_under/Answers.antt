@@ -1,7 +1,10 @@
-use Rattle.std.proofs.Common.{true}
+use Rattle.std.proofs.Common.{true, rules}
+use Rattle.snd_output.proofs.Changing.{unchanged_as}
 use Rattle.snd_tools.proofs.Left.{given_changes, given_files}
 use Rattle.snd_inputs.proofs.Told.{still_told}
 use Rattle.std.proofs.lemmas.Result.{on_ok_weaker}
+use Rattle.snd_interleave.proofs.Asking.{each_none}
+use Rattle.snd_interleave.specs.Asking.{bytes_copied}
 use Rattle.snd_interleave.proofs.make.make_under.Goals as goal
 
 pub returns-clause-made : goal.returns-clause-made
@@ -15,3 +18,9 @@ pub returns-clause-changes : goal.returns-clause-changes
 returns-clause-changes g c =
     given_changes g.S.Shelf g.S.Disk.Disk c.args.shelf.now c.take_output.new.shelf c.give.new.self c.in_ok-disk.disk c.make-made.new.disk c.args.name.now true c.in_ok-disk.ensures.out.takes c.give.ensures.given
     c.in_ok-disk.ensures.out.images c.give.ensures.images c.in_ok-disk.ensures.out.others c.give.ensures.others c.requires.is_in (λ b told. still_told _ _ b c.make-made.ensures.tells told) c.make-made.ensures.time
+
+pub returns-in_err-disk-clause-asked : goal.returns-in_err-disk-clause-asked
+returns-in_err-disk-clause-asked g c = each_none g.D.Disk.state bytes_copied c.args.inputs.now
+
+pub returns-in_err-disk-clause-changed : goal.returns-in_err-disk-clause-changed
+returns-in_err-disk-clause-changed g c = unchanged_as _ c.in_err-disk.field-0.0 c.from_residual.result (search rules) c.in_err-disk.ensures.unchanged

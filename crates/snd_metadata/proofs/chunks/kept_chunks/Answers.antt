@@ -1,15 +1,17 @@
 use Rattle.std.proofs.Common.{rules, ◌≡◌, ◌∙◌, ap, sym, subst, ℕ, ◌+◌, ◌<◌, ◌≤◌, true, false, List, [], ◌∷◌, ◌++◌, All, Some, length, map, take, arith, length-append}
 use Rattle.std.proofs.lemmas.List.{map-append}
 use Rattle.std.proofs.lemmas.List.Elements.{All-append, All-cons, All-nil}
+use Rattle.std.proofs.lemmas.List.Sums.{sum_by-append, sum_by-cons, sum_by-take-le}
 use Rattle.std.specs.List.{filter}
 use Rattle.std.specs.Prelude.{slice_get}
 use Rattle.snd_carry.specs.Carried.{is_carried}
 use Rattle.snd_layout.specs.declared.piece.Piece.{Piece}
 use Rattle.snd_wave.specs.Written.{chunk_read}
 use Rattle.snd_metadata.specs.Chunks.{kept_pieces}
-use Rattle.snd_metadata.specs.Planned.{MayStand, chunk_planned}
+use Rattle.snd_metadata.specs.Planned.{MayStand, bytes_planned, bytes_read, chunk_planned}
 use Rattle.snd_metadata.specs.declared.chunks.PlannedChunk.{PlannedChunk}
 use Rattle.snd_metadata.specs.declared.chunks.PlannedChunk.TheVariants.{Kept}
+use Rattle.snd_metadata.proofs.Asking.{bodies_next}
 use Rattle.snd_metadata.proofs.Lists.{few_in, kept_full, kept_more, kept_other}
 use Rattle.snd_metadata.proofs.chunks.kept_chunks.Goals as goal
 
@@ -24,6 +26,7 @@ loop-place-preserved-then-not-is_carried c =
       kept = λ b. was.kept b ∙ ap (λ (l : List Piece). map (chunk_read b) l) (sym same);
       counted = was.counted ∙ ap length (sym same);
       each = was.each;
+      once = omega (arith, was.once, bodies_next ps c.loop-place.place c.in-Some.piece there);
     }
 
 pub loop-place-preserved-then-len-eq-MOST_KEPT : goal.loop-place-preserved-then-len-eq-MOST_KEPT
@@ -37,6 +40,7 @@ loop-place-preserved-then-len-eq-MOST_KEPT c =
       kept = λ b. was.kept b ∙ ap (λ (l : List Piece). map (chunk_read b) l) (sym same);
       counted = was.counted ∙ ap length (sym same);
       each = was.each;
+      once = omega (arith, was.once, bodies_next ps c.loop-place.place c.in-Some.piece there);
     }
 
 pub loop-place-preserved : goal.loop-place-preserved
@@ -59,7 +63,11 @@ loop-place-preserved c =
           ∙ sym (ap (λ (l : List Piece). map (chunk_read b) l) more ∙ map-append (chunk_read b) before (piece ∷ []));
       counted = ap length pushed ∙ omega (arith, was.counted, length-append old (chunk ∷ []), length-append before (piece ∷ []), ap length more);
       each = subst (All (MayStand ps)) (sym pushed) (All-append (MayStand ps) old (chunk ∷ []) was.each (All-cons (MayStand ps) chunk [] (there, is, c.is_carried.ensures.four, c.is_carried.ensures.bytes) (All-nil (MayStand ps))));
+      once = omega (arith, was.once, bodies_next ps place piece there, ap bytes_planned pushed, sum_by-append bytes_read old (chunk ∷ []), sum_by-cons bytes_read chunk []);
     }
 
 pub returns-clause-few : goal.returns-clause-few
 returns-clause-few c = omega (arith, c.loop-place.invariant.counted, few_in 238 (filter is_carried (take c.loop-place.place c.args.pieces.now)))
+
+pub returns-clause-once : goal.returns-clause-once
+returns-clause-once c = omega (arith, c.loop-place.invariant.once, sum_by-take-le (λ (p : Piece). p.len) c.args.pieces.now c.loop-place.place)

@@ -8,6 +8,7 @@ use Rattle.snd_wave.specs.Heads.{new_piece}
 use Rattle.snd_metadata.specs.Chunks.{is_extension, put_among}
 use Rattle.snd_metadata.specs.Planned.{MayStand, chunk_planned, names_extension, put_in}
 use Rattle.snd_metadata.specs.declared.chunks.PlannedChunk.{PlannedChunk}
+use Rattle.snd_metadata.proofs.Asking.{given_no_more}
 use Rattle.snd_metadata.proofs.Lists.{all_put, map_put, place_in_map}
 use Rattle.snd_metadata.proofs.Named.{named_so}
 use Rattle.snd_metadata.proofs.chunks.put_extension.Goals as goal
@@ -31,3 +32,7 @@ returns-clause-each c =
     (λ is pieces stand.
     subst (All (MayStand pieces)) (sym is) (all_put (MayStand pieces) c.extension_place-at.result _ c.args.plan.now.items stand (refl, refl, c.requires.small, from_test (codes "bext") refl, c.requires.bytes)))
     c.put_at.ensures.put
+
+pub returns-clause-no_more : goal.returns-clause-no_more
+returns-clause-no_more c =
+    on_ok_weaker c.put_at.result (λ is. given_no_more _ _ _ _ is refl) c.put_at.ensures.put

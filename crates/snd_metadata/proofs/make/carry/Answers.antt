@@ -1,11 +1,16 @@
-use Rattle.std.proofs.Common.{rules, ◌≡◌, ◌∙◌, ap, refl, subst, sym, ℕ, ◌+◌, List, [], ◌∷◌, ◌++◌, All, Ok, Result, length, map, take, arith}
+use Rattle.std.proofs.Common.{rules, ◌≡◌, ◌∙◌, ap, refl, subst, sym, false, ℕ, ◌+◌, List, [], ◌∷◌, ◌++◌, All, Ok, Result, length, map, take, arith}
 use Rattle.std.proofs.lemmas.List.{length-map, length-take, map-append, take_all, take_more}
 use Rattle.std.proofs.lemmas.List.Elements.{All-append, All-cons, All-nil}
+use Rattle.std.proofs.lemmas.List.Sums.{sum_by-take-le, sum_by_more, sum_by_more_le}
 use Rattle.snd_carry.proofs.Heads.{as_many}
 use Rattle.snd_carry.proofs.Steps.{made_none}
 use Rattle.snd_chunks.specs.Written.{NewChunk}
+use Rattle.snd_inputs.proofs.Asking.{asks_less, asks_then}
 use Rattle.snd_inputs.proofs.Copying.{copies_none, copies_then}
 use Rattle.snd_inputs.specs.Copying.{CopiesInto}
+use Rattle.std.specs.Prelude.{is_none}
+use Rattle.snd_container.specs.Sound.{fixed_of}
+use Rattle.snd_layout.specs.Params.{Parameters}
 use Rattle.snd_layout.specs.Shape.{Shape}
 use Rattle.snd_layout.specs.declared.piece.Piece.{Piece}
 use Rattle.snd_modes.specs.Handle.{Known, Stands, known_of}
@@ -15,7 +20,7 @@ use Rattle.snd_output.proofs.Carried.{carried_is_making, says_of}
 use Rattle.snd_output.specs.Made.{IsChunk, made_with}
 use Rattle.snd_output.specs.declared.stop.Stop.{Stop}
 use Rattle.snd_metadata.specs.Making.{HasPut, chunks_planned, known_filled}
-use Rattle.snd_metadata.specs.Planned.{MayStand, chunk_planned, outline_planned}
+use Rattle.snd_metadata.specs.Planned.{MayStand, bytes_read, chunk_planned, outline_planned}
 use Rattle.snd_metadata.specs.declared.chunks.PlannedChunk.{PlannedChunk}
 use Rattle.snd_metadata.proofs.Filling.{begun_known, held_none, known_more}
 use Rattle.snd_metadata.proofs.make.carry.Goals as goal
@@ -34,6 +39,8 @@ loop-at-init g c =
         },
         All-nil IsChunk,
       );
+      asked = record { later = omega arith; most = omega arith };
+      unasked = refl;
       stands = λ e s. s;
     }
 
@@ -85,6 +92,8 @@ loop-at-preserved g c =
             subst (λ (l : List NewChunk). HasPut g.E.Disk.state h.kind h.params l c.put_planned.new.to) joined next.0,
             subst (All IsChunk) joined (All-append IsChunk (chunks_planned r xs) (f x ∷ []) before.1 (All-cons IsChunk (f x) [] next.1 (All-nil IsChunk))),
           );
+      asked = asks_then _ _ _ _ _ _ was.asked c.put_planned.ensures.asked (omega (arith, sum_by_more bytes_read plan at x (omega arith), ap bytes_read c.index-plan-at.is));
+      unasked = c.put_planned.ensures.unasked ∙ was.unasked;
       stands = λ e s. did.stands e (was.stands e s);
     }
 
@@ -107,10 +116,24 @@ returns-clause-carried g c = λ r e s made stands.
     let plan : List PlannedChunk = c.args.plan.now in
     let all : take c.loop-at.at plan ≡ plan = take_all c.loop-at.at plan (omega arith) in
     let put = c.loop-at.invariant.so_far r e s made stands in
+    let params = ap (λ (l : Shape). l.params) c.requires.begun ∙ (says_of h.kind h.params [] c.requires.ready.meta).params in
+    let linear : is_none (fixed_of h.params.codec) ≡ false = sym (ap (λ (p : Parameters). is_none (fixed_of p.codec)) params) ∙ c.args.to.now.linear refl in
     let chunks : List NewChunk = chunks_planned r plan in
     let has : HasPut g.E.Disk.state h.kind h.params chunks c.loop-at.to = subst (λ (l : List PlannedChunk). HasPut g.E.Disk.state h.kind h.params (chunks_planned r l) c.loop-at.to) all put.0 in
     let each : All IsChunk chunks = subst (λ (l : List PlannedChunk). All IsChunk (chunks_planned r l)) all put.1 in (
       made_with h.kind h.params chunks,
       has.stands,
-      carried_is_making h.kind h.params chunks e c.requires.good made c.requires.ready.meta (record { each = each; few = omega (arith, length-map plan (chunk_planned r.bytes), c.requires.ready.plan_is.few) }),
+      carried_is_making h.kind h.params chunks e c.requires.good linear made c.requires.ready.meta (record { each = each; few = omega (arith, length-map plan (chunk_planned r.bytes), c.requires.ready.plan_is.few) }),
     )
+
+pub returns-in_err-put_planned-clause-asked : goal.returns-in_err-put_planned-clause-asked
+returns-in_err-put_planned-clause-asked g c =
+    let plan : List PlannedChunk = c.args.plan.now in
+    let x : PlannedChunk = c.index-plan-at.result in
+    asks_then _ _ _ _ _ _ c.loop-at.invariant.asked c.put_planned.ensures.asked (omega (arith, sum_by_more_le bytes_read plan c.loop-at.at x (omega arith), ap bytes_read c.index-plan-at.is))
+
+pub returns-in_err-put_planned-clause-unasked : goal.returns-in_err-put_planned-clause-unasked
+returns-in_err-put_planned-clause-unasked g c = c.put_planned.ensures.unasked ∙ c.loop-at.invariant.unasked
+
+pub returns-clause-asked : goal.returns-clause-asked
+returns-clause-asked g c = asks_less _ _ _ _ (sum_by-take-le bytes_read c.args.plan.now c.loop-at.at) c.loop-at.invariant.asked

@@ -1,14 +1,17 @@
-use Rattle.std.proofs.Common.{◌≡◌, ◌∙◌, ap, refl, subst, sym, [], ℤ, List}
+use Rattle.std.proofs.Common.{◌≡◌, ◌∙◌, ap, arith, refl, subst, sym, [], false, ℕ, ◌/◌, ℤ, List}
 use Rattle.std.proofs.lemmas.Result.{on_ok_weaker}
+use Rattle.snd_disk.specs.State.{AtMost}
+use Rattle.snd_inputs.proofs.Asking.{asks_then, asks_to_copy}
+use Rattle.snd_layout.specs.Blocks.{is_adpcm}
 use Rattle.snd_inputs.proofs.Copying.{copies_then, counts_appended, still_works}
 use Rattle.snd_layout.specs.Params.{Parameters}
 use Rattle.snd_layout.specs.Shape.{Shape}
-use Rattle.snd_modes.specs.Handle.{codec_of, known_of}
-use Rattle.snd_output.specs.Appended.{left_in}
+use Rattle.snd_modes.specs.Handle.{Known, codec_of, disk_of, known_of}
+use Rattle.snd_output.specs.Appended.{bytes_by_calls, left_in}
 use Rattle.snd_output.specs.Made.{IsMaking}
 use Rattle.snd_metadata.specs.Making.{chunks_planned}
 use Rattle.snd_metadata.specs.declared.chunks.PlannedChunk.{PlannedChunk}
-use Rattle.snd_metadata.proofs.Filling.{may_append, numbers_same, params_filled}
+use Rattle.snd_metadata.proofs.Filling.{may_append, never_blocks, numbers_same, params_filled}
 use Rattle.snd_metadata.proofs.make.fill.Goals as goal
 
 pub append-requires-clause-may : goal.append-requires-clause-may
@@ -45,3 +48,15 @@ returns-clause-copies g c =
       tells = c.append.ensures.tells;
       time = c.append.ensures.time;
     })
+
+pub returns-clause-asked : goal.returns-clause-asked
+returns-clause-asked g c =
+    let k : Known = known_of c.args.from.now in
+    let frames = subst (λ (x : Known). AtMost (g.D.Disk.state (disk_of c.carry.new.from)).asked (bytes_by_calls x.shape.params (16384 / x.shape.params.channels) (left_in x)) (g.D.Disk.state (disk_of c.append.new.from)).asked)
+    c.in_ok-carry.ensures.same c.append.ensures.asked in
+    asks_then _ _ _ _ _ _ c.carry.ensures.asked (asks_to_copy k 16384 _ _ c.requires.unread refl frames) (omega arith)
+
+pub returns-clause-unchanged : goal.returns-clause-unchanged
+returns-clause-unchanged g c =
+    let linear : is_adpcm (known_of c.carry.new.from).shape.params.codec ≡ false = ap (λ (k : Known). is_adpcm k.shape.params.codec) c.in_ok-carry.ensures.same ∙ c.requires.ready.linear in
+    never_blocks (left_in (known_of c.carry.new.from)) (known_of c.carry.new.from) (known_of c.append.new.from) (known_of c.carry.new.to) (known_of c.append.new.to) c.append.result linear c.append.ensures.left

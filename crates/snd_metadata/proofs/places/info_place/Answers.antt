@@ -2,6 +2,7 @@ use Rattle.std.proofs.Common.{◌≡◌, ◌∙◌, ap, sym, ℕ, ◌+◌, true,
 use Rattle.std.proofs.lemmas.List.{drop_more}
 use Rattle.snd_chunks.specs.Written.{NewChunk}
 use Rattle.snd_disk.proofs.Chains.{only_reads_then}
+use Rattle.snd_inputs.proofs.Asking.{asks_less, asks_then}
 use Rattle.snd_metadata.specs.Chunks.{is_info_list}
 use Rattle.snd_metadata.specs.Planned.{chunk_planned}
 use Rattle.snd_metadata.specs.declared.chunks.PlannedChunk.{PlannedChunk}
@@ -35,5 +36,15 @@ loop-at-preserved g c =
           omega (arith, was.passed e stands, place_past is_info_list (map f plan) at (f x) (map_here f plan at x front) other);
       stands = λ e stands. looks.stands e (was.stands e stands);
       calm = looks.faults ∙ was.calm;
+      asked = asks_then _ _ _ _ _ _ was.asked c.is_info_list.ensures.asked (omega arith);
       reads = only_reads_then _ _ _ _ _ _ _ _ _ was.reads looks.reads;
     }
+
+pub returns-then-branch-clause-asked : goal.returns-then-branch-clause-asked
+returns-then-branch-clause-asked g c = asks_then _ _ _ _ _ _ c.loop-at.invariant.asked c.is_info_list.ensures.asked (omega arith)
+
+pub returns-in_err-is_info_list-clause-asked : goal.returns-in_err-is_info_list-clause-asked
+returns-in_err-is_info_list-clause-asked g c = asks_then _ _ _ _ _ _ c.loop-at.invariant.asked c.is_info_list.ensures.asked (omega arith)
+
+pub returns-clause-asked : goal.returns-clause-asked
+returns-clause-asked g c = asks_less _ _ _ _ (omega arith) c.loop-at.invariant.asked

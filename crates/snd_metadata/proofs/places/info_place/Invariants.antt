@@ -1,6 +1,6 @@
-use Rattle.std.proofs.Common.{◌≡◌, ◌+◌, drop, map}
+use Rattle.std.proofs.Common.{◌≡◌, ◌+◌, ◌*◌, drop, map}
 use Rattle.std.specs.List.{position_or_len}
-use Rattle.snd_disk.specs.Device.{OnlyReadsOn}
+use Rattle.snd_disk.specs.Device.{AsksAtMost, OnlyReadsOn}
 use Rattle.snd_modes.specs.Editing.{Editing}
 use Rattle.snd_modes.specs.Handle.{Stands, StandsAfter, disk_of, known_of, loan_of}
 use Rattle.snd_metadata.specs.Chunks.{is_info_list}
@@ -15,5 +15,6 @@ invariant-loop-at g l = record {
       → l.at + position_or_len is_info_list (drop l.at (map (chunk_planned e.bytes) l.plan)) ≡ position_or_len is_info_list (map (chunk_planned e.bytes) l.plan);
   stands : StandsAfter g.D.Disk.state l.fn.file l.file (λ e. e);
   calm : (g.D.Disk.state (disk_of l.file)).faults ≡ (g.D.Disk.state (disk_of l.fn.file)).faults;
+  asked : AsksAtMost g.D.Disk.state (4 * l.at) (disk_of l.fn.file) (disk_of l.file);
   reads : OnlyReadsOn g.D.Disk.state g.D.Disk.may_leave g.D.Disk.left_between (disk_of l.fn.file) (disk_of l.file);
 }

@@ -9,6 +9,7 @@ use Rattle.snd_wave.specs.Heads.{new_piece}
 use Rattle.snd_metadata.specs.Chunks.{is_info_list, put_among}
 use Rattle.snd_metadata.specs.Planned.{MayStand, chunk_planned, put_in}
 use Rattle.snd_metadata.specs.declared.chunks.PlannedChunk.{PlannedChunk}
+use Rattle.snd_metadata.proofs.Asking.{given_no_more}
 use Rattle.snd_metadata.proofs.Lists.{all_put, map_put}
 use Rattle.snd_metadata.proofs.places.put_info_list.Goals as goal
 
@@ -30,3 +31,7 @@ returns-clause-stand g c =
     on_ok_weaker c.put_at.result
     (λ is. subst (All P) (sym is) (all_put P c.in_ok-at.at _ c.args.plan.now.items c.requires.stand (refl, refl, c.requires.small, from_test (codes "LIST") refl, c.requires.bytes)))
     c.put_at.ensures.put
+
+pub returns-clause-no_more : goal.returns-clause-no_more
+returns-clause-no_more g c =
+    on_ok_weaker c.put_at.result (λ is. given_no_more _ _ _ _ is refl) c.put_at.ensures.put

@@ -6,6 +6,7 @@ use Rattle.snd_layout.specs.Params.{Parameters}
 use Rattle.snd_layout.specs.Shape.{Shape, room}
 use Rattle.snd_layout.specs.declared.kind.Kind.{Kind}
 use Rattle.snd_modes.specs.Handle.{known_of}
+use Rattle.snd_modes.proofs.FixedFrames.{is_fixed}
 use Rattle.snd_modes.specs.Heads.{holds_meta}
 use Rattle.snd_modes.specs.Relaid.{shape_with}
 use Rattle.snd_room.specs.Room.{Take}
@@ -25,7 +26,7 @@ returns-clause-outlines g c =
     let take : Take c.kind.result c.size_of.result chunks = little_take c.kind.result c.size_of.result chunks meta (outlines_take h.pieces c.args.plan.now c.requires.plan.each ∙ sym c.size_of.ensures.size) in
     let most : c.from-3.result ≡ room (shape_with h.kind h.params chunks) =
     c.from-3.ensures ∙ c.room_with.ensures chunks take ∙ ap (λ (k : Kind). room (shape_with k c.params-params.result chunks)) c.kind.ensures ∙ ap (λ (p : Parameters). room (shape_with h.kind p chunks)) c.params-params.ensures in
-    full_by h chunks c.from.result c.from-2.result c.from-3.result c.requires.linear frames align most
+    full_by h chunks c.from.result c.from-2.result c.from-3.result (is_fixed _ c.requires.linear) frames align most
 
 pub returns-clause-told : goal.returns-clause-told
 returns-clause-told g c = λ e stands.
@@ -41,5 +42,5 @@ returns-clause-told g c = λ e stands.
     let take : Take c.kind.result c.size_of.result chunks = little_take c.kind.result c.size_of.result chunks meta (chunks_take e.bytes e.shape.pieces c.args.plan.now ends may ∙ sym c.size_of.ensures.size) in
     let most : c.from-3.result ≡ room (shape_with h.kind h.params chunks) =
     c.from-3.ensures ∙ c.room_with.ensures chunks take ∙ ap (λ (k : Kind). room (shape_with k c.params-params.result chunks)) c.kind.ensures ∙ ap (λ (p : Parameters). room (shape_with h.kind p chunks)) c.params-params.ensures in
-    full_by h chunks c.from.result c.from-2.result c.from-3.result c.requires.linear known align most
+    full_by h chunks c.from.result c.from-2.result c.from-3.result (is_fixed _ c.requires.linear) known align most
     ∙ ap (λ (s : Shape). is_full_with s chunks) same

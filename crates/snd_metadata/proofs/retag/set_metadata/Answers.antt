@@ -8,6 +8,7 @@ use Rattle.snd_inputs.specs.Opening.{IsOpen, OpensInput}
 use Rattle.snd_modes.specs.Editing.{first_editing}
 use Rattle.snd_tools.proofs.Names.{apart_back}
 use Rattle.snd_metadata.specs.Retagged.{retagged, retagged_file}
+use Rattle.snd_metadata.proofs.Asking.{asks_held}
 use Rattle.snd_metadata.proofs.Doing.{makes_file, retagged_as, retagged_refused}
 use Rattle.snd_metadata.proofs.retag.set_metadata.Goals as goal
 
@@ -54,7 +55,7 @@ returns-clause-done g c =
     let e = first_editing found.0 c.in-Ok.input.layout in
     let todo = retagged_file settings input output e in
     let d = done out.0 found.0 out.1 found.3.bytes in
-    done_same g.S.Shelf.state c.give.new.self files answer todo (retagged settings input output files) (retagged_as settings input output files apart found.0 c.in-Ok.input.layout found.1 c.in-Ok.input.linear found.2) (
+    done_same g.S.Shelf.state c.give.new.self files answer todo (retagged settings input output files) (retagged_as settings input output files apart found.0 c.in-Ok.input.layout found.1 found.2) (
       d.0,
       held_done g.S.Shelf g.S.Disk.Disk c.args.shelf.now c.open_input.new.shelf c.retag_laid-answer.new.shelf c.give.new.self c.in-Ok.input _ _ _ input opens refl refl c.retag_laid-answer.ensures.reads c.give.ensures.given output apart
           todo files told (makes_file settings input output e) d.1,
@@ -78,3 +79,11 @@ returns-clause-faults g c =
     subst (λ r. OpensInput g.S.Shelf g.S.Disk.Disk input c.args.shelf.now c.open_input.new.shelf (Ok r)) c.in-Ok.is c.in_ok-input.ensures.opened in
     held_counts g.S.Shelf g.S.Disk.Disk c.args.shelf.now c.open_input.new.shelf c.retag_laid-answer.new.shelf c.give.new.self c.in-Ok.input _ _ _ input opens refl refl c.retag_laid-answer.ensures.reads c.give.ensures.given
     c.retag_laid-answer.result c.in_ok-input.ensures.faults c.retag_laid-answer.ensures.faults
+
+pub returns-clause-asked : goal.returns-clause-asked
+returns-clause-asked g c =
+    let input = c.args.change.now.input.now in
+    let opens : IsOpen g.S.Shelf g.S.Disk.Disk input c.args.shelf.now c.open_input.new.shelf c.in-Ok.input =
+    subst (λ r. OpensInput g.S.Shelf g.S.Disk.Disk input c.args.shelf.now c.open_input.new.shelf (Ok r)) c.in-Ok.is c.in_ok-input.ensures.opened in
+    asks_held g.S.Shelf g.S.Disk.Disk c.args.shelf.now c.open_input.new.shelf c.retag_laid-answer.new.shelf c.give.new.self c.in-Ok.input _ _ _ input opens refl refl c.give.ensures.given
+    c.retag_laid-answer.ensures.unasked (g.met.S.Disk.Disk.size_told c.in-Ok.input.disk) c.retag_laid-answer.ensures.asked

@@ -1,5 +1,4 @@
-use Rattle.std.proofs.Common.{rules, ◌≡◌, true, false, arith}
-use Rattle.snd_layout.specs.Blocks.{is_adpcm}
+use Rattle.std.proofs.Common.{arith}
 use Rattle.snd_modes.proofs.FixedFrames.{good_read}
 use Rattle.snd_modes.proofs.frames.read_any.Goals as goal
 

@@ -1,6 +1,5 @@
-use Rattle.std.proofs.Common.{rules, ◌≡◌, ◌∙◌, ap, sym, ℕ, ◌+◌, ◌*◌, ◌/◌, Bool, true, cond, length, arith}
-use Rattle.snd_disk.specs.State.{AtMost}
-use Rattle.snd_layout.specs.Blocks.{block_align, block_frames, is_adpcm}
+use Rattle.std.proofs.Common.{◌≡◌, ◌∙◌, ap, sym, ℕ, ◌+◌, ◌*◌, ◌/◌, Bool, cond, length, arith}
+use Rattle.snd_layout.specs.Blocks.{block_align, block_frames}
 use Rattle.snd_modes.specs.Reading.{bytes_of_frames, bytes_to_read}
 use Rattle.snd_modes.proofs.FixedFrames.{blocks_bad, blocks_good, blocks_told, count_of, if_ok}
 use Rattle.snd_modes.proofs.Ranges.{fits_blocks}

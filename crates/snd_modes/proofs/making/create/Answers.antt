@@ -1,13 +1,12 @@
-use Rattle.std.proofs.Common.{rules, ◌≡◌, ◌∙◌, ap, sym, refl, Err, Ok, Some, None, ℕ, true, false, List, [], option_map, arith}
+use Rattle.std.proofs.Common.{rules, ◌≡◌, ◌∙◌, ap, sym, refl, Ok, Some, None, ℕ, false, List, [], option_map, arith}
 use Rattle.std.specs.Prelude.{is_none}
 use Rattle.snd_container.specs.Made.{new_file, new_shape}
 use Rattle.snd_container.specs.Sound.{fixed_of}
 use Rattle.snd_layout.specs.Fit.{fit_refusal}
 use Rattle.snd_layout.specs.Shape.{Shape}
 use Rattle.snd_layout.specs.declared.refusal.OpenRefusal.{OpenRefusal}
-use Rattle.snd_layout.specs.declared.refusal.OpenRefusal.TheVariants.{NotBuilt}
 use Rattle.snd_modes.specs.Editing.{first_editing}
-use Rattle.snd_modes.proofs.NewFiles.{ends_at_start, is_new, making_blocks, making_ok, making_refused, never_refused, no_refusal}
+use Rattle.snd_modes.proofs.NewFiles.{ends_at_start, is_new, making_ok, making_refused, never_refused, no_refusal}
 use Rattle.snd_modes.proofs.Rooms.{not_adpcm}
 use Rattle.snd_modes.proofs.making.create.Goals as goal
 
@@ -16,10 +15,9 @@ returns-clause-made g c = λ b told.
     let kind = c.args.kind in
     let p = c.args.params in
     let fits : fit_refusal kind p ≡ None = search rules in
-    let linear : is_none (fixed_of p.codec) ≡ false = search rules in
     let made : c.in-Ok.layout ≡ new_shape kind p = search rules in (
       first_editing (new_file kind p) c.in-Ok.layout,
-      making_ok kind p fits linear ∙ ap (λ (s : Shape). Ok (first_editing (new_file kind p) s)) (sym made),
+      making_ok kind p fits ∙ ap (λ (s : Shape). Ok (first_editing (new_file kind p) s)) (sym made),
       c.at_first_frame.ensures.stands (new_file kind p) (c.in-Ok.ensures.laid.contents ∙ ap (option_map (λ (l : List ℕ). new_file kind p)) told),
     )
 
@@ -28,13 +26,6 @@ returns-in-Err-clause-made g c = λ r is.
     let same : c.in-Err.refusal ≡ r = cc in
     making_refused c.args.kind c.args.params r (c.in-Err.ensures.refused ∙ ap (λ (x : OpenRefusal). Some x) same)
 
-pub returns-then-is_none-clause-made : goal.returns-then-is_none-clause-made
-returns-then-is_none-clause-made g c = λ r is.
-    let same : NotBuilt ≡ r = cc in
-    let fits : fit_refusal c.args.kind c.args.params ≡ None = search rules in
-    let law : is_none (fixed_of c.args.params.codec) ≡ true = search rules in
-    making_blocks c.args.kind c.args.params fits law ∙ ap (λ (x : OpenRefusal). Err x) same
-
 pub returns-in-Err-lay_head-clause-made : goal.returns-in-Err-lay_head-clause-made
 returns-in-Err-lay_head-clause-made g c = λ r is.
     absurd (no_refusal _ _ c.in-Err-lay_head.error r is c.in-Err-lay_head.ensures.cause)
@@ -42,21 +33,21 @@ returns-in-Err-lay_head-clause-made g c = λ r is.
 pub returns-in-Err-lay_head-clause-untouched : goal.returns-in-Err-lay_head-clause-untouched
 returns-in-Err-lay_head-clause-untouched g c = λ r is.
     let fits : fit_refusal c.args.kind c.args.params ≡ None = search rules in
-    let linear : is_none (fixed_of c.args.params.codec) ≡ false = search rules in
-    absurd (never_refused c.args.kind c.args.params fits linear r is)
+    let linear = c.requires.linear in
+    absurd (never_refused c.args.kind c.args.params fits r is)
 
 pub returns-clause-untouched : goal.returns-clause-untouched
 returns-clause-untouched g c = λ r is.
     let fits : fit_refusal c.args.kind c.args.params ≡ None = search rules in
-    let linear : is_none (fixed_of c.args.params.codec) ≡ false = search rules in
-    absurd (never_refused c.args.kind c.args.params fits linear r is)
+    let linear = c.requires.linear in
+    absurd (never_refused c.args.kind c.args.params fits r is)
 
 pub at_first_frame-requires-clause-held : goal.at_first_frame-requires-clause-held
 at_first_frame-requires-clause-held g c =
     let s = c.in-Ok.layout in
     let made : s ≡ new_shape c.args.kind c.args.params = search rules in
     let fits : fit_refusal c.args.kind c.args.params ≡ None = search rules in
-    let linear : is_none (fixed_of c.args.params.codec) ≡ false = search rules in
+    let linear = c.requires.linear in
     let new = is_new c.args.kind c.args.params c.are_good.ensures fits linear s made in
     let linear' : is_none (fixed_of s.params.codec) ≡ false = ap (λ q. is_none (fixed_of q.codec)) new.params ∙ linear in
     omega (arith, ends_at_start s linear' new.frames, new.start, c.in-Ok.ensures.laid.size)
@@ -64,7 +55,7 @@ at_first_frame-requires-clause-held g c =
 pub at_first_frame-requires-clause-linear : goal.at_first_frame-requires-clause-linear
 at_first_frame-requires-clause-linear g c = λ writes.
     let made : c.in-Ok.layout ≡ new_shape c.args.kind c.args.params = search rules in
-    let linear : is_none (fixed_of c.args.params.codec) ≡ false = search rules in
+    let linear = c.requires.linear in
     let fits : fit_refusal c.args.kind c.args.params ≡ None = search rules in
     ap (λ q. is_none (fixed_of q.codec)) (is_new c.args.kind c.args.params c.are_good.ensures fits linear c.in-Ok.layout made).params ∙ linear
 
@@ -72,18 +63,18 @@ pub at_first_frame-requires-clause-room_ends : goal.at_first_frame-requires-clau
 at_first_frame-requires-clause-room_ends g c =
     let made : c.in-Ok.layout ≡ new_shape c.args.kind c.args.params = search rules in
     let fits : fit_refusal c.args.kind c.args.params ≡ None = search rules in
-    let linear : is_none (fixed_of c.args.params.codec) ≡ false = search rules in
+    let linear = c.requires.linear in
     (is_new c.args.kind c.args.params c.are_good.ensures fits linear c.in-Ok.layout made).room_ends
 
 pub at_first_frame-requires-clause-sized : goal.at_first_frame-requires-clause-sized
 at_first_frame-requires-clause-sized g c = λ writes.
     let made : c.in-Ok.layout ≡ new_shape c.args.kind c.args.params = search rules in
     let fits : fit_refusal c.args.kind c.args.params ≡ None = search rules in
-    let linear : is_none (fixed_of c.args.params.codec) ≡ false = search rules in
+    let linear = c.requires.linear in
     (is_new c.args.kind c.args.params c.are_good.ensures fits linear c.in-Ok.layout made).known
 
 pub at_first_frame-requires-clause-headed : goal.at_first_frame-requires-clause-headed
 at_first_frame-requires-clause-headed g c = λ makes holds. ∣ (c.args.params, [], c.in-Ok.ensures.head) ∣₁
 
 pub at_first_frame-requires-clause-blocks : goal.at_first_frame-requires-clause-blocks
-at_first_frame-requires-clause-blocks g c = sym (not_adpcm c.in-Ok.layout.params.codec (at_first_frame-requires-clause-linear g c refl))
+at_first_frame-requires-clause-blocks g c = λ by_place. sym (not_adpcm c.in-Ok.layout.params.codec (at_first_frame-requires-clause-linear g c refl))

@@ -1,4 +1,4 @@
-use Rattle.std.proofs.Common.{◌≡◌, ◌∙◌}
+use Rattle.std.proofs.Common.{◌∙◌}
 use Rattle.snd_modes.specs.Editing.{first_editing}
 use Rattle.snd_modes.proofs.Opening.{opening_ok, opening_refused}
 use Rattle.snd_modes.proofs.open.open_read.Goals as goal

@@ -1,15 +1,18 @@
-use Rattle.std.proofs.Common.{rules, ◌≡◌, ◌∙◌, ap, sym, subst, refl, ℕ, ◌+◌, ◌-◌, ◌%◌, ◌≤◌, ℤ, List, ◌++◌, length, take, arith}
+use Rattle.std.proofs.Common.{rules, ◌≡◌, ◌∙◌, ap, sym, subst, refl, ℕ, ◌+◌, ◌-◌, ◌/◌, ◌%◌, ◌≤◌, ℤ, List, ◌++◌, length, min, take, arith}
 use Rattle.std.proofs.lemmas.List.{length-take-le}
 use Rattle.snd_disk.proofs.Chains.{goes_on_then, only_reads_then}
+use Rattle.snd_disk.specs.State.{AtMost}
 use Rattle.snd_layout.specs.Shape.{Shape}
 use Rattle.snd_layout.specs.declared.codec.Codec.{Codec}
 use Rattle.snd_modes.specs.Calls.{count_read}
 use Rattle.snd_modes.specs.Editing.{Editing, moved_by}
-use Rattle.snd_modes.specs.Handle.{Known, Stands, channels_of, codec_of, known_of}
+use Rattle.snd_modes.specs.Handle.{Known, Stands, channels_of, codec_of, disk_of, known_of}
+use Rattle.snd_modes.specs.Reading.{bytes_to_read}
 use Rattle.snd_output.specs.Appended.{left_in, longer, next_numbers, read_on}
 use Rattle.snd_output.specs.Made.{IsMaking}
 use Rattle.snd_output.specs.Widths.{change_numbers}
-use Rattle.snd_output.proofs.Appending.{all_numbers, asked_all, asked_failed, asked_none, asked_on, count_fits, longer_none, longer_twice, moved_none, moved_twice, none_left, numbers_none, numbers_twice, read_none, read_twice, whole_places}
+use Rattle.snd_output.proofs.Appending.{all_numbers, asked_all, asked_before, asked_by, asked_none, asked_on, bad_ahead, count_fits, each_whole, left_later, longer_none, longer_twice, moved_none, moved_twice, none_left, numbers_none, one_fits, numbers_twice, read_none, read_twice, whole_places}
+use Rattle.snd_output.proofs.Changing.{changed_as}
 use Rattle.snd_output.proofs.blocks.append.Goals as goal
 
 pub loop-count-init : goal.loop-count-init
@@ -40,7 +43,9 @@ loop-count-init g c =
       to_asked = refl;
       some = omega (arith, size, places.0, is);
       whole = ap (λ (m : ℕ). m % channels_of c.args.from.now) size ∙ ap (λ (m : ℕ). (n - n % q) % m) (sym is) ∙ places.1;
-      asked = asked_none from.shape.params from.place _;
+      each = ap (λ (m : ℕ). m / channels_of c.args.from.now) size ∙ ap (λ (m : ℕ). (n - n % m) / channels_of c.args.from.now) is
+          ∙ each_whole n (channels_of c.args.from.now) (omega (arith, is, c.numbers_of-channels.ensures.some));
+      asked = asked_none from.shape.params (n / channels_of c.args.from.now) from.place (left_in from) 1 _;
     }
 
 pub loop-count-preserved : goal.loop-count-preserved
@@ -93,7 +98,20 @@ loop-count-preserved g c =
       to_asked = one.to_asked ∙ inv.to_asked;
       some = omega (arith, c.append_block.auto.block, inv.some);
       whole = ap (λ (n : ℕ). n % channels_of c.args.from.now) c.append_block.auto.block ∙ inv.whole;
-      asked = asked_on now first.shape.params j (count_read places now) i _ _ _ c.requires.may.linear (ap (λ (k : Known). k.shape.params) inv.read) (omega (arith, sum, one.count)) inv.asked one.asked;
+      each = ap (λ (n : ℕ). n / channels_of c.args.from.now) c.append_block.auto.block ∙ inv.each;
+      asked =
+          let each = length c.args.block.now / channels_of c.args.from.now in
+          let many : 1 ≤ each = one_fits (length c.args.block.now) (channels_of c.args.from.now) (omega (arith, c.numbers_of-channels.ensures.channels, c.numbers_of-channels.ensures.some)) c.requires.places in
+          let is : count ≡ min each (left_in now) = one.count ∙ ap (λ (n : ℕ). min n (left_in now)) (ap (λ (n : ℕ). places / n) channels ∙ inv.each) in
+          let params : now.shape.params ≡ first.shape.params = ap (λ (k : Known). k.shape.params) inv.read in
+          let begun = (g.D.Disk.state (disk_of c.args.from.now)).asked in
+          let mid = (g.D.Disk.state (disk_of c.loop-count.from)).asked in
+          let end = (g.D.Disk.state (disk_of c.append_block.new.from)).asked in
+          let before = asked_before first.shape.params each j (left_in now) c.loop-count.count begun mid (omega (arith, c.loop-count-test.true)) inv.asked in
+          let more = subst (λ (n : ℕ). AtMost mid (bytes_to_read now.shape.params n) end) (sym one.count) one.asked in
+          let rest : left_in now - count ≡ left_in (known_of c.append_block.new.from) = (let e : left_in now - count ≡ now.shape.frames - (now.place + count_read places now) = omega (arith, one.count) in e) ∙ sym (ap left_in one.left.0) in
+          subst (λ (n : ℕ). AtMost begun (asked_by first.shape.params each i n count) end) rest
+          (asked_on now first.shape.params each j (left_in now) count i begun mid end params many is sum before more);
     }
 
 pub returns-clause-lengthens : goal.returns-clause-lengthens
@@ -111,7 +129,21 @@ pub returns-clause-asked : goal.returns-clause-asked
 returns-clause-asked g c =
     let inv = c.loop-count.invariant in
     let first = known_of c.args.from.now in
-    asked_all first.shape.params ((known_of c.loop-count.from).place - first.place) (left_in first) _ _ (inv.ended (omega (arith, c.loop-count-test.false))) inv.asked
+    asked_all first.shape.params (length c.args.block.now / channels_of c.args.from.now) (left_in first) ((known_of c.loop-count.from).place - first.place) (left_in (known_of c.loop-count.from)) c.loop-count.count _ _
+    inv.within inv.asked
+
+pub returns-in_err-count-clause-left : goal.returns-in_err-count-clause-left
+returns-in_err-count-clause-left g c =
+    left_later (left_in (known_of c.args.from.now)) (count_read (length c.loop-count.whole) (known_of c.loop-count.from)) (known_of c.args.from.now) (known_of c.loop-count.from) (known_of c.append_block.new.from)
+    (known_of c.args.to.now) (known_of c.loop-count.to) (known_of c.append_block.new.to) c.in_err-count.field-0.0 c.from_residual.result (search rules) (ap (λ (k : Known). k.shape) c.loop-count.invariant.read) c.in_err-count.ensures.left
+
+pub returns-in_err-count-clause-changed : goal.returns-in_err-count-clause-changed
+returns-in_err-count-clause-changed g c =
+    let inv = c.loop-count.invariant in
+    let j = (known_of c.loop-count.from).place - (known_of c.args.from.now).place in
+    let k = count_read (length c.loop-count.whole) (known_of c.loop-count.from) in
+    changed_as _ _ c.in_err-count.field-0.0 c.from_residual.result (search rules)
+    (λ bad e stands. bad_ahead e.frames e.place j k (bad (moved_by j e) (inv.stands e stands))) c.in_err-count.ensures.changed
 
 pub returns-in_err-count-clause-asked : goal.returns-in_err-count-clause-asked
 returns-in_err-count-clause-asked g c =
@@ -119,8 +151,16 @@ returns-in_err-count-clause-asked g c =
     let first = known_of c.args.from.now in
     let now = known_of c.loop-count.from in
     let j = now.place - first.place in
+    let places = length c.loop-count.whole in
+    let k = count_read places now in
+    let each = length c.args.block.now / channels_of c.args.from.now in
     let here : now.place ≡ first.place + j = ap (λ (k : Known). k.place) inv.read in
     let frames : now.shape.frames ≡ first.shape.frames = ap (λ (k : Known). k.shape.frames) inv.read in
-    let ahead : left_in now ≡ left_in first - j = omega (arith, here, frames, inv.within) in
-    asked_failed now first.shape.params (length c.loop-count.whole) (left_in first) j _ _ _ c.requires.may.linear (ap (λ (k : Known). k.shape.params) inv.read) ahead inv.within
-    inv.asked c.in_err-count.ensures.asked
+    let channels : now.shape.params.channels ≡ first.shape.params.channels = ap (λ (k : Known). k.shape.params.channels) inv.read in
+    let params : now.shape.params ≡ first.shape.params = ap (λ (k : Known). k.shape.params) inv.read in
+    let many : 1 ≤ each = one_fits (length c.args.block.now) (channels_of c.args.from.now) (omega (arith, c.numbers_of-channels.ensures.channels, c.numbers_of-channels.ensures.some)) c.requires.places in
+    let is : k ≡ min each (left_in now) = ap (λ (n : ℕ). min n (left_in now)) (ap (λ (n : ℕ). places / n) channels ∙ inv.each) in
+    let few : k ≤ left_in now = omega (arith, is) in
+    let before = asked_before first.shape.params each j (left_in now) c.loop-count.count _ _ (omega (arith, c.loop-count-test.true)) inv.asked in
+    let asked = asked_on now first.shape.params each j (left_in now) k (j + k) _ _ _ params many is refl before c.in_err-count.ensures.asked in
+    asked_all first.shape.params each (left_in first) (j + k) (left_in now - k) k _ _ (omega (arith, few, here, frames, inv.within)) asked

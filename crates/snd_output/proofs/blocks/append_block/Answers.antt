@@ -6,13 +6,21 @@ use Rattle.snd_modes.specs.Handle.{known_of}
 use Rattle.snd_modes.specs.WriteCalls.{MayWrite}
 use Rattle.snd_output.specs.Appended.{longer, read_on}
 use Rattle.snd_output.specs.Made.{IsMaking}
-use Rattle.snd_output.proofs.Appending.{block_is, block_known, block_may, read_failed, write_failed}
+use Rattle.snd_output.proofs.Appending.{block_is, block_known, block_may, left_unread, left_unwritten, never_changed, read_failed, write_failed}
+use Rattle.snd_output.proofs.Changing.{changed_as}
 use Rattle.snd_output.proofs.Lengthened.{written_is_making}
 use Rattle.snd_output.proofs.blocks.append_block.Goals as goal
 
 pub returns-in_err-count-clause-faults : goal.returns-in_err-count-clause-faults
 returns-in_err-count-clause-faults g c =
     read_failed ℕ ℕ _ _ _ c.in_err-count.field-0.0 c.from_residual.result (search rules) c.in_err-count.ensures.faults
+
+pub returns-in_err-count-clause-left : goal.returns-in_err-count-clause-left
+returns-in_err-count-clause-left g c =
+    left_unread _ _ _ _ c.in_err-count.field-0.0 c.from_residual.result (search rules) c.in_err-count.ensures.left c.requires.may.working c.requires.may.at_end.working
+
+pub returns-in_err-count-clause-changed : goal.returns-in_err-count-clause-changed
+returns-in_err-count-clause-changed g c = changed_as _ _ c.in_err-count.field-0.0 c.from_residual.result (search rules) (λ bad. bad) c.in_err-count.ensures.changed
 
 pub write_all-requires-clause-may : goal.write_all-requires-clause-may
 write_all-requires-clause-may g c =
@@ -26,6 +34,13 @@ write_all-requires-clause-may g c =
 pub returns-in_err-write_all-clause-faults : goal.returns-in_err-write_all-clause-faults
 returns-in_err-write_all-clause-faults g c =
     write_failed ℕ Unit _ _ _ _ c.in_err-write_all.field-0.0 c.from_residual-in_err-write_all.result (search rules) c.in_ok-count.ensures.faults c.in_err-write_all.ensures.faults
+
+pub returns-in_err-write_all-clause-left : goal.returns-in_err-write_all-clause-left
+returns-in_err-write_all-clause-left g c =
+    left_unwritten _ _ _ _ _ _ _ c.in_err-write_all.field-0.0 c.from_residual-in_err-write_all.result (search rules) c.in_err-write_all.ensures.faults c.in_err-write_all.ensures.left
+
+pub returns-in_err-write_all-clause-changed : goal.returns-in_err-write_all-clause-changed
+returns-in_err-write_all-clause-changed g c = never_changed _ _ _ c.in_err-write_all.field-0.0 c.from_residual-in_err-write_all.result (search rules) c.in_err-write_all.ensures.faults
 
 pub returns-clause-left : goal.returns-clause-left
 returns-clause-left g c =

@@ -8,4 +8,4 @@ pub returns-in-Err : goal.returns-in-Err
 returns-in-Err g c =
     let said = rw c.seek_refusal.ensures at c.refuse.ensures.said in
     refused_on g.D.Disk g.O.Sink (seek_write_rule c.args.to) c.refuse.result c.args.file.now c.args.out.now c.seek_write.new.self c.refuse.new.out SeekRange
-    c.seek_write.ensures.loan (search rules) c.refuse.ensures.sent said (search rules) c.seek_write.ensures.same_disk
+    c.seek_write.ensures.loan (search rules) c.refuse.ensures.sent said (search rules) c.in-Err.ensures.stands c.seek_write.ensures.same_disk

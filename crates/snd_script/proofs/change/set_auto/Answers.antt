@@ -27,5 +27,6 @@ returns-in-Err-DiskFault g c =
 pub returns-in-Err-Straddle : goal.returns-in-Err-Straddle
 returns-in-Err-Straddle g c =
     let left = rw c.in-Err-Straddle.field-0-is at c.in-Err-Straddle.ensures.left in
+    let here = rw c.in-Err-Straddle.field-0-is at c.in-Err-Straddle.ensures.stands in
     refused_on g.D.Disk g.O.Sink (auto_rule c.args.on) c.refuse.result c.args.file.now c.args.out.now c.set_auto.new.self c.refuse.new.out Straddle
-    c.set_auto.ensures.loan (search rules) c.refuse.ensures.sent c.refuse.ensures.said (search rules) (search rules)
+    c.set_auto.ensures.loan (search rules) c.refuse.ensures.sent c.refuse.ensures.said (search rules) here.0 here.1

@@ -28,5 +28,6 @@ returns-in-Err-DiskFault g c =
 pub returns-in-Err-TrailingData : goal.returns-in-Err-TrailingData
 returns-in-Err-TrailingData g c =
     let left = rw c.in-Err-TrailingData.field-0-is at c.in-Err-TrailingData.ensures.left in
+    let here = rw c.in-Err-TrailingData.field-0-is at c.in-Err-TrailingData.ensures.stands in
     refused_on g.D.Disk g.O.Sink trim_rule c.refuse.result c.args.file.now c.args.out.now c.trim.new.self c.refuse.new.out TrailingData
-    c.trim.ensures.loan (search rules) c.refuse.ensures.sent c.refuse.ensures.said (search rules) (search rules)
+    c.trim.ensures.loan (search rules) c.refuse.ensures.sent c.refuse.ensures.said (search rules) here.0 here.1

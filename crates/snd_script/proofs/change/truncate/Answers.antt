@@ -23,11 +23,13 @@ returns-in-Err-DiskFault g c =
 pub returns-in-Err-SeekRange : goal.returns-in-Err-SeekRange
 returns-in-Err-SeekRange g c =
     let left = rw c.in-Err-SeekRange.field-0-is at c.in-Err-SeekRange.ensures.left in
+    let here = rw c.in-Err-SeekRange.field-0-is at c.in-Err-SeekRange.ensures.stands in
     refused_on g.D.Disk g.O.Sink (truncate_rule c.args.to) c.refuse.result c.args.file.now c.args.out.now c.truncate.new.self c.refuse.new.out SeekRange
-    c.truncate.ensures.loan (truncate_past c.args.to (known_of c.args.file.now).shape (search rules)) c.refuse.ensures.sent c.refuse.ensures.said (search rules) (search rules)
+    c.truncate.ensures.loan (truncate_past c.args.to (known_of c.args.file.now).shape (search rules)) c.refuse.ensures.sent c.refuse.ensures.said (search rules) here.0 here.1
 
 pub returns-in-Err-TrailingData : goal.returns-in-Err-TrailingData
 returns-in-Err-TrailingData g c =
     let left = rw c.in-Err-TrailingData.field-0-is at c.in-Err-TrailingData.ensures.left in
+    let here = rw c.in-Err-TrailingData.field-0-is at c.in-Err-TrailingData.ensures.stands in
     refused_on g.D.Disk g.O.Sink (truncate_rule c.args.to) c.refuse-in-Err-TrailingData.result c.args.file.now c.args.out.now c.truncate.new.self c.refuse-in-Err-TrailingData.new.out TrailingData
-    c.truncate.ensures.loan (truncate_trailing c.args.to (known_of c.args.file.now).shape (search rules) (search rules)) c.refuse-in-Err-TrailingData.ensures.sent c.refuse-in-Err-TrailingData.ensures.said (search rules) (search rules)
+    c.truncate.ensures.loan (truncate_trailing c.args.to (known_of c.args.file.now).shape (search rules) (search rules)) c.refuse-in-Err-TrailingData.ensures.sent c.refuse-in-Err-TrailingData.ensures.said (search rules) here.0 here.1

@@ -18,12 +18,6 @@ returns-in-Err-clause-served g c = λ store s has left.
     (c.in-Make.ensures.closed store ∙ c.in-Err.ensures.made store c.in-Make.name.now)
     c.refuse.ensures.lines left c.refuse.ensures.answered (still_stands g.S.Shelf.state c.args.shelf.now store _ _ c.refuse.ensures.taps has)
 
-pub returns-in-NotBuilt-clause-served : goal.returns-in-NotBuilt-clause-served
-returns-in-NotBuilt-clause-served g c = λ store s has left.
-    replied_closed _ store _ _ _ _ _ _ _ s (edit_closed store (line_said c.args.said)) (refuses refusal.NotBuilt) (ShelfStands g.S.Shelf.state c.args.shelf.now _)
-    (c.in-NotBuilt.ensures.closed store)
-    c.refuse-in-NotBuilt.ensures.lines left c.refuse-in-NotBuilt.ensures.answered (still_stands g.S.Shelf.state c.args.shelf.now store _ _ c.refuse-in-NotBuilt.ensures.taps has)
-
 pub returns-in-Close : goal.returns-in-Close
 returns-in-Close g c = record {
   served = λ store s has left.

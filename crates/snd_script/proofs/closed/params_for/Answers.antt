@@ -9,5 +9,5 @@ returns-in_err-fit c = record {
 
 pub returns : goal.returns
 returns c = record {
-  made = (search rules, kind_is_made c.args.kind c.args.channels c.args.rate c.args.codec c.in_ok-params.params c.requires.linear (search rules) (search rules));
+  made = (search rules, kind_is_made c.args.kind c.args.channels c.args.rate c.args.codec c.in_ok-params.params c.requires.small (search rules) (search rules));
 }

@@ -4,12 +4,12 @@ use Rattle.snd_command.specs.Said.{line_said}
 use Rattle.snd_script.specs.Desk.{OpenFile, open_desk}
 use Rattle.snd_script.specs.Handled.{mode_of, open_as}
 use Rattle.snd_script.specs.Rules.{is_close}
-use Rattle.snd_script.specs.Script.{asked_by, written_by}
+use Rattle.snd_script.specs.Script.{asked_by}
 use Rattle.snd_script.specs.Serving.{OpenStands}
 use Rattle.snd_script.specs.Tapped.{taps_of}
 use Rattle.snd_script.proofs.OpenChains.{refused_stops, step_served, step_stops}
 use Rattle.snd_script.proofs.PinnedMoves.{automatic_of, carried_behind, moves_as, moves_refused}
-use Rattle.snd_script.proofs.Limits.{most_within}
+use Rattle.snd_script.proofs.Limits.{most_within, written_within}
 use Rattle.snd_script.proofs.StaysOpen.{held_edit, kept_edit}
 use Rattle.snd_script.proofs.Stepping.{stands_open}
 use Rattle.snd_script.proofs.opened.open_command.Goals as goal
@@ -54,7 +54,7 @@ returns-in_err-step-clause-written g c =
     let p = err_from_is_err_and c.from_residual-in_err-step.result c.from_residual-in_err-step.ensures.1 in
     rw (p.1, p.2) (record {
       later = c.step.ensures.written.later;
-      within = omega (arith, c.step.ensures.written.most, most_within c.args.stays (mode_of c.args.handle.now) written_by (line_said c.args.said) c.requires.updated c.in_default.ensures);
+      within = omega (arith, c.step.ensures.written.most, written_within c.args.stays (mode_of c.args.handle.now) (line_said c.args.said) c.requires.updated c.in_default.ensures);
     })
 
 pub returns-clause-asked : goal.returns-clause-asked
@@ -66,7 +66,7 @@ returns-clause-asked g c = record {
 pub returns-clause-written : goal.returns-clause-written
 returns-clause-written g c = record {
   later = c.step.ensures.written.later;
-  within = omega (arith, c.step.ensures.written.most, most_within c.args.stays (mode_of c.args.handle.now) written_by (line_said c.args.said) c.requires.updated c.in_default.ensures);
+  within = omega (arith, c.step.ensures.written.most, written_within c.args.stays (mode_of c.args.handle.now) (line_said c.args.said) c.requires.updated c.in_default.ensures);
 }
 
 pub returns-in_err-refuse-clause-moves : goal.returns-in_err-refuse-clause-moves

@@ -7,12 +7,13 @@ use Rattle.snd_script.specs.Edit.{close_edit, edit_line}
 use Rattle.snd_script.specs.Handled.{mode_of, open_as}
 use Rattle.snd_script.specs.Lines.{Reading, to_take}
 use Rattle.snd_script.specs.Replies.{text_of}
-use Rattle.snd_script.specs.Script.{asked_by, most_in, written_by}
+use Rattle.snd_script.specs.Script.{asked_by, most_in, written_in}
 use Rattle.snd_script.specs.Serving.{Moment, moment, moment_of, steps_left}
 use Rattle.snd_script.specs.Tapped.{taps_of}
 use Rattle.snd_script.specs.Trail.{pinned_file, state_behind}
 use Rattle.snd_script.specs.declared.stop.Next.{Next}
 use Rattle.snd_script.proofs.Chains.{none_left, serves_none, stopped_as, stopped_then}
+use Rattle.snd_script.proofs.MadeBlocks.{small_still}
 use Rattle.snd_script.proofs.OpenChains.{at_close, at_open, at_stops, comes_at, left_at}
 use Rattle.snd_script.proofs.PinnedMoves.{command_automatic, stands_of, taps_in}
 use Rattle.snd_script.proofs.PinnedTrails.{trail_ends, trail_on, trail_with}
@@ -118,7 +119,7 @@ loop-line-preserved g c = record {
   written = λ s left.
       let so_far = c.loop-line.invariant.written s left in
       let comes = c.in_ok-next.ensures.brought so_far.1.0 so_far.1.1 in
-      line_stays_open (most_in c.args.stays written_by) _ c.loop-line.run.lines s c.next.new.line _ _ _ _ so_far c.next.new.self.lines _ comes.0 _ _ comes.2 c.in_ok-open_line.ensures.lines comes.1
+      line_stays_open (written_in c.args.stays) _ c.loop-line.run.lines s c.next.new.line _ _ _ _ so_far c.next.new.self.lines _ comes.0 _ _ comes.2 c.in_ok-open_line.ensures.lines comes.1
       (rw c.in-Open.is at c.in_ok-open_line.ensures.written);
 }
 
@@ -167,7 +168,7 @@ returns-in-Close-clause-asked g c = λ s left.
 pub returns-in_err-next-clause-written : goal.returns-in_err-next-clause-written
 returns-in_err-next-clause-written g c =
     let p = err_from_is_err_and c.from_residual.result c.from_residual.ensures.1 in
-    rw (p.1, p.2) (λ s left. so_far_stops (most_in c.args.stays written_by) _ _ _ s c.loop-line.run.lines _ _ _ _ _ _ (c.loop-line.invariant.written s left))
+    rw (p.1, p.2) (λ s left. so_far_stops (written_in c.args.stays) _ _ _ s c.loop-line.run.lines _ _ _ _ _ _ (c.loop-line.invariant.written s left))
 
 pub returns-in_err-open_line-clause-written : goal.returns-in_err-open_line-clause-written
 returns-in_err-open_line-clause-written g c =
@@ -175,13 +176,13 @@ returns-in_err-open_line-clause-written g c =
     rw (p.1, p.2) (λ s left.
     let so_far = c.loop-line.invariant.written s left in
     let comes = c.in_ok-next.ensures.brought so_far.1.0 so_far.1.1 in
-    line_stops_run (most_in c.args.stays written_by) _ c.loop-line.run.lines s c.next.new.line _ _ _ _ so_far _ c.next.new.self.lines _ comes.0 _ _ _ comes.2 c.in_err-open_line.ensures.written)
+    line_stops_run (written_in c.args.stays) _ c.loop-line.run.lines s c.next.new.line _ _ _ _ so_far _ c.next.new.self.lines _ comes.0 _ _ _ comes.2 c.in_err-open_line.ensures.written)
 
 pub returns-in-Close-clause-written : goal.returns-in-Close-clause-written
 returns-in-Close-clause-written g c = λ s left.
     let so_far = c.loop-line.invariant.written s left in
     let comes = c.in_ok-next.ensures.brought so_far.1.0 so_far.1.1 in
-    line_is_to_close (most_in c.args.stays written_by) _ c.loop-line.run.lines s c.next.new.line _ _ _ _ so_far _ c.next.new.self.lines _ comes.0 _ _ _ comes.2 c.in_ok-open_line.ensures.lines comes.1
+    line_is_to_close (written_in c.args.stays) _ c.loop-line.run.lines s c.next.new.line _ _ _ _ so_far _ c.next.new.self.lines _ comes.0 _ _ _ comes.2 c.in_ok-open_line.ensures.lines comes.1
     (rw c.in-Close.is at c.in_ok-open_line.ensures.written)
 
 pub returns-in-Close-clause-tail : goal.returns-in-Close-clause-tail
@@ -207,3 +208,6 @@ returns-in_err-open_line-clause-trail g c = λ pins opened store name e t0 past 
 
 pub returns-in-Close-clause-trail : goal.returns-in-Close-clause-trail
 returns-in-Close-clause-trail g c = λ pins. absurd (let closes = c.in_ok-open_line.ensures.closes (ap (λ (n : Next). Ok n) c.in-Close.is) in cc)
+
+pub open_line-requires-clause-small : goal.open_line-requires-clause-small
+open_line-requires-clause-small g c = small_still g.D.Disk.state g.D.Disk.may_leave g.D.Disk.left_between c.args.handle.now c.loop-line.handle c.loop-line.invariant.leaves c.requires.small

@@ -5,7 +5,7 @@ use Rattle.snd_script.specs.Desk.{Store, open_desk}
 use Rattle.snd_script.specs.Handled.{HandleAtRest, HandleStands, LeavesHandle, handle_disk, handle_known}
 use Rattle.snd_script.specs.Kept.{lines_to_serve}
 use Rattle.snd_script.specs.Lines.{to_take}
-use Rattle.snd_script.specs.Script.{asked_by, most_in, written_by}
+use Rattle.snd_script.specs.Script.{asked_by, most_in, written_in}
 use Rattle.snd_script.specs.Served.{SameCounts}
 use Rattle.snd_script.specs.Serving.{Serves, disk_faults_of, is_longer, moment_of, steps_left}
 use Rattle.snd_script.specs.Tapped.{taps_of}
@@ -46,7 +46,7 @@ invariant-loop-line g l = record {
   asked : (s : List ℕ) → g.R.Source.left l.fn.script ≡ Some s
       → UsesSoFar (most_in l.fn.stays asked_by) l.fn.run.lines s l.run.lines (g.R.Source.left l.script) (g.D.Disk.state (handle_disk l.fn.handle)).asked (g.D.Disk.state (handle_disk l.handle)).asked;
   written : (s : List ℕ) → g.R.Source.left l.fn.script ≡ Some s
-      → UsesSoFar (most_in l.fn.stays written_by) l.fn.run.lines s l.run.lines (g.R.Source.left l.script) (g.D.Disk.state (handle_disk l.fn.handle)).written (g.D.Disk.state (handle_disk l.handle)).written;
+      → UsesSoFar (written_in l.fn.stays) l.fn.run.lines s l.run.lines (g.R.Source.left l.script) (g.D.Disk.state (handle_disk l.fn.handle)).written (g.D.Disk.state (handle_disk l.handle)).written;
 }
 
 abbrev pub decreases-loop-line : goal.decreases-loop-line

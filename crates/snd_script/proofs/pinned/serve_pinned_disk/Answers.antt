@@ -7,7 +7,7 @@ use Rattle.snd_script.specs.Pinned.{pinned_steps, pins}
 use Rattle.snd_script.specs.PinnedRun.{opened_pinned}
 use Rattle.snd_script.specs.Serving.{DiskStands, lines_left, moment_of}
 use Rattle.snd_script.specs.Tapped.{taps_of}
-use Rattle.snd_script.specs.Script.{asked_by, most_in, written_by}
+use Rattle.snd_script.specs.Script.{asked_by, most_in, written_in}
 use Rattle.snd_script.specs.Used.{use_left}
 use Rattle.std.proofs.lemmas.List.{append-nil}
 use Rattle.snd_script.proofs.PinOpenings.{nothing_said, trail_came_back, trail_unopened}
@@ -27,7 +27,7 @@ returns-in-Ok-clause-asked g c = λ s left.
 
 pub returns-in-Ok-clause-written : goal.returns-in-Ok-clause-written
 returns-in-Ok-clause-written g c = λ s left.
-    let used : AtMost (g.D.Disk.state c.args.disk.now).written (144 + use_left (most_in true written_by) c.args.run.now.lines s) (g.D.Disk.state c.serve_pinned_handle-stop.result.1.now).written =
+    let used : AtMost (g.D.Disk.state c.args.disk.now).written (144 + use_left (written_in true) c.args.run.now.lines s) (g.D.Disk.state c.serve_pinned_handle-stop.result.1.now).written =
     used_then 0 144 144 _ _ _ _ (omega arith) c.in-Ok.ensures.written (c.serve_pinned_handle-stop.ensures.written s left) in
     search (rules, used)
 

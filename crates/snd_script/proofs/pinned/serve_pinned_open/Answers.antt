@@ -8,13 +8,14 @@ use Rattle.snd_script.specs.Lines.{Reading}
 use Rattle.snd_script.specs.Pinned.{pin_edit, pinned_lines, pinned_steps}
 use Rattle.snd_script.specs.PinnedRun.{opened_pinned, stopped}
 use Rattle.snd_script.specs.Replies.{file_line, says, text_of}
-use Rattle.snd_script.specs.Script.{asked_by, lines_within, most_in, written_by}
+use Rattle.snd_script.specs.Script.{asked_by, lines_within, most_in, written_in}
 use Rattle.snd_script.specs.Served.{Appends, none_lost}
 use Rattle.snd_script.specs.Serving.{IsStepAnswered, OpenStands, StopsLine, lines_left, moment, moment_of}
 use Rattle.snd_script.specs.Tapped.{taps_of}
 use Rattle.snd_script.specs.Trail.{TrailsOn, pinned_file, reached, state_behind}
 use Rattle.snd_script.specs.declared.stop.Stop.TheVariants as stop
 use Rattle.snd_script.specs.Used.{use_left}
+use Rattle.snd_script.proofs.MadeBlocks.{updated_is_small}
 use Rattle.snd_script.proofs.Openings.{answer_stops, counts_at_then, said_of_shape, shape_stands}
 use Rattle.snd_script.proofs.PinTrails.{at_sink, behind_pin, opening_speaks, pin_automatic, pin_moves, pin_speaks, trail_at_opening, trail_of_lines, trail_opened, trail_pinned}
 use Rattle.snd_script.proofs.PinnedMoves.{moves_none, stands_of, taps_in}
@@ -93,7 +94,7 @@ returns-clause-asked g c = λ s left.
 pub returns-clause-written : goal.returns-clause-written
 returns-clause-written g c = λ s left.
     let uses = c.in-Err-serve_open.ensures.written s left in
-    let same : use_left (most_in true written_by) c.step.new.self.lines s ≡ use_left (most_in true written_by) c.args.run.now.lines s = ap (λ (x : Reading). use_left (most_in true written_by) x s) c.in_default-step.ensures.lines in
+    let same : use_left (written_in true) c.step.new.self.lines s ≡ use_left (written_in true) c.args.run.now.lines s = ap (λ (x : Reading). use_left (written_in true) x s) c.in_default-step.ensures.lines in
     let first : (g.D.Disk.state (handle_disk c.step.new.handle)).written ≤ (g.D.Disk.state (handle_disk c.args.handle.now)).written + 72 = c.step.ensures.written.most in
     record { later = omega (arith, c.step.ensures.written.later, uses.later); most = omega (arith, first, uses.within, same) }
 
@@ -161,3 +162,9 @@ returns-clause-trail g c = λ opened store name e s t rest left told.
     (ap (λ (r : Reading). lines_within r.room (r.rest ++ s)) c.in_default-step.ensures.lines)
     (c.in-Err-serve_open.ensures.trail refl opened store name (state_behind e (pin_edit store file)) (g.D.Disk.state (handle_disk c.args.handle.now)).clock so_far.past s _ so_far.rests (pin_automatic store name (taps_of (λ b. (goal.Tap-dyn g b).meter b.1) c.args.run.now) e free) so_far.trail left
     (answered.1 (t ++ file_line e.shape) (said t told)))
+
+pub step-requires-clause-small : goal.step-requires-clause-small
+step-requires-clause-small g c = updated_is_small c.args.handle.now c.requires.updated
+
+pub serve_open-requires-clause-small : goal.serve_open-requires-clause-small
+serve_open-requires-clause-small g c = updated_is_small c.step.new.handle (c.step.ensures.leaves.mode ∙ c.requires.updated)

@@ -8,7 +8,7 @@ use Rattle.snd_modes.specs.Editing.{frames_read}
 use Rattle.snd_modes.specs.Handle.{channels_of, known_of}
 use Rattle.snd_modes.specs.Reading.{GivesFrames}
 use Rattle.snd_script.proofs.Asked.{asked_for_frames, count_left, no_part, read_on}
-use Rattle.snd_script.proofs.BlockBytes.{few_numbers}
+use Rattle.snd_modes.proofs.BlockBytes.{few_numbers}
 use Rattle.snd_script.proofs.reading.read_some.Goals as goal
 
 pub returns-in-Ok-read_frames-clause-asked : goal.returns-in-Ok-read_frames-clause-asked

@@ -17,7 +17,7 @@ returns-then-not-is_text g c =
     let why = not_text (field_size key) text (known_grounds (known_of c.args.file.now)) (sym c.is_text.ensures ∙ c.if-not-is_text.true) in
     subst (λ (rule : Rule). Follows g.D.Disk g.O.Sink rule c.refuse.result c.args.file.now c.args.out.now c.args.file.now c.refuse.new.out) (set_bext_is key text c.requires.is_text)
     (refused_on g.D.Disk g.O.Sink (field_rule key text) c.refuse.result c.args.file.now c.args.out.now c.args.file.now c.refuse.new.out BadCommand
-    refl why c.refuse.ensures.sent c.refuse.ensures.said refl refl)
+    refl why c.refuse.ensures.sent c.refuse.ensures.said refl (λ e here. here) refl)
 
 pub returns : goal.returns
 returns g c =

@@ -13,7 +13,7 @@ returns-then-not-is_text g c =
     let text = c.args.text.now in
     let why = not_text 1024 text (known_grounds (known_of c.args.file.now)) (sym c.is_text.ensures ∙ c.if-not-is_text.true) in
     refused_on g.D.Disk g.O.Sink (set_string_rule c.args.key text) c.refuse.result c.args.file.now c.args.out.now c.args.file.now c.refuse.new.out BadCommand
-    refl why c.refuse.ensures.sent c.refuse.ensures.said refl refl
+    refl why c.refuse.ensures.sent c.refuse.ensures.said refl (λ e here. here) refl
 
 pub returns : goal.returns
 returns g c =

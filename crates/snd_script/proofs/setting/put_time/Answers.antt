@@ -13,7 +13,7 @@ pub returns-in-None : goal.returns-in-None
 returns-in-None g c =
     subst (λ (time : Option ℕ). Follows g.D.Disk g.O.Sink (set_time_rule time) c.refuse.result c.args.file.now c.args.out.now c.args.file.now c.refuse.new.out) (sym c.in-None.is)
     (refused_on g.D.Disk g.O.Sink (set_time_rule None) c.refuse.result c.args.file.now c.args.out.now c.args.file.now c.refuse.new.out BadCommand
-    refl refl c.refuse.ensures.sent c.refuse.ensures.said refl refl)
+    refl refl c.refuse.ensures.sent c.refuse.ensures.said refl (λ e here. here) refl)
 
 pub returns-in-Some : goal.returns-in-Some
 returns-in-Some g c =

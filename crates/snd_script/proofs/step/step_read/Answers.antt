@@ -14,9 +14,6 @@ pub returns-in-Open-clause-taps : goal.returns-in-Open-clause-taps
 returns-in-Open-clause-taps g c = work_fed g.D.Disk.state reading c.args.work c.refuse_on-in-Open.result c.args.file.now (meter_taps (λ b. (goal.Tap-dyn g b).meter b.1) c.args.meters.now)
     (⊎_elim (λ is. ap (is_quiet reading) is.1) (λ more. ⊎_elim (λ is. ap (is_quiet reading) is.1) (λ is. ap (is_quiet reading) is.5) more) c.in-Open.is)
 
-pub returns-in-NotBuilt-clause-taps : goal.returns-in-NotBuilt-clause-taps
-returns-in-NotBuilt-clause-taps g c = work_fed g.D.Disk.state reading c.args.work c.refuse_on-in-NotBuilt.result c.args.file.now (meter_taps (λ b. (goal.Tap-dyn g b).meter b.1) c.args.meters.now) (ap (is_quiet reading) c.in-NotBuilt.is)
-
 pub returns-in-SeekRead-clause-taps : goal.returns-in-SeekRead-clause-taps
 returns-in-SeekRead-clause-taps g c =
     let quiet : is_quiet reading c.args.work ≡ true = search rules in

@@ -4,7 +4,7 @@ use Rattle.snd_script.specs.Desk.{updating, writing}
 use Rattle.snd_script.specs.Work.{work_rule}
 use Rattle.snd_script.specs.declared.work.Setting.{Setting}
 use Rattle.snd_script.specs.declared.work.Work.{Work}
-use Rattle.snd_script.specs.declared.work.Work.TheVariants.{Open, Update, Make, Close, Tell, SeekRead, SeekWrite, SeekBoth, Read, Write, Truncate, Trim, BringUp, Auto, Set, Ask, Tap, Untap, NotBuilt}
+use Rattle.snd_script.specs.declared.work.Work.TheVariants.{Open, Update, Make, Close, Tell, SeekRead, SeekWrite, SeekBoth, Read, Write, Truncate, Trim, BringUp, Auto, Set, Ask, Tap, Untap}
 use Rattle.snd_script.proofs.step.step_update.Goals as goal
 
 -- what reads nothing is done as on a file that was made
@@ -27,7 +27,6 @@ as_written taps (Set setting) head seek both read = absurd (head setting refl)
 as_written taps (Ask asking) head seek both read = refl
 as_written taps (Tap kind) head seek both read = refl
 as_written taps (Untap kind) head seek both read = refl
-as_written taps NotBuilt head seek both read = refl
 
 pub returns-in_default-clause-follows : goal.returns-in_default-clause-follows
 returns-in_default-clause-follows g c =

@@ -10,4 +10,4 @@ returns-in-Err-clause-follows g c =
     let taps = meter_taps (λ b. (goal.Tap-dyn g b).meter b.1) c.args.meters.now in
     let why : stop_answer c.args.kind taps ≡ Err c.in-Err.refusal = sym c.in-Err.ensures.answer in
     refused_on g.D.Disk g.O.Sink (untap_rule taps c.args.kind) c.refuse.result c.args._file.now c.args.out.now c.args._file.now c.refuse.new.out c.in-Err.refusal
-    refl (ap why_not why) c.refuse.ensures.sent c.refuse.ensures.said refl refl
+    refl (ap why_not why) c.refuse.ensures.sent c.refuse.ensures.said refl (λ e here. here) refl

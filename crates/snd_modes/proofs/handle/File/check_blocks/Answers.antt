@@ -1,4 +1,4 @@
-use Rattle.std.proofs.Common.{◌≡◌, ◌∙◌, ap, sym, subst, ℕ, All, arith}
+use Rattle.std.proofs.Common.{sym, subst, ℕ, All, arith}
 use Rattle.snd_layout.specs.Opened.{EndsIn}
 use Rattle.snd_modes.proofs.FixedFrames.{broken_is, still_cached}
 use Rattle.snd_modes.proofs.KindHeads.{head_same}
@@ -14,6 +14,10 @@ invariant_of-self g c =
       placed = file.placed;
       write_placed = file.write_placed;
       linear = file.linear;
+      encodes = file.encodes;
+      paced = file.paced;
+      roomy = file.roomy;
+      unwritten = file.unwritten;
       blocks = file.blocks;
       cached = λ reads. still_cached state file.disk.now c.check_any.new.disk file.layout file.cache keeps.contents (file.cached reads);
       room_ends = file.room_ends;
@@ -34,6 +38,10 @@ invariant_of-self-in-Err-BadBlock g c =
       placed = file.placed;
       write_placed = file.write_placed;
       linear = file.linear;
+      encodes = file.encodes;
+      paced = file.paced;
+      roomy = file.roomy;
+      unwritten = file.unwritten;
       blocks = file.blocks;
       cached = λ reads. still_cached state file.disk.now c.check_any.new.disk file.layout file.cache keeps.contents (file.cached reads);
       room_ends = file.room_ends;
@@ -54,6 +62,10 @@ invariant_of-self-in-Err-DiskFault g c =
       placed = file.placed;
       write_placed = file.write_placed;
       linear = file.linear;
+      encodes = file.encodes;
+      paced = λ encodes working. broken_is _ working;
+      roomy = file.roomy;
+      unwritten = file.unwritten;
       blocks = file.blocks;
       cached = λ reads. still_cached state file.disk.now c.check_any.new.disk file.layout file.cache keeps.contents (file.cached reads);
       room_ends = file.room_ends;

@@ -36,17 +36,19 @@ returns-in-Ok-clause-stands g c = λ e stands.
       write_place = omega (arith, stands.write_place);
       automatic = stands.automatic;
       written = stands.written;
-      sound = ap (λ l. take to l) stands.sound ∙ cut_decoded e.bytes e.shape to (subst (λ (s : Shape). is_none (fixed_of s.params.codec) ≡ false) stands.shape (c.args.self.now.linear g.met.M.CanWrite.writes))
+      sound = ap (λ l. take to l) stands.sound ∙ cut_decoded e.bytes e.shape to (subst (λ (s : Shape). is_none (fixed_of s.params.codec) ≡ false) stands.shape (c.args.self.now.linear g.met.M.CanWrite.places))
           (subst KeepsRule stands.shape c.keeps_rules.ensures.rule) (subst (λ (s : Shape). 1 ≤ s.params.channels) stands.shape some) within fits long;
       count = omega (arith, within, stands.count, length-take to e.frames);
+      none_given = stands.none_given;
+      given = λ encodes. absurd (let by_place = g.met.M.CanWrite.by_place in cc);
     }
 
 pub shrink-requires-clause-counts : goal.shrink-requires-clause-counts
 shrink-requires-clause-counts g c =
     let h = c.args.self.now.layout in
     let held : end h h.frames ≤ (g.D.Disk.state c.args.self.now.disk.now).size = c.args.self.now.stands c.requires.working in
-    let room = may_count_fewer h c.args.to c.keeps_rules.ensures.rule (c.args.self.now.linear g.met.M.CanWrite.writes) (c.args.self.now.sized g.met.M.CanWrite.writes) c.args.self.now.room_ends (omega (arith, c.requires.fewer)) in
-    record { room = room.0; on_disk = room.1; there = omega (arith, held, ends_before h c.args.to h.frames (c.args.self.now.linear g.met.M.CanWrite.writes) (omega (arith, c.requires.fewer))) }
+    let room = may_count_fewer h c.args.to c.keeps_rules.ensures.rule (c.args.self.now.linear g.met.M.CanWrite.places) (c.args.self.now.sized g.met.M.CanSeal.writes) c.args.self.now.room_ends (omega (arith, c.requires.fewer)) in
+    record { room = room.0; on_disk = room.1; there = omega (arith, held, ends_before h c.args.to h.frames (c.args.self.now.linear g.met.M.CanWrite.places) (omega (arith, c.requires.fewer))) }
 
 pub invariant_of-self-clause-closed : goal.invariant_of-self-clause-closed
 invariant_of-self-clause-closed g c = λ auto working free.

@@ -27,6 +27,8 @@ returns-in-Ok-clause-stands g c = λ e stands.
       written = stands.written;
       sound = stands.sound ∙ off_decoded e.bytes e.shape (subst KeepsRule stands.shape c.keeps_rules.ensures.rule) fits long;
       count = stands.count;
+      none_given = stands.none_given;
+      given = λ encodes. absurd (let by_place = g.met.M.CanWrite.by_place in cc);
     }
 
 pub invariant_of-self-clause-room_ends : goal.invariant_of-self-clause-room_ends

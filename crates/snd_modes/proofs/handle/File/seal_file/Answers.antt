@@ -3,9 +3,18 @@ use Rattle.snd_layout.specs.Shape.{KeepsRule, Shape, end, room}
 use Rattle.snd_patch.specs.Sealed.{counted, sealed}
 use Rattle.snd_container.specs.Values.{closed_end}
 use Rattle.snd_modes.proofs.BareHeads.{sealed_head}
+use Rattle.snd_modes.proofs.Encoded.{given_sealed, sealed_may}
 use Rattle.snd_modes.proofs.LeftSafe.{sealing_is_safe}
 use Rattle.snd_modes.proofs.SealedFrames.{sealed_closed, sealed_decoded, sealed_no_less}
 use Rattle.snd_modes.proofs.handle.File.seal_file.Goals as goal
+
+pub seal-requires : goal.seal-requires
+seal-requires g c =
+    let file = c.args.self.now in
+    record {
+      counts = sealed_may g.M.Mode.ENCODES file.layout file.write_place file.writer (g.D.Disk.state file.disk.now).size c.keeps_rules.ensures.rule c.keeps_rules.ensures.params (file.sized g.met.M.CanSeal.writes) file.room_ends (file.stands c.requires)
+          (λ by_place. file.linear (g.M.Mode.ways g.met.M.CanSeal.writes by_place)) file.encodes file.roomy (λ encodes. file.paced encodes c.requires);
+    }
 
 pub returns-in-Ok-clause-stands : goal.returns-in-Ok-clause-stands
 returns-in-Ok-clause-stands g c = λ e stands.
@@ -26,8 +35,10 @@ returns-in-Ok-clause-stands g c = λ e stands.
       write_place = stands.write_place;
       automatic = stands.automatic;
       written = stands.written;
-      sound = stands.sound ∙ sealed_decoded e.bytes e.shape (subst KeepsRule stands.shape c.keeps_rule.ensures) fits (omega (arith, fits, long));
+      sound = stands.sound ∙ sealed_decoded e.bytes e.shape (subst KeepsRule stands.shape c.keeps_rules.ensures.rule) fits (omega (arith, fits, long));
       count = stands.count;
+      none_given = stands.none_given;
+      given = λ encodes. given_sealed c.args.self.now.writer e.given e.bytes e.shape e.write_place (subst KeepsRule stands.shape c.keeps_rules.ensures.rule) (stands.given encodes);
     }
 
 pub returns-in-Ok-clause-closed : goal.returns-in-Ok-clause-closed
@@ -54,5 +65,5 @@ pub invariant_of-self-clause-headed : goal.invariant_of-self-clause-headed
 invariant_of-self-clause-headed g c = λ makes empty working.
     let state = g.D.Disk.state in
     let file = c.args.self.now in
-    sealed_head (state file.disk.now) (state c.seal.new.disk) file.layout c.seal.new.layout c.keeps_rule.ensures (file.headed makes empty c.requires) (g.met.D.Disk.size_told file.disk.now)
+    sealed_head (state file.disk.now) (state c.seal.new.disk) file.layout c.seal.new.layout c.keeps_rules.ensures.rule (file.headed makes empty c.requires) (g.met.D.Disk.size_told file.disk.now)
     c.in-Ok.ensures.layout c.in-Ok.ensures.size c.in-Ok.ensures.contents

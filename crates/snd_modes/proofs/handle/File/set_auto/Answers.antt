@@ -1,9 +1,10 @@
 use Rattle.std.proofs.Common.{rules, ◌≡◌, subst, true}
 use Rattle.snd_layout.specs.Shape.{Shape}
-use Rattle.snd_modes.specs.Edits.{automatic_to}
+use Rattle.snd_modes.specs.Edits.{automatic_to, sealed_to}
 use Rattle.snd_modes.specs.Laws.{sets_automatic}
 use Rattle.snd_modes.specs.Safe.{IsSafe}
 use Rattle.snd_modes.specs.WriteCalls.{is_whole_field}
+use Rattle.snd_modes.proofs.Encoded.{stands_automatic}
 use Rattle.snd_modes.proofs.KeptChunks.{stay_set}
 use Rattle.snd_modes.proofs.LeftSafe.{leaves_same, rests_after, unchanged}
 use Rattle.snd_modes.proofs.SafeRests.{automatic_rest}
@@ -21,7 +22,8 @@ returns-clause-leaves g c = λ opened e rest.
     leaves_same g.D.Disk _ _ _ (IsSafe e then) (search rules) (c.seal_file.ensures.leaves opened e then rest)
 
 pub returns-clause-stands : goal.returns-clause-stands
-returns-clause-stands g c = search rules
+returns-clause-stands g c = λ e stands.
+    stands_automatic g.D.Disk.state c.seal_file.new.self _ c.args.on (sealed_to e) (search rules) (search rules) (search rules) (c.in_ok-seal_file.ensures.stands e stands)
 
 pub returns-clause-stable : goal.returns-clause-stable
 returns-clause-stable g c = search rules

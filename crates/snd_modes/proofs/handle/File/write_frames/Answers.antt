@@ -1,12 +1,17 @@
-use Rattle.std.proofs.Common.{rules, ◌≡◌, ◌∙◌, ap, subst, refl, ℕ, ◌-◌, ◌/◌, ◌≤◌, Bool, ◌||◌, Some, None, option_map, length, arith}
-use Rattle.std.specs.Prelude.{nat_lt}
+use Rattle.std.proofs.Common.{rules, ◌≡◌, ◌∙◌, ap, sym, subst, refl, false, ℕ, ◌+◌, ◌-◌, ◌/◌, ◌^◌, ◌≤◌, Bool, ◌||◌, Some, None, option_map, length, arith}
+use Rattle.std.specs.Prelude.{is_none, is_some, nat_lt}
 use Rattle.std.proofs.lemmas.Bool.{ltb-false, or_parts}
 use Rattle.std.proofs.lemmas.List.{nil_from_length}
-use Rattle.snd_layout.specs.Shape.{Shape, end}
-use Rattle.snd_modes.specs.Edits.{coded, count_written, written_bytes, written_shape}
+use Rattle.snd_layout.specs.Shape.{Shape, end, room}
+use Rattle.snd_modes.specs.Edits.{coded, count_written, written_bytes, written_shape, written_to}
+use Rattle.snd_modes.specs.Pacing.{HasPlaceFor}
+use Rattle.snd_container.specs.Sound.{fixed_of}
+use Rattle.snd_layout.specs.Blocks.{is_adpcm}
+use Rattle.snd_modes.proofs.Encoded.{stands_again}
+use Rattle.snd_modes.proofs.FixedFrames.{broken_is}
 use Rattle.snd_modes.specs.Handle.{known_of}
 use Rattle.snd_modes.specs.Reading.{bytes_of_frames}
-use Rattle.snd_modes.proofs.AtRest.{still_safe, written_at_rest, written_leaves}
+use Rattle.snd_modes.proofs.AtRest.{stays_refused_as, still_safe, written_at_rest, written_leaves}
 use Rattle.snd_modes.proofs.BareHeads.{written_head}
 use Rattle.snd_modes.proofs.EditedFrames.{CanPut, coded_size, known_is, still_closed, whole_frames, written_count, written_sound}
 use Rattle.snd_modes.proofs.KeptChunks.{stay_written}
@@ -29,10 +34,10 @@ returns-in-Ok-clause-stands g c = λ e stands.
     let told = g.met.D.Disk.size_told c.args.self.now.disk.now e.bytes stands.bytes in
     let can : CanPut h e.bytes place (length xs / h.params.channels) xs = record {
       rule = c.end_of_write.ensures.rule;
-      linear = c.args.self.now.linear g.met.M.CanWrite.writes;
+      linear = c.args.self.now.linear g.met.M.CanWrite.places;
       some = c.end_of_write.ensures.some;
       fits = omega (arith, told, c.args.self.now.stands working);
-      within = c.args.self.now.write_placed;
+      within = c.args.self.now.write_placed g.met.M.CanWrite.places;
       whole = whole_frames (length xs) h.params.channels _ c.end_of_write.ensures.some c.in_ok-next.ensures.ready.frames.whole refl;
       fit = c.in_ok-next.ensures.ready.frames.in_range;
     } in
@@ -65,6 +70,8 @@ returns-in-Ok-clause-stands g c = λ e stands.
       written = ap (λ (t : Bool). t || nat_lt 0 (c.in_ok-next.next - place)) stands.written ∙ ap (λ (m : ℕ). e.written || nat_lt 0 m) total;
       sound = written_sound e k xs can' stands.sound long;
       count = written_count e k xs can' stands.count;
+      none_given = stands.none_given;
+      given = λ encodes. absurd (let by_place = g.met.M.CanWrite.by_place in cc);
     }
 
 pub returns-in-Ok-clause-left : goal.returns-in-Ok-clause-left
@@ -104,10 +111,38 @@ invariant_of-self-in-Ok-clause-headed g c = λ makes empty working.
     let none : count ≡ 0 = omega (arith, ltb-false 0 count unwritten.1) in
     let whole = whole_frames (length xs) h.params.channels count c.end_of_write.ensures.some c.in_ok-next.ensures.ready.frames.whole (omega (arith, c.in_ok-next.ensures.value)) in
     let bytes : bytes_of_frames h.params 0 ≡ 0 = omega arith in
-    let size : length (coded h.params xs) ≡ 0 = coded_size h.params xs count (file.linear g.met.M.CanWrite.writes) whole ∙ ap (bytes_of_frames h.params) none ∙ bytes in
+    let size : length (coded h.params xs) ≡ 0 = coded_size h.params xs count (file.linear g.met.M.CanWrite.places) whole ∙ ap (bytes_of_frames h.params) none ∙ bytes in
     written_head (state file.disk.now) (state c.write_over.new.disk) h c.write_over.new.layout c.end_of_write.ensures.rule (file.headed makes unwritten.0 before) (g.met.D.Disk.size_told file.disk.now)
-    file.automatic file.write_place (count_written h file.write_place count) xs file.write_placed (ap (count_written h file.write_place) none) (nil_from_length (coded h.params xs) size)
+    file.automatic file.write_place (count_written h file.write_place count) xs (file.write_placed g.met.M.CanWrite.places) (ap (count_written h file.write_place) none) (nil_from_length (coded h.params xs) size)
     c.in-Ok.ensures.layout c.in-Ok.ensures.grows c.in-Ok.ensures.contents
 
 pub returns-in-Ok-clause-chunks : goal.returns-in-Ok-clause-chunks
 returns-in-Ok-clause-chunks g c = stay_written g.D.Disk c.args.self.now _ c.args.from.now c.in_ok-next.ensures.ready (returns-in-Ok-clause-stands g c)
+
+pub returns-in_err-next-clause-rests : goal.returns-in_err-next-clause-rests
+returns-in_err-next-clause-rests g c = λ auto.
+    stays_refused_as g.D.Disk c.args.self.now _ (written_to c.args.from.now) c.args.from.now c.args.self.now.layout c.args.self.now.write_place c.in_err-next.field-0.0 c.in_err-next.ensures.refused (λ opened e rest.
+    record { edited = rest.edited; stands = stands_again g.D.Disk.state c.args.self.now _ e refl refl refl rest.stands; stable = rest.stable; fit = rest.fit; sized = rest.sized }) c.from_residual.result (search rules)
+
+pub invariant_of-self-in-Err : goal.invariant_of-self-in-Err
+invariant_of-self-in-Err g c =
+    let file = c.args.self.now in
+    let same : c.write_over.new.layout ≡ file.layout = c.in-Err.ensures.kept in
+    record {
+      stands = λ working. broken_is _ working;
+      placed = subst (λ (l : Shape). file.read_place ≤ l.frames) (sym same) file.placed;
+      write_placed = λ places. subst (λ (l : Shape). file.write_place ≤ l.frames) (sym same) (file.write_placed places);
+      linear = λ places. subst (λ (l : Shape). is_none (fixed_of l.params.codec) ≡ false) (sym same) (file.linear places);
+      blocks = λ by_place. subst (λ (l : Shape). is_some file.cache ≡ is_adpcm l.params.codec) (sym same) (file.blocks by_place);
+      encodes = file.encodes;
+      paced = λ encodes working. broken_is _ working;
+      roomy = λ encodes. subst (λ (l : Shape). HasPlaceFor l file.write_place) (sym same) (file.roomy encodes);
+      unwritten = file.unwritten;
+      cached = λ reads. absurd (let writes = g.met.M.CanSeal.writes in cc);
+      room_ends = subst (λ (l : Shape). l.start + room l + 8 ≤ 2 ^ 63) (sym same) file.room_ends;
+      sized = λ writes. subst (λ (l : Shape). l.unknown_length ≡ false) (sym same) (file.sized writes);
+      pieces_held = λ reads working. broken_is _ working;
+      headed = λ makes empty working. broken_is _ working;
+      counted = λ automatic working. broken_is _ working;
+      closed = λ automatic working free. broken_is _ working;
+    }

@@ -1,7 +1,7 @@
 use Rattle.std.proofs.Common.{[], ◌∷◌}
 use Rattle.snd_command.specs.Said.{line_said}
 use Rattle.snd_script.specs.Edit.{keep_open}
-use Rattle.snd_script.specs.Handled.{handle_known, mode_of, open_as, rule_for}
+use Rattle.snd_script.specs.Handled.{handle_known, handle_params, mode_of, open_as, rule_for}
 use Rattle.snd_script.specs.Tapped.{taps_of}
 use Rattle.snd_script.proofs.Limits.{more, uses_most}
 use Rattle.snd_script.proofs.Openings.{taps_come}
@@ -85,31 +85,31 @@ returns-in-Err-Memory-clause-moves g c = λ on opened e rest.
     record { leaves = c.carry_out.ensures.steps.safe on opened e rest; rests = rests on opened e rest }
 
 pub returns-in-Ok-Ok-clause-asked : goal.returns-in-Ok-Ok-clause-asked
-returns-in-Ok-Ok-clause-asked g c = more _ _ _ _ (uses_most (mode_of c.args.handle.now) (taps_of (λ b. (goal.Tap-dyn g b).meter b.1) c.args.self.now) (line_said c.args.said)).asks c.carry_out.ensures.steps.asked
+returns-in-Ok-Ok-clause-asked g c = more _ _ _ _ (uses_most (mode_of c.args.handle.now) (taps_of (λ b. (goal.Tap-dyn g b).meter b.1) c.args.self.now) (line_said c.args.said) (handle_params c.args.handle.now) c.requires.small).asks c.carry_out.ensures.steps.asked
 
 pub returns-in-Ok-Ok-clause-written : goal.returns-in-Ok-Ok-clause-written
-returns-in-Ok-Ok-clause-written g c = more _ _ _ _ (uses_most (mode_of c.args.handle.now) (taps_of (λ b. (goal.Tap-dyn g b).meter b.1) c.args.self.now) (line_said c.args.said)).writes c.carry_out.ensures.steps.written
+returns-in-Ok-Ok-clause-written g c = more _ _ _ _ (uses_most (mode_of c.args.handle.now) (taps_of (λ b. (goal.Tap-dyn g b).meter b.1) c.args.self.now) (line_said c.args.said) (handle_params c.args.handle.now) c.requires.small).writes c.carry_out.ensures.steps.written
 
 pub returns-in-Ok-Refused-clause-asked : goal.returns-in-Ok-Refused-clause-asked
-returns-in-Ok-Refused-clause-asked g c = more _ _ _ _ (uses_most (mode_of c.args.handle.now) (taps_of (λ b. (goal.Tap-dyn g b).meter b.1) c.args.self.now) (line_said c.args.said)).asks c.carry_out.ensures.steps.asked
+returns-in-Ok-Refused-clause-asked g c = more _ _ _ _ (uses_most (mode_of c.args.handle.now) (taps_of (λ b. (goal.Tap-dyn g b).meter b.1) c.args.self.now) (line_said c.args.said) (handle_params c.args.handle.now) c.requires.small).asks c.carry_out.ensures.steps.asked
 
 pub returns-in-Ok-Refused-clause-written : goal.returns-in-Ok-Refused-clause-written
-returns-in-Ok-Refused-clause-written g c = more _ _ _ _ (uses_most (mode_of c.args.handle.now) (taps_of (λ b. (goal.Tap-dyn g b).meter b.1) c.args.self.now) (line_said c.args.said)).writes c.carry_out.ensures.steps.written
+returns-in-Ok-Refused-clause-written g c = more _ _ _ _ (uses_most (mode_of c.args.handle.now) (taps_of (λ b. (goal.Tap-dyn g b).meter b.1) c.args.self.now) (line_said c.args.said) (handle_params c.args.handle.now) c.requires.small).writes c.carry_out.ensures.steps.written
 
 pub returns-in-Err-Out-clause-asked : goal.returns-in-Err-Out-clause-asked
-returns-in-Err-Out-clause-asked g c = more _ _ _ _ (uses_most (mode_of c.args.handle.now) (taps_of (λ b. (goal.Tap-dyn g b).meter b.1) c.args.self.now) (line_said c.args.said)).asks c.carry_out.ensures.steps.asked
+returns-in-Err-Out-clause-asked g c = more _ _ _ _ (uses_most (mode_of c.args.handle.now) (taps_of (λ b. (goal.Tap-dyn g b).meter b.1) c.args.self.now) (line_said c.args.said) (handle_params c.args.handle.now) c.requires.small).asks c.carry_out.ensures.steps.asked
 
 pub returns-in-Err-Out-clause-written : goal.returns-in-Err-Out-clause-written
-returns-in-Err-Out-clause-written g c = more _ _ _ _ (uses_most (mode_of c.args.handle.now) (taps_of (λ b. (goal.Tap-dyn g b).meter b.1) c.args.self.now) (line_said c.args.said)).writes c.carry_out.ensures.steps.written
+returns-in-Err-Out-clause-written g c = more _ _ _ _ (uses_most (mode_of c.args.handle.now) (taps_of (λ b. (goal.Tap-dyn g b).meter b.1) c.args.self.now) (line_said c.args.said) (handle_params c.args.handle.now) c.requires.small).writes c.carry_out.ensures.steps.written
 
 pub returns-in-Err-Disk-clause-asked : goal.returns-in-Err-Disk-clause-asked
-returns-in-Err-Disk-clause-asked g c = more _ _ _ _ (uses_most (mode_of c.args.handle.now) (taps_of (λ b. (goal.Tap-dyn g b).meter b.1) c.args.self.now) (line_said c.args.said)).asks c.carry_out.ensures.steps.asked
+returns-in-Err-Disk-clause-asked g c = more _ _ _ _ (uses_most (mode_of c.args.handle.now) (taps_of (λ b. (goal.Tap-dyn g b).meter b.1) c.args.self.now) (line_said c.args.said) (handle_params c.args.handle.now) c.requires.small).asks c.carry_out.ensures.steps.asked
 
 pub returns-in-Err-Disk-clause-written : goal.returns-in-Err-Disk-clause-written
-returns-in-Err-Disk-clause-written g c = more _ _ _ _ (uses_most (mode_of c.args.handle.now) (taps_of (λ b. (goal.Tap-dyn g b).meter b.1) c.args.self.now) (line_said c.args.said)).writes c.carry_out.ensures.steps.written
+returns-in-Err-Disk-clause-written g c = more _ _ _ _ (uses_most (mode_of c.args.handle.now) (taps_of (λ b. (goal.Tap-dyn g b).meter b.1) c.args.self.now) (line_said c.args.said) (handle_params c.args.handle.now) c.requires.small).writes c.carry_out.ensures.steps.written
 
 pub returns-in-Err-Memory-clause-asked : goal.returns-in-Err-Memory-clause-asked
-returns-in-Err-Memory-clause-asked g c = more _ _ _ _ (uses_most (mode_of c.args.handle.now) (taps_of (λ b. (goal.Tap-dyn g b).meter b.1) c.args.self.now) (line_said c.args.said)).asks c.carry_out.ensures.steps.asked
+returns-in-Err-Memory-clause-asked g c = more _ _ _ _ (uses_most (mode_of c.args.handle.now) (taps_of (λ b. (goal.Tap-dyn g b).meter b.1) c.args.self.now) (line_said c.args.said) (handle_params c.args.handle.now) c.requires.small).asks c.carry_out.ensures.steps.asked
 
 pub returns-in-Err-Memory-clause-written : goal.returns-in-Err-Memory-clause-written
-returns-in-Err-Memory-clause-written g c = more _ _ _ _ (uses_most (mode_of c.args.handle.now) (taps_of (λ b. (goal.Tap-dyn g b).meter b.1) c.args.self.now) (line_said c.args.said)).writes c.carry_out.ensures.steps.written
+returns-in-Err-Memory-clause-written g c = more _ _ _ _ (uses_most (mode_of c.args.handle.now) (taps_of (λ b. (goal.Tap-dyn g b).meter b.1) c.args.self.now) (line_said c.args.said) (handle_params c.args.handle.now) c.requires.small).writes c.carry_out.ensures.steps.written

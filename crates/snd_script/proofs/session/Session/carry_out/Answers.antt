@@ -1,16 +1,17 @@
-use Rattle.std.proofs.Common.{◌≡◌, List, false, refl, sym, subst, rules}
+use Rattle.std.proofs.Common.{◌≡◌, List, false, refl, sym, subst}
 use Rattle.snd_command.specs.Said.{line_said}
 use Rattle.snd_meters.specs.Gauge.{Gauge}
 use Rattle.snd_modes.specs.Handle.{Known, known_of}
-use Rattle.snd_script.specs.Desk.{reading, updating, writing}
+use Rattle.snd_script.specs.Desk.{encoding, reading, updating, writing}
 use Rattle.snd_script.specs.Stepped.{changes_by}
 use Rattle.snd_script.specs.Rules.{Rule, rule_of}
 use Rattle.snd_script.specs.Tapped.{meter_taps, session_taps}
 use Rattle.snd_script.specs.Work.{FeedsFile, Follows, work_rule}
 use Rattle.snd_script.specs.declared.work.Work.{Work}
-use Rattle.snd_script.specs.declared.work.Work.TheVariants.{Open, Update, Make, Close, Tell, SeekRead, SeekWrite, SeekBoth, Read, Write, Truncate, Trim, BringUp, Auto, Set, Ask, Tap, Untap, NotBuilt}
+use Rattle.snd_script.specs.declared.work.Work.TheVariants.{Open, Update, Make, Close, Tell, SeekRead, SeekWrite, SeekBoth, Read, Write, Truncate, Trim, BringUp, Auto, Set, Ask, Tap, Untap}
 use Rattle.snd_script.specs.declared.work.Asking.TheVariants as asking
 use Rattle.snd_script.proofs.Resting.{Safely, ToRest, works_safely, works_to_rest}
+use Rattle.snd_script.proofs.Wholes.{params_after}
 use Rattle.snd_script.proofs.session.Session.carry_out.Goals as goal
 
 -- a file that is read is not changed
@@ -37,7 +38,6 @@ only_read taps (Ask asking.Broadcast) h = refl
 only_read taps (Ask asking.Points) h = refl
 only_read taps (Tap kind) h = refl
 only_read taps (Untap kind) h = refl
-only_read taps NotBuilt h = refl
 
 pub returns-in-R-clause-steps : goal.returns-in-R-clause-steps
 returns-in-R-clause-steps g c =
@@ -58,6 +58,7 @@ returns-in-R-clause-steps g c =
       knows = follows.knows;
       leaves = record {
         mode = refl;
+        params = params_after reading taps (line_said c.args.said) _ _ _ follows.knows;
         loan = follows.loan;
         tells = follows.tells;
         time = follows.time;
@@ -93,7 +94,14 @@ returns-in-W-clause-steps g c =
       cause = follows.cause;
       memory = follows.memory;
       knows = follows.knows;
-      leaves = search rules;
+      leaves = record {
+        mode = refl;
+        params = params_after writing taps (line_said c.args.said) _ _ _ follows.knows;
+        loan = follows.loan;
+        tells = follows.tells;
+        time = follows.time;
+        reads = λ plain. absurd (cc);
+      };
       reads = follows.reads;
       safe = safe;
       rests = rests;
@@ -106,6 +114,44 @@ returns-in-W-clause-taps g c =
     let taps = session_taps (λ b. (goal.Tap-dyn g b).meter b.1) c.args.self.now in
     let is : work_rule writing taps c.work_of-work.result ≡ rule_of writing taps (line_said c.args.said) = sym (c.work_of-work.ensures.rule writing taps c.requires.step) in
     rw c.in-W.is (subst (λ (rule : Rule). FeedsFile g.D.Disk.state rule c.step_made.result c.in-W.file taps (meter_taps (λ b. (goal.Tap-dyn g b).meter b.1) c.step_made.new.meters)) is c.step_made.ensures.taps)
+
+pub returns-in-B-clause-steps : goal.returns-in-B-clause-steps
+returns-in-B-clause-steps g c =
+    let taps = session_taps (λ b. (goal.Tap-dyn g b).meter b.1) c.args.self.now in
+    let work = c.work_of-work.result in
+    let new = c.step_blocks.new.file in
+    let is : work_rule encoding taps work ≡ rule_of encoding taps (line_said c.args.said) = sym (c.work_of-work.ensures.rule encoding taps c.requires.step) in
+    let follows = subst (λ (rule : Rule). Follows g.D.Disk g.O.Sink rule c.step_blocks.result c.in-B.file c.args.out.now new c.step_blocks.new.out) is c.step_blocks.ensures.follows in
+    let safe = subst (λ (rule : Rule). Safely g.D.Disk rule c.in-B.file new) is (works_safely g.D.Disk g.O.Sink encoding taps work c.step_blocks.result c.in-B.file c.args.out.now new c.step_blocks.new.out g.met.D.Disk.only_now c.step_blocks.ensures.follows) in
+    let rests = subst (λ (rule : Rule). ToRest g.D.Disk rule c.step_blocks.result c.in-B.file new) is
+    (works_to_rest g.D.Disk g.O.Sink encoding taps work c.step_blocks.result c.in-B.file c.args.out.now new c.step_blocks.new.out g.met.D.Disk.only_now c.step_blocks.ensures.follows) in
+    rw c.in-B.is (record {
+      stands = follows.stands;
+      said = follows.said;
+      silent = follows.silent;
+      cause = follows.cause;
+      memory = follows.memory;
+      knows = follows.knows;
+      leaves = record {
+        mode = refl;
+        params = params_after encoding taps (line_said c.args.said) _ _ _ follows.knows;
+        loan = follows.loan;
+        tells = follows.tells;
+        time = follows.time;
+        reads = λ plain. absurd (cc);
+      };
+      reads = follows.reads;
+      safe = safe;
+      rests = rests;
+      asked = follows.asked;
+      written = follows.written;
+    })
+
+pub returns-in-B-clause-taps : goal.returns-in-B-clause-taps
+returns-in-B-clause-taps g c =
+    let taps = session_taps (λ b. (goal.Tap-dyn g b).meter b.1) c.args.self.now in
+    let is : work_rule encoding taps c.work_of-work.result ≡ rule_of encoding taps (line_said c.args.said) = sym (c.work_of-work.ensures.rule encoding taps c.requires.step) in
+    rw c.in-B.is (subst (λ (rule : Rule). FeedsFile g.D.Disk.state rule c.step_blocks.result c.in-B.file taps (meter_taps (λ b. (goal.Tap-dyn g b).meter b.1) c.step_blocks.new.meters)) is c.step_blocks.ensures.taps)
 
 pub returns-in-U-clause-steps : goal.returns-in-U-clause-steps
 returns-in-U-clause-steps g c =
@@ -124,7 +170,14 @@ returns-in-U-clause-steps g c =
       cause = follows.cause;
       memory = follows.memory;
       knows = follows.knows;
-      leaves = search rules;
+      leaves = record {
+        mode = refl;
+        params = params_after updating taps (line_said c.args.said) _ _ _ follows.knows;
+        loan = follows.loan;
+        tells = follows.tells;
+        time = follows.time;
+        reads = λ plain. absurd (cc);
+      };
       reads = follows.reads;
       safe = safe;
       rests = rests;

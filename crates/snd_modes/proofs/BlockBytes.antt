@@ -24,7 +24,7 @@ pub record IsBlockSize (channels align per_block : ℕ) : Type 0 where
 
 -- ---- blocks have one channel or two
 
-is_held : (kind : Kind) (p : Parameters) → fit_refusal kind p ≡ None → is_pair kind p.channels p.codec ≡ true
+pub is_held : (kind : Kind) (p : Parameters) → fit_refusal kind p ≡ None → is_pair kind p.channels p.codec ≡ true
 is_held kind p fits = elim (cases_Bool (is_pair kind p.channels p.codec)) [
   | inl held ↦ held
   | inr other ↦ elim (cases_Bool (is_kinds_rate kind p.rate)) [
@@ -33,7 +33,7 @@ is_held kind p fits = elim (cases_Bool (is_pair kind p.channels p.codec)) [
   ]
 ]
 
-few_channels : (kind : Kind) (channels : ℕ) (codec : Codec) → is_adpcm codec ≡ true → is_pair kind channels codec ≡ true → channels ≤ 2
+pub few_channels : (kind : Kind) (channels : ℕ) (codec : Codec) → is_adpcm codec ≡ true → is_pair kind channels codec ≡ true → channels ≤ 2
 few_channels Wave channels (Ima align per_block) is held = leb-true channels 2 held
 few_channels Wave channels (Ms align per_block) is held = leb-true channels 2 held
 few_channels W64 channels (Ima align per_block) is held = leb-true channels 2 held
@@ -94,7 +94,7 @@ sizes channels (Ms align per_block) is some few good = elim (cases_Bool (nat_le 
 ]
 sizes channels _ is some few good = absurd (cc)
 
-block_sizes : (s : Shape) → KeepsRule s → AreParams s.params → is_adpcm s.params.codec ≡ true → IsBlockSize s.params.channels (block_align s.params.channels s.params.codec) (block_frames s.params.codec)
+pub block_sizes : (s : Shape) → KeepsRule s → AreParams s.params → is_adpcm s.params.codec ≡ true → IsBlockSize s.params.channels (block_align s.params.channels s.params.codec) (block_frames s.params.codec)
 block_sizes s rule good is = sizes s.params.channels s.params.codec is good.some_channel (few_channels s.kind s.params.channels s.params.codec is (is_held s.kind s.params rule.fits)) good.blocks
 
 -- ---- how many bytes are read for frames
@@ -132,7 +132,7 @@ most_read s count rule good = elim (cases_Bool (is_adpcm s.params.codec)) [
 
 -- ---- how many numbers a file may have
 
-numbers_in : (frames channels align per_block : ℕ) → 1 ≤ per_block → per_block * channels ≤ 2 * align → frames * channels ≤ 2 * ((frames + per_block - 1) / per_block * align)
+pub numbers_in : (frames channels align per_block : ℕ) → 1 ≤ per_block → per_block * channels ≤ 2 * align → frames * channels ≤ 2 * ((frames + per_block - 1) / per_block * align)
 numbers_in frames channels align per_block some numbers =
     let blocks = (frames + per_block - 1) / per_block in
     let all : frames ≤ blocks * per_block = omega (arith, some, lt-div-mul-add {a = frames + per_block - 1} some) in

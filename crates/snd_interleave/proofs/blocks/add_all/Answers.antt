@@ -6,13 +6,17 @@ use Rattle.snd_modes.specs.Handle.{Known, codec_of, disk_of, known_of}
 use Rattle.snd_output.proofs.Appending.{longer_none, longer_twice}
 use Rattle.snd_output.specs.Appended.{HasRoom, longer}
 use Rattle.snd_output.specs.Made.{IsMaking}
+use Rattle.snd_interleave.specs.Asking.{AsksEach, bytes_upto}
 use Rattle.snd_interleave.specs.Beside.{frames_from}
 use Rattle.snd_interleave.specs.Channels.{CountsWith}
 use Rattle.snd_interleave.specs.Interleave.{channels_in}
 use Rattle.snd_interleave.proofs.Adding.{numbers_on, room_on}
+use Rattle.snd_interleave.proofs.Asking.{each_none, each_once, each_then, ends_at}
+use Rattle.snd_interleave.proofs.Bad.{all_end}
+use Rattle.snd_output.proofs.Changing.{changed_as}
 use Rattle.snd_interleave.proofs.Counts.{adding_then, calm_itself, calm_then}
 use Rattle.snd_interleave.proofs.Inputs.{all_unread, hold_still, read_then, still_mono}
-use Rattle.snd_interleave.proofs.blocks.add_frames.Goals as goal
+use Rattle.snd_interleave.proofs.blocks.add_all.Goals as goal
 
 pub loop-place-init : goal.loop-place-init
 loop-place-init g c = record {
@@ -23,6 +27,8 @@ loop-place-init g c = record {
   calm = calm_itself g.D.Disk.state c.args.inputs.now;
   to_calm = refl;
   reads = all_unread g.D.Disk c.args.inputs.now;
+  asked = each_none g.D.Disk.state (bytes_upto 0) c.args.inputs.now;
+  unasked = refl;
   tells = search rules;
   time = search rules;
 }
@@ -67,6 +73,8 @@ loop-place-preserved g c =
       calm = calm_then g.D.Disk.state first now new c.loop-place.auto.inputs inv.calm one.faults.0;
       to_calm = one.faults.1 ∙ inv.to_calm;
       reads = read_then g.D.Disk first now new inv.reads one.reads;
+      asked = subst (λ (m : ℕ). AsksEach g.D.Disk.state (bytes_upto m) first new) sum (each_then g.D.Disk.state n k first now new inv.reads (all_end c.args.frames n k first (ends_at c.args.frames n c.min-count.result k (omega (arith, sum)) (search rules) inv.within) c.requires.all) inv.asked one.asked);
+      unasked = one.unasked ∙ inv.unasked;
       tells = search rules;
       time = goes_on_then _ _ _ _ _ _ inv.time one.time;
     }
@@ -89,3 +97,26 @@ returns-clause-lengthens g c = λ kind p pieces xs es e hold stands making.
     let got = inv.lengthens kind p pieces xs es e hold stands making in
     let all : c.loop-place.place ≡ c.args.frames = omega (arith, inv.within, c.loop-place-test.false) in
     (got.0, got.1, subst (λ (n : ℕ). IsMaking kind p pieces (xs ++ frames_from (channels_in (codec_of c.args.to.now) es) 0 n) got.0) all got.2)
+
+pub returns-in_err-add_block-clause-asked : goal.returns-in_err-add_block-clause-asked
+returns-in_err-add_block-clause-asked g c =
+    let inv = c.loop-place.invariant in
+    let first = c.args.inputs.now in
+    let now = c.loop-place.inputs in
+    let new = c.add_block.new.inputs in
+    let n = c.loop-place.place in
+    let k = length (take c.min-count.result c.loop-place.buffer) in
+    let few : k ≡ c.min-count.result = omega (arith, length-take c.min-count.result c.loop-place.buffer, c.min-count.array_long, c.min-count.ensures) in
+    each_once g.D.Disk.state (n + k) first new c.requires.mono
+    (each_then g.D.Disk.state n k first now new inv.reads (all_end c.args.frames n k first (ends_at c.args.frames n c.min-count.result k few (search rules) inv.within) c.requires.all) inv.asked c.add_block.ensures.asked)
+
+pub returns-in_err-add_block-clause-unasked : goal.returns-in_err-add_block-clause-unasked
+returns-in_err-add_block-clause-unasked g c = c.add_block.ensures.unasked ∙ c.loop-place.invariant.unasked
+
+pub returns-clause-asked : goal.returns-clause-asked
+returns-clause-asked g c = each_once g.D.Disk.state c.loop-place.place c.args.inputs.now c.loop-place.inputs c.requires.mono c.loop-place.invariant.asked
+
+pub returns-in_err-add_block-clause-changed : goal.returns-in_err-add_block-clause-changed
+returns-in_err-add_block-clause-changed g c =
+    changed_as _ _ c.in_err-add_block.field-0.0 c.from_residual.result (search rules)
+    (λ never es hold none. never es (hold_still g.D.Disk c.args.inputs.now c.loop-place.inputs es c.loop-place.invariant.reads hold) none) c.in_err-add_block.ensures.changed

@@ -1,7 +1,7 @@
 use Rattle.std.proofs.Common.{rules, ◌≡◌, ◌∙◌, sym}
 use Rattle.snd_modes.specs.Heads.{is_reserved}
 use Rattle.snd_modes.proofs.KindHeads.{not_reserved}
-use Rattle.snd_modes.proofs.meta.«File+D+Write».add_piece.Goals as goal
+use Rattle.snd_modes.proofs.handle.File.add_piece.Goals as goal
 
 pub put_wanted-requires-clause-other : goal.put_wanted-requires-clause-other
 put_wanted-requires-clause-other g c = λ free.

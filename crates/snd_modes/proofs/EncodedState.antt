@@ -1,0 +1,136 @@
+-- The state for which the handle of a file of ADPCM stands once it was given more frames.
+use Rattle.std.proofs.Common.{◌≡◌, ◌∙◌, ap, sym, subst, refl, ℕ, ℤ, ◌+◌, ◌*◌, ◌/◌, ◌%◌, ◌^◌, ◌≤◌, Bool, true, false, List, ◌++◌, Option, Some, length, arith}
+use Rattle.std.specs.Global.{Box}
+use Rattle.std.proofs.Math.Nat.{div-add-mod, le-div_iff_mul-le, mul-le-mul_right}
+use Rattle.std.proofs.lemmas.List.{length-append}
+use Rattle.snd_block_writer.specs.Calls.{TakesMore}
+use Rattle.snd_block_writer.specs.Coded.{coded, whole}
+use Rattle.snd_block_writer.specs.Writing.{StandsFor, Writing}
+use Rattle.snd_block_writer.proofs.Kept.{all_are_kept}
+use Rattle.snd_disk.specs.State.{State}
+use Rattle.snd_disk.specs.declared.disk.Disk.{Ghosts}
+use Rattle.snd_layout.specs.Blocks.{block_frames}
+use Rattle.snd_layout.specs.Params.{data_bytes}
+use Rattle.snd_layout.specs.Shape.{KeepsRule, Shape, end, room}
+use Rattle.snd_modes.specs.Pacing.{HasPlaceFor}
+use Rattle.snd_modes.proofs.SealedFrames.{sealed_declared}
+use Rattle.snd_modes.specs.declared.handle.File.{File}
+use Rattle.snd_modes.specs.declared.mode.Mode.{Ghosts as ModeGhosts}
+use Rattle.snd_modes.specs.Editing.{Editing}
+use Rattle.snd_modes.specs.Edits.{sealed_where, written_shape}
+use Rattle.snd_modes.specs.Encoding.{HoldsEncoded, counting, counting_whole, encoded_shape, encoded_to, known_encoded, over_blocks, whole_frames}
+use Rattle.snd_modes.specs.Handle.{IsGiven, Known, Stands, disk_of, known_of, writer_of}
+use Rattle.snd_modes.specs.WriteCalls.{end_written}
+use Rattle.snd_modes.proofs.Encoded.{blocks_read_where, frames_of, frames_where, frames_whole, held_where, whole_bytes}
+use Rattle.snd_modes.proofs.HeadBytes.{over_stays}
+
+-- what holds of a layout that counts some frames, also once the head says so
+given_where : (automatic : Bool) (writer : Option (Box Writing)) (ys : List ℤ) (b : List ℕ) (h : Shape) (n place : ℕ) → h.frames ≡ n → IsGiven writer ys b h place → IsGiven writer ys b (written_shape automatic h n) place
+given_where true writer ys b h n place is was = record { form = was.form; stands = was.stands; whole = was.whole; frames = sym is ∙ was.frames; held = was.held }
+given_where false writer ys b h n place is was = record { form = was.form; stands = was.stands; whole = was.whole; frames = sym is ∙ was.frames; held = was.held }
+
+pub record TakesOn {D M : Type 0} {ghosts : Ghosts D} {mode : ModeGhosts M} (state : D → State) (old new : File D M ghosts mode) (xs : List ℤ) (to : ℕ) (w w' : Box Writing) : Type 0 where
+  pub encodes : mode.ENCODES ≡ true
+  pub writer : writer_of old ≡ Some w
+  pub then : writer_of new ≡ Some w'
+  pub takes : TakesMore xs w.value w'.value
+  pub holds : HoldsEncoded state (known_of old).automatic (known_of old).shape to xs w.value (disk_of old) (disk_of new)
+  pub known : known_of new ≡ known_encoded xs (known_of old)
+  pub reaches : to ≡ end_written xs (known_of old).shape (known_of old).write_place
+  pub even : length xs % (known_of old).shape.params.channels ≡ 0
+  pub rule : KeepsRule (counting_whole (known_of old).shape to)
+  pub told : (b : List ℕ) → (state (disk_of old)).contents ≡ Some b → (state (disk_of old)).size ≡ length b
+  pub told_then : (b : List ℕ) → (state (disk_of new)).contents ≡ Some b → (state (disk_of new)).size ≡ length b
+  pub there : end (known_of old).shape (known_of old).shape.frames ≤ (state (disk_of old)).size
+  pub there_then : end (known_of old).shape (whole_frames (known_of old).shape.params to) ≤ (state (disk_of new)).size
+
+pub encoded_stands : {D M : Type 0} {ghosts : Ghosts D} {mode : ModeGhosts M} (state : D → State) (old new : File D M ghosts mode) (xs : List ℤ) (to : ℕ) (w w' : Box Writing) → TakesOn state old new xs to w w'
+    → (e : Editing) → Stands state old e → Stands state new (encoded_to xs e)
+encoded_stands state old new xs to w w' on e stands =
+    let h = e.shape in
+    let p = e.shape.params in
+    let ys = e.given in
+    let zs = whole e.shape.params (e.given ++ xs) in
+    let given = stands.given on.encodes in
+    let form = given.form in
+    let reach : end h h.frames ≤ length e.bytes = subst (λ (s : Shape). end s s.frames ≤ length e.bytes) stands.shape (omega (arith, on.told e.bytes stands.bytes, on.there)) in
+    let same : over_blocks e.bytes h (whole p ys) ≡ e.bytes =
+    over_stays e.bytes h.start (coded p (whole p ys)) (omega (arith, reach, whole_bytes p form ys, ap (λ (n : ℕ). end h n) given.frames)) given.held in
+    let before : (state (disk_of old)).contents ≡ Some (over_blocks e.bytes h (whole p ys)) = stands.bytes ∙ ap (λ (l : List ℕ). Some l) (sym same) in
+    let auto = (known_of old).automatic in
+    let holds = subst (λ (s : Shape). HoldsEncoded state auto s to xs w.value (disk_of old) (disk_of new)) stands.shape on.holds in
+    let got = holds ys e.bytes (given.stands w on.writer) before in
+    let to_is : to ≡ end_written xs h e.write_place =
+    on.reaches ∙ ap (λ (s : Shape). end_written xs s (known_of old).write_place) stands.shape ∙ ap (end_written xs h) stands.write_place in
+    let even : length xs % p.channels ≡ 0 = subst (λ (s : Shape). length xs % s.params.channels ≡ 0) stands.shape on.even in
+    let count : length (ys ++ xs) ≡ to * p.channels =
+    let k = length xs / p.channels in
+    let parts : p.channels * k + 0 ≡ length xs = sym (ap (λ (r : ℕ). p.channels * k + r) even) ∙ div-add-mod (length xs) p.channels in
+    let turn : p.channels * k ≡ k * p.channels = omega arith in
+    let sum : (e.write_place + k) * p.channels ≡ e.write_place * p.channels + k * p.channels = omega arith in
+    omega (arith, length-append ys xs, given.whole, parts, turn, sum, ap (λ (n : ℕ). n * p.channels) to_is) in
+    let n_is : whole_frames p to ≡ length zs / p.channels = sym (frames_whole p form (ys ++ xs) ∙ ap (whole_frames p) (frames_of p form (ys ++ xs) to count)) in
+    let bytes : (state (disk_of new)).contents ≡ Some (sealed_where e.automatic (over_blocks e.bytes h zs) (counting h zs) (length zs / p.channels)) =
+    got ∙ ap (λ (n : ℕ). Some (sealed_where auto (over_blocks e.bytes h zs) (record h { frames = n }) n)) n_is
+    ∙ ap (λ (t : Bool). Some (sealed_where t (over_blocks e.bytes h zs) (counting h zs) (length zs / p.channels))) stands.automatic in
+    let shape : (known_of new).shape ≡ written_shape e.automatic (counting h zs) (length zs / p.channels) =
+    ap (λ (k : Known). k.shape) on.known
+    ∙ ap (λ (n : ℕ). encoded_shape auto (known_of old).shape n) (sym on.reaches)
+    ∙ ap (λ (s : Shape). encoded_shape auto s to) stands.shape
+    ∙ ap (λ (n : ℕ). written_shape auto (record h { frames = n }) n) n_is
+    ∙ ap (λ (t : Bool). written_shape t (counting h zs) (length zs / p.channels)) stands.automatic in
+    let rule : KeepsRule (counting h zs) = subst (λ (n : ℕ). KeepsRule (record h { frames = n })) n_is (subst (λ (s : Shape). KeepsRule (counting_whole s to)) stands.shape on.rule) in
+    let x = sealed_where e.automatic (over_blocks e.bytes h zs) (counting h zs) (length zs / p.channels) in
+    let long : end h (whole_frames p to) ≤ length x = subst (λ (s : Shape). end s (whole_frames s.params to) ≤ length x) stands.shape (omega (arith, on.told_then x bytes, on.there_then)) in
+    record {
+      bytes = bytes;
+      shape = shape;
+      place = ap (λ (k : Known). k.place) on.known ∙ stands.place;
+      write_place = ap (λ (k : Known). k.write_place) on.known ∙ sym on.reaches ∙ to_is;
+      automatic = ap (λ (k : Known). k.automatic) on.known ∙ stands.automatic;
+      written = ap (λ (k : Known). k.written) on.known;
+      sound = blocks_read_where h form e.bytes (ys ++ xs) e.automatic (whole_frames p to) x rule n_is refl long;
+      count = frames_where e.automatic (counting h zs) (length zs / p.channels) ∙ sym (all_are_kept p zs form);
+      none_given = λ no. absurd (let yes = on.encodes in cc);
+      given = λ encodes. given_where e.automatic (writer_of new) (ys ++ xs) x (counting h zs) (length zs / p.channels) (end_written xs h e.write_place) refl (record {
+        form = form;
+        stands = λ v is. let one : v ≡ w' = some_same v w' (sym is ∙ on.then) in subst (λ (u : Box Writing). StandsFor u.value p (ys ++ xs)) (sym one) (on.takes p ys (given.stands w on.writer));
+        whole = count ∙ ap (λ (n : ℕ). n * p.channels) to_is;
+        frames = refl;
+        held = held_where h form e.bytes (ys ++ xs) e.automatic rule;
+      });
+    }
+  where
+    some_same : (v u : Box Writing) → Some v ≡ Some u → v ≡ u
+    some_same v u is = cc
+
+-- ---- what the handle keeps
+
+-- whole blocks that are there are among those of more frames
+pub whole_reaches : (h : Shape) (blocks to : ℕ) → 1 ≤ block_frames h.params.codec → h.frames ≡ blocks * block_frames h.params.codec → h.frames ≤ to → h.frames ≤ whole_frames h.params to
+whole_reaches h blocks to some is within =
+    let per = block_frames h.params.codec in
+    let fits = (le-div_iff_mul-le {k = per} {x = blocks} {y = to} (omega (arith, some))).1 (omega (arith, is, within)) in
+    omega (arith, is, mul-le-mul_right per fits)
+
+pub place_where : (automatic : Bool) (h : Shape) (to : ℕ) → HasPlaceFor h to → HasPlaceFor (encoded_shape automatic h to) to
+place_where true h to was = record { blocks = was.blocks; free = was.free; fits = record { in_room = was.fits.in_room; few = was.fits.few } }
+place_where false h to was = record { blocks = was.blocks; free = was.free; fits = record { in_room = was.fits.in_room; few = was.fits.few } }
+
+pub room_where : (automatic : Bool) (h : Shape) (to : ℕ) → h.start + room h + 8 ≤ 2 ^ 63 → (encoded_shape automatic h to).start + room (encoded_shape automatic h to) + 8 ≤ 2 ^ 63
+room_where true h to was = was
+room_where false h to was = was
+
+pub known_where : (automatic : Bool) (h : Shape) (to : ℕ) → (encoded_shape automatic h to).unknown_length ≡ h.unknown_length
+known_where true h to = refl
+known_where false h to = refl
+
+pub declared_where : (automatic : Bool) (h : Shape) (to : ℕ) (l : Shape) → automatic ≡ true → l ≡ encoded_shape automatic h to → l.trailing ≡ false → l.declared ≡ data_bytes l.params l.frames
+declared_where false h to l not_so is free = absurd (cc)
+declared_where true h to l is_so is free =
+    let goes : h.trailing ≡ false = sym (ap (λ (s : Shape). s.trailing) is) ∙ free in
+    subst (λ (s : Shape). s.declared ≡ data_bytes s.params s.frames) (sym is) (sealed_declared (counting_whole h to) (whole_frames h.params to) goes)
+
+pub ends_where : (automatic : Bool) (h : Shape) (to size : ℕ) → end (encoded_shape automatic h to) (encoded_shape automatic h to).frames ≤ size → end h (whole_frames h.params to) ≤ size
+ends_where true h to size there = there
+ends_where false h to size there = there

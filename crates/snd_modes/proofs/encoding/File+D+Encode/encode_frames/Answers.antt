@@ -1,0 +1,70 @@
+use Rattle.std.proofs.Common.{rules, ◌≡◌, ◌∙◌, ap, sym, subst, refl, inr, ◌+◌, ◌^◌, ◌≤◌, true, None, arith}
+use Rattle.snd_layout.specs.Shape.{Shape, end, room}
+use Rattle.snd_modes.specs.Encoding.{counting_whole, whole_frames}
+use Rattle.snd_modes.proofs.EditedSteps.{more_frames}
+use Rattle.snd_modes.proofs.EncodedPlaces.{blocks_of, data_more, may_encode, whole_least}
+use Rattle.snd_modes.proofs.EncodedState.{declared_where, encoded_stands, ends_where, known_where, place_where, room_where, whole_reaches}
+use Rattle.snd_modes.proofs.Encoded.{counted_within, frames_where, some_writer}
+use Rattle.snd_modes.specs.Pacing.{HasPlaceFor}
+use Rattle.snd_modes.proofs.encoding.«File+D+Encode».encode_frames.Goals as goal
+
+pub returns-in-Ok-clause-stands : goal.returns-in-Ok-clause-stands
+returns-in-Ok-clause-stands g c =
+    let file = c.args.self.now in
+    let h = file.layout in
+    let xs = c.args.from.now in
+    let to = c.in_ok-next.next in
+    let working : file.broken ≡ None = search rules in
+    let fits = c.in_ok-next.ensures.fits in
+    let form = blocks_of h c.end_of_encode.ensures.rule fits.blocks c.end_of_encode.ensures.params in
+    let may = may_encode h to (whole_frames h.params to) form.some_frames fits file.room_ends (whole_least h form to) in
+    let bytes = data_more h.params (whole_frames h.params to) to form.some_frames (whole_least h form to) in
+    let w = some_writer true file.writer file.encodes refl in
+    let w' = some_writer true c.give_writer.new.writer c.give_writer.ensures.some refl in
+    let all = c.in-Ok.ensures.gives w.0 w'.0 w.1 w'.1 in
+    encoded_stands g.D.Disk.state file _ xs to w.0 w'.0 (record {
+      encodes = refl;
+      writer = w.1;
+      then = w'.1;
+      takes = all.takes;
+      holds = all.holds;
+      known = search rules;
+      reaches = c.in_ok-next.ensures.value;
+      even = c.in_ok-next.ensures.ready.frames.whole;
+      rule = more_frames h (whole_frames h.params to) c.end_of_encode.ensures.rule (file.sized refl) may.1 (inr (omega (arith, bytes, fits.fits.in_room)));
+      told = g.met.D.Disk.size_told file.disk.now;
+      told_then = g.met.D.Disk.size_told c.give_writer.new.disk;
+      there = file.stands working;
+      there_then = ends_where file.automatic h to _ (subst (λ (l : Shape). end l l.frames ≤ (g.D.Disk.state c.give_writer.new.disk).size) c.in-Ok.ensures.layout c.in-Ok.ensures.held);
+    })
+
+pub invariant_of-self-in-Ok : goal.invariant_of-self-in-Ok
+invariant_of-self-in-Ok g c =
+    let file = c.args.self.now in
+    let h = file.layout in
+    let to = c.in_ok-next.next in
+    let laid = c.in-Ok.ensures.layout in
+    let working : file.broken ≡ None = search rules in
+    let w = some_writer true file.writer file.encodes refl in
+    let pace = file.paced refl working w.0 w.1 in
+    let form = blocks_of h c.end_of_encode.ensures.rule c.in_ok-next.ensures.fits.blocks c.end_of_encode.ensures.params in
+    let within = counted_within h file.write_place _ c.end_of_encode.ensures.params.some_channel pace in
+    let more = whole_reaches h _ to form.some_frames pace.blocks (omega (arith, within, c.in_ok-next.ensures.value)) in
+    record {
+      stands = λ still. c.in-Ok.ensures.held;
+      placed = omega (arith, file.placed, more, ap (λ (l : Shape). l.frames) laid, frames_where file.automatic (counting_whole h to) (whole_frames h.params to));
+      write_placed = λ places. absurd (cc);
+      linear = λ places. absurd (cc);
+      blocks = λ by_place. absurd (cc);
+      encodes = c.give_writer.ensures.some;
+      paced = λ encodes still. c.in-Ok.ensures.paced;
+      roomy = λ encodes. subst (λ (l : Shape). HasPlaceFor l to) (sym laid) (place_where file.automatic h to c.in_ok-next.ensures.fits);
+      unwritten = λ encodes empty. absurd (cc);
+      cached = λ reads. absurd (cc);
+      room_ends = subst (λ (l : Shape). l.start + room l + 8 ≤ 2 ^ 63) (sym laid) (room_where file.automatic h to file.room_ends);
+      sized = λ writes. ap (λ (l : Shape). l.unknown_length) laid ∙ known_where file.automatic h to ∙ file.sized refl;
+      pieces_held = λ reads. absurd (cc);
+      headed = λ makes empty. absurd (cc);
+      counted = λ automatic still free other. declared_where file.automatic h to c.give_writer.new.layout automatic laid free;
+      closed = λ automatic still free. c.in-Ok.ensures.closed automatic;
+    }
