@@ -20,8 +20,6 @@ mod mode;
 mod open;
 mod pieces;
 mod reads;
-#[cfg(test)]
-mod tests;
 mod updates;
 mod updating;
 mod wanted;

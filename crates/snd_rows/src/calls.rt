@@ -1,8 +1,15 @@
 //! Calls of open files, against whole files written out by hand.
-use super::*;
+
+ghost use Rattle.std.specs.Prelude.{◌≡◌, IfSome, false, is_none};
+ghost use Rattle.snd_container.specs.Sound.{fixed_of};
+
+use snd_container::fixed_form;
 use snd_disk::{Call, Made, SteadyDisk};
 use snd_fields::{Id4, Order};
 use snd_layout::{Codec, Kind, Params, PieceError};
+use snd_modes::{
+    CanShrink, File, GetError, Read, ReadError, create, may_be_piece, open_read, open_update,
+};
 use std::alloc::Global;
 use std::test::Fail;
 
@@ -105,8 +112,17 @@ fn update(alloc: Global, disk: &mut SteadyDisk, calls: Calls) -> bool {
     }
 }
 
+/// One channel at 8000 frames a second, where each sample has a fixed number of bytes.
+fn params_with(codec: Codec) -> Option<Params>
+    ensures { IfSome result (λ p. is_none (fixed_of p.codec) ≡ false) }
+{
+    let params = Params::new(1, 8000, codec).ok()?;
+    fixed_form(params.codec)?;
+    Some(params)
+}
+
 fn make(alloc: Global, disk: &mut SteadyDisk, codec: Codec, calls: Calls) -> bool {
-    let Ok(params) = Params::new(1, 8000, codec) else {
+    let Some(params) = params_with(codec) else {
         return false;
     };
     match create(alloc, disk, Kind::Wave, params) {
@@ -216,9 +232,7 @@ fn pieces_are_read(rt: HostRuntime) -> Result<(), Fail> {
 /// Makes a file of 16 bits in one channel, with one chunk of zeros. The answer is how many frames its head
 /// says once updates are automatic.
 fn make_with_zeros(alloc: Global, disk: &mut SteadyDisk, zeros: &[u8]) -> Option<u64> {
-    let Ok(params) = Params::new(1, 8000, Codec::S16(Order::Little)) else {
-        return None;
-    };
+    let params = params_with(Codec::S16(Order::Little))?;
     let Ok(mut file) = create(alloc, disk, Kind::Wave, params) else {
         return None;
     };
@@ -246,7 +260,7 @@ fn pieces_are_added(rt: HostRuntime) -> Result<(), Fail> {
 
 /// A chunk with a call of its own takes the place of the one before it.
 fn make_with_cues(alloc: Global, disk: &mut SteadyDisk) -> bool {
-    let Ok(params) = Params::new(1, 8000, Codec::U8) else {
+    let Some(params) = params_with(Codec::U8) else {
         return false;
     };
     let Ok(mut file) = create(alloc, disk, Kind::Wave, params) else {
@@ -279,7 +293,7 @@ fn make_with_chunk(
     kind: Kind,
     codec: Codec,
 ) -> Option<Result<(), PieceError>> {
-    let params = Params::new(1, 8000, codec).ok()?;
+    let params = params_with(codec)?;
     let Ok(mut file) = create(alloc, disk, kind, params) else {
         return None;
     };
