@@ -18,7 +18,7 @@ ghost use Rattle.snd_carry.specs.Carrying.{CarriesOne, HoldsChunk, HoldsOne};
 use snd_disk::Disk;
 use snd_fields::Id4;
 use snd_layout::{Piece, PieceError};
-use snd_modes::{File, PieceReadError, Read, Write};
+use snd_modes::{CanMake, File, PieceReadError, Read};
 use snd_output::Stop;
 use std::alloc::Global;
 
@@ -63,7 +63,11 @@ fn read_body<D: Disk>(
 /// and fewer than 240 chunks. It writes at most 16777216 bytes and reads none.
 ///
 /// `Fault` exactly where a call of the disk failed: then the file is broken; `Memory` where there is none.
-pub fn put_chunk<E: Disk>(to: &mut File<'_, E, Write>, id: Id4, body: &[u8]) -> Result<(), Stop>
+pub fn put_chunk<E: Disk, M: CanMake>(
+    to: &mut File<'_, E, M>,
+    id: Id4,
+    body: &[u8],
+) -> Result<(), Stop>
     requires untouched { IsUntouched (known_of to.old) }
     requires meta { holds_meta (known_of to.old).shape.kind ≡ true }
     requires other { is_wave_own id.0 ≡ false }
@@ -101,10 +105,10 @@ pub fn put_chunk<E: Disk>(to: &mut File<'_, E, Write>, id: Id4, body: &[u8]) -> 
 /// Carries one chunk of a file into a file that was made, in the same way: that of the piece at a place of its
 /// list, which is one that is carried.
 #[tactic(auto, using(crate::proofs::Heads::outline_put))]
-pub fn carry_chunk<D: Disk, E: Disk>(
+pub fn carry_chunk<D: Disk, E: Disk, M: CanMake>(
     alloc: Global,
     from: &mut File<'_, D, Read>,
-    to: &mut File<'_, E, Write>,
+    to: &mut File<'_, E, M>,
     place: usize,
     piece: Piece,
 ) -> Result<(), Stop>

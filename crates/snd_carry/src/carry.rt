@@ -12,7 +12,7 @@ ghost use Rattle.snd_carry.specs.Carrying.{AsksForBodies, Carries, HoldsChunks, 
 use crate::bodies::carry_chunk;
 use crate::choice::{MOST_PIECES, is_carried};
 use snd_disk::Disk;
-use snd_modes::{File, Read, Write};
+use snd_modes::{CanMake, File, Read};
 use snd_output::Stop;
 use std::alloc::Global;
 
@@ -23,10 +23,10 @@ use std::alloc::Global;
 ///
 /// `Fault` exactly where a call of one of the two disks failed; `Memory` where there is none: then the new file
 /// has only some of the chunks, and can be finished.
-pub fn carry_pieces<D: Disk, E: Disk>(
+pub fn carry_pieces<D: Disk, E: Disk, M: CanMake>(
     alloc: Global,
     from: &mut File<'_, D, Read>,
-    to: &mut File<'_, E, Write>,
+    to: &mut File<'_, E, M>,
 ) -> Result<(), Stop>
     requires working { (known_of from.old).broken ≡ None }
     requires fresh { IsFresh (known_of to.old) }

@@ -1,21 +1,40 @@
 -- A file that is being made and gains the numbers of others.
-use Rattle.std.proofs.Common.{◌≡◌, ℕ, ℤ, List, ◌++◌, drop, ◌∙◌, ap, sym, subst, append_assoc, Result, Err}
+use Rattle.std.proofs.Common.{◌≡◌, ℕ, ◌+◌, ℤ, List, ◌++◌, drop, ◌∙◌, ap, sym, subst, append_assoc, Result, Err, arith}
+use Rattle.std.proofs.lemmas.Bool.{and_parts, eqb-true}
 use Rattle.snd_disk.specs.declared.disk.Disk.{Ghosts}
 use Rattle.snd_disk.specs.State.{State}
-use Rattle.snd_layout.specs.Shape.{Shape}
+use Rattle.snd_inputs.proofs.Rooms.{has_room}
+use Rattle.snd_inputs.specs.Opening.{IsUnread}
+use Rattle.snd_layout.specs.Shape.{Shape, room}
 use Rattle.snd_modes.specs.declared.handle.File.{File}
 use Rattle.snd_modes.specs.declared.mode.Mode.{Ghosts as ModeGhosts}
 use Rattle.snd_modes.specs.Editing.{Editing}
 use Rattle.snd_modes.specs.Handle.{Known, Stands, codec_of}
-use Rattle.snd_output.specs.Appended.{AppendLeaves, CountsEither, Lengthens, numbers_left}
+use Rattle.snd_output.proofs.Appending.{at_end_then}
+use Rattle.snd_output.specs.Appended.{AppendLeaves, CountsEither, Gains, HasRoom, IsAtEnd, IsLonger, Lengthens, MayAppend, left_in, numbers_left}
 use Rattle.snd_output.specs.Made.{IsMaking}
 use Rattle.snd_output.specs.Widths.{change_numbers, joined}
 use Rattle.snd_output.specs.declared.stop.Stop.{Stop}
 use Rattle.snd_output.specs.declared.stop.Stop.TheVariants.{Changed, Fault, Memory}
-use Rattle.snd_concat.specs.Appending.{Gains, MadeUnlessFault, StillMade}
+use Rattle.snd_concat.specs.Appending.{Follows, MadeUnlessFault, StillMade}
 use Rattle.snd_concat.specs.Concat.{numbers_for}
 
 -- ---- what is known of it
+
+-- the frames of a file that is unread and may follow may be put there
+pub may_append : (from to : Known) → IsUnread from → IsAtEnd to → Follows from.shape to → MayAppend from to
+may_append from to unread at_end follows =
+    let has = has_room to.shape.kind to.shape.params (room to.shape) (to.write_place + from.shape.frames) follows.in_room in
+    let all : from.shape.frames ≡ left_in from = omega (arith, unread.first) in
+    record {
+      working = unread.working;
+      at_end = at_end;
+      alike = sym (eqb-true to.shape.params.channels from.shape.params.channels (and_parts _ _ follows.alike).0);
+      in_room = subst (λ (n : ℕ). HasRoom n to) all (record { in_room = has.0; few = has.1 });
+    }
+
+pub made_longer : (n : ℕ) (to to' : Known) → IsAtEnd to → IsLonger n to to' → StillMade to to'
+made_longer n to to' at_end is = (at_end_then n to to' at_end is, is.shape)
 
 pub made_then : (a b c : Known) → StillMade a b → StillMade b c → StillMade a c
 made_then a b c first second = (second.0, second.1 ∙ ap (λ (h : Shape). record h { frames = c.shape.frames }) first.1)

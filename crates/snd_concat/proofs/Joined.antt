@@ -3,15 +3,16 @@ use Rattle.std.proofs.Common.{◌≡◌, ℕ, ◌+◌, ◌<◌, ◌≤◌, List,
 use Rattle.std.proofs.lemmas.List.{flat_map_more, length-map, map_more, take_more, take-map}
 use Rattle.std.proofs.lemmas.List.Sums.{sum_by_push, sum_by-take-le}
 use Rattle.std.proofs.lemmas.Option.{get_or_from_slice_get, slice_get-map, slice_get_within}
-use Rattle.std.specs.Prelude.{is_none}
-use Rattle.snd_container.specs.Sound.{fixed_of}
 use Rattle.snd_disk.specs.Shelf.{Files}
-use Rattle.snd_inputs.proofs.DataBytes.{fewer_fit}
 use Rattle.snd_inputs.proofs.Lists.{input_at}
+use Rattle.snd_inputs.proofs.Rooms.{exceeds_fewer}
 use Rattle.snd_inputs.specs.Inputs.{input_in, inputs_in}
+use Rattle.snd_inputs.specs.Rooms.{exceeds}
+use Rattle.snd_layout.specs.Blocks.{block_frames}
 use Rattle.snd_layout.specs.Shape.{Shape, room}
 use Rattle.snd_layout.specs.declared.codec.Codec.{Codec}
 use Rattle.snd_modes.specs.Editing.{Editing}
+use Rattle.snd_modes.specs.Handle.{Known}
 use Rattle.snd_concat.specs.Appending.{AllFollow, Follows}
 use Rattle.snd_concat.specs.Concat.{all_frames, all_numbers, is_alike, numbers_for, shapes_of}
 
@@ -40,25 +41,32 @@ module _ (es : List Editing) (at : ℕ) (e : Editing) (there : slice_get es at �
   frames_within = subst (λ (l : List Shape). all_frames l ≤ all_frames (shapes_of es)) (take-map shape_of (at + 1) es) (sum_by-take-le (λ (h : Shape). h.frames) (shapes_of es) (at + 1))
 
   -- Where all may follow, this one may, behind those before it.
-  pub follows_next : (to now : Shape) → is_none (fixed_of to.params.codec) ≡ false → now ≡ record to { frames = to.frames + all_frames (shapes_of (take at es)) } → AllFollow (shapes_of es) to → Follows e.shape now
-  follows_next to now linear is all = subst (λ (h : Shape). Follows e.shape h) (sym is) (record {
-    alike =
+  module _ (to now : Known) (some : 1 ≤ block_frames to.shape.params.codec) (shape : now.shape ≡ record to.shape { frames = now.shape.frames }) (count : now.write_place ≡ to.write_place + all_frames (shapes_of (take at es)))
+      (all : AllFollow (shapes_of es) to) where
+    alike_at : is_alike to.shape.params e.shape.params ≡ true
+    alike_at =
         let lt : at < length (shapes_of es) = omega (arith, within, length-map es shape_of) in
         let here : get_or (shapes_of es) at e.shape ≡ e.shape = get_or_from_slice_get (shapes_of es) at e.shape e.shape (slice_get-map shape_of es at ∙ ap (λ o. option_map shape_of o) there) in
-        subst (λ (h : Shape). is_alike to.params h.params ≡ true) here (all.alike at e.shape lt);
-    in_room =
-        let so_far = all_frames (shapes_of (take at es)) in
-        fewer_fit to.params linear (room to) (to.frames + so_far + e.shape.frames) (to.frames + all_frames (shapes_of es)) (omega (arith, frames_next, frames_within)) all.in_room;
-  })
+        subst (λ (h : Shape). is_alike to.shape.params h.params ≡ true) here (all.alike at e.shape lt)
+
+    room_at : exceeds to.shape.kind to.shape.params (room to.shape) (now.write_place + e.shape.frames) ≡ false
+    room_at =
+        exceeds_fewer to.shape.kind to.shape.params (room to.shape) (now.write_place + e.shape.frames) (to.write_place + all_frames (shapes_of es)) some (omega (arith, count, frames_next, frames_within)) all.in_room
+
+    pub follows_next : Follows e.shape now
+    follows_next = record {
+      alike = ap (λ (h : Shape). is_alike h.params e.shape.params) shape ∙ alike_at;
+      in_room = ap (λ (h : Shape). exceeds h.kind h.params (room h) (now.write_place + e.shape.frames)) shape ∙ room_at;
+    }
 
 -- The file at a place among those that may all follow: it is opened, and its frames may follow now, behind those before it.
-pub follows_at : (files files' : Files) (names : List (List ℕ)) (es : List Editing) (at : ℕ) (name : List ℕ) (to now : Shape) → inputs_in files names ≡ Ok es → slice_get names at ≡ Some name → files' name ≡ files name
-    → is_none (fixed_of to.params.codec) ≡ false → now ≡ record to { frames = now.frames } → now.frames ≡ to.frames + all_frames (shapes_of (take at es)) → AllFollow (shapes_of es) to
+pub follows_at : (files files' : Files) (names : List (List ℕ)) (es : List Editing) (at : ℕ) (name : List ℕ) (to now : Known) → inputs_in files names ≡ Ok es → slice_get names at ≡ Some name → files' name ≡ files name
+    → 1 ≤ block_frames to.shape.params.codec → now.shape ≡ record to.shape { frames = now.shape.frames } → now.write_place ≡ to.write_place + all_frames (shapes_of (take at es)) → AllFollow (shapes_of es) to
     → (e : Editing) × (slice_get es at ≡ Some e) × (input_in (files' name) ≡ Ok e) × Follows e.shape now
-follows_at files files' names es at name to now opened there same linear beside count all =
+follows_at files files' names es at name to now opened there same some shape count all =
     let this_one = input_at files names es at name opened there in (
       this_one.0,
       this_one.1,
       ap (λ (o : Option (List ℕ)). input_in o) same ∙ this_one.2,
-      follows_next es at this_one.0 this_one.1 to now linear (beside ∙ ap (λ (n : ℕ). record to { frames = n }) count) all,
+      follows_next es at this_one.0 this_one.1 to now some shape count all,
     )

@@ -1,52 +1,51 @@
--- A file that was begun like one with a layout, and what it becomes.
-use Rattle.std.proofs.Common.{◌≡◌, ℕ, ◌+◌, List, [], ◌++◌, All, None, Some, true, false, sym, ◌∙◌, ap, subst, arith}
-use Rattle.std.specs.Prelude.{nat_lt}
-use Rattle.snd_container.proofs.EveryKind.{made}
-use Rattle.snd_container.specs.Made.{new_shape}
+-- A file that was begun to be made of others, and what it becomes.
+use Rattle.std.proofs.Common.{◌≡◌, ℕ, ◌+◌, List, [], ◌++◌, All, None, Some, true, sym, ◌∙◌, ap, subst, arith}
 use Rattle.snd_disk.specs.Device.{Tells}
 use Rattle.snd_disk.specs.State.{State}
+use Rattle.snd_inputs.proofs.Begun.{IsBegun, begun_as, begun_at_end}
+use Rattle.snd_inputs.specs.Rooms.{exceeds}
 use Rattle.snd_layout.specs.Fit.{fit_refusal}
-use Rattle.snd_layout.specs.Params.{AreParams, Parameters, data_bytes}
+use Rattle.snd_layout.specs.Params.{AreParams, Parameters}
 use Rattle.snd_layout.specs.Shape.{Shape, room}
+use Rattle.snd_layout.specs.declared.kind.Kind.{Kind}
 use Rattle.snd_modes.specs.Editing.{Editing}
 use Rattle.snd_modes.specs.Handle.{IsFresh, Known}
 use Rattle.snd_modes.specs.Relaid.{shape_with}
-use Rattle.snd_output.proofs.Begun.{new_says}
 use Rattle.snd_output.specs.Appended.{IsAtEnd}
 use Rattle.snd_output.specs.Made.{made_file}
 use Rattle.snd_concat.specs.Appending.{AllFollow}
 use Rattle.snd_concat.specs.Concat.{all_frames, all_numbers, is_alike}
 use Rattle.snd_concat.specs.Making.{MayJoin, bytes_made}
 
-module _ (h : Shape) (k : Known) (good : AreParams h.params) (fits : fit_refusal h.kind h.params ≡ None) (fresh : IsFresh k) (shape : k.shape ≡ shape_with h.kind h.params []) where
-  says : new_shape h.kind h.params ≡ k.shape
-  says = new_says h.kind h.params ∙ sym shape
+module _ (kind : Kind) (p : Parameters) (k : Known) (good : AreParams p) (fits : fit_refusal kind p ≡ None) (fresh : IsFresh k) (shape : k.shape ≡ shape_with kind p []) where
+  abbrev new : Shape
+  new = shape_with kind p []
 
-  pub params : k.shape.params ≡ h.params
-  params = let new = made h.kind h.params good fits in ap (λ (g : Shape). g.params) (sym says) ∙ new.params
+  begun : IsBegun kind p new
+  begun = begun_as kind p good fits
 
-  pub frames : k.shape.frames ≡ 0
-  frames = let new = made h.kind h.params good fits in ap (λ (g : Shape). g.frames) (sym says) ∙ new.frames
-
-  free : k.shape.trailing ≡ false
-  free = let new = made h.kind h.params good fits in ap (λ (g : Shape). g.trailing) (sym says) ∙ new.free
+  params : k.shape.params ≡ p
+  params = ap (λ (h : Shape). h.params) shape ∙ begun.params
 
   pub at_end : IsAtEnd k
-  at_end = record { working = fresh.broken; by_hand = fresh.automatic; free = free; behind = fresh.write_place ∙ sym frames }
+  at_end = begun_at_end kind p new k begun fresh shape
 
-  pub all_follow : (hs : List Shape) → MayJoin h hs → AllFollow hs k.shape
+  pub counted : (n : ℕ) → k.write_place + n ≡ n
+  counted n = omega (arith, fresh.write_place)
+
+  pub all_follow : (hs : List Shape) → MayJoin kind p hs → AllFollow hs k
   all_follow hs may = record {
-    alike = subst (λ (p : Parameters). All (λ (g : Shape). is_alike p g.params ≡ true) hs) (sym params) may.alike;
+    alike = subst (λ (q : Parameters). All (λ (h : Shape). is_alike q h.params ≡ true) hs) (sym params) may.alike;
     in_room =
         let n = all_frames hs in
-        ap (λ (g : Shape). nat_lt (room g) (data_bytes k.shape.params (k.shape.frames + n))) shape
-        ∙ ap (λ (p : Parameters). nat_lt (room (shape_with h.kind h.params [])) (data_bytes p (k.shape.frames + n))) params
-        ∙ ap (λ (m : ℕ). nat_lt (room (shape_with h.kind h.params [])) (data_bytes h.params (m + n))) frames
-        ∙ ap (λ (m : ℕ). nat_lt (room (shape_with h.kind h.params [])) (data_bytes h.params m)) (let e : 0 + n ≡ n = omega arith in e) ∙ may.in_room;
+        ap (λ (h : Shape). exceeds h.kind h.params (room h) (k.write_place + n)) shape
+        ∙ ap (λ (q : Kind). exceeds q new.params (room new) (k.write_place + n)) begun.kind_is
+        ∙ ap (λ (q : Parameters). exceeds kind q (room new) (k.write_place + n)) begun.params
+        ∙ ap (exceeds kind p (room new)) (counted n) ∙ may.in_room;
   }
 
-  pub same_bytes : (es : List Editing) → made_file h.kind h.params [] ([] ++ all_numbers k.shape.params.codec es) ≡ bytes_made h es
-  same_bytes es = ap (λ (p : Parameters). made_file h.kind h.params [] (all_numbers p.codec es)) params
+  pub same_bytes : (es : List Editing) → made_file kind p [] ([] ++ all_numbers k.shape.params.codec es) ≡ bytes_made kind p es
+  same_bytes es = ap (λ (q : Parameters). made_file kind p [] (all_numbers q.codec es)) params
 
 -- where it is then
 pub told_as : {E : Type 0} (state : E → State) (d d' : E) (b b' : List ℕ) → d ≡ d' → b ≡ b' → Tells state d b → Tells state d' b'

@@ -1,18 +1,19 @@
 -- What `concat` does: the whole file that it makes, or what it refuses. It refuses in this order: equal names; an input that is
--- missing or is not opened; one whose channels or rate are not those of the first; an output of ADPCM; more data than the head has
--- room for; and an input that has a bad block.
-use Rattle.std.specs.Prelude.{ℕ, ℤ, Bool, ◌&&◌, ◌==◌, not, List, [], ◌∷◌, ◌++◌, Option, Some, None, Result, Ok, Err, flat_map, map, nat_lt, position, slice_index_or, sum_by, if◌then◌else◌}
+-- missing or is not opened; one whose channels or rate are not those of the first; what the output would be; more data than its head
+-- has room for; and an input that has a bad block.
+use Rattle.std.specs.Prelude.{ℕ, ℤ, Bool, ◌&&◌, ◌==◌, not, List, [], ◌∷◌, ◌++◌, Option, Some, None, Result, Ok, Err, flat_map, map, position, slice_index_or, sum_by, if◌then◌else◌}
 use Rattle.snd_disk.specs.Shelf.{Files}
 use Rattle.snd_inputs.specs.Inputs.{first_bad, inputs_in}
-use Rattle.snd_layout.specs.Blocks.{is_adpcm}
-use Rattle.snd_layout.specs.Params.{Parameters, data_bytes}
-use Rattle.snd_layout.specs.Shape.{Shape, room}
+use Rattle.snd_inputs.specs.Rooms.{is_full}
+use Rattle.snd_layout.specs.Params.{Parameters}
+use Rattle.snd_layout.specs.Shape.{Shape}
 use Rattle.snd_layout.specs.declared.codec.Codec.{Codec}
-use Rattle.snd_layout.specs.declared.refusal.OpenRefusal.TheVariants.{NotBuilt}
+use Rattle.snd_layout.specs.declared.kind.Kind.{Kind}
+use Rattle.snd_layout.specs.declared.refusal.OpenRefusal.{OpenRefusal}
 use Rattle.snd_lines.specs.declared.refusal.Refusal.{Refusal}
 use Rattle.snd_lines.specs.declared.refusal.Refusal.TheVariants.{BadBlock, ContainerFull, MissingFile, MixedParams, Open, SameName}
 use Rattle.snd_modes.specs.Editing.{Editing}
-use Rattle.snd_modes.specs.Relaid.{shape_with}
+use Rattle.snd_output.specs.Codecs.{params_like}
 use Rattle.snd_output.specs.Made.{made_file}
 use Rattle.snd_output.specs.Widths.{change_numbers, joined}
 use Rattle.snd_tools.specs.Done.{Done}
@@ -39,27 +40,23 @@ is_alike p q = (p.channels == q.channels) && (p.rate == q.rate)
 abbrev pub first_mixed : Parameters → List Shape → Option ℕ
 first_mixed p hs = position (λ h. not (is_alike p h.params)) hs
 
--- whether so many frames have more data bytes than the head of a new file has room for, like one with this layout
-abbrev pub is_full : Shape → ℕ → Bool
-is_full h frames = nat_lt (room (shape_with h.kind h.params [])) (data_bytes h.params frames)
+-- a new file of a kind with these parameters, with all frames, without further chunks
+abbrev pub made_if_good : List (List ℕ) → List ℕ → Kind → Parameters → List Editing → Option ℕ → Done
+made_if_good inputs output kind p es (Some at) = Done.refuses (slice_index_or inputs at []) BadBlock
+made_if_good inputs output kind p es None = Done.makes output (made_file kind p [] (all_numbers p.codec es)) (all_frames (shapes_of es))
 
--- a new file, like one with this layout, with all frames, without further chunks
-abbrev pub made_if_good : List (List ℕ) → List ℕ → Shape → List Editing → Option ℕ → Done
-made_if_good inputs output h es (Some at) = Done.refuses (slice_index_or inputs at []) BadBlock
-made_if_good inputs output h es None = Done.makes output (made_file h.kind h.params [] (all_numbers h.params.codec es)) (all_frames (shapes_of es))
+abbrev pub made_of : List (List ℕ) → List ℕ → Kind → Parameters → List Editing → Done
+made_of inputs output kind p es =
+    if is_full kind p (all_frames (shapes_of es)) then Done.refuses output ContainerFull else made_if_good inputs output kind p es (first_bad es)
 
-abbrev pub made_like : List (List ℕ) → List ℕ → Shape → List Editing → Done
-made_like inputs output h es =
-    if is_full h (all_frames (shapes_of es)) then Done.refuses output ContainerFull else made_if_good inputs output h es (first_bad es)
-
--- a file of ADPCM is not made yet
-abbrev pub made_if_built : List (List ℕ) → List ℕ → Shape → List Editing → Done
-made_if_built inputs output h es =
-    if is_adpcm h.params.codec then Done.refuses output (Open NotBuilt) else made_like inputs output h es
+-- it has the kind and the parameters of the first, but that blocks of ADPCM have the size that this library gives them
+abbrev pub done_as : List (List ℕ) → List ℕ → Kind → List Editing → Result Parameters OpenRefusal → Done
+done_as inputs output kind es (Err why) = Done.refuses output (Open why)
+done_as inputs output kind es (Ok p) = made_of inputs output kind p es
 
 abbrev pub done_if_alike : List (List ℕ) → List ℕ → Shape → List Editing → Option ℕ → Done
 done_if_alike inputs output h es (Some at) = Done.refuses (slice_index_or inputs at []) MixedParams
-done_if_alike inputs output h es None = made_if_built inputs output h es
+done_if_alike inputs output h es None = done_as inputs output h.kind es (params_like h.kind h.params.channels h.params)
 
 -- It is made like the first. Where no inputs are named, which no words do, there is none.
 abbrev pub done_like : List (List ℕ) → List ℕ → List Editing → Done

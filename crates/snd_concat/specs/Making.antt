@@ -6,7 +6,10 @@ use Rattle.snd_disk.specs.Shelf.{Files, ShelfState, put}
 use Rattle.snd_disk.specs.Shelves.{TellsFiles}
 use Rattle.snd_disk.specs.State.{State}
 use Rattle.snd_inputs.specs.Inputs.{first_bad, inputs_in}
+use Rattle.snd_inputs.specs.Rooms.{is_full}
+use Rattle.snd_layout.specs.Params.{Parameters}
 use Rattle.snd_layout.specs.Shape.{Shape}
+use Rattle.snd_layout.specs.declared.kind.Kind.{Kind}
 use Rattle.snd_modes.specs.Editing.{Editing}
 use Rattle.snd_output.specs.Ends.{IfChanged}
 use Rattle.snd_output.specs.Made.{made_file}
@@ -15,38 +18,38 @@ use Rattle.snd_tools.specs.Done.{Said, said_by}
 use Rattle.snd_tools.specs.Shelves.{HasFiles, IsDone}
 use Rattle.snd_tools.specs.declared.answer.Answer.{Answer}
 use Rattle.snd_words.specs.declared.concat.Concatenation.{Concatenation}
-use Rattle.snd_concat.specs.Concat.{all_frames, all_numbers, done_like, is_alike, is_full, made_if_good, shapes_of}
+use Rattle.snd_concat.specs.Concat.{all_frames, all_numbers, done_like, is_alike, made_if_good, shapes_of}
 
 -- no name is the given one
 abbrev pub AllApart : List ℕ → List (List ℕ) → Type 0
 AllApart output names = All (λ n. bytes_eq n output ≡ false) names
 
--- files with these layouts may be put together into a new one like the given one
-pub record MayJoin (h : Shape) (hs : List Shape) : Type 0 where
-  pub alike : All (λ g. is_alike h.params g.params ≡ true) hs
-  pub in_room : is_full h (all_frames hs) ≡ false
+-- files with these layouts may be put together into a new one of a kind with these parameters
+pub record MayJoin (kind : Kind) (p : Parameters) (hs : List Shape) : Type 0 where
+  pub alike : All (λ h. is_alike p h.params ≡ true) hs
+  pub in_room : is_full kind p (all_frames hs) ≡ false
 
 -- the bytes of what is made
-abbrev pub bytes_made : Shape → List Editing → List ℕ
-bytes_made h es = made_file h.kind h.params [] (all_numbers h.params.codec es)
+abbrev pub bytes_made : Kind → Parameters → List Editing → List ℕ
+bytes_made kind p es = made_file kind p [] (all_numbers p.codec es)
 
 -- Where the shelf and the disk tell what they hold, and the files may be put together, that is made; on a disk, or under a name.
-abbrev pub Makes : {S E R : Type 0} → (S → ShelfState) → (E → State) → List (List ℕ) → Shape → S → E → E → Result Answer R → Type 0
-Makes state disk_state names h shelf old new result =
-    IfOk result (λ answer. (files : Files) (es : List Editing) (b : List ℕ) → TellsFiles state shelf files → Tells disk_state old b → inputs_in files names ≡ Ok es → MayJoin h (shapes_of es)
-    → (said_by answer ≡ Said.made (all_frames (shapes_of es))) × Tells disk_state new (bytes_made h es))
+abbrev pub Makes : {S E R : Type 0} → (S → ShelfState) → (E → State) → List (List ℕ) → Kind → Parameters → S → E → E → Result Answer R → Type 0
+Makes state disk_state names kind p shelf old new result =
+    IfOk result (λ answer. (files : Files) (es : List Editing) (b : List ℕ) → TellsFiles state shelf files → Tells disk_state old b → inputs_in files names ≡ Ok es → MayJoin kind p (shapes_of es)
+    → (said_by answer ≡ Said.made (all_frames (shapes_of es))) × Tells disk_state new (bytes_made kind p es))
 
-abbrev pub MakesUnder : {S R : Type 0} → (S → ShelfState) → List (List ℕ) → List ℕ → Shape → S → S → Result Answer R → Type 0
-MakesUnder state names output h old new result =
-    IfOk result (λ answer. (files : Files) (es : List Editing) → TellsFiles state old files → inputs_in files names ≡ Ok es → MayJoin h (shapes_of es)
-    → (said_by answer ≡ Said.made (all_frames (shapes_of es))) × HasFiles state new (put files output (Some (bytes_made h es))))
+abbrev pub MakesUnder : {S R : Type 0} → (S → ShelfState) → List (List ℕ) → List ℕ → Kind → Parameters → S → S → Result Answer R → Type 0
+MakesUnder state names output kind p old new result =
+    IfOk result (λ answer. (files : Files) (es : List Editing) → TellsFiles state old files → inputs_in files names ≡ Ok es → MayJoin kind p (shapes_of es)
+    → (said_by answer ≡ Said.made (all_frames (shapes_of es))) × HasFiles state new (put files output (Some (bytes_made kind p es))))
 
 -- what is to be done with files that may be put together is done
-abbrev pub DoesGood : {S R : Type 0} → (S → ShelfState) → Concatenation → Shape → S → S → Result Answer R → Type 0
-DoesGood state concatenation h old new result =
+abbrev pub DoesGood : {S R : Type 0} → (S → ShelfState) → Concatenation → Kind → Parameters → S → S → Result Answer R → Type 0
+DoesGood state concatenation kind p old new result =
     let names = concatenation.inputs in
-    IfOk result (λ answer. (files : Files) (es : List Editing) → TellsFiles state old files → inputs_in files names ≡ Ok es → MayJoin h (shapes_of es)
-    → IsDone state new answer (made_if_good names concatenation.output.now h es (first_bad es)) files)
+    IfOk result (λ answer. (files : Files) (es : List Editing) → TellsFiles state old files → inputs_in files names ≡ Ok es → MayJoin kind p (shapes_of es)
+    → IsDone state new answer (made_if_good names concatenation.output.now kind p es (first_bad es)) files)
 
 -- no input is said to have changed where the shelf tells its files, and these are opened; or where they have no bad block, too
 abbrev pub StayTold : {S T : Type 0} → (S → ShelfState) → List (List ℕ) → S → Result T Stop → Type 0

@@ -20,37 +20,39 @@ use snd_disk::{Disk, Shelf};
 use snd_inputs::{Input, close_read, exceeds_room, open_input, params_of};
 use snd_layout::Layout;
 use snd_lines::Refusal;
-use snd_modes::{File, Read, Write, open_laid};
-use snd_output::{Stop, append};
+use snd_modes::{File, Read, open_laid};
+use snd_output::{Making, Stop, append, numbers_of};
 use snd_tools::Answer;
 use snd_words::Names;
 use std::alloc::Global;
 
 // Why the frames of a file may not stand behind those of another, whose head has this room.
-fn judge<D: Disk, E: Disk>(
+fn judge<D: Disk, E: Disk, M: Making>(
     from: &File<'_, D, Read>,
-    to: &File<'_, E, Write>,
+    to: &File<'_, E, M>,
     room: u64,
 ) -> Result<(), Refusal>
+    requires at_end { IsAtEnd (known_of to.now) }
     requires room { room ≡ shape_room (known_of to.now).shape }
-    ensures follows { OnOk result (Follows (known_of from.now).shape (known_of to.now).shape) }
-    ensures ok { Follows (known_of from.now).shape (known_of to.now).shape → IsOk result }
+    ensures follows { OnOk result (Follows (known_of from.now).shape (known_of to.now)) }
+    ensures ok { Follows (known_of from.now).shape (known_of to.now) → IsOk result }
 {
+    to.keeps_rule();
     let (params, wanted) = (from.params(), to.params());
     if !is_alike(wanted, params) {
         return Err(Refusal::MixedParams);
     }
-    let frames = u128::from(to.frames()) + u128::from(from.frames());
-    if exceeds_room(room, wanted, frames) {
+    let frames = u128::from(M::given(to)) + u128::from(from.frames());
+    if exceeds_room(room, to.kind(), wanted, frames) {
         return Err(Refusal::ContainerFull);
     }
     Ok(())
 }
 
 // Puts the frames of an open file there, or says why they may not stand there.
-fn append_file<D: Disk, E: Disk>(
+fn append_file<D: Disk, E: Disk, M: Making>(
     from: &mut File<'_, D, Read>,
-    to: &mut File<'_, E, Write>,
+    to: &mut File<'_, E, M>,
     room: u64,
     block: &mut [i32],
 ) -> Result<Result<(), Refusal>, Stop>
@@ -79,11 +81,11 @@ fn append_file<D: Disk, E: Disk>(
 }
 
 // .. those of the file on a disk, by its layout.
-fn append_laid<D: Disk, E: Disk>(
+fn append_laid<D: Disk, E: Disk, M: Making>(
     alloc: Global,
     disk: &mut D,
     layout: Layout,
-    to: &mut File<'_, E, Write>,
+    to: &mut File<'_, E, M>,
     room: u64,
     block: &mut [i32],
 ) -> Result<Result<(), Refusal>, Stop>
@@ -118,11 +120,11 @@ fn append_laid<D: Disk, E: Disk>(
 }
 
 // .. those of the file of a name.
-fn append_input<S: Shelf, E: Disk>(
+fn append_input<S: Shelf, E: Disk, M: Making>(
     alloc: Global,
     name: &str,
     shelf: &mut S,
-    to: &mut File<'_, E, Write>,
+    to: &mut File<'_, E, M>,
     room: u64,
     block: &mut [i32],
 ) -> Result<Result<(), Refusal>, Stop>
@@ -154,11 +156,11 @@ fn append_input<S: Shelf, E: Disk>(
 /// Puts the frames of the files of all names behind those of a file that is being made, whose head has this
 /// room. Where the shelf tells its files, these were judged before, and nothing is refused; else each is judged
 /// by what it is now.
-pub(crate) fn append_all<'a, S: Shelf, E: Disk>(
+pub(crate) fn append_all<'a, S: Shelf, E: Disk, M: Making>(
     alloc: Global,
     names: &Names<'a>,
     shelf: &mut S,
-    to: &mut File<'_, E, Write>,
+    to: &mut File<'_, E, M>,
     room: u64,
     block: &mut [i32],
 ) -> Result<Answer<'a>, Stop>
@@ -177,6 +179,7 @@ pub(crate) fn append_all<'a, S: Shelf, E: Disk>(
     ensures asked { AsksForEach 1 16384 S.state names.now shelf.old shelf.new }
     ensures unasked { AsksNothing E.state to.old to.new }
 {
+    numbers_of(to);
     for at in 0..names.len() {
         let Some(name) = names.get(at) else {
             unreachable!();
@@ -186,5 +189,5 @@ pub(crate) fn append_all<'a, S: Shelf, E: Disk>(
             Err(why) => return Ok(Answer::Refused(name, why)),
         }
     }
-    Ok(Answer::Made(to.frames()))
+    Ok(Answer::Made(M::given(to)))
 }

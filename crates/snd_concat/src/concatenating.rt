@@ -1,22 +1,20 @@
 //! The tool that puts sound files behind each other.
 
-ghost use Rattle.std.specs.Prelude.{◌≡◌, All, false, is_none};
-ghost use Rattle.snd_container.specs.Sound.{fixed_of};
+ghost use Rattle.std.specs.Prelude.{◌≡◌, None};
 ghost use Rattle.snd_inputs.specs.Asking.{AsksForEach, AsksForFiles};
-ghost use Rattle.snd_inputs.specs.Looking.{IsReadable};
+ghost use Rattle.snd_layout.specs.Fit.{fit_refusal};
 ghost use Rattle.snd_output.specs.Ends.{CountsStop};
 ghost use Rattle.snd_tools.specs.Shelves.{ChangesOne, Does, IsAllIn, NeverChanged};
-ghost use Rattle.snd_concat.specs.Concat.{all_frames, concatenated, is_full};
+ghost use Rattle.snd_concat.specs.Concat.{concatenated};
 ghost use Rattle.snd_concat.specs.Making.{AllApart, DoesGood, DoesLike, IsNamedAt, StayTold};
 
 use crate::judge::{all_frames, first_mixed};
 use crate::make::make_under;
-use snd_container::fixed_form;
 use snd_disk::Shelf;
-use snd_inputs::{Inputs, bare_room, exceeds_room, first_bad, look_all};
-use snd_layout::{Layout, OpenRefusal};
+use snd_inputs::{Inputs, first_bad, is_full, look_all};
+use snd_layout::{Kind, Layout, Params};
 use snd_lines::Refusal;
-use snd_output::Stop;
+use snd_output::{Stop, params_like};
 use snd_tools::Answer;
 use snd_words::{Concatenation, first_repeated};
 use std::alloc::Global;
@@ -31,31 +29,18 @@ fn name_at<'a>(concatenation: &Concatenation<'a>, at: usize) -> &'a str
     }
 }
 
-// Whether the head of a file like one with a layout has no room for the frames of all.
-fn is_full(like: &Layout, layouts: &[Layout]) -> bool
-    requires linear { is_none (fixed_of like.now.params.codec) ≡ false }
-    ensures { result ≡ is_full like.now (all_frames layouts.now) }
-{
-    like.keeps_rule();
-    exceeds_room(
-        bare_room(like.kind, like.params),
-        like.params,
-        all_frames(layouts),
-    )
-}
-
 // Makes the output of inputs that may be put together, where none has a bad block.
 fn concat_good<'a, S: Shelf>(
     alloc: Global,
     concatenation: &Concatenation<'a>,
-    like: &Layout,
+    kind: Kind,
+    params: Params,
     shelf: &mut S,
 ) -> Result<Answer<'a>, Stop>
     requires back { IsAllIn (S.state shelf.old) }
     requires apart { AllApart concatenation.now.output.now concatenation.now.inputs }
-    requires readable { IsReadable like.now }
-    requires linear { is_none (fixed_of like.now.params.codec) ≡ false }
-    ensures done { DoesGood S.state concatenation.now like.now shelf.old shelf.new result }
+    requires fits { fit_refusal kind params ≡ None }
+    ensures done { DoesGood S.state concatenation.now kind params shelf.old shelf.new result }
     ensures changes { ChangesOne S.Shelf concatenation.now.output.now shelf.old shelf.new }
     ensures faults { CountsStop (S.state shelf.old).faults (S.state shelf.new).faults result }
     ensures changed { StayTold S.state concatenation.now.inputs shelf.old result }
@@ -69,7 +54,7 @@ fn concat_good<'a, S: Shelf>(
         }
         None => {
             let output = concatenation.output;
-            make_under(alloc, &concatenation.inputs, output, like, shelf)
+            make_under(alloc, &concatenation.inputs, output, kind, params, shelf)
         }
     }
 }
@@ -83,7 +68,6 @@ fn concat_laid<'a, S: Shelf>(
 ) -> Result<Answer<'a>, Stop>
     requires back { IsAllIn (S.state shelf.old) }
     requires apart { AllApart concatenation.now.output.now concatenation.now.inputs }
-    requires readable { All IsReadable layouts.now }
     ensures done { DoesLike S.state concatenation.now layouts.now shelf.old shelf.new result }
     ensures changes { ChangesOne S.Shelf concatenation.now.output.now shelf.old shelf.new }
     ensures faults { CountsStop (S.state shelf.old).faults (S.state shelf.new).faults result }
@@ -96,26 +80,28 @@ fn concat_laid<'a, S: Shelf>(
     if let Some(at) = first_mixed(like.params, layouts) {
         return Ok(Answer::Refused(name_at(concatenation, at), Refusal::MixedParams));
     }
-    if fixed_form(like.params.codec).is_none() {
-        let why = Refusal::Open(OpenRefusal::NotBuilt);
-        return Ok(Answer::Refused(concatenation.output, why));
-    }
-    if is_full(like, layouts) {
+    let kind = like.kind;
+    let params = match params_like(kind, u64::from(like.params.channels), like.params) {
+        Ok(params) => params,
+        Err(why) => return Ok(Answer::Refused(concatenation.output, Refusal::Open(why))),
+    };
+    if is_full(kind, params, all_frames(layouts)) {
         return Ok(Answer::Refused(concatenation.output, Refusal::ContainerFull));
     }
-    concat_good(alloc, concatenation, like, shelf)
+    concat_good(alloc, concatenation, kind, params, shelf)
 }
 
 /// Puts the frames of sound files behind each other, in a file of the kind and with the parameters of the
-/// first, whatever its suffix is. The output is made, or replaced, whole, each number in the width of the first
-/// input's codec, and without further chunks. Each other file is as before, whatever comes.
+/// first, whatever its suffix is; blocks of ADPCM have the size that `codec_like` gives them. The output is made,
+/// or replaced, whole, each number in the width of the first input's codec, and without further chunks. Each other
+/// file is as before, whatever comes.
 ///
 /// All that is refused is refused before the output is touched, in this order: `SameName` of the later of two
 /// equal names; `MissingFile`, or why an input does not open, in the order of the inputs; `MixedParams` of the
-/// first input whose channels or rate are not those of the first; `NotBuilt` of the output where the codec of
-/// the first is ADPCM; `ContainerFull` of the output where its head has no room for the data; `BadBlock` of the
-/// first input that has a bad block. Where the shelf does not tell its files, and one has changed since, it is
-/// refused by what it is when its frames are put, and the output holds those before.
+/// first input whose channels or rate are not those of the first; why the output would not hold them;
+/// `ContainerFull` of the output where its head has no room for the data, or the count of an ADPCM WAVE file for
+/// the frames; `BadBlock` of the first input that has a bad block. Where the shelf does not tell its files, and one
+/// has changed since, it is refused by what it is when its frames are put, and the output holds those before.
 ///
 /// `Fault` where a call of the shelf or of a disk failed, and `Memory` where there is none: then the output
 /// may stand there in part. So it is with `Changed`, where the blocks of an input have changed since they were

@@ -1,11 +1,12 @@
 //! A file that is made of others.
 
-ghost use Rattle.std.specs.Prelude.{◌≡◌, All, false, is_none};
-ghost use Rattle.snd_container.specs.Sound.{fixed_of};
+ghost use Rattle.std.specs.Prelude.{◌≡◌, All, None, false};
 ghost use Rattle.snd_disk.specs.Device.{GoesOnFrom};
 ghost use Rattle.snd_inputs.specs.Asking.{AsksForEach};
 ghost use Rattle.snd_inputs.specs.Copying.{CountsDiskAndShelf};
-ghost use Rattle.snd_inputs.specs.Looking.{IsReadable, ReadsFiles};
+ghost use Rattle.snd_inputs.specs.Looking.{ReadsFiles};
+ghost use Rattle.snd_layout.specs.Blocks.{is_adpcm};
+ghost use Rattle.snd_layout.specs.Fit.{fit_refusal};
 ghost use Rattle.snd_output.specs.Ends.{CountsStop, IsUnchanged};
 ghost use Rattle.snd_patch.specs.Steps.{StillTells};
 ghost use Rattle.snd_tools.specs.Shelves.{ChangesOne, IsAllIn};
@@ -14,8 +15,9 @@ ghost use Rattle.snd_concat.specs.Making.{AllApart, Makes, MakesUnder, StayGood}
 use crate::append::append_all;
 use snd_disk::{Disk, Shelf};
 use snd_inputs::{bare_room, see, take_output};
-use snd_layout::Layout;
-use snd_output::{Stop, begin, finish};
+use snd_layout::{Kind, Params};
+use snd_modes::{Encode, Write};
+use snd_output::{Making, Stop, finish};
 use snd_tools::Answer;
 use snd_words::Names;
 use std::alloc::Global;
@@ -23,18 +25,19 @@ use std::alloc::Global;
 /// The numbers that are held at once.
 const BLOCK: usize = 16384;
 
-// Makes a file like one with a layout, of the frames of the files of all names.
-fn make<'a, S: Shelf, E: Disk>(
+// Makes a file of a kind with these parameters, of the frames of the files of all names, in a mode of its codec.
+fn make_in<'a, S: Shelf, E: Disk, M: Making>(
     alloc: Global,
     names: &Names<'a>,
-    like: &Layout,
+    kind: Kind,
+    params: Params,
     shelf: &mut S,
     disk: &mut E,
 ) -> Result<Answer<'a>, Stop>
     requires are_in { All (λ n. (S.state shelf.old).out n ≡ false) names.now }
-    requires readable { IsReadable like.now }
-    requires linear { is_none (fixed_of like.now.params.codec) ≡ false }
-    ensures made { Makes S.state E.state names.now like.now shelf.old disk.old disk.new result }
+    requires fits { fit_refusal kind params ≡ None }
+    requires codec { is_adpcm params.codec ≡ M.ENCODES }
+    ensures made { Makes S.state E.state names.now kind params shelf.old disk.old disk.new result }
     ensures changed { StayGood S.state names.now shelf.old result }
     ensures faults { CountsDiskAndShelf E.state S.state disk.old disk.new shelf.old shelf.new result }
     ensures reads { ReadsFiles S.Shelf shelf.old shelf.new }
@@ -43,10 +46,9 @@ fn make<'a, S: Shelf, E: Disk>(
     ensures asked { AsksForEach 1 16384 S.state names.now shelf.old shelf.new }
     ensures unasked { (E.state disk.new).asked ≡ (E.state disk.old).asked }
 {
-    like.keeps_rule();
-    like.params.are_good();
-    let room = bare_room(like.kind, like.params);
-    let mut to = match begin(alloc, disk, like.kind, like.params) {
+    params.are_good();
+    let room = bare_room(kind, params);
+    let mut to = match M::begin(alloc, disk, kind, params) {
         Ok(to) => to,
         Err((stop, back)) => {
             let _ = back;
@@ -64,6 +66,33 @@ fn make<'a, S: Shelf, E: Disk>(
             let _ = back;
             Err(stop)
         }
+    }
+}
+
+// .. in that of its codec.
+fn make<'a, S: Shelf, E: Disk>(
+    alloc: Global,
+    names: &Names<'a>,
+    kind: Kind,
+    params: Params,
+    shelf: &mut S,
+    disk: &mut E,
+) -> Result<Answer<'a>, Stop>
+    requires are_in { All (λ n. (S.state shelf.old).out n ≡ false) names.now }
+    requires fits { fit_refusal kind params ≡ None }
+    ensures made { Makes S.state E.state names.now kind params shelf.old disk.old disk.new result }
+    ensures changed { StayGood S.state names.now shelf.old result }
+    ensures faults { CountsDiskAndShelf E.state S.state disk.old disk.new shelf.old shelf.new result }
+    ensures reads { ReadsFiles S.Shelf shelf.old shelf.new }
+    ensures tells { StillTells (E.state disk.old) (E.state disk.new) }
+    ensures time { GoesOnFrom E.state E.left_between disk.old disk.new }
+    ensures asked { AsksForEach 1 16384 S.state names.now shelf.old shelf.new }
+    ensures unasked { (E.state disk.new).asked ≡ (E.state disk.old).asked }
+{
+    if params.codec.is_adpcm() {
+        make_in::<S, E, Encode>(alloc, names, kind, params, shelf, disk)
+    } else {
+        make_in::<S, E, Write>(alloc, names, kind, params, shelf, disk)
     }
 }
 
@@ -88,14 +117,14 @@ fn see_apart<S: Shelf>(names: &Names<'_>, shelf: &mut S) -> Result<(), Stop>
 fn make_apart<'a, S: Shelf, E: Disk>(
     alloc: Global,
     names: &Names<'a>,
-    like: &Layout,
+    kind: Kind,
+    params: Params,
     shelf: &mut S,
     disk: &mut E,
 ) -> Result<Answer<'a>, Stop>
     requires are_in { All (λ n. (S.state shelf.old).out n ≡ false) names.now }
-    requires readable { IsReadable like.now }
-    requires linear { is_none (fixed_of like.now.params.codec) ≡ false }
-    ensures made { Makes S.state E.state names.now like.now shelf.old disk.old disk.new result }
+    requires fits { fit_refusal kind params ≡ None }
+    ensures made { Makes S.state E.state names.now kind params shelf.old disk.old disk.new result }
     ensures changed { StayGood S.state names.now shelf.old result }
     ensures faults { CountsDiskAndShelf E.state S.state disk.old disk.new shelf.old shelf.new result }
     ensures reads { ReadsFiles S.Shelf shelf.old shelf.new }
@@ -105,7 +134,7 @@ fn make_apart<'a, S: Shelf, E: Disk>(
     ensures unasked { (E.state disk.new).asked ≡ (E.state disk.old).asked }
 {
     see_apart(names, shelf)?;
-    make(alloc, names, like, shelf, disk)
+    make(alloc, names, kind, params, shelf, disk)
 }
 
 /// Makes it under a name that is none of these.
@@ -113,21 +142,21 @@ pub(crate) fn make_under<'a, S: Shelf>(
     alloc: Global,
     names: &Names<'a>,
     output: &str,
-    like: &Layout,
+    kind: Kind,
+    params: Params,
     shelf: &mut S,
 ) -> Result<Answer<'a>, Stop>
     requires back { IsAllIn (S.state shelf.old) }
     requires apart { AllApart output.now names.now }
-    requires readable { IsReadable like.now }
-    requires linear { is_none (fixed_of like.now.params.codec) ≡ false }
-    ensures made { MakesUnder S.state names.now output.now like.now shelf.old shelf.new result }
+    requires fits { fit_refusal kind params ≡ None }
+    ensures made { MakesUnder S.state names.now output.now kind params shelf.old shelf.new result }
     ensures changed { StayGood S.state names.now shelf.old result }
     ensures changes { ChangesOne S.Shelf output.now shelf.old shelf.new }
     ensures faults { CountsStop (S.state shelf.old).faults (S.state shelf.new).faults result }
     ensures asked { AsksForEach 1 16384 S.state names.now shelf.old shelf.new }
 {
     let mut disk = take_output(output, shelf)?;
-    let made = make_apart(alloc, names, like, shelf, &mut disk);
+    let made = make_apart(alloc, names, kind, params, shelf, &mut disk);
     shelf.give(output, disk);
     made
 }

@@ -1,5 +1,5 @@
 -- What is asked to convert a file, by the bytes that it has.
-use Rattle.std.proofs.Common.{◌≡◌, ◌∙◌, ap, subst, refl, ℕ, ◌+◌, ◌*◌, ◌≤◌, true, false, List, [], ◌∷◌, Option, None, Result, Ok, Err, Some, inl, inr, length, arith}
+use Rattle.std.proofs.Common.{◌≡◌, ◌∙◌, ap, subst, refl, ℕ, ◌+◌, ◌*◌, ◌≤◌, true, List, [], ◌∷◌, Option, None, Result, Ok, Err, Some, inl, inr, length, arith}
 use Rattle.std.proofs.lemmas.Bool.{and_parts, cases_Bool}
 use Rattle.snd_carry.proofs.Apart.{carried_fit}
 use Rattle.snd_carry.specs.Carried.{body_bytes, carried_pieces}

@@ -3,9 +3,7 @@ use Rattle.std.proofs.Common.{◌≡◌, List, [], Bool, true, false, cond, Ok, 
 use Rattle.std.proofs.lemmas.Bool.{and_parts}
 use Rattle.snd_carry.specs.Carried.{carried, carried_pieces}
 use Rattle.snd_carry.specs.Carrying.{IsNewShape, known_with}
-use Rattle.std.specs.Prelude.{is_none}
 use Rattle.snd_chunks.specs.Written.{NewChunk}
-use Rattle.snd_container.specs.Sound.{fixed_of}
 use Rattle.snd_layout.specs.Params.{AreParams, Parameters}
 use Rattle.snd_layout.specs.Shape.{Shape}
 use Rattle.snd_layout.specs.declared.kind.Kind.{Kind}
@@ -46,13 +44,13 @@ module _ (plan : Planned) (h : Shape) (both : carries plan.kind h.kind ≡ true)
         ∙ ap (λ (t : Bool). record k { shape = shape_with plan.kind plan.params (cond t chunks []) }) (sym both)
 
   -- it is one that is being made with them
-  pub making_with : (r e : Editing) → AreParams plan.params → is_none (fixed_of plan.params.codec) ≡ false → making_of plan.kind plan.params ≡ Ok e → h ≡ r.shape → AreChunks (carried r.bytes r.shape.pieces)
+  pub making_with : (r e : Editing) → AreParams plan.params → making_of plan.kind plan.params ≡ Ok e → h ≡ r.shape → AreChunks (carried r.bytes r.shape.pieces)
       → IsMaking plan.kind plan.params (chunks_for plan r) [] (made_with plan.kind plan.params (carried r.bytes r.shape.pieces))
-  making_with r e good linear made same are =
+  making_with r e good made same are =
       let chunks : List NewChunk = carried r.bytes r.shape.pieces in
       let goes : carries plan.kind r.shape.kind ≡ true = ap (λ (s : Shape). carries plan.kind s.kind) (sym same) ∙ both in
       subst (λ (t : Bool). IsMaking plan.kind plan.params (cond t chunks []) [] (made_with plan.kind plan.params chunks)) (sym goes)
-      (carried_is_making plan.kind plan.params chunks e good linear made meta are)
+      (carried_is_making plan.kind plan.params chunks e good made meta are)
 
 pub new_shape_is : (plan : Planned) (k : Known) → k.shape ≡ shape_with plan.kind plan.params [] → IsNewShape k.shape
 new_shape_is plan k begun = (plan.kind, plan.params, begun ∙ sym (new_says plan.kind plan.params))
@@ -65,10 +63,10 @@ module _ (plan : Planned) (h : Shape) (none : carries plan.kind h.kind ≡ false
       let chunks : List NewChunk = map outline (carried_pieces h.pieces) in
       ap (λ (s : Shape). record k { shape = s }) begun ∙ ap (λ (t : Bool). record k { shape = shape_with plan.kind plan.params (cond t chunks []) }) (sym none)
 
-  pub making_without : (r e : Editing) → AreParams plan.params → is_none (fixed_of plan.params.codec) ≡ false → making_of plan.kind plan.params ≡ Ok e → h ≡ r.shape → IsMaking plan.kind plan.params (chunks_for plan r) [] e
-  making_without r e good linear made same =
+  pub making_without : (r e : Editing) → AreParams plan.params → making_of plan.kind plan.params ≡ Ok e → h ≡ r.shape → IsMaking plan.kind plan.params (chunks_for plan r) [] e
+  making_without r e good made same =
       let stay : carries plan.kind r.shape.kind ≡ false = ap (λ (s : Shape). carries plan.kind s.kind) (sym same) ∙ none in
-      subst (λ (t : Bool). IsMaking plan.kind plan.params (cond t (carried r.bytes r.shape.pieces) []) [] e) (sym stay) (begun_is_making plan.kind plan.params e good linear made)
+      subst (λ (t : Bool). IsMaking plan.kind plan.params (cond t (carried r.bytes r.shape.pieces) []) [] e) (sym stay) (begun_is_making plan.kind plan.params e good made)
 
 -- ---- what follows of two calls
 

@@ -2,4 +2,3 @@ pub mod Asking
 pub mod Doing
 pub mod Filling
 pub mod Making
-pub mod Parameters

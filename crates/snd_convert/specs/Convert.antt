@@ -1,15 +1,15 @@
 -- What `convert` does: the whole file that it makes, or what it refuses. It refuses in this order: equal names; an unknown suffix
 -- of the output; the input; what it is to become; more data than the head has room for; and a bad block of the input.
-use Rattle.std.specs.Prelude.{ℕ, ℤ, Bool, ◌&&◌, List, [], Option, Some, None, Result, Ok, Err, nat_lt, if◌then◌else◌}
+use Rattle.std.specs.Prelude.{ℕ, ℤ, Bool, ◌&&◌, List, [], Option, Some, None, Result, Ok, Err, if◌then◌else◌}
 use Rattle.std.specs.Str.{bytes_eq}
 use Rattle.snd_carry.specs.Carried.{carried}
 use Rattle.snd_chunks.specs.Written.{NewChunk}
 use Rattle.snd_disk.specs.Shelf.{Files}
-use Rattle.snd_layout.specs.Params.{data_bytes}
 use Rattle.snd_layout.specs.Shape.{room}
 use Rattle.snd_layout.specs.declared.kind.Kind.{Kind}
 use Rattle.snd_layout.specs.declared.refusal.OpenRefusal.{OpenRefusal}
 use Rattle.snd_inputs.specs.Inputs.{input_in, is_bad}
+use Rattle.snd_inputs.specs.Rooms.{exceeds}
 use Rattle.snd_lines.specs.declared.refusal.Refusal.{Refusal}
 use Rattle.snd_lines.specs.declared.refusal.Refusal.TheVariants.{BadBlock, ContainerFull, Open, SameName, UnknownSuffix}
 use Rattle.snd_modes.specs.Editing.{Editing}
@@ -37,9 +37,9 @@ chunks_for plan e = if carries plan.kind e.shape.kind then carried e.bytes e.sha
 abbrev pub file_made : Planned → Editing → List ℕ
 file_made plan e = made_file plan.kind plan.params (chunks_for plan e) (numbers_for plan e)
 
--- the head with these chunks has no room for the data
+-- the head with these chunks has no room for the frames
 abbrev pub is_full : Planned → Editing → Bool
-is_full plan e = nat_lt (room (shape_with plan.kind plan.params (chunks_for plan e))) (data_bytes plan.params e.shape.frames)
+is_full plan e = exceeds plan.kind plan.params (room (shape_with plan.kind plan.params (chunks_for plan e))) e.shape.frames
 
 abbrev pub made_if_good : Converting → Planned → Editing → Done
 made_if_good c plan e = if is_bad e then Done.refuses c.input BadBlock else Done.makes c.output (file_made plan e) e.shape.frames

@@ -1,6 +1,7 @@
 -- A file that is made of an open one, as the code does it: what is asked of the two, and what comes of it.
-use Rattle.std.specs.Prelude.{◌≡◌, ℕ, ℤ, ◌+◌, Bool, List, [], Some, Result, Ok, IfOk, OnOk, map, nat_lt, if◌then◌else◌}
+use Rattle.std.specs.Prelude.{◌≡◌, ℕ, ℤ, ◌+◌, Bool, List, [], Some, Result, Ok, IfOk, OnOk, map, if◌then◌else◌}
 use Rattle.snd_carry.specs.Carried.{body_bytes, carried_pieces}
+use Rattle.snd_inputs.specs.Rooms.{exceeds}
 use Rattle.snd_inputs.specs.Copying.{AsksToCopy, bytes_checked, bytes_to_copy}
 use Rattle.snd_chunks.specs.Written.{NewChunk}
 use Rattle.snd_disk.specs.declared.disk.Disk.{Ghosts}
@@ -8,7 +9,6 @@ use Rattle.snd_disk.specs.Device.{AsksAtMost, Tells}
 use Rattle.snd_disk.specs.Shelf.{Files, ShelfState, put}
 use Rattle.snd_disk.specs.Shelves.{TellsFiles}
 use Rattle.snd_disk.specs.State.{State}
-use Rattle.snd_layout.specs.Params.{data_bytes}
 use Rattle.snd_layout.specs.Shape.{Shape, room}
 use Rattle.snd_layout.specs.declared.kind.Kind.{Kind}
 use Rattle.snd_modes.specs.declared.handle.File.{File}
@@ -30,12 +30,12 @@ use Rattle.snd_convert.specs.Plan.{Planned, planned}
 use Rattle.snd_convert.specs.Planning.{asked_of, planned_by}
 use Rattle.snd_convert.specs.declared.plan.Plan.{Plan}
 
--- the chunks that go with the frames, by their outlines; and whether the head with these has no room for the data
+-- the chunks that go with the frames, by their outlines; and whether the head with these has no room for the frames
 abbrev pub outlines_for : Planned → Shape → List NewChunk
 outlines_for plan h = if carries plan.kind h.kind then map outline (carried_pieces h.pieces) else []
 
 abbrev pub is_full_by : Planned → Shape → Bool
-is_full_by plan h = nat_lt (room (shape_with plan.kind plan.params (outlines_for plan h))) (data_bytes plan.params h.frames)
+is_full_by plan h = exceeds plan.kind plan.params (room (shape_with plan.kind plan.params (outlines_for plan h))) h.frames
 
 -- so many bytes are those of these outlines in a head, or, where the disk tells what it holds, of the chunks
 abbrev pub OutlinesTake : Plan → Shape → ℕ → Type 0

@@ -9,7 +9,9 @@ use Rattle.snd_layout.specs.declared.codec.Codec.TheVariants as codec
 use Rattle.snd_layout.specs.declared.kind.Kind.{Kind}
 use Rattle.snd_layout.specs.declared.kind.Kind.TheVariants.{Au, Dns, Svx, Sphere}
 use Rattle.snd_layout.specs.declared.refusal.OpenRefusal.{OpenRefusal}
-use Rattle.snd_layout.specs.declared.refusal.OpenRefusal.TheVariants.{BadPair, NotBuilt}
+use Rattle.snd_layout.specs.declared.refusal.OpenRefusal.TheVariants.{BadPair}
+use Rattle.snd_modes.specs.Blocks.{ima_made, ms_made}
+use Rattle.snd_output.specs.Codecs.{codec_like}
 use Rattle.snd_words.specs.Asked.{Converting}
 use Rattle.snd_words.specs.declared.convert.CodecChoice.{CodecChoice}
 use Rattle.snd_words.specs.declared.convert.CodecChoice.TheVariants as choice
@@ -42,32 +44,31 @@ eight_bits Dns = codec.S8
 eight_bits Svx = codec.S8
 eight_bits kind = codec.U8
 
--- the codec of the same class in a kind; ADPCM is not written yet
-abbrev pub same_class : Kind → Order → Codec → Option Codec
-same_class kind order codec.U8 = Some (eight_bits kind)
-same_class kind order codec.S8 = Some (eight_bits kind)
-same_class kind order (codec.S16 from) = Some (codec.S16 order)
-same_class kind order (codec.S24 from) = Some (codec.S24 order)
-same_class kind order (codec.S32 from) = Some (codec.S32 order)
-same_class kind order codec.MuLaw = Some codec.MuLaw
-same_class kind order codec.ALaw = Some codec.ALaw
-same_class kind order other = None
+-- the codec of the same class in a kind
+abbrev pub same_class : Kind → Order → ℕ → ℕ → Codec → Codec
+same_class kind order channels rate codec.U8 = eight_bits kind
+same_class kind order channels rate codec.S8 = eight_bits kind
+same_class kind order channels rate (codec.S16 from) = codec.S16 order
+same_class kind order channels rate (codec.S24 from) = codec.S24 order
+same_class kind order channels rate (codec.S32 from) = codec.S32 order
+same_class kind order channels rate other = codec_like channels rate other
 
 -- the codec that is asked for
-abbrev pub chosen : Order → CodecChoice → Option Codec
-chosen order choice.S8 = Some codec.S8
-chosen order choice.U8 = Some codec.U8
-chosen order choice.Pcm16 = Some (codec.S16 order)
-chosen order choice.Pcm24 = Some (codec.S24 order)
-chosen order choice.Pcm32 = Some (codec.S32 order)
-chosen order choice.MuLaw = Some codec.MuLaw
-chosen order choice.ALaw = Some codec.ALaw
-chosen order other = None
+abbrev pub chosen : Order → ℕ → ℕ → CodecChoice → Codec
+chosen order channels rate choice.S8 = codec.S8
+chosen order channels rate choice.U8 = codec.U8
+chosen order channels rate choice.Pcm16 = codec.S16 order
+chosen order channels rate choice.Pcm24 = codec.S24 order
+chosen order channels rate choice.Pcm32 = codec.S32 order
+chosen order channels rate choice.MuLaw = codec.MuLaw
+chosen order channels rate choice.ALaw = codec.ALaw
+chosen order channels rate choice.Ima = ima_made channels rate
+chosen order channels rate choice.Ms = ms_made channels rate
 
 -- .. or kept
-abbrev pub codec_in : Option CodecChoice → Kind → Order → Codec → Option Codec
-codec_in None kind order from = same_class kind order from
-codec_in (Some asked) kind order from = chosen order asked
+abbrev pub codec_in : Option CodecChoice → Kind → Order → ℕ → ℕ → Codec → Codec
+codec_in None kind order channels rate from = same_class kind order channels rate from
+codec_in (Some asked) kind order channels rate from = chosen order channels rate asked
 
 -- what is made: a kind with its parameters
 pub record Planned : Type 0 where
@@ -83,13 +84,10 @@ abbrev pub fitted : Kind → Option Order → Result Parameters OpenRefusal → 
 fitted kind order (Err why) = Err why
 fitted kind order (Ok p) = fitting kind order p (fit_refusal kind p)
 
-abbrev pub planned_with : Kind → Option Order → ℕ → ℕ → Option Codec → Result Planned OpenRefusal
-planned_with kind order channels rate None = Err NotBuilt
-planned_with kind order channels rate (Some codec) = fitted kind order (params_of channels rate codec)
-
 abbrev pub planned_as : Converting → Kind → Parameters → Result Planned OpenRefusal
 planned_as c kind from =
-    planned_with kind c.order from.channels (unwrap_or c.rate from.rate) (codec_in c.codec kind (unwrap_or c.order (own_order kind)) from.codec)
+    let rate = unwrap_or c.rate from.rate in
+    fitted kind c.order (params_of from.channels rate (codec_in c.codec kind (unwrap_or c.order (own_order kind)) from.channels rate from.codec))
 
 -- what a file with these parameters becomes, or why it does not
 unfoldable pub planned : Converting → Kind → Parameters → Result Planned OpenRefusal

@@ -1,7 +1,6 @@
 //! The further chunks that go with the frames.
 
-ghost use Rattle.std.specs.Prelude.{◌≡◌, ◌≤◌, [], None, OnOk, false, is_none};
-ghost use Rattle.snd_container.specs.Sound.{fixed_of};
+ghost use Rattle.std.specs.Prelude.{◌≡◌, ◌≤◌, [], None, OnOk};
 ghost use Rattle.snd_inputs.specs.Copying.{CopiesInto};
 ghost use Rattle.snd_layout.specs.Params.{AreParams};
 ghost use Rattle.snd_modes.specs.Handle.{IsFresh, StandsAfter, known_of};
@@ -16,8 +15,8 @@ use crate::plan::Plan;
 use snd_carry::{carried_size, carry_pieces};
 use snd_disk::Disk;
 use snd_layout::Kind;
-use snd_modes::{File, Read, Write};
-use snd_output::Stop;
+use snd_modes::{File, Read};
+use snd_output::{Making, Stop};
 use std::alloc::Global;
 
 fn holds_meta(kind: Kind) -> bool
@@ -47,15 +46,14 @@ pub(crate) fn chunks_size<D: Disk>(plan: &Plan, file: &File<'_, D, Read>) -> u64
 }
 
 // Carries them into a file that was begun by a plan.
-pub(crate) fn carry<D: Disk, E: Disk>(
+pub(crate) fn carry<D: Disk, E: Disk, M: Making>(
     alloc: Global,
     plan: &Plan,
     from: &mut File<'_, D, Read>,
-    to: &mut File<'_, E, Write>,
+    to: &mut File<'_, E, M>,
 ) -> Result<(), Stop>
     requires working { (known_of from.old).broken ≡ None }
     requires good { AreParams plan.now.params }
-    requires linear { is_none (fixed_of plan.now.params.codec) ≡ false }
     requires fresh { IsFresh (known_of to.old) }
     requires begun { (known_of to.old).shape ≡ shape_with plan.now.kind plan.now.params [] }
     ensures same { OnOk result (known_of from.new ≡ known_of from.old) }

@@ -1,7 +1,6 @@
 //! The tool that copies a file into another container or codec.
 
-ghost use Rattle.std.specs.Prelude.{◌≡◌, ◌+◌, ◌≤◌, ◌^◌, ◌∷◌, [], All, None, false, is_none};
-ghost use Rattle.snd_container.specs.Sound.{fixed_of};
+ghost use Rattle.std.specs.Prelude.{◌≡◌, ◌+◌, ◌≤◌, ◌^◌, ◌∷◌, [], All, None, false};
 ghost use Rattle.snd_disk.specs.Device.{OnlyReadsOn};
 ghost use Rattle.snd_inputs.specs.Asking.{AsksForFiles};
 ghost use Rattle.snd_inputs.specs.Copying.{CountsDiskAndShelf, CountsFileAndShelf, OnlyReadsFile};
@@ -21,7 +20,7 @@ use crate::chunks::chunks_size;
 use crate::make::make;
 use crate::plan::{Plan, plan_of};
 use snd_disk::{Disk, Shelf};
-use snd_inputs::{Input, close_read, has_bad_block, open_input, take_output};
+use snd_inputs::{Input, close_read, exceeds_room, has_bad_block, open_input, take_output};
 use snd_layout::{Kind, Layout};
 use snd_lines::Refusal;
 use snd_modes::{File, Read, open_laid};
@@ -42,7 +41,6 @@ fn make_under<S: Shelf, D: Disk>(
     requires is_in { (S.state shelf.old).out name.now ≡ false }
     requires unread { IsUnread (known_of file.old) }
     requires fits { fit_refusal plan.now.kind plan.now.params ≡ None }
-    requires linear { is_none (fixed_of plan.now.params.codec) ≡ false }
     requires alike { plan.now.params.channels ≡ channels_of file.old }
     requires room { is_full_by (planned_by plan.now) (known_of file.old).shape ≡ false }
     ensures loan { loan_of file.new ≡ loan_of file.old }
@@ -63,14 +61,13 @@ fn make_under<S: Shelf, D: Disk>(
 // Whether the head of what is made has no room for the data.
 fn is_full<D: Disk>(plan: &Plan, file: &File<'_, D, Read>) -> bool
     requires fits { fit_refusal plan.now.kind plan.now.params ≡ None }
-    requires linear { is_none (fixed_of plan.now.params.codec) ≡ false }
     requires working { (known_of file.now).broken ≡ None }
     ensures outlines { result ≡ is_full_by (planned_by plan.now) (known_of file.now).shape }
     ensures told { TellsFull D.state plan.now file.now result }
 {
     let chunks = chunks_size(plan, file);
-    let bytes = u128::from(file.frames()) * u128::from(plan.params.block_align());
-    bytes > u128::from(room_with(plan.kind, plan.params, chunks))
+    let room = room_with(plan.kind, plan.params, chunks);
+    exceeds_room(room, plan.kind, plan.params, u128::from(file.frames()))
 }
 
 // Makes what a plan makes of an open file, where the head has room for its data.
@@ -84,7 +81,6 @@ fn convert_good<'a, S: Shelf, D: Disk>(
     requires is_in { (S.state shelf.old).out conversion.now.output.now ≡ false }
     requires unread { IsUnread (known_of file.old) }
     requires fits { fit_refusal plan.now.kind plan.now.params ≡ None }
-    requires linear { is_none (fixed_of plan.now.params.codec) ≡ false }
     requires alike { plan.now.params.channels ≡ channels_of file.old }
     requires room { is_full_by (planned_by plan.now) (known_of file.old).shape ≡ false }
     ensures loan { loan_of file.new ≡ loan_of file.old }
@@ -118,7 +114,6 @@ fn convert_as<'a, S: Shelf, D: Disk>(
     requires is_in { (S.state shelf.old).out conversion.now.output.now ≡ false }
     requires unread { IsUnread (known_of file.old) }
     requires fits { fit_refusal plan.now.kind plan.now.params ≡ None }
-    requires linear { is_none (fixed_of plan.now.params.codec) ≡ false }
     requires alike { plan.now.params.channels ≡ channels_of file.old }
     ensures loan { loan_of file.new ≡ loan_of file.old }
     ensures done { DoesBy D.state S.state conversion.now plan.now file.old shelf.old shelf.new result }
@@ -202,9 +197,9 @@ fn convert_laid<'a, S: Shelf, D: Disk>(
 /// bytes, the first 240 of them, in their order and before the data. Into and from any other kind none go.
 ///
 /// All that is refused is refused before the output is touched, in this order: `SameName`;
-/// `UnknownSuffix` of the output; `MissingFile`, or why the input does not open; `NotBuilt` of an ADPCM
-/// codec of the output, or why its kind does not hold its parameters; `ContainerFull` where its head, with the
-/// chunks, has no room for the data; `BadBlock` of the input.
+/// `UnknownSuffix` of the output; `MissingFile`, or why the input does not open; why the output's kind does
+/// not hold its parameters; `ContainerFull` where its head, with the chunks, has no room for the data, or the
+/// count of an ADPCM WAVE file for the frames; `BadBlock` of the input.
 ///
 /// `Fault` where a call of the shelf or of a disk failed, and `Memory` where there is none: then the output
 /// may stand there in part. So it is with `Changed`, where the input has changed since its blocks were seen to

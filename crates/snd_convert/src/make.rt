@@ -1,10 +1,10 @@
 //! A file that is made of another, on two disks.
 
-ghost use Rattle.std.specs.Prelude.{◌≡◌, [], None, OnOk, false, is_none};
-ghost use Rattle.snd_container.specs.Sound.{fixed_of};
+ghost use Rattle.std.specs.Prelude.{◌≡◌, [], None, OnOk, false};
 ghost use Rattle.snd_disk.specs.Device.{GoesOnFrom};
 ghost use Rattle.snd_inputs.specs.Copying.{CopiesInto, CountsFileAndDisk, OnlyReadsFile};
 ghost use Rattle.snd_inputs.specs.Opening.{IsUnread};
+ghost use Rattle.snd_layout.specs.Blocks.{is_adpcm};
 ghost use Rattle.snd_layout.specs.Fit.{fit_refusal};
 ghost use Rattle.snd_layout.specs.Params.{AreParams};
 ghost use Rattle.snd_modes.specs.Handle.{IsFresh, channels_of, known_of, loan_of};
@@ -18,24 +18,23 @@ ghost use Rattle.snd_convert.specs.Planning.{planned_by};
 use crate::chunks::carry;
 use crate::plan::Plan;
 use snd_disk::Disk;
-use snd_modes::{File, Read, Write};
-use snd_output::{Stop, append, begin, finish};
+use snd_modes::{Encode, File, Read, Write};
+use snd_output::{Making, Stop, append, finish};
 use std::alloc::Global;
 
 /// The numbers that are held at once.
 const BLOCK: usize = 16384;
 
 // Puts the chunks that go with them, and all frames, into a file that was begun by a plan.
-fn fill<D: Disk, E: Disk>(
+fn fill<D: Disk, E: Disk, M: Making>(
     alloc: Global,
     plan: &Plan,
     from: &mut File<'_, D, Read>,
-    to: &mut File<'_, E, Write>,
+    to: &mut File<'_, E, M>,
 ) -> Result<(), Stop>
     requires unread { IsUnread (known_of from.old) }
     requires good { AreParams plan.now.params }
     requires fits { fit_refusal plan.now.kind plan.now.params ≡ None }
-    requires linear { is_none (fixed_of plan.now.params.codec) ≡ false }
     requires alike { plan.now.params.channels ≡ channels_of from.old }
     requires room { is_full_by (planned_by plan.now) (known_of from.old).shape ≡ false }
     requires fresh { IsFresh (known_of to.old) }
@@ -51,8 +50,8 @@ fn fill<D: Disk, E: Disk>(
     append(from, to, &mut block)
 }
 
-// Makes the whole file.
-pub(crate) fn make<D: Disk, E: Disk>(
+// Makes the whole file, in a mode of its codec.
+fn make_in<D: Disk, E: Disk, M: Making>(
     alloc: Global,
     from: &mut File<'_, D, Read>,
     disk: &mut E,
@@ -60,7 +59,7 @@ pub(crate) fn make<D: Disk, E: Disk>(
 ) -> Result<(), Stop>
     requires unread { IsUnread (known_of from.old) }
     requires fits { fit_refusal plan.now.kind plan.now.params ≡ None }
-    requires linear { is_none (fixed_of plan.now.params.codec) ≡ false }
+    requires codec { is_adpcm plan.now.params.codec ≡ M.ENCODES }
     requires alike { plan.now.params.channels ≡ channels_of from.old }
     requires room { is_full_by (planned_by plan.now) (known_of from.old).shape ≡ false }
     ensures loan { loan_of from.new ≡ loan_of from.old }
@@ -74,7 +73,7 @@ pub(crate) fn make<D: Disk, E: Disk>(
     ensures unasked { (E.state disk.new).asked ≡ (E.state disk.old).asked }
 {
     plan.params.are_good();
-    let mut to = match begin(alloc, disk, plan.kind, plan.params) {
+    let mut to = match M::begin(alloc, disk, plan.kind, plan.params) {
         Ok(to) => to,
         Err((stop, back)) => {
             let _ = back;
@@ -91,5 +90,33 @@ pub(crate) fn make<D: Disk, E: Disk>(
             let _ = back;
             Err(stop)
         }
+    }
+}
+
+/// Makes the whole file.
+pub(crate) fn make<D: Disk, E: Disk>(
+    alloc: Global,
+    from: &mut File<'_, D, Read>,
+    disk: &mut E,
+    plan: &Plan,
+) -> Result<(), Stop>
+    requires unread { IsUnread (known_of from.old) }
+    requires fits { fit_refusal plan.now.kind plan.now.params ≡ None }
+    requires alike { plan.now.params.channels ≡ channels_of from.old }
+    requires room { is_full_by (planned_by plan.now) (known_of from.old).shape ≡ false }
+    ensures loan { loan_of from.new ≡ loan_of from.old }
+    ensures made { OnOk result (Makes D.state E.state plan.now from.old disk.old disk.new) }
+    ensures faults { CountsFileAndDisk D.state E.state from.old from.new disk.old disk.new result }
+    ensures reads { OnlyReadsFile D.Disk from.old from.new }
+    ensures tells { StillTells (E.state disk.old) (E.state disk.new) }
+    ensures time { GoesOnFrom E.state E.left_between disk.old disk.new }
+    ensures changed { FindsChanged D.state (λ e. e.frames) from.old result }
+    ensures asked { AsksToFill D.state from.old from.new }
+    ensures unasked { (E.state disk.new).asked ≡ (E.state disk.old).asked }
+{
+    if plan.params.codec.is_adpcm() {
+        make_in::<D, E, Encode>(alloc, from, disk, plan)
+    } else {
+        make_in::<D, E, Write>(alloc, from, disk, plan)
     }
 }

@@ -1,7 +1,6 @@
 //! What a file becomes that is converted.
 
-ghost use Rattle.std.specs.Prelude.{◌≡◌, None, IfOk, IfSome, false, is_none};
-ghost use Rattle.snd_container.specs.Sound.{fixed_of};
+ghost use Rattle.std.specs.Prelude.{◌≡◌, None, IfOk};
 ghost use Rattle.snd_layout.specs.Fit.{fit_refusal};
 ghost use Rattle.snd_layout.specs.Params.{params_of};
 ghost use Rattle.snd_convert.specs.Plan.{chosen, codec_in, eight_bits, fitted, holds_order, kind_in, own_order, planned, same_class};
@@ -10,6 +9,8 @@ ghost use Rattle.snd_convert.specs.Planning.{asked_of, plan_by};
 use snd_container::fit;
 use snd_fields::Order;
 use snd_layout::{Codec, Kind, OpenRefusal, Params};
+use snd_modes::{ima_codec, ms_codec};
+use snd_output::codec_like;
 use snd_words::{CodecChoice, Conversion};
 
 /// The kind and the parameters of the file that is made.
@@ -44,8 +45,7 @@ fn holds_order(kind: Kind, order: Option<Order>) -> bool
 }
 
 fn eight_bits(kind: Kind) -> Codec
-    ensures value { result ≡ eight_bits kind }
-    ensures linear { is_none (fixed_of result) ≡ false }
+    ensures { result ≡ eight_bits kind }
 {
     match kind {
         Kind::Au | Kind::Dns | Kind::Svx => Codec::S8,
@@ -54,50 +54,52 @@ fn eight_bits(kind: Kind) -> Codec
 }
 
 // The codec of the same class in a kind.
-fn same_class(kind: Kind, order: Order, from: Codec) -> Option<Codec>
-    ensures value { result ≡ same_class kind order from }
-    ensures linear { IfSome result (λ codec. is_none (fixed_of codec) ≡ false) }
+fn same_class(kind: Kind, order: Order, channels: u64, rate: u64, from: Codec) -> Codec
+    ensures { result ≡ same_class kind order channels rate from }
 {
     match from {
-        Codec::U8 | Codec::S8 => Some(eight_bits(kind)),
-        Codec::S16(_) => Some(Codec::S16(order)),
-        Codec::S24(_) => Some(Codec::S24(order)),
-        Codec::S32(_) => Some(Codec::S32(order)),
-        Codec::MuLaw => Some(Codec::MuLaw),
-        Codec::ALaw => Some(Codec::ALaw),
-        Codec::Ima { .. } | Codec::Ms { .. } => None,
+        Codec::U8 | Codec::S8 => eight_bits(kind),
+        Codec::S16(_) => Codec::S16(order),
+        Codec::S24(_) => Codec::S24(order),
+        Codec::S32(_) => Codec::S32(order),
+        other => codec_like(channels, rate, other),
     }
 }
 
 // The codec that is asked for.
-fn chosen(order: Order, choice: CodecChoice) -> Option<Codec>
-    ensures value { result ≡ chosen order choice }
-    ensures linear { IfSome result (λ codec. is_none (fixed_of codec) ≡ false) }
+fn chosen(order: Order, channels: u64, rate: u64, choice: CodecChoice) -> Codec
+    ensures { result ≡ chosen order channels rate choice }
 {
     match choice {
-        CodecChoice::S8 => Some(Codec::S8),
-        CodecChoice::U8 => Some(Codec::U8),
-        CodecChoice::Pcm16 => Some(Codec::S16(order)),
-        CodecChoice::Pcm24 => Some(Codec::S24(order)),
-        CodecChoice::Pcm32 => Some(Codec::S32(order)),
-        CodecChoice::MuLaw => Some(Codec::MuLaw),
-        CodecChoice::ALaw => Some(Codec::ALaw),
-        CodecChoice::Ima | CodecChoice::Ms => None,
+        CodecChoice::S8 => Codec::S8,
+        CodecChoice::U8 => Codec::U8,
+        CodecChoice::Pcm16 => Codec::S16(order),
+        CodecChoice::Pcm24 => Codec::S24(order),
+        CodecChoice::Pcm32 => Codec::S32(order),
+        CodecChoice::MuLaw => Codec::MuLaw,
+        CodecChoice::ALaw => Codec::ALaw,
+        CodecChoice::Ima => ima_codec(channels, rate),
+        CodecChoice::Ms => ms_codec(channels, rate),
     }
 }
 
-fn codec_in(asked: Option<CodecChoice>, kind: Kind, order: Order, from: Codec) -> Option<Codec>
-    ensures value { result ≡ codec_in asked kind order from }
-    ensures linear { IfSome result (λ codec. is_none (fixed_of codec) ≡ false) }
+fn codec_in(
+    asked: Option<CodecChoice>,
+    kind: Kind,
+    order: Order,
+    channels: u64,
+    rate: u64,
+    from: Codec,
+) -> Codec
+    ensures { result ≡ codec_in asked kind order channels rate from }
 {
     match asked {
-        Some(choice) => chosen(order, choice),
-        None => same_class(kind, order, from),
+        Some(choice) => chosen(order, channels, rate, choice),
+        None => same_class(kind, order, channels, rate, from),
     }
 }
 
 // The plan of a file of a kind with parameters that are to be judged.
-#[tactic(auto, using(crate::proofs::Parameters::same_channels, crate::proofs::Parameters::same_codec))]
 fn plan_in(
     kind: Kind,
     order: Option<Order>,
@@ -105,10 +107,8 @@ fn plan_in(
     rate: u64,
     codec: Codec,
 ) -> Result<Plan, OpenRefusal>
-    requires linear { is_none (fixed_of codec) ≡ false }
     ensures value { plan_by result ≡ fitted kind order (params_of channels rate codec) }
     ensures fits { IfOk result (λ plan. fit_refusal plan.kind plan.params ≡ None) }
-    ensures linear { IfOk result (λ plan. is_none (fixed_of plan.params.codec) ≡ false) }
     ensures channels { IfOk result (λ plan. plan.params.channels ≡ channels) }
 {
     let params = Params::new(u64::from(channels), rate, codec)?;
@@ -120,8 +120,8 @@ fn plan_in(
 }
 
 /// What a file with these parameters becomes in a file of a kind, as a conversion asks: or the first reason
-/// why it does not. `NotBuilt` comes where its codec is ADPCM; `BadRate`, `BadPair` as `Params::new` and `fit`
-/// say, and `BadPair` where the kind does not hold the order of bytes that is asked for.
+/// why it does not. `BadRate`, `BadPair` as `Params::new` and `fit` say, and `BadPair` where the kind does not
+/// hold the order of bytes that is asked for.
 #[tactic(auto, unfolding(crate::specs::Plan::planned))]
 pub(crate) fn plan_of(
     conversion: &Conversion<'_>,
@@ -130,14 +130,12 @@ pub(crate) fn plan_of(
 ) -> Result<Plan, OpenRefusal>
     ensures value { plan_by result ≡ planned (asked_of conversion.now) kind from }
     ensures fits { IfOk result (λ plan. fit_refusal plan.kind plan.params ≡ None) }
-    ensures linear { IfOk result (λ plan. is_none (fixed_of plan.params.codec) ≡ false) }
     ensures channels { IfOk result (λ plan. plan.params.channels ≡ from.channels) }
 {
     let kind = kind_in(conversion.order, kind);
     let order = conversion.order.unwrap_or(own_order(kind));
-    let Some(codec) = codec_in(conversion.codec, kind, order, from.codec) else {
-        return Err(OpenRefusal::NotBuilt);
-    };
     let rate = conversion.rate.unwrap_or(u64::from(from.rate));
+    let channels = u64::from(from.channels);
+    let codec = codec_in(conversion.codec, kind, order, channels, rate, from.codec);
     plan_in(kind, conversion.order, from.channels, rate, codec)
 }

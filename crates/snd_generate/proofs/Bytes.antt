@@ -60,12 +60,13 @@ module _ (n : ℕ) (xs : List ℤ) (count : length xs ≡ 2 * n) (m : Editing) (
 
   rule_is : KeepsRule h
   rule_is =
-      let first : KeepsRule (record says { frames = n }) = subst (λ (k : ℕ). KeepsRule (record says { frames = k })) (count_of n xs count) (rule Wave params [] xs m making) in
+      let first : KeepsRule (record says { frames = n }) = subst (λ (k : ℕ). KeepsRule (record says { frames = k })) (count_of n xs count) (rule Wave params [] xs m making refl) in
       counted_rule (record says { frames = n }) n first known first.data_end (λ trailing. refl)
 
   apart_is : FieldsLieApart h
   apart_is =
-      let lie = subst FieldsLieApart (sym making.edited.shape ∙ making.shape) (fields_lie_apart head making.edited.head m.shape.frames m.shape.declared making.edited.opened).inner in
+      let holds = making.numbers refl in
+      let lie = subst FieldsLieApart (sym holds.edited.shape ∙ holds.shape) (fields_lie_apart head holds.edited.head m.shape.frames m.shape.declared holds.edited.opened).inner in
       record { outer = lie.outer; side = lie.side }
 
   -- its fields are those of k frames, whatever they were

@@ -28,14 +28,14 @@ use Rattle.snd_generate.specs.Edited.{file_of, params}
 use Rattle.snd_generate.specs.Generating.{AreNumbers}
 use Rattle.snd_generate.specs.Steps.{Holds, shape_of}
 use Rattle.snd_generate.proofs.Bytes.{count_of}
-use Rattle.snd_generate.proofs.Heads.{data_are, fits, good, linear, no_tail, params_are, room_is, says, unwritten}
+use Rattle.snd_generate.proofs.Heads.{data_are, fits, good, no_tail, params_are, room_is, says, unwritten}
 
 -- the state in which it is begun
 abbrev begun : Editing
 begun = first_editing (new_file Wave params) (new_shape Wave params)
 
 begun_is_making : IsMaking Wave params [] [] begun
-begun_is_making = first_is_making Wave params good fits linear
+begun_is_making = first_is_making Wave params good fits
 
 module _ (n : ℕ) (xs : List ℤ) (are : AreNumbers n xs) where
   in_says : MayWrite xs unwritten 0
@@ -46,23 +46,23 @@ module _ (n : ℕ) (xs : List ℤ) (are : AreNumbers n xs) where
   }
 
   may_write : MayWrite xs begun.shape begun.write_place
-  may_write = subst (λ (s : Shape). MayWrite xs s 0) (sym begun_is_making.shape) (subst (λ q. MayWrite xs (record says { frames = 0; params = q }) 0) (sym params_are) in_says)
+  may_write = subst (λ (s : Shape). MayWrite xs s 0) (sym (begun_is_making.numbers refl).shape) (subst (λ q. MayWrite xs (record says { frames = 0; params = q }) 0) (sym params_are) in_says)
 
   pub making : (m : Editing) × IsMaking Wave params [] xs m
-  making = (written_to xs begun, written_is_making Wave params [] [] xs begun begun_is_making may_write)
+  making = (written_to xs begun, written_is_making Wave params [] [] xs begun begun_is_making refl may_write)
 
   abbrev m : Editing
   m = making.0
 
   bytes_are : (sealed_to m).bytes ≡ file_of xs
-  bytes_are = sealed_is_made Wave params [] xs m making.1
+  bytes_are = sealed_is_made Wave params [] xs m making.1 refl
 
   again : OpensAgain (sealed_to m)
-  again = sealed_reads_back _ m making.1.edited
+  again = sealed_reads_back _ m (making.1.numbers refl).edited
 
   -- its layout
   shape_is : m.shape ≡ record says { frames = n }
-  shape_is = making.1.shape ∙ ap (λ (k : ℕ). record says { frames = k }) (count_of n xs are.count)
+  shape_is = (making.1.numbers refl).shape ∙ ap (λ (k : ℕ). record says { frames = k }) (count_of n xs are.count)
 
   no_voice : (sealed_to m).shape.kind ≡ Voc → ⊥
   no_voice voice = let no : ◌≡◌ {A = Kind} Wave Voc = sym making.1.kind_is ∙ sym (ap (λ (s : Shape). s.kind) shape_is) ∙ voice in absurd (cc)
@@ -84,4 +84,4 @@ module _ (n : ℕ) (xs : List ℤ) (are : AreNumbers n xs) where
   opened_frames e is =
       let given : ◌≡◌ {A = Result Editing OpenRefusal} (Ok (as_opened (going_on again.goes_on (sealed_to m)))) (Ok e) = sym again.opens ∙ ap opening_of bytes_are ∙ is in
       let same : as_opened (going_on again.goes_on (sealed_to m)) ≡ e = cc in
-      (ap (λ (f : Editing). f.frames) (sym same) ∙ frames_are Wave params [] xs m making.1 ∙ ap (groups 2) (map-id xs), ap (λ (f : Editing). f.place) (sym same))
+      (ap (λ (f : Editing). f.frames) (sym same) ∙ frames_are Wave params [] xs m making.1 refl ∙ ap (groups 2) (map-id xs), ap (λ (f : Editing). f.place) (sym same))

@@ -16,7 +16,7 @@ use snd_disk::Disk;
 use snd_fields::Order;
 use snd_layout::{Codec, Kind, Params};
 use snd_modes::{File, Write};
-use snd_output::{Stop, begin, finish};
+use snd_output::{Making, Stop, finish};
 use snd_words::Generation;
 use std::alloc::Global;
 
@@ -85,7 +85,7 @@ pub(crate) fn make<E: Disk>(
     ensures tells { StillTells (E.state disk.old) (E.state disk.new) }
     ensures time { GoesOnFrom E.state E.left_between disk.old disk.new }
 {
-    let mut file = match begin(alloc, disk, Kind::Wave, params()) {
+    let mut file = match Write::begin(alloc, disk, Kind::Wave, params()) {
         Ok(file) => file,
         Err((stop, back)) => {
             let _ = back;

@@ -1,5 +1,5 @@
 -- A file of which the blocks are checked.
-use Rattle.std.proofs.Common.{◌≡◌, ◌≢◌, ◌∙◌, ap, sym, subst, refl, ℕ, ℤ, ◌≤◌, true, false, List, None, Some, Result, Err}
+use Rattle.std.proofs.Common.{◌≡◌, ◌≢◌, ◌∙◌, ap, sym, subst, refl, ◌≤◌, false, None, Some, Result, Err}
 use Rattle.std.specs.Prelude.{is_none}
 use Rattle.snd_blocks.specs.Frames.{has_bad}
 use Rattle.snd_blocks.specs.Sound.{frames_in}

@@ -64,7 +64,7 @@ counts_appended (Err Fault) a b c e counts = counts
 counts_appended (Err Changed) a b c e counts = counts
 
 pub still_works : {T : Type 0} (r : Result T Stop) (n : ℕ) (from from' to to' : Known) (a b c e : ℕ) → AppendLeaves n from from' to to' r → CountsEither a b c e r → to.broken ≡ None → BreaksByFault to' r
-still_works (Ok x) n from from' to to' a b c e left counts working = ap (λ (k : Known). k.broken) left.1 ∙ working
+still_works (Ok x) n from from' to to' a b c e left counts working = left.1.working ∙ working
 still_works (Err Memory) n from from' to to' a b c e left counts working = absurd counts
 still_works (Err Fault) n from from' to to' a b c e left counts working = tt
 still_works (Err Changed) n from from' to to' a b c e left counts working = left.2

@@ -1,6 +1,7 @@
 pub mod Answering
-pub mod Between
 pub mod Asking
+pub mod Begun
+pub mod Between
 pub mod Checked
 pub mod Copying
 pub mod DataBytes
@@ -8,6 +9,7 @@ pub mod Formed
 pub mod Held
 pub mod Lists
 pub mod Reading
+pub mod Rooms
 pub mod Seen
 pub mod Told
 pub mod Weighing

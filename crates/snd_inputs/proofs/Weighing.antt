@@ -1,12 +1,12 @@
 -- What it takes to read a file is enough to copy its frames, and to see that its blocks are good.
-use Rattle.std.proofs.Common.{◌≡◌, ◌∙◌, ap, sym, subst, refl, inl, inr, ◌⊎◌, ℕ, ◌+◌, ◌-◌, ◌*◌, ◌/◌, ◌<◌, ◌≤◌, Bool, cond, true, false, List, None, Some, Ok, Result, length, arith}
+use Rattle.std.proofs.Common.{◌≡◌, ◌∙◌, ap, sym, subst, inl, inr, ◌⊎◌, ℕ, ◌+◌, ◌-◌, ◌*◌, ◌/◌, ◌≤◌, Bool, cond, true, false, List, None, Some, Ok, Result, length, arith}
 use Rattle.std.proofs.Math.Nat.{div-add-mod, mul-le-mul_left}
 use Rattle.std.proofs.lemmas.Bool.{cases_Bool}
 use Rattle.std.proofs.lemmas.Nat.{le-div}
-use Rattle.snd_blocks.specs.Calls.{AreBlocks, HasForm}
+use Rattle.snd_blocks.specs.Calls.{HasForm}
 use Rattle.snd_layout.specs.Blocks.{block_align, block_frames, is_adpcm}
 use Rattle.snd_layout.specs.Fit.{fit_refusal}
-use Rattle.snd_layout.specs.Params.{AreParams, Parameters, data_bytes}
+use Rattle.snd_layout.specs.Params.{AreParams, data_bytes}
 use Rattle.snd_layout.specs.Shape.{Shape, end}
 use Rattle.snd_layout.specs.declared.codec.Codec.{Codec}
 use Rattle.snd_layout.specs.declared.codec.Codec.TheVariants.{Ima, Ms}
@@ -14,7 +14,6 @@ use Rattle.snd_layout.specs.declared.refusal.OpenRefusal.{OpenRefusal}
 use Rattle.snd_modes.proofs.FixedFrames.{is_fixed}
 use Rattle.snd_modes.specs.Editing.{Editing, first_editing, opening_of}
 use Rattle.snd_output.proofs.Appending.{div_sum}
-use Rattle.snd_output.specs.Appended.{bytes_by_calls}
 use Rattle.snd_inputs.proofs.DataBytes.{align_bytes}
 use Rattle.snd_inputs.proofs.Formed.{keeps_blocks}
 use Rattle.snd_inputs.specs.Asking.{bytes_read, has_blocks, size_of}

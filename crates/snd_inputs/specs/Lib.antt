@@ -3,4 +3,5 @@ pub mod Copying
 pub mod Inputs
 pub mod Looking
 pub mod Opening
+pub mod Rooms
 pub mod Seeing

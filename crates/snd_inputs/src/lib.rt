@@ -14,4 +14,4 @@ pub use input::Input;
 pub use looking::{Inputs, look, look_all, see};
 pub use opening::{close_read, open_input, params_of};
 pub use output::take_output;
-pub use room::{bare_room, exceeds_room};
+pub use room::{bare_room, exceeds_room, is_full};

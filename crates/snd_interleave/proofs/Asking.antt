@@ -11,7 +11,7 @@ use Rattle.snd_disk.specs.Shelf.{Gives, ShelfState}
 use Rattle.snd_disk.specs.State.{Adds, AtMost, State}
 use Rattle.snd_inputs.proofs.Asking.{asks_beside, asks_less}
 use Rattle.snd_inputs.proofs.Weighing.{whole_within}
-use Rattle.snd_inputs.specs.Asking.{AsksForEach, size_of, sizes_of}
+use Rattle.snd_inputs.specs.Asking.{AsksForEach, size_of}
 use Rattle.snd_inputs.specs.Copying.{bytes_checked}
 use Rattle.snd_inputs.specs.Looking.{AsksToLook}
 use Rattle.snd_inputs.specs.Opening.{IsOpen}

@@ -1,31 +1,27 @@
 -- What is done with inputs that are all open.
 use Rattle.std.proofs.Common.{◌≡◌, ◌∙◌, ap, sym, refl, subst, inl, inr, ℕ, zero, suc, ℤ, Bool, true, false, cond, List, [], ◌∷◌, Option, None, Some, Result, Ok, Err, length, arith}
 use Rattle.std.proofs.lemmas.Bool.{cases_Bool, eqb-true}
-use Rattle.std.specs.Prelude.{◌==◌, is_none}
-use Rattle.snd_container.specs.Sound.{fixed_of}
+use Rattle.std.specs.Prelude.{◌==◌}
 use Rattle.snd_disk.specs.declared.disk.Disk.{Ghosts}
 use Rattle.snd_disk.specs.Shelf.{Files, ShelfState, put}
 use Rattle.snd_disk.specs.Shelves.{TellsFiles}
 use Rattle.snd_inputs.specs.Inputs.{first_bad}
-use Rattle.snd_layout.specs.Blocks.{is_adpcm}
+use Rattle.snd_inputs.specs.Rooms.{is_full}
 use Rattle.snd_layout.specs.Params.{Parameters}
 use Rattle.snd_layout.specs.Shape.{Shape}
-use Rattle.snd_layout.specs.declared.codec.Codec.{Codec}
 use Rattle.snd_layout.specs.declared.kind.Kind.{Kind}
 use Rattle.snd_layout.specs.declared.refusal.OpenRefusal.{OpenRefusal}
-use Rattle.snd_layout.specs.declared.refusal.OpenRefusal.TheVariants.{BadChannels, NotBuilt}
+use Rattle.snd_layout.specs.declared.refusal.OpenRefusal.TheVariants.{BadChannels}
 use Rattle.snd_lines.specs.declared.refusal.Refusal.{Refusal}
 use Rattle.snd_lines.specs.declared.refusal.Refusal.TheVariants.{ContainerFull, MixedParams, NotMono, Open}
-use Rattle.snd_modes.proofs.FixedFrames.{is_fixed}
-use Rattle.snd_modes.proofs.Rooms.{not_adpcm}
 use Rattle.snd_modes.specs.Editing.{Editing}
-use Rattle.snd_output.specs.Made.{made_file}
+use Rattle.snd_output.specs.Codecs.{params_like}
 use Rattle.snd_tools.proofs.Names.{MakesOnly}
 use Rattle.snd_tools.specs.Done.{Done, Said, files_after, said_of}
 use Rattle.snd_tools.specs.Shelves.{HasFiles}
-use Rattle.snd_interleave.specs.Beside.{longest, side_by_side}
+use Rattle.snd_interleave.specs.Beside.{longest}
 use Rattle.snd_interleave.specs.Channels.{AreMono, bytes_made, first_of, layouts_of}
-use Rattle.snd_interleave.specs.Interleave.{channels_in, done_as, done_beside, done_if_built, done_if_fit, done_with, first_misfit, is_full, made_if_good, made_of, misfit, misfit_or, planned, shapes_of}
+use Rattle.snd_interleave.specs.Interleave.{channels_in, done_as, done_beside, done_if_fit, done_with, first_misfit, made_if_good, made_of, misfit, misfit_or, shapes_of}
 use Rattle.snd_inputs.specs.declared.input.Input.{Input}
 
 -- ---- the output alone is made
@@ -48,18 +44,9 @@ makes_as : (inputs : List (List ℕ)) (output : List ℕ) (kind : Kind) (es : Li
 makes_as inputs output kind es (Err why) = tt
 makes_as inputs output kind es (Ok p) = makes_of inputs output kind p es
 
-makes_built : (inputs : List (List ℕ)) (output : List ℕ) (kind : Kind) (own : Parameters) (es : List Editing) → MakesOnly output (done_if_built inputs output kind own es)
-makes_built inputs output kind own es =
-    let made = done_as inputs output kind es (planned kind (length es) own.rate own.codec) in
-    let P : Bool → Type 0 = λ t. MakesOnly output (cond t (Done.refuses output (Open NotBuilt)) made) in
-    elim (cases_Bool (is_adpcm own.codec)) [
-      | inl blocks ↦ subst P (sym blocks) tt
-      | inr linear ↦ subst P (sym linear) (makes_as inputs output kind es (planned kind (length es) own.rate own.codec))
-    ]
-
 makes_if_fit : (inputs : List (List ℕ)) (output : List ℕ) (kind : Kind) (own : Parameters) (es : List Editing) (o : Option (List ℕ × Refusal)) → MakesOnly output (done_if_fit inputs output kind own es o)
 makes_if_fit inputs output kind own es (Some refused) = tt
-makes_if_fit inputs output kind own es None = makes_built inputs output kind own es
+makes_if_fit inputs output kind own es None = makes_as inputs output kind es (params_like kind (length es) own)
 
 makes_beside : (inputs : List (List ℕ)) (output : List ℕ) (es : List Editing) → MakesOnly output (done_beside inputs output es)
 makes_beside inputs output [] = tt
@@ -68,12 +55,6 @@ makes_beside inputs output (e ∷ es) = makes_if_fit inputs output e.shape.kind 
 pub makes_output : (inputs : List (List ℕ)) (output : List ℕ) (r : Result (List Editing) (List ℕ × Refusal)) → MakesOnly output (done_with inputs output r)
 makes_output inputs output (Err refused) = tt
 makes_output inputs output (Ok es) = makes_beside inputs output es
-
-stands_in_blocks : (codec : Codec) → is_none (fixed_of codec) ≡ true → is_adpcm codec ≡ true
-stands_in_blocks codec none = elim (cases_Bool (is_adpcm codec)) [
-  | inl is ↦ is
-  | inr other ↦ absurd (let no : true ≡ false = sym none ∙ is_fixed codec other in cc)
-]
 
 -- ---- by what the first one says
 
@@ -130,16 +111,6 @@ all_mono first (name ∷ names) (x ∷ inputs) many none =
     one_more x inputs (mono_by first x.layout.params both.0) (all_mono first names inputs (omega (arith, many)) both.1)
 
 -- ---- and is said
-
--- whether the output is of ADPCM
-module _ (inputs : List (List ℕ)) (output : List ℕ) (kind : Kind) (own : Parameters) (es : List Editing) where
-  pub unbuilt_is : is_none (fixed_of own.codec) ≡ true → done_if_fit inputs output kind own es None ≡ Done.refuses output (Open NotBuilt)
-  unbuilt_is blocks =
-      ap (λ (t : Bool). cond t (Done.refuses output (Open NotBuilt)) (done_as inputs output kind es (planned kind (length es) own.rate own.codec))) (stands_in_blocks own.codec blocks)
-
-  pub built_is : is_none (fixed_of own.codec) ≡ false → done_if_fit inputs output kind own es None ≡ done_as inputs output kind es (planned kind (length es) own.rate own.codec)
-  built_is linear =
-      ap (λ (t : Bool). cond t (Done.refuses output (Open NotBuilt)) (done_as inputs output kind es (planned kind (length es) own.rate own.codec))) (not_adpcm own.codec linear)
 
 -- whether its head has room
 module _ (inputs : List (List ℕ)) (output : List ℕ) (kind : Kind) (p : Parameters) (es : List Editing) where

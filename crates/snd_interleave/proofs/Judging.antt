@@ -1,29 +1,14 @@
 -- What is judged of inputs.
-use Rattle.std.proofs.Common.{◌≡◌, ◌∙◌, ap, sym, ℕ, ◌+◌, ◌<◌, List, ◌∷◌, Option, None, Some, Ok, drop, length, get_or, slice_get}
+use Rattle.std.proofs.Common.{◌≡◌, ◌∙◌, ap, sym, ℕ, ◌+◌, ◌<◌, List, ◌∷◌, Some, drop, length, get_or, slice_get}
 use Rattle.std.proofs.lemmas.Option.{slice_get-get_or}
 use Rattle.snd_disk.specs.declared.disk.Disk.{Ghosts}
-use Rattle.snd_layout.specs.Params.{Parameters, params_of, params_refusal}
-use Rattle.snd_layout.specs.Refusals.{unless}
-use Rattle.snd_layout.specs.declared.codec.Codec.{Codec}
-use Rattle.snd_layout.specs.declared.refusal.OpenRefusal.{OpenRefusal}
+use Rattle.snd_layout.specs.Params.{Parameters}
 use Rattle.snd_interleave.specs.Channels.{layouts_of}
 use Rattle.snd_interleave.specs.Interleave.{first_misfit, misfit, misfit_or}
 use Rattle.snd_inputs.specs.declared.input.Input.{Input}
 use Rattle.snd_words.proofs.Runs.{drop_get}
 
--- parameters that are not refused are those that were asked for
-as_asked : (o : Option OpenRefusal) (q p : Parameters) → Ok p ≡ unless o q → p ≡ q
-as_asked None q p is = cc
-as_asked (Some why) q p is = absurd (cc)
-
-pub same_channels : (channels rate : ℕ) (codec : Codec) (p : Parameters) → Ok p ≡ params_of channels rate codec → p.channels ≡ channels
-same_channels channels rate codec p is = let e = as_asked (params_refusal channels rate codec) (record { channels = channels; rate = rate; codec = codec }) p is in cc
-
-pub same_codec : (channels rate : ℕ) (codec : Codec) (p : Parameters) → Ok p ≡ params_of channels rate codec → p.codec ≡ codec
-same_codec channels rate codec p is = let e = as_asked (params_refusal channels rate codec) (record { channels = channels; rate = rate; codec = codec }) p is in cc
-
--- ---- one input after the other
-
+-- one input after the other
 pub misfit_next : {D : Type 0} {ghosts : Ghosts D} (first : Parameters) (names : List (List ℕ)) (inputs : List (Input D ghosts)) (at : ℕ) (name : List ℕ) (x : Input D ghosts)
     → slice_get names at ≡ Some name → at < length inputs → x ≡ get_or inputs at x
     → first_misfit first (drop at names) (layouts_of (drop at inputs)) ≡ misfit_or name (misfit first x.layout.params) (first_misfit first (drop (at + 1) names) (layouts_of (drop (at + 1) inputs)))

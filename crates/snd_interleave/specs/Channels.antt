@@ -19,7 +19,7 @@ use Rattle.snd_modes.specs.declared.mode.Mode.{Ghosts as ModeGhosts}
 use Rattle.snd_modes.specs.Editing.{Editing, first_editing}
 use Rattle.snd_modes.specs.Handle.{Stands, codec_of}
 use Rattle.snd_inputs.specs.Inputs.{first_bad, is_bad}
-use Rattle.snd_output.specs.Appended.{CountsFault, CountsRead}
+use Rattle.snd_output.specs.Appended.{CountsRead}
 use Rattle.snd_output.specs.Ends.{IfChanged}
 use Rattle.snd_output.specs.Made.{IsMaking, made_file}
 use Rattle.snd_output.specs.declared.stop.Stop.{Stop}
@@ -117,9 +117,6 @@ abbrev pub CountsAddingTo : {D E N T : Type 0} {ghosts : Ghosts D} {t : Ghosts E
 CountsAddingTo state state' old new to to' result = CountsWith state old new (faults_of_file state' to) (faults_of_file state' to') result
 
 -- That of an open file alone. There is never no memory.
-abbrev pub CountsFaultOf : {E N T : Type 0} {t : Ghosts E} {n : ModeGhosts N} → (E → State) → File E N t n → File E N t n → Result T Stop → Type 0
-CountsFaultOf state old new result = CountsFault (faults_of_file state old) (faults_of_file state new) result
-
 abbrev pub CountsReadOf : {E N T : Type 0} {t : Ghosts E} {n : ModeGhosts N} → (E → State) → File E N t n → File E N t n → Result T Stop → Type 0
 CountsReadOf state old new result = CountsRead (faults_of_file state old) (faults_of_file state new) result
 

@@ -1,22 +1,20 @@
 -- What `interleave` does: the whole file that it makes, or what it refuses. It refuses in this order: equal names; an input that is
--- missing or is not opened; one that has more channels than one, or another rate than the first; an output of ADPCM; what the output
--- would be; more data than its head has room for; and an input that has a bad block.
-use Rattle.std.specs.Prelude.{ℕ, ℤ, pos, Bool, ◌==◌, List, [], ◌∷◌, ◌++◌, Option, Some, None, Result, Ok, Err, get_or, length, map, nat_lt, slice_index_or, if◌then◌else◌}
+-- missing or is not opened; one that has more channels than one, or another rate than the first; what the output would be; more data
+-- than its head has room for; and an input that has a bad block.
+use Rattle.std.specs.Prelude.{ℕ, ℤ, pos, ◌==◌, List, [], ◌∷◌, ◌++◌, Option, Some, None, Result, Ok, Err, get_or, length, map, slice_index_or, if◌then◌else◌}
 use Rattle.snd_disk.specs.Shelf.{Files}
 use Rattle.snd_inputs.specs.Inputs.{first_bad, inputs_in}
-use Rattle.snd_layout.specs.Blocks.{is_adpcm}
-use Rattle.snd_layout.specs.Fit.{fit_refusal}
-use Rattle.snd_layout.specs.Params.{Parameters, data_bytes, params_of}
-use Rattle.snd_layout.specs.Refusals.{unless}
-use Rattle.snd_layout.specs.Shape.{Shape, room}
+use Rattle.snd_inputs.specs.Rooms.{is_full}
+use Rattle.snd_layout.specs.Params.{Parameters}
+use Rattle.snd_layout.specs.Shape.{Shape}
 use Rattle.snd_layout.specs.declared.codec.Codec.{Codec}
 use Rattle.snd_layout.specs.declared.kind.Kind.{Kind}
 use Rattle.snd_layout.specs.declared.refusal.OpenRefusal.{OpenRefusal}
-use Rattle.snd_layout.specs.declared.refusal.OpenRefusal.TheVariants.{BadChannels, NotBuilt}
+use Rattle.snd_layout.specs.declared.refusal.OpenRefusal.TheVariants.{BadChannels}
 use Rattle.snd_lines.specs.declared.refusal.Refusal.{Refusal}
 use Rattle.snd_lines.specs.declared.refusal.Refusal.TheVariants.{BadBlock, ContainerFull, MixedParams, NotMono, Open, SameName}
 use Rattle.snd_modes.specs.Editing.{Editing}
-use Rattle.snd_modes.specs.Relaid.{shape_with}
+use Rattle.snd_output.specs.Codecs.{params_like}
 use Rattle.snd_output.specs.Made.{made_file}
 use Rattle.snd_output.specs.Widths.{change_numbers}
 use Rattle.snd_tools.specs.Done.{Done}
@@ -36,10 +34,6 @@ channel_in codec e = change_numbers e.shape.params.codec codec (numbers_of e)
 abbrev pub channels_in : Codec → List Editing → List (List ℤ)
 channels_in codec es = map (channel_in codec) es
 
--- whether so many frames have more data bytes than the head of a new file has room for
-abbrev pub is_full : Kind → Parameters → ℕ → Bool
-is_full kind p frames = nat_lt (room (shape_with kind p [])) (data_bytes p frames)
-
 -- the file of a kind that has these as its channels, without further chunks
 abbrev pub made_if_good : List (List ℕ) → List ℕ → Kind → Parameters → List (List ℤ) → Option ℕ → Done
 made_if_good inputs output kind p channels (Some at) = Done.refuses (slice_index_or inputs at []) BadBlock
@@ -52,23 +46,11 @@ made_of inputs output kind p es =
 
 -- ---- what is refused
 
--- parameters that a kind holds
-abbrev pub fitting : Kind → Result Parameters OpenRefusal → Result Parameters OpenRefusal
-fitting kind (Err why) = Err why
-fitting kind (Ok p) = unless (fit_refusal kind p) p
-
-abbrev pub planned : Kind → ℕ → ℕ → Codec → Result Parameters OpenRefusal
-planned kind channels rate codec = fitting kind (params_of channels rate codec)
-
--- the output has the kind, the rate and the codec of the first input, and a channel for each
+-- the output has the kind, the rate and the codec of the first input, and a channel for each; blocks of ADPCM have the size that
+-- this library gives them
 abbrev pub done_as : List (List ℕ) → List ℕ → Kind → List Editing → Result Parameters OpenRefusal → Done
 done_as inputs output kind es (Err why) = Done.refuses output (Open why)
 done_as inputs output kind es (Ok p) = made_of inputs output kind p es
-
--- a file of ADPCM is not made yet
-abbrev pub done_if_built : List (List ℕ) → List ℕ → Kind → Parameters → List Editing → Done
-done_if_built inputs output kind first es =
-    if is_adpcm first.codec then Done.refuses output (Open NotBuilt) else done_as inputs output kind es (planned kind (length es) first.rate first.codec)
 
 -- why a file is no channel beside a first one
 abbrev pub misfit : Parameters → Parameters → Option Refusal
@@ -88,7 +70,7 @@ shapes_of es = map (λ e. e.shape) es
 
 abbrev pub done_if_fit : List (List ℕ) → List ℕ → Kind → Parameters → List Editing → Option (List ℕ × Refusal) → Done
 done_if_fit inputs output kind first es (Some refused) = Done.refuses refused.0 refused.1
-done_if_fit inputs output kind first es None = done_if_built inputs output kind first es
+done_if_fit inputs output kind first es None = done_as inputs output kind es (params_like kind (length es) first)
 
 -- No words name no inputs. There would be no channels.
 abbrev pub done_beside : List (List ℕ) → List ℕ → List Editing → Done

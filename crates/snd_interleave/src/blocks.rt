@@ -1,24 +1,22 @@
 //! The frames of inputs side by side, behind those of a file that is made.
 
-ghost use Rattle.std.specs.Prelude.{◌≡◌, ◌≤◌, ◌*◌, None, OnOk, length};
+ghost use Rattle.std.specs.Prelude.{◌≡◌, ◌*◌, OnOk, length};
 ghost use Rattle.snd_disk.specs.Device.{GoesOnFrom};
-ghost use Rattle.snd_modes.specs.Edits.{written_to};
-ghost use Rattle.snd_modes.specs.Handle.{StandsAfter, channels_of, codec_of, disk_of, known_of, loan_of};
+ghost use Rattle.snd_modes.specs.Handle.{channels_of, disk_of, known_of, loan_of};
 ghost use Rattle.snd_modes.specs.Outcomes.{AsksNothing, TellsOn};
 ghost use Rattle.snd_modes.specs.Reading.{FitCodec};
-ghost use Rattle.snd_modes.specs.WriteCalls.{MayWrite, known_written};
-ghost use Rattle.snd_output.specs.Appended.{HasRoom, IsAtEnd, longer};
+ghost use Rattle.snd_output.specs.Appended.{HasRoom, IsAtEnd, IsLonger};
 ghost use Rattle.snd_output.specs.Ends.{BreaksByFault};
 ghost use Rattle.snd_interleave.specs.Asking.{AsksEach, AsksOnce, bytes_from};
-ghost use Rattle.snd_interleave.specs.Channels.{AreMono, CountsAddingTo, CountsFaultOf, CountsInputs, HasFrames, Lengthens, ReadAll, StayGood, layouts_of, most_frames};
+ghost use Rattle.snd_interleave.specs.Channels.{AreMono, CountsAddingTo, CountsInputs, HasFrames, Lengthens, ReadAll, StayGood, layouts_of, most_frames};
 
 use crate::channel::{read_numbers, width_in};
 use crate::scatter::{put_channel, width_of};
 use snd_disk::Disk;
 use snd_inputs::Input;
 use snd_layout::Codec;
-use snd_modes::{File, Write, WriteError};
-use snd_output::Stop;
+use snd_modes::File;
+use snd_output::{Making, Stop, numbers_of};
 use std::alloc::Global;
 
 /// The numbers that are held at once of each channel.
@@ -54,41 +52,12 @@ fn fill_block<D: Disk>(
     Ok(())
 }
 
-// The codec of a file that is made, which has some channel.
-fn made_codec<E: Disk>(to: &File<'_, E, Write>) -> Codec
-    ensures codec { result ≡ codec_of to.now }
-    ensures some { 1 ≤ channels_of to.now }
-{
-    let params = to.params();
-    params.are_good();
-    params.codec
-}
-
-// Writes frames, which may be written.
-fn write_all<E: Disk>(to: &mut File<'_, E, Write>, from: &[i32]) -> Result<(), Stop>
-    requires working { (known_of to.old).broken ≡ None }
-    requires may { MayWrite from.now (known_of to.old).shape (known_of to.old).write_place }
-    ensures loan { loan_of to.new ≡ loan_of to.old }
-    ensures left { OnOk result (known_of to.new ≡ known_written from.now (known_of to.old)) }
-    ensures stands { OnOk result (StandsAfter E.state to.old to.new (written_to from.now)) }
-    ensures faults { CountsFaultOf E.state to.old to.new result }
-    ensures tells { TellsOn E.state to.old to.new }
-    ensures time { GoesOnFrom E.state E.left_between (disk_of to.old) (disk_of to.new) }
-    ensures unasked { AsksNothing E.state to.old to.new }
-{
-    match to.write_frames(from) {
-        Ok(()) => Ok(()),
-        Err(WriteError::DiskFault(_)) => Err(Stop::Fault),
-        Err(_) => unreachable!(),
-    }
-}
-
 // Puts the frames of inputs, from a place on, behind those of a file that is made: as many as a buffer has
 // places for the numbers of one input. The block has places for all of them.
-fn add_block<D: Disk, E: Disk>(
+fn add_block<D: Disk, E: Disk, M: Making>(
     alloc: Global,
     inputs: &mut [Input<D>],
-    to: &mut File<'_, E, Write>,
+    to: &mut File<'_, E, M>,
     place: u64,
     buffer: &mut [i32],
     block: &mut [i32],
@@ -96,10 +65,10 @@ fn add_block<D: Disk, E: Disk>(
     requires mono { AreMono inputs.old }
     requires alike { channels_of to.old ≡ length inputs.old }
     requires at_end { IsAtEnd (known_of to.old) }
-    requires room { HasRoom (length buffer.old) (known_of to.old).shape }
+    requires room { HasRoom (length buffer.old) (known_of to.old) }
     requires size { length block.old ≡ length buffer.old * length inputs.old }
     ensures loan { loan_of to.new ≡ loan_of to.old }
-    ensures left { OnOk result (known_of to.new ≡ longer (length buffer.old) (known_of to.old)) }
+    ensures left { OnOk result (IsLonger (length buffer.old) (known_of to.old) (known_of to.new)) }
     ensures works { BreaksByFault (known_of to.new) result }
     ensures lengthens { OnOk result (Lengthens D.state E.state place (length buffer.old) inputs.old to.old to.new) }
     ensures faults { CountsAddingTo D.state E.state inputs.old inputs.new to.old to.new result }
@@ -110,23 +79,23 @@ fn add_block<D: Disk, E: Disk>(
     ensures asked { AsksEach D.state (bytes_from place (length buffer.old)) inputs.old inputs.new }
     ensures unasked { AsksNothing E.state to.old to.new }
 {
-    let codec = made_codec(to);
+    let (_, codec) = numbers_of(to);
     fill_block(alloc, inputs, place, codec, buffer, block)?;
-    write_all(to, block)
+    M::give(to, block)
 }
 
 // Puts all frames there, into a block that has places for them.
-fn add_all<D: Disk, E: Disk>(
+fn add_all<D: Disk, E: Disk, M: Making>(
     alloc: Global,
     inputs: &mut [Input<D>],
-    to: &mut File<'_, E, Write>,
+    to: &mut File<'_, E, M>,
     frames: u64,
     block: &mut [i32],
 ) -> Result<(), Stop>
     requires mono { AreMono inputs.old }
     requires alike { channels_of to.old ≡ length inputs.old }
     requires at_end { IsAtEnd (known_of to.old) }
-    requires room { HasRoom frames (known_of to.old).shape }
+    requires room { HasRoom frames (known_of to.old) }
     requires all { frames ≡ most_frames (layouts_of inputs.old) }
     requires size { length block.old ≡ 16384 * length inputs.old }
     ensures loan { loan_of to.new ≡ loan_of to.old }
@@ -140,7 +109,7 @@ fn add_all<D: Disk, E: Disk>(
     ensures asked { AsksOnce D.state inputs.old inputs.new }
     ensures unasked { AsksNothing E.state to.old to.new }
 {
-    let channels = inputs.len();
+    let (channels, _) = numbers_of(to);
     let mut buffer = [0; BLOCK];
     let mut place = 0;
     while place < frames {
@@ -159,16 +128,16 @@ fn add_all<D: Disk, E: Disk>(
 ///
 /// The answer is `Fault` where a call of a disk failed, `Memory` where there is none, and `Changed` where an
 /// input has a bad block.
-pub(crate) fn add_frames<D: Disk, E: Disk>(
+pub(crate) fn add_frames<D: Disk, E: Disk, M: Making>(
     alloc: Global,
     inputs: &mut [Input<D>],
-    to: &mut File<'_, E, Write>,
+    to: &mut File<'_, E, M>,
     frames: u64,
 ) -> Result<(), Stop>
     requires mono { AreMono inputs.old }
     requires alike { channels_of to.old ≡ length inputs.old }
     requires at_end { IsAtEnd (known_of to.old) }
-    requires room { HasRoom frames (known_of to.old).shape }
+    requires room { HasRoom frames (known_of to.old) }
     requires all { frames ≡ most_frames (layouts_of inputs.old) }
     ensures loan { loan_of to.new ≡ loan_of to.old }
     ensures works { BreaksByFault (known_of to.new) result }

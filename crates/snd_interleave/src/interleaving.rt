@@ -1,26 +1,25 @@
 //! The tool that puts sound files side by side.
 
-ghost use Rattle.std.specs.Prelude.{◌≡◌, ◌≤◌, None, drop, false, is_none, length, take};
-ghost use Rattle.snd_container.specs.Sound.{fixed_of};
+ghost use Rattle.std.specs.Prelude.{◌≡◌, ◌≤◌, None, drop, false, length, take};
 ghost use Rattle.snd_layout.specs.Fit.{fit_refusal};
 ghost use Rattle.std.specs.Vec.{vec_len};
 ghost use Rattle.snd_inputs.specs.Asking.{AsksForEach};
+ghost use Rattle.snd_inputs.specs.Rooms.{is_full};
 ghost use Rattle.snd_output.specs.Ends.{CountsStop};
 ghost use Rattle.snd_tools.specs.Shelves.{ChangesOne, Does, IsAllIn, NeverChanged};
 ghost use Rattle.snd_interleave.specs.Asking.{AsksWhole};
 ghost use Rattle.snd_interleave.specs.Channels.{AreMono, CountsAll, CountsBeside, DoesGood, ReadAll, StayHeld, StayTold, layouts_of, most_frames};
 ghost use Rattle.snd_interleave.specs.Opening.{AreApart, AreOut, DoesAll, DoesBeside};
-ghost use Rattle.snd_interleave.specs.Interleave.{interleaved, is_full};
+ghost use Rattle.snd_interleave.specs.Interleave.{interleaved};
 
 use crate::checking::first_bad;
-use crate::judge::{first_misfit, first_of, is_full, most_frames, planned};
+use crate::judge::{first_misfit, first_of, most_frames};
 use crate::make::make_under;
-use snd_container::fixed_form;
 use snd_disk::{Disk, Shelf};
-use snd_inputs::{Input, open_input};
+use snd_inputs::{Input, is_full, open_input};
 use snd_layout::{Kind, OpenRefusal, Params};
 use snd_lines::Refusal;
-use snd_output::Stop;
+use snd_output::{Stop, params_like};
 use snd_tools::Answer;
 use snd_words::{Interleaving, first_repeated};
 use std::alloc::Global;
@@ -40,7 +39,6 @@ fn join_good<'a, S: Shelf, D: Disk>(
     requires mono { AreMono inputs.old }
     requires alike { params.channels ≡ length inputs.old }
     requires fits { fit_refusal kind params ≡ None }
-    requires linear { is_none (fixed_of params.codec) ≡ false }
     requires all { frames ≡ most_frames (layouts_of inputs.old) }
     requires room { is_full kind params frames ≡ false }
     ensures done { DoesGood D.state S.state interleaving.now kind params inputs.old shelf.old shelf.new result }
@@ -89,16 +87,12 @@ fn join<'a, S: Shelf, D: Disk>(
     if let Some((name, why)) = first_misfit(own, &interleaving.inputs, inputs) {
         return Ok(Answer::Refused(name, why));
     }
-    if fixed_form(own.codec).is_none() {
-        let why = Refusal::Open(OpenRefusal::NotBuilt);
-        return Ok(Answer::Refused(output, why));
-    }
-    let params = match planned(kind, inputs.len() as u64, own) {
+    let params = match params_like(kind, inputs.len() as u64, own) {
         Ok(params) => params,
         Err(why) => return Ok(Answer::Refused(output, Refusal::Open(why))),
     };
     let frames = most_frames(inputs);
-    if is_full(kind, params, frames) {
+    if is_full(kind, params, u128::from(frames)) {
         return Ok(Answer::Refused(output, Refusal::ContainerFull));
     }
     join_good(alloc, interleaving, inputs, kind, params, frames, shelf)
@@ -145,15 +139,15 @@ fn open_rest<'a, S: Shelf>(
 }
 
 /// Puts sound files of one channel side by side: the output is made, or replaced, whole, with the kind, the
-/// rate and the codec of the first input, a channel for each, and as many frames as the longest has. A number
-/// has the width of the first input's codec, and is zero where its input has ended. Further chunks are not
-/// carried. Each other file is as before, whatever comes.
+/// rate and the codec of the first input, a channel for each, and as many frames as the longest has; blocks of
+/// ADPCM have the size that `codec_like` gives them. A number has the width of the first input's codec, and is
+/// zero where its input has ended. Further chunks are not carried. Each other file is as before, whatever comes.
 ///
 /// All that is refused is refused before the output is touched, in this order: `SameName`, by the first
 /// name that equals an earlier one; `MissingFile`, or why an input does not open; `NotMono` and `MixedParams`
-/// of an input that has more channels or another rate than the first, input by input; `NotBuilt` of the output
-/// where the codec of the first is ADPCM; why its kind does not hold its parameters, as 2 channels in 8SVX;
-/// `ContainerFull` where its head has no room for the data; `BadBlock` of the first input that has a bad block.
+/// of an input that has more channels or another rate than the first, input by input; why the kind of the output
+/// does not hold its parameters, as 2 channels in 8SVX; `ContainerFull` where its head has no room for the data,
+/// or the count of an ADPCM WAVE file for the frames; `BadBlock` of the first input that has a bad block.
 ///
 /// `Fault` where a call of the shelf or of a disk failed, and `Memory` where there is none: then the output
 /// may stand there in part. All inputs are open at once, and frames pass in blocks. No more bytes are asked

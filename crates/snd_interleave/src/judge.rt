@@ -1,15 +1,12 @@
 //! What inputs may stand side by side, and as what.
 
-ghost use Rattle.std.specs.Prelude.{◌≡◌, IfOk, None, false, is_none, length, option_map};
-ghost use Rattle.snd_container.specs.Sound.{fixed_of};
-ghost use Rattle.snd_layout.specs.Fit.{fit_refusal};
+ghost use Rattle.std.specs.Prelude.{◌≡◌, length, option_map};
 ghost use Rattle.snd_interleave.specs.Channels.{first_of, layouts_of, most_frames};
-ghost use Rattle.snd_interleave.specs.Interleave.{first_misfit, is_full, misfit, planned};
+ghost use Rattle.snd_interleave.specs.Interleave.{first_misfit, misfit};
 
-use snd_container::fit;
 use snd_disk::Disk;
-use snd_inputs::{Input, bare_room, exceeds_room};
-use snd_layout::{Kind, OpenRefusal, Params};
+use snd_inputs::Input;
+use snd_layout::{Kind, Params};
 use snd_lines::Refusal;
 use snd_words::Names;
 
@@ -74,26 +71,4 @@ pub(crate) fn most_frames<D: Disk>(inputs: &[Input<D>]) -> u64
         most = input.layout.frames.max(most);
     }
     most
-}
-
-/// The parameters of a file of a kind with so many channels, and else the given ones, where the kind holds
-/// them.
-pub(crate) fn planned(kind: Kind, channels: u64, own: Params) -> Result<Params, OpenRefusal>
-    ensures value { result ≡ planned kind channels own.rate own.codec }
-    ensures fits { IfOk result (λ p. fit_refusal kind p ≡ None) }
-    ensures codec { IfOk result (λ p. p.codec ≡ own.codec) }
-    ensures channels { IfOk result (λ p. p.channels ≡ channels) }
-{
-    let params = Params::new(channels, u64::from(own.rate), own.codec)?;
-    fit(kind, params)?;
-    Ok(params)
-}
-
-/// Whether so many frames have more data bytes than the head of a new file has room for.
-pub(crate) fn is_full(kind: Kind, params: Params, frames: u64) -> bool
-    requires fits { fit_refusal kind params ≡ None }
-    requires linear { is_none (fixed_of params.codec) ≡ false }
-    ensures { result ≡ is_full kind params frames }
-{
-    exceeds_room(bare_room(kind, params), params, u128::from(frames))
 }

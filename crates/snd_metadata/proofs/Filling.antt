@@ -96,19 +96,22 @@ module _ (h : Shape) (plan : List PlannedChunk) (from from' to to' : Known) (rea
   says : SaysOf h.kind h.params (shape_with h.kind h.params cs)
   says = says_of h.kind h.params cs ready.meta
 
-  in_room : HasRoom (left_in from) (known_filled h plan to).shape
+  in_room : HasRoom (left_in from) (known_filled h plan to)
   in_room =
       let s : Shape = shape_with h.kind h.params cs in
-      let count : s.frames + left_in from ≡ h.frames = omega (arith, says.frames, unread.first, ap (λ (x : Shape). x.frames) of) in
+      let count : to.write_place + left_in from ≡ h.frames = omega (arith, fresh.write_place, unread.first, ap (λ (x : Shape). x.frames) of) in
       let fits_in : data_bytes h.params h.frames ≤ room s = ltb-false (room s) (data_bytes h.params h.frames) ready.room_is in
-      let bytes : data_bytes s.params (s.frames + left_in from) ≡ data_bytes h.params h.frames =
-      ap (λ (q : Parameters). data_bytes q (s.frames + left_in from)) says.params ∙ ap (data_bytes h.params) count in
-      omega (arith, bytes, fits_in)
+      let bytes : data_bytes s.params (to.write_place + left_in from) ≡ data_bytes h.params h.frames =
+      ap (λ (q : Parameters). data_bytes q (to.write_place + left_in from)) says.params ∙ ap (data_bytes h.params) count in
+      record {
+        in_room = omega (arith, bytes, fits_in);
+        few = λ blocks wave. absurd (let no : true ≡ false = sym blocks ∙ ap (λ (q : Parameters). is_adpcm q.codec) says.params ∙ ready.linear in cc);
+      }
 
   may_append_filled : MayAppend from (known_filled h plan to)
   may_append_filled = record {
     working = unread.working;
-    at_end = record { working = fresh.broken; by_hand = fresh.automatic; free = says.free; behind = fresh.write_place ∙ sym says.frames };
+    at_end = record { working = fresh.broken; by_hand = fresh.automatic; free = says.free; behind = λ plain. fresh.write_place ∙ sym says.frames };
     alike = ap (λ (x : Shape). x.params.channels) of ∙ ap (λ (q : Parameters). q.channels) (sym says.params);
     in_room = in_room;
   }

@@ -19,7 +19,7 @@ use snd_carry::{carry_chunk, put_chunk};
 use snd_disk::Disk;
 use snd_inputs::params_of;
 use snd_modes::{File, Read, Write};
-use snd_output::{Stop, append, begin, finish};
+use snd_output::{Making, Stop, append, finish};
 use std::alloc::Global;
 
 /// The numbers that are held at once.
@@ -122,7 +122,7 @@ pub(crate) fn make<D: Disk, E: Disk>(
     ensures unasked { (E.state disk.new).asked ≡ (E.state disk.old).asked }
 {
     let params = params_of(from);
-    let mut to = match begin(alloc, disk, from.kind(), params) {
+    let mut to = match Write::begin(alloc, disk, from.kind(), params) {
         Ok(to) => to,
         Err((stop, back)) => {
             let _ = back;

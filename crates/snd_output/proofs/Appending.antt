@@ -1,17 +1,16 @@
 -- Frames of one file that are put behind those of another, a block at a time.
-use Rattle.std.proofs.Common.{◌≡◌, ◌≢◌, ◌∙◌, ap, sym, subst, refl, inl, inr, ⊎_elim, ℕ, ◌+◌, ◌-◌, ◌*◌, ◌/◌, ◌%◌, ◌<◌, ◌≤◌, ℤ, Bool, true, false, cond, ◌||◌, List, ◌++◌, None, Some, length, take, drop, min, arith}
+use Rattle.std.proofs.Common.{◌≡◌, ◌≢◌, ◌∙◌, ap, sym, subst, refl, inl, inr, ⊎_elim, ℕ, ◌+◌, ◌-◌, ◌*◌, ◌/◌, ◌%◌, ◌<◌, ◌≤◌, ℤ, Bool, true, false, cond, List, ◌++◌, None, Some, length, take, drop, min, arith}
 use Rattle.std.proofs.Math.Nat.{add-div_right, div-add-mod, div-zero, mul-div_cancel_left, mul-le-mul_left, mul-mod_right}
 use Rattle.std.proofs.lemmas.Nat.{le-div}
-use Rattle.std.specs.Prelude.{Err, Result, is_none, is_some, nat_lt}
-use Rattle.std.proofs.lemmas.Bool.{cases_lt, le-ltb, lt-ltb}
+use Rattle.std.specs.Prelude.{Err, Result, is_some}
+use Rattle.std.proofs.lemmas.Bool.{cases_lt}
 use Rattle.std.proofs.lemmas.List.{append-nil, append_assoc, length-map, length-take-le, map-append, places, same_lists}
 use Rattle.snd_blocks.proofs.BlockFrames.{has_bad_part}
 use Rattle.snd_blocks.specs.Frames.{has_bad}
-use Rattle.snd_container.specs.Sound.{fixed_of}
 use Rattle.snd_disk.specs.State.{AtMost, Rises}
 use Rattle.snd_layout.specs.Blocks.{block_align, block_frames, is_adpcm}
 use Rattle.snd_layout.specs.Params.{Parameters, data_bytes}
-use Rattle.snd_layout.specs.Shape.{Shape, end, room}
+use Rattle.snd_layout.specs.Shape.{Shape, room}
 use Rattle.snd_layout.specs.declared.codec.Codec.{Codec}
 use Rattle.snd_pcm.specs.Groups.{first_groups}
 use Rattle.snd_pcm.specs.Width.{changed}
@@ -20,17 +19,21 @@ use Rattle.snd_modes.specs.declared.error.ReadError.{ReadError}
 use Rattle.snd_modes.specs.declared.error.ReadError.TheVariants.{BadBlock, Broken, DiskFault, PartFrame}
 use Rattle.snd_modes.specs.Calls.{IsReady, ReadLeaves, count_read}
 use Rattle.snd_modes.specs.Editing.{Editing, frames_read, moved_by}
-use Rattle.snd_modes.specs.Edits.{count_written, written_shape}
 use Rattle.snd_modes.specs.Handle.{Known}
 use Rattle.snd_modes.specs.Reading.{FitCodec, bytes_to_read}
-use Rattle.snd_modes.specs.WriteCalls.{MayWrite, known_written}
-use Rattle.snd_modes.proofs.Sealing.{ends_before}
+use Rattle.snd_modes.proofs.EncodedPlaces.{data_more}
 use Rattle.snd_output.specs.declared.stop.Stop.{Stop}
 use Rattle.snd_output.specs.declared.stop.Stop.TheVariants.{Changed, Fault, Memory}
 use Rattle.snd_output.specs.Ends.{IfChanged}
-use Rattle.snd_output.specs.Appended.{AppendLeaves, CountsEither, CountsFault, CountsRead, IsAtEnd, MayAppend, SomeLeave, bytes_by_calls, left_in, longer, next_numbers, numbers_left, read_on}
+use Rattle.snd_output.specs.Appended.{AppendLeaves, CountsEither, CountsFault, CountsRead, HasRoom, IsAtEnd, IsLonger, MayAppend, MayGive, SomeLeave, bytes_by_calls, left_in, next_numbers, numbers_left, read_on}
 use Rattle.snd_output.specs.Widths.{change_numbers, joined, width_of}
 use Rattle.snd_output.proofs.Numbers.{joined_all, joined_groups, joined_on}
+
+-- room for more frames is room for fewer
+pub room_fewer : (k : Known) (m n : ℕ) → 1 ≤ block_frames k.shape.params.codec → m ≤ n → HasRoom n k → HasRoom m k
+room_fewer k m n some le roomy =
+    let more : data_bytes k.shape.params (k.write_place + m) ≤ data_bytes k.shape.params (k.write_place + n) = data_more k.shape.params (k.write_place + m) (k.write_place + n) some (omega (arith, le)) in
+    record { in_room = omega (arith, more, roomy.in_room); few = λ is wave. omega (arith, le, roomy.few is wave) }
 
 -- ---- one block
 
@@ -45,33 +48,19 @@ module _ (ys : List ℤ) (k : ℕ) (to : Known) (some : 1 ≤ to.shape.params.ch
   whole : length ys ≡ c * k
   whole = count ∙ (let e : k * c ≡ c * k = omega arith in e)
 
-  frames_are : length ys / c ≡ k
+  pub frames_are : length ys / c ≡ k
   frames_are = ap (λ (m : ℕ). m / c) whole ∙ mul-div_cancel_left k (let e : 0 < c = omega (arith, some) in e)
 
   no_part : length ys % c ≡ 0
   no_part = ap (λ (m : ℕ). m % c) whole ∙ mul-mod_right c k
 
-  -- they may be written
-  pub may_write : (from : Known) → MayAppend from to → k ≤ left_in from → FitCodec to.shape.params.codec ys → is_none (fixed_of to.shape.params.codec) ≡ false → MayWrite ys to.shape to.write_place
-  may_write from may within fit linear =
-      let h = to.shape in
-      let last : end h (h.frames + k) ≤ end h (h.frames + left_in from) = ends_before h (h.frames + k) (h.frames + left_in from) linear (omega (arith, within)) in
-      let few : data_bytes h.params (h.frames + k) ≤ room h = omega (arith, last, may.in_room) in
-      let there : h.frames + k ≡ to.write_place + length ys / c = omega (arith, frames_are, may.at_end.behind) in
-      record {
-        frames = record { whole = no_part; in_range = fit };
-        free = λ lt. may.at_end.free;
-        in_room = λ lt. subst (λ (m : ℕ). data_bytes h.params m ≤ room h) there few;
-      }
+  -- they may be given
+  pub may_give : IsAtEnd to → HasRoom k to → FitCodec to.shape.params.codec ys → MayGive ys to
+  may_give at_end roomy fit = record { at_end = at_end; whole = no_part; in_range = fit; roomy = subst (λ (m : ℕ). HasRoom m to) (sym frames_are) roomy }
 
-  -- and what the handle then knows
-  pub then_longer : IsAtEnd to → known_written ys to ≡ longer k to
-  then_longer at =
-      let made = λ (s : Shape) (p : ℕ) (t : Bool). record to { shape = s; write_place = p; written = t } in
-      let total : count_written to.shape to.write_place k ≡ to.shape.frames + k = omega (arith, at.behind) in
-      ap (λ (m : ℕ). made (written_shape to.automatic to.shape (count_written to.shape to.write_place m)) (to.write_place + m) (to.written || nat_lt 0 m)) frames_are
-      ∙ ap (λ (t : Bool). made (written_shape t to.shape (count_written to.shape to.write_place k)) (to.write_place + k) (to.written || nat_lt 0 k)) at.by_hand
-      ∙ ap (λ (m : ℕ). made (record to.shape { frames = m }) (to.write_place + k) (to.written || nat_lt 0 k)) total
+  -- and the handle then knows of them
+  pub given_longer : (to' : Known) → IsLonger (length ys / to.shape.params.channels) to to' → IsLonger k to to'
+  given_longer to' is = subst (λ (m : ℕ). IsLonger m to to') frames_are is
 
 -- ---- the numbers of a block
 
@@ -110,13 +99,12 @@ module _ (from to : Known) (k m : ℕ) (block ys : List ℤ) (old new : Codec) (
       let same : k * m ≡ k * from.shape.params.channels = ap (λ (i : ℕ). k * i) channels in
       length_changed old new block ys (k * m) changes (omega (arith, same, fits.1)) ∙ same ∙ ap (λ (i : ℕ). k * i) may.alike
 
-  -- they may be written, and the handle then knows of them
-  pub block_may : new ≡ to.shape.params.codec → FitCodec new ys → is_none (fixed_of new) ≡ false → MayWrite ys to.shape to.write_place
-  block_may codec fit linear =
-      may_write ys k to to_channel ys_count from may fits.0 (subst (λ (q : Codec). FitCodec q ys) codec fit) (subst (λ (q : Codec). is_none (fixed_of q) ≡ false) codec linear)
+  -- they may be given, and the handle then knows of them
+  pub block_may : new ≡ to.shape.params.codec → FitCodec new ys → 1 ≤ block_frames to.shape.params.codec → MayGive ys to
+  block_may codec fit frames = may_give ys k to to_channel ys_count may.at_end (room_fewer to k (left_in from) frames fits.0 may.in_room) (subst (λ (q : Codec). FitCodec q ys) codec fit)
 
-  pub block_known : known_written ys to ≡ longer k to
-  block_known = then_longer ys k to to_channel ys_count may.at_end
+  pub block_known : (to' : Known) → IsLonger (length ys / to.shape.params.channels) to to' → IsLonger k to to'
+  block_known to' is = given_longer ys k to to_channel ys_count to' is
 
   -- they are the next of the file that is read
   pub block_is : (r : Editing) → old ≡ from.shape.params.codec → new ≡ to.shape.params.codec → first_groups from.shape.params.channels k block ≡ frames_read r k
@@ -167,43 +155,51 @@ none_left from places k some fits is none = least (places / from.shape.params.ch
     least : (q l : ℕ) → 1 ≤ q → k ≡ min q l → l ≡ 0
     least q l one e = omega (arith, one, e, none)
 
-written_twice : (t : Bool) (j k : ℕ) → (t || nat_lt 0 j) || nat_lt 0 k ≡ t || nat_lt 0 (j + k)
-written_twice true j k = refl
-written_twice false j k = elim (cases_lt 0 j) [
-  | inl lt ↦ ap (λ (u : Bool). u || nat_lt 0 k) (lt-ltb 0 j lt) ∙ sym (lt-ltb 0 (j + k) (omega (arith, lt)))
-  | inr le ↦ ap (λ (u : Bool). u || nat_lt 0 k) (le-ltb 0 j le) ∙ ap (nat_lt 0) (let e : k ≡ j + k = omega (arith, le) in e)
-]
-
 pub read_twice : (j k : ℕ) (from : Known) → read_on k (read_on j from) ≡ read_on (j + k) from
 read_twice j k from = ap (λ (n : ℕ). record from { place = n }) (let e : from.place + j + k ≡ from.place + (j + k) = omega arith in e)
 
-pub longer_twice : (j k : ℕ) (to : Known) → longer k (longer j to) ≡ longer (j + k) to
-longer_twice j k to =
-    let made = λ (f p : ℕ) (t : Bool). record to { shape = record to.shape { frames = f }; write_place = p; written = t } in
-    ap (λ (n : ℕ). made n (to.write_place + j + k) ((to.written || nat_lt 0 j) || nat_lt 0 k)) (let e : to.shape.frames + j + k ≡ to.shape.frames + (j + k) = omega arith in e)
-    ∙ ap (λ (n : ℕ). made (to.shape.frames + (j + k)) n ((to.written || nat_lt 0 j) || nat_lt 0 k)) (let e : to.write_place + j + k ≡ to.write_place + (j + k) = omega arith in e)
-    ∙ ap (made (to.shape.frames + (j + k)) (to.write_place + (j + k))) (written_twice to.written j k)
+pub longer_none : (to : Known) → IsLonger 0 to to
+longer_none to = record { working = refl; by_hand = refl; shape = refl; place = omega arith; behind = λ was. was }
 
-pub longer_none : (to : Known) → to ≡ longer 0 to
-longer_none to =
-    let made = λ (f p : ℕ) (t : Bool). record to { shape = record to.shape { frames = f }; write_place = p; written = t } in
-    ap (λ (n : ℕ). made n to.write_place to.written) (let e : to.shape.frames ≡ to.shape.frames + 0 = omega arith in e)
-    ∙ ap (λ (n : ℕ). made (to.shape.frames + 0) n to.written) (let e : to.write_place ≡ to.write_place + 0 = omega arith in e)
-    ∙ ap (made (to.shape.frames + 0) (to.write_place + 0)) (still to.written)
-  where
-    still : (t : Bool) → t ≡ t || nat_lt 0 0
-    still true = refl
-    still false = refl
+pub longer_as : (n m : ℕ) (a b : Known) → n ≡ m → IsLonger n a b → IsLonger m a b
+longer_as n m a b same is = subst (λ (i : ℕ). IsLonger i a b) same is
 
--- more frames may be appended where all that were left may
-pub may_go_on : (from to : Known) (j : ℕ) → MayAppend from to → j ≤ left_in from → MayAppend (read_on j from) (longer j to)
-may_go_on from to j may within =
-    let rest : to.shape.frames + j + (from.shape.frames - (from.place + j)) ≡ to.shape.frames + left_in from = omega (arith, within) in
+pub longer_then : (j k : ℕ) (a b c : Known) → IsLonger j a b → IsLonger k b c → IsLonger (j + k) a c
+longer_then j k a b c first second = record {
+  working = second.working ∙ first.working;
+  by_hand = second.by_hand ∙ first.by_hand;
+  shape = second.shape ∙ ap (λ (s : Shape). record s { frames = c.shape.frames }) first.shape;
+  place = omega (arith, first.place, second.place);
+  behind = λ was. second.behind (first.behind was);
+}
+
+-- more frames may be put behind them
+pub at_end_then : (j : ℕ) (a b : Known) → IsAtEnd a → IsLonger j a b → IsAtEnd b
+at_end_then j a b was is = record {
+  working = is.working ∙ was.working;
+  by_hand = is.by_hand ∙ was.by_hand;
+  free = ap (λ (s : Shape). s.trailing) is.shape ∙ was.free;
+  behind = is.behind was.behind;
+}
+
+pub room_then : (j n : ℕ) (a b : Known) → HasRoom (j + n) a → IsLonger j a b → HasRoom n b
+room_then j n a b roomy is = record {
+  in_room = subst (λ (s : Shape). data_bytes s.params (b.write_place + n) ≤ room s) (sym is.shape)
+      (subst (λ (m : ℕ). data_bytes a.shape.params m ≤ room a.shape) (let e : a.write_place + (j + n) ≡ b.write_place + n = omega (arith, is.place) in e) roomy.in_room);
+  few = λ blocks wave.
+      let most = roomy.few (sym (ap (λ (s : Shape). is_adpcm s.params.codec) is.shape) ∙ blocks) (sym (ap (λ (s : Shape). s.kind) is.shape) ∙ wave) in
+      omega (arith, is.place, most);
+}
+
+-- .. where all that were left may
+pub may_go_on : (from to to' : Known) (j : ℕ) → MayAppend from to → j ≤ left_in from → IsLonger j to to' → MayAppend (read_on j from) to'
+may_go_on from to to' j may within is =
+    let all : left_in from ≡ j + (from.shape.frames - (from.place + j)) = omega (arith, within) in
     record {
       working = may.working;
-      at_end = record { working = may.at_end.working; by_hand = may.at_end.by_hand; free = may.at_end.free; behind = omega (arith, may.at_end.behind) };
-      alike = may.alike;
-      in_room = subst (λ (m : ℕ). data_bytes to.shape.params m ≤ room to.shape) (sym rest) may.in_room;
+      at_end = at_end_then j to to' may.at_end is;
+      alike = may.alike ∙ ap (λ (s : Shape). s.params.channels) (sym is.shape);
+      in_room = room_then j (from.shape.frames - (from.place + j)) to to' (subst (λ (m : ℕ). HasRoom m to) all may.in_room) is;
     }
 
 changed_joined : (from to : Codec) (xs ys : List ℤ) → change_numbers from to xs ++ change_numbers from to ys ≡ change_numbers from to (xs ++ ys)

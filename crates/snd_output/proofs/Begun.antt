@@ -1,11 +1,14 @@
 -- A file that is begun is one that is being made.
-use Rattle.std.proofs.Common.{◌≡◌, ◌∙◌, ap, sym, subst, refl, inl, inr, ℕ, false, List, [], ◌++◌, Option, None, Some, Ok, Err, length, map, arith}
-use Rattle.std.specs.Prelude.{Result, is_none}
-use Rattle.std.proofs.lemmas.Bool.{cases_Bool}
+use Rattle.std.proofs.Common.{◌≡◌, ◌∙◌, ap, sym, subst, refl, inr, ℕ, true, false, List, [], ◌++◌, Option, None, Some, Ok, Err, length, map, arith}
+use Rattle.std.specs.Prelude.{Result}
 use Rattle.std.proofs.lemmas.List.{append-nil}
 use Rattle.snd_container.proofs.EveryKind.{made}
 use Rattle.snd_container.specs.Made.{new_file, new_shape}
-use Rattle.snd_container.specs.Sound.{fixed_of, kept_of}
+use Rattle.snd_container.specs.Laws.{FileSays}
+use Rattle.snd_container.specs.Sound.{kept_of, layout_of}
+use Rattle.snd_block_writer.proofs.Parameters.{are_blocks}
+use Rattle.snd_block_writer.proofs.Standing.{none_coded}
+use Rattle.snd_layout.specs.Blocks.{is_adpcm}
 use Rattle.snd_layout.specs.Fit.{fit_refusal}
 use Rattle.snd_layout.specs.Params.{AreParams, Parameters}
 use Rattle.snd_layout.specs.Shape.{Shape}
@@ -20,12 +23,15 @@ use Rattle.snd_modes.specs.Edits.{coded}
 use Rattle.snd_modes.specs.Laws.{IsEdited}
 use Rattle.snd_modes.specs.Making.{making_of}
 use Rattle.snd_modes.specs.Relaid.{head_with, shape_with}
+use Rattle.snd_modes.proofs.BlockBytes.{few_channels, is_held}
+use Rattle.snd_modes.proofs.FixedFrames.{is_fixed}
 use Rattle.snd_modes.proofs.MadeFiles.{made_is_edited}
 use Rattle.snd_modes.proofs.NewFiles.{making_ok, making_refused, never_refused}
 use Rattle.snd_output.specs.declared.stop.Stop.{Stop}
 use Rattle.snd_output.specs.Ends.{IsStopCause, IsUnchanged, stop_of}
 use Rattle.snd_output.specs.Laws.{BegunIsMaking}
-use Rattle.snd_output.specs.Made.{IsMaking, closing_so_far, frame_count}
+use Rattle.snd_output.specs.Made.{HoldsBlocks, HoldsNumbers, IsMaking, closing_so_far, frame_count}
+use Rattle.snd_output.proofs.MadeBlocks.{none_whole}
 use Rattle.snd_output.proofs.Bytes.{coded_none}
 
 -- the head of a new file is the one without chunks
@@ -49,7 +55,7 @@ new_says Voc p = refl
 new_says Svx p = refl
 new_says Sphere p = refl
 
-module _ (kind : Kind) (p : Parameters) (good : AreParams p) (fits : fit_refusal kind p ≡ None) (linear : is_none (fixed_of p.codec) ≡ false) where
+module _ (kind : Kind) (p : Parameters) (good : AreParams p) (fits : fit_refusal kind p ≡ None) where
   abbrev head : List ℕ
   head = head_with kind p []
 
@@ -59,23 +65,49 @@ module _ (kind : Kind) (p : Parameters) (good : AreParams p) (fits : fit_refusal
   abbrev first : Editing
   first = first_editing (new_file kind p) (new_shape kind p)
 
+  same : says ≡ new_shape kind p
+  same = sym (new_says kind p)
+
+  none : says.frames ≡ 0
+  none = ap (λ (s : Shape). s.frames) same ∙ (made kind p good fits).frames
+
   no_frames : 0 ≡ frame_count p []
   no_frames = let some = good.some_channel in omega (arith, some)
-
-  edited : IsEdited (new_file kind p) first
-  edited = made_is_edited kind p first good linear (making_ok kind p fits)
 
   bytes_are : (n : ℕ) → n ≡ 0 → new_file kind p ≡ head ++ coded p [] ++ closing_so_far says n
   bytes_are n none =
       new_head kind p ∙ sym (append-nil head) ∙ ap (λ (l : List ℕ). head ++ l) (sym (coded_none p))
       ∙ sym (append-nil (head ++ coded p [])) ∙ ap (λ (m : ℕ). head ++ coded p [] ++ closing_so_far says m) (sym none)
 
+  first_numbers : is_adpcm p.codec ≡ false → HoldsNumbers kind p [] [] first
+  first_numbers plain = record {
+    edited = subst (λ (b : List ℕ). IsEdited b first) (new_head kind p) (made_is_edited kind p first good (is_fixed p.codec plain) (making_ok kind p fits));
+    shape = new_says kind p ∙ ap (λ (n : ℕ). record says { frames = n }) (none ∙ no_frames);
+    bytes = bytes_are (frame_count p []) (sym no_frames);
+  }
+
+  told : FileSays head says
+  told = record {
+    goes_on = says.trailing;
+    told = ap layout_of (sym (new_head kind p)) ∙ (made kind p good fits).told ∙ ap (λ (s : Shape). Ok s) (new_says kind p);
+    same = inr refl;
+  }
+
+  first_blocks : is_adpcm p.codec ≡ true → HoldsBlocks kind p [] [] first
+  first_blocks is =
+      let form = are_blocks p is (few_channels kind p.channels p.codec is (is_held kind p fits)) good in
+      record {
+        form = form;
+        told = told;
+        given = refl;
+        shape = new_says kind p ∙ ap (λ (n : ℕ). record says { frames = n }) (none ∙ sym (none_whole p form));
+        bytes = new_head kind p ∙ sym (append-nil head) ∙ ap (λ (l : List ℕ). head ++ l) (sym (none_coded p form));
+      }
+
   pub first_is_making : IsMaking kind p [] [] first
   first_is_making =
       let new = made kind p good fits in
-      let same : says ≡ new_shape kind p = sym (new_says kind p) in
       record {
-        edited = subst (λ (b : List ℕ). IsEdited b first) (new_head kind p) edited;
         kind_is = ap (λ (s : Shape). s.kind) same ∙ new.is_kind;
         kept = ap (λ (s : Shape). map (kept_of head) s.pieces) same ∙ ap (map (kept_of head)) new.pieces;
         params = ap (λ (s : Shape). s.params) same ∙ new.params;
@@ -83,8 +115,8 @@ module _ (kind : Kind) (p : Parameters) (good : AreParams p) (fits : fit_refusal
         free = ap (λ (s : Shape). s.trailing) same ∙ new.free;
         whole = let some = good.some_channel in omega (arith, some);
         in_range = λ form is k d lt. absurd (omega (arith, lt));
-        shape = new_says kind p ∙ ap (λ (n : ℕ). record says { frames = n }) (ap (λ (s : Shape). s.frames) same ∙ new.frames ∙ no_frames);
-        bytes = bytes_are (frame_count p []) (sym no_frames);
+        numbers = first_numbers;
+        blocks = first_blocks;
         write_place = no_frames;
         automatic = refl;
       }
@@ -98,24 +130,24 @@ may_make kind p e is = by_fit (fit_refusal kind p) refl
     by_fit None fits = fits
 
 pub begun_is_making : BegunIsMaking
-begun_is_making kind p e good linear is =
+begun_is_making kind p e good is =
     let fits = may_make kind p e is in
     let given : ◌≡◌ {A = Result Editing OpenRefusal} (Ok (first_editing (new_file kind p) (new_shape kind p))) (Ok e) = sym (making_ok kind p fits) ∙ is in
     let same : first_editing (new_file kind p) (new_shape kind p) ≡ e = cc in
-    subst (IsMaking kind p [] []) same (first_is_making kind p good fits linear)
+    subst (IsMaking kind p [] []) same (first_is_making kind p good fits)
 
 -- where no refusal is left, the reason that a file is not begun is a fault, or want of memory
-counts_by : (kind : Kind) (p : Parameters) → fit_refusal kind p ≡ None → is_none (fixed_of p.codec) ≡ false → (old new : ℕ) (error : OpenError)
+counts_by : (kind : Kind) (p : Parameters) → fit_refusal kind p ≡ None → (old new : ℕ) (error : OpenError)
     → ((r : OpenRefusal) → error ≡ Refused r → making_of kind p ≡ Err r) → IsCause old new error → IsStopCause old new (stop_of error)
-counts_by kind p fits linear old new (Refused r) refused cause = absurd (never_refused kind p fits r (refused r refl))
-counts_by kind p fits linear old new (DiskFault step) refused cause = cause
-counts_by kind p fits linear old new Memory refused cause = cause
-counts_by kind p fits linear old new _ refused cause = absurd cause
+counts_by kind p fits old new (Refused r) refused cause = absurd (never_refused kind p fits r (refused r refl))
+counts_by kind p fits old new (DiskFault step) refused cause = cause
+counts_by kind p fits old new Memory refused cause = cause
+counts_by kind p fits old new _ refused cause = absurd cause
 
-pub begun_counts : (kind : Kind) (p : Parameters) → fit_refusal kind p ≡ None → is_none (fixed_of p.codec) ≡ false → (old new : ℕ) (error : OpenError) (stop : Stop) → stop ≡ stop_of error
+pub begun_counts : (kind : Kind) (p : Parameters) → fit_refusal kind p ≡ None → (old new : ℕ) (error : OpenError) (stop : Stop) → stop ≡ stop_of error
     → ((r : OpenRefusal) → error ≡ Refused r → making_of kind p ≡ Err r) → IsCause old new error → IsStopCause old new stop
-begun_counts kind p fits linear old new error stop is refused cause =
-    subst (IsStopCause old new) (sym is) (counts_by kind p fits linear old new error refused cause)
+begun_counts kind p fits old new error stop is refused cause =
+    subst (IsStopCause old new) (sym is) (counts_by kind p fits old new error refused cause)
 
 -- .. and no file is read
 stopped : (error : OpenError) → IsUnchanged {T = Unit {0}} (Err (stop_of error))

@@ -1,5 +1,5 @@
 -- A file into which chunks were carried is one that is being made.
-use Rattle.std.proofs.Common.{◌≡◌, ◌∙◌, ap, sym, subst, refl, ℕ, ◌-◌, ◌≤◌, Bool, true, false, cond, List, [], ◌∷◌, ◌++◌, All, None, Ok, length, map, arith}
+use Rattle.std.proofs.Common.{◌≡◌, ◌∙◌, ap, sym, subst, refl, inr, ℕ, ◌-◌, ◌≤◌, Bool, true, false, cond, List, [], ◌∷◌, ◌++◌, All, None, Ok, length, map, arith}
 use Rattle.std.proofs.lemmas.List.{append-nil, nil_from_length}
 use Rattle.std.proofs.lemmas.List.Elements.{All-append, All-cons, All-head, All-nil, All-replicate, All-tail, All-weaker}
 use Rattle.std.specs.Prelude.{codes, is_none}
@@ -28,20 +28,22 @@ use Rattle.snd_wave.specs.Written.{MayBePiece, chunk_read, chunks_before, filler
 use Rattle.snd_modes.specs.Editing.{Editing}
 use Rattle.snd_modes.specs.Edits.{coded}
 use Rattle.snd_modes.specs.Heads.{holds_meta}
-use Rattle.snd_modes.specs.Laws.{IsEdited}
 use Rattle.snd_modes.specs.Relaid.{head_with, shape_with}
 use Rattle.snd_modes.specs.Updating.{updating_of}
+use Rattle.snd_modes.proofs.BlockBytes.{few_channels, is_held}
 use Rattle.snd_modes.proofs.EditedFiles.{updated_is_edited}
 use Rattle.snd_modes.proofs.HeadLaws.{HeadLaws, SaysNone}
+use Rattle.snd_block_writer.proofs.Parameters.{are_blocks}
+use Rattle.snd_block_writer.proofs.Standing.{none_coded}
 use Rattle.snd_blocks.specs.Sound.{frames_in}
-use Rattle.snd_modes.proofs.FixedFrames.{count_opened}
+use Rattle.snd_modes.proofs.FixedFrames.{count_opened, is_fixed}
 use Rattle.snd_modes.proofs.PutHeads.{begins_again}
 use Rattle.snd_modes.proofs.Rf64Heads.{rf64_laws}
-use Rattle.snd_modes.proofs.Rooms.{not_adpcm}
 use Rattle.snd_modes.proofs.WaveHeads.{wave_laws}
 use Rattle.snd_output.specs.Laws.{CarriedIsMaking}
-use Rattle.snd_output.specs.Made.{AreChunks, IsChunk, IsMaking, closing_so_far, frame_count, kept_chunk, made_with}
+use Rattle.snd_output.specs.Made.{AreChunks, HoldsBlocks, HoldsNumbers, IsChunk, IsMaking, closing_so_far, frame_count, kept_chunk, made_with}
 use Rattle.snd_output.proofs.Begun.{may_make}
+use Rattle.snd_output.proofs.MadeBlocks.{none_whole}
 use Rattle.snd_output.proofs.Bytes.{coded_none}
 
 -- ---- the heads of WAVE and RF64 files
@@ -193,7 +195,7 @@ kept_pieces Sphere p pieces b meta = absurd (cc)
 
 -- ---- the file
 
-module _ (kind : Kind) (p : Parameters) (pieces : List NewChunk) (meta : holds_meta kind ≡ true) (good : AreParams p) (fits : fit_refusal kind p ≡ None) (linear : is_none (fixed_of p.codec) ≡ false) (are : AreChunks pieces) where
+module _ (kind : Kind) (p : Parameters) (pieces : List NewChunk) (meta : holds_meta kind ≡ true) (good : AreParams p) (fits : fit_refusal kind p ≡ None) (are : AreChunks pieces) where
   abbrev head : List ℕ
   head = head_with kind p pieces
 
@@ -209,21 +211,6 @@ module _ (kind : Kind) (p : Parameters) (pieces : List NewChunk) (meta : holds_m
   said : SaysNone kind p says head
   said = (laws_of kind meta).says p pieces may
 
-  says_linear : is_none (fixed_of says.params.codec) ≡ false
-  says_linear = ap (λ (q : Parameters). is_none (fixed_of q.codec)) said.params_are ∙ linear
-
-  updated : updating_of head ≡ Ok state
-  updated =
-      let some : 1 ≤ says.params.channels = subst (λ (q : Parameters). 1 ≤ q.channels) (sym said.params_are) good.some_channel in
-      let none : data_bytes says.params says.frames ≡ 0 = ap (data_bytes says.params) said.frames ∙ ap (λ (q : Parameters). data_bytes q 0) said.params_are ∙ said.no_bytes in
-      let within : end says says.frames ≤ length head = omega (arith, said.start, none) in
-      let frames : [] ≡ frames_in head says = sym (nil_from_length (frames_in head says) (sym (count_opened head says says_linear some within) ∙ said.frames)) in
-      (begins_again false state ((laws_of kind meta).opens p pieces may) said.known (λ by_place. says_linear)
-      (record { frames = frames; place = refl; write_place = refl; automatic = refl; written = refl; given = refl })).updates refl
-
-  edited : IsEdited head state
-  edited = updated_is_edited head state (head_is kind p pieces meta (not_adpcm p.codec linear) are) updated
-
   no_frames : 0 ≡ frame_count p []
   no_frames = let some = good.some_channel in omega (arith, some)
 
@@ -232,9 +219,39 @@ module _ (kind : Kind) (p : Parameters) (pieces : List NewChunk) (meta : holds_m
       sym (append-nil head) ∙ ap (λ (l : List ℕ). head ++ l) (sym (coded_none p))
       ∙ sym (append-nil (head ++ coded p [])) ∙ ap (λ (m : ℕ). head ++ coded p [] ++ closing_so_far says m) (sym none)
 
+  module _ (plain : is_adpcm p.codec ≡ false) where
+    says_linear : is_none (fixed_of says.params.codec) ≡ false
+    says_linear = ap (λ (q : Parameters). is_none (fixed_of q.codec)) said.params_are ∙ is_fixed p.codec plain
+
+    updated : updating_of head ≡ Ok state
+    updated =
+        let some : 1 ≤ says.params.channels = subst (λ (q : Parameters). 1 ≤ q.channels) (sym said.params_are) good.some_channel in
+        let none : data_bytes says.params says.frames ≡ 0 = ap (data_bytes says.params) said.frames ∙ ap (λ (q : Parameters). data_bytes q 0) said.params_are ∙ said.no_bytes in
+        let within : end says says.frames ≤ length head = omega (arith, said.start, none) in
+        let frames : [] ≡ frames_in head says = sym (nil_from_length (frames_in head says) (sym (count_opened head says says_linear some within) ∙ said.frames)) in
+        (begins_again false state ((laws_of kind meta).opens p pieces may) said.known (λ by_place. says_linear)
+        (record { frames = frames; place = refl; write_place = refl; automatic = refl; written = refl; given = refl })).updates refl
+
+    holds_numbers : HoldsNumbers kind p pieces [] state
+    holds_numbers = record {
+      edited = updated_is_edited head state (head_is kind p pieces meta plain are) updated;
+      shape = ap (λ (n : ℕ). record says { frames = n }) (said.frames ∙ no_frames);
+      bytes = bytes_are (frame_count p []) (sym no_frames);
+    }
+
+  holds_blocks : is_adpcm p.codec ≡ true → HoldsBlocks kind p pieces [] state
+  holds_blocks is =
+      let form = are_blocks p is (few_channels kind p.channels p.codec is (is_held kind p fits)) good in
+      record {
+        form = form;
+        told = record { goes_on = says.trailing; told = (laws_of kind meta).opens p pieces may; same = inr refl };
+        given = refl;
+        shape = ap (λ (n : ℕ). record says { frames = n }) (said.frames ∙ sym (none_whole p form));
+        bytes = sym (append-nil head) ∙ ap (λ (l : List ℕ). head ++ l) (sym (none_coded p form));
+      }
+
   pub state_is_making : IsMaking kind p pieces [] state
   state_is_making = record {
-    edited = edited;
     kind_is = said.kind_is;
     params = said.params_are;
     start = said.start;
@@ -242,11 +259,11 @@ module _ (kind : Kind) (p : Parameters) (pieces : List NewChunk) (meta : holds_m
     kept = kept_pieces kind p pieces head meta ∙ ap (map kept_chunk) ((laws_of kind meta).read p pieces may);
     whole = let some = good.some_channel in omega (arith, some);
     in_range = λ form is k d lt. absurd (omega (arith, lt));
-    shape = ap (λ (n : ℕ). record says { frames = n }) (said.frames ∙ no_frames);
-    bytes = bytes_are (frame_count p []) (sym no_frames);
+    numbers = holds_numbers;
+    blocks = holds_blocks;
     write_place = no_frames;
     automatic = refl;
   }
 
 pub carried_is_making : CarriedIsMaking
-carried_is_making kind p pieces e good linear is meta are = state_is_making kind p pieces meta good (may_make kind p e is) linear are
+carried_is_making kind p pieces e good is meta are = state_is_making kind p pieces meta good (may_make kind p e is) are

@@ -1,9 +1,8 @@
 -- Frames that are written to a file that is being made stand behind those that it holds.
-use Rattle.std.proofs.Common.{◌≡◌, ◌∙◌, ap, sym, subst, refl, inl, inr, ℕ, ◌+◌, ◌*◌, ◌/◌, ◌%◌, ◌<◌, ◌≤◌, ℤ, Bool, false, cond, List, [], ◌++◌, length, arith}
-use Rattle.std.proofs.Math.Nat.{mul-div_cancel_left, mul-mod_right}
+use Rattle.std.proofs.Common.{◌≡◌, ◌∙◌, ap, sym, subst, refl, inl, inr, ℕ, ◌+◌, ◌*◌, ◌/◌, ◌%◌, ◌<◌, ◌≤◌, ℤ, Bool, true, false, cond, List, [], ◌++◌, length, arith}
 use Rattle.std.specs.Prelude.{is_none}
 use Rattle.std.proofs.lemmas.Bool.{cases_lt, le-ltb, lt-ltb}
-use Rattle.std.proofs.lemmas.List.{length-append, nil_from_length}
+use Rattle.std.proofs.lemmas.List.{nil_from_length}
 use Rattle.std.proofs.lemmas.List.Elements.{All-append}
 use Rattle.snd_chunks.specs.Written.{NewChunk}
 use Rattle.snd_disk.specs.Bytes.{over}
@@ -11,6 +10,7 @@ use Rattle.snd_container.proofs.EveryKind.{closes}
 use Rattle.snd_container.specs.Fixed.{InRange}
 use Rattle.snd_container.specs.Sound.{fixed_of}
 use Rattle.snd_container.specs.Values.{closed_end, closing}
+use Rattle.snd_layout.specs.Blocks.{is_adpcm}
 use Rattle.snd_layout.specs.Params.{Parameters, data_bytes}
 use Rattle.snd_layout.specs.Shape.{Shape, end}
 use Rattle.snd_layout.specs.declared.codec.Codec.{Codec}
@@ -26,15 +26,16 @@ use Rattle.snd_modes.proofs.EditedFrames.{whole_frames, written_end}
 use Rattle.snd_modes.proofs.EditedSteps.{leads_to_edited}
 use Rattle.snd_modes.proofs.Sealing.{ends_before}
 use Rattle.snd_output.specs.Laws.{WrittenIsMaking}
-use Rattle.snd_output.specs.Made.{IsMaking, closing_so_far, frame_count}
+use Rattle.snd_output.specs.Made.{HoldsNumbers, IsMaking, closing_so_far, frame_count}
 use Rattle.snd_output.proofs.Bytes.{coded_data, coded_joined, coded_none, same_closing, so_far_few}
-use Rattle.snd_output.proofs.Finished.{channels, ends, linear, params_are, whole}
+use Rattle.snd_output.proofs.Finished.{channels, ends, linear, making_params}
 use Rattle.snd_output.proofs.Lists.{nothing_put, put_and_closed}
+use Rattle.snd_output.proofs.Numbers.{counts_joined}
 
-fit_joined : (codec : Codec) (xs ys : List ℤ) → FitCodec codec xs → FitCodec codec ys → FitCodec codec (xs ++ ys)
+pub fit_joined : (codec : Codec) (xs ys : List ℤ) → FitCodec codec xs → FitCodec codec ys → FitCodec codec (xs ++ ys)
 fit_joined codec xs ys first second = λ form is. All-append (InRange form) xs ys (first form is) (second form is)
 
-module _ (kind : Kind) (p : Parameters) (pieces : List NewChunk) (xs ys : List ℤ) (e : Editing) (m : IsMaking kind p pieces xs e) (may : MayWrite ys e.shape e.write_place) where
+module _ (kind : Kind) (p : Parameters) (pieces : List NewChunk) (xs ys : List ℤ) (e : Editing) (m : IsMaking kind p pieces xs e) (plain : is_adpcm p.codec ≡ false) (may : MayWrite ys e.shape e.write_place) where
   abbrev head : List ℕ
   head = head_with kind p pieces
 
@@ -61,34 +62,34 @@ module _ (kind : Kind) (p : Parameters) (pieces : List NewChunk) (xs ys : List �
   rest = closing_so_far says n
 
   same_params : e.shape.params ≡ p
-  same_params = params_are kind p pieces xs e m
+  same_params = making_params kind p pieces xs e m
 
   some : 1 ≤ p.channels
-  some = channels kind p pieces xs e m
-
-  xs_whole : length xs ≡ p.channels * n
-  xs_whole = whole kind p pieces xs e m
+  some = channels kind p pieces xs e m plain
 
   ys_whole : length ys ≡ p.channels * k
   ys_whole = whole_frames (length ys) p.channels k some (subst (λ q. length ys % q.channels ≡ 0) same_params may.frames.whole) refl
 
-  both_whole : length (xs ++ ys) ≡ p.channels * (n + k)
-  both_whole = length-append xs ys ∙ (let e : length xs + length ys ≡ p.channels * (n + k) = omega (arith, xs_whole, ys_whole) in e)
+  joins : (frame_count p (xs ++ ys) ≡ n + k) × (length (xs ++ ys) % p.channels ≡ 0)
+  joins = counts_joined p.channels xs ys some m.whole (subst (λ q. length ys % q.channels ≡ 0) same_params may.frames.whole)
 
   pub count : frame_count p (xs ++ ys) ≡ n + k
-  count = ap (λ (i : ℕ). i / p.channels) both_whole ∙ mul-div_cancel_left (n + k) (let e : 0 < p.channels = omega (arith, some) in e)
+  count = joins.0
+
+  holds : HoldsNumbers kind p pieces xs e
+  holds = m.numbers plain
 
   -- ---- the bytes
 
   data_end : end h n ≡ length (head ++ body)
-  data_end = sym (ends kind p pieces xs e m)
+  data_end = sym (ends kind p pieces xs e m plain)
 
   says_linear : is_none (fixed_of says.params.codec) ≡ false
-  says_linear = ap (λ (q : Parameters). is_none (fixed_of q.codec)) m.params ∙ linear kind p pieces xs e m
+  says_linear = ap (λ (q : Parameters). is_none (fixed_of q.codec)) m.params ∙ linear kind p pieces xs e m plain
 
   next_end : end h (n + k) ≡ end h n + length more
   next_end =
-      let size : length more ≡ data_bytes p k = coded_data p ys k (linear kind p pieces xs e m) ys_whole in
+      let size : length more ≡ data_bytes p k = coded_data p ys k (linear kind p pieces xs e m plain) ys_whole in
       let shown : length (coded says.params ys) ≡ length more = ap (λ (q : Parameters). length (coded q ys)) m.params in
       let sum : end h n + length (coded says.params ys) ≡ end h (n + k) = written_end h ys n k says_linear (subst (λ (q : Parameters). length ys ≡ q.channels * k) (sym m.params) ys_whole) in
       omega (arith, sum, shown)
@@ -156,22 +157,28 @@ module _ (kind : Kind) (p : Parameters) (pieces : List NewChunk) (xs ys : List �
       ∙ ap (λ (v : ℕ). record says { frames = count_written h n v }) frames
       ∙ ap (λ (v : ℕ). record says { frames = v }) count_is
 
+  longer_holds : HoldsNumbers kind p pieces (xs ++ ys) (written_to ys e)
+  longer_holds = record {
+    edited = leads_to_edited head e (written_to ys e) holds.edited (writes ys may);
+    shape = shape_by e.automatic e.shape e.write_place (length ys / e.shape.params.channels) m.automatic holds.shape m.write_place frames_are ∙ ap (λ (v : ℕ). record says { frames = v }) (sym count);
+    bytes = bytes_by e.automatic e.bytes e.shape e.write_place (length ys / e.shape.params.channels) m.automatic holds.bytes holds.shape m.write_place frames_are
+        ∙ longer_bytes ∙ ap (λ (v : ℕ). head ++ coded p (xs ++ ys) ++ closing_so_far says v) (sym count);
+  }
+
   pub longer_is_making : IsMaking kind p pieces (xs ++ ys) (written_to ys e)
   longer_is_making = record {
-    edited = leads_to_edited head e (written_to ys e) m.edited (writes ys may);
     kind_is = m.kind_is;
     kept = m.kept;
     params = m.params;
     start = m.start;
     free = m.free;
-    whole = ap (λ (i : ℕ). i % p.channels) both_whole ∙ mul-mod_right p.channels (n + k);
+    whole = joins.1;
     in_range = fit_joined p.codec xs ys m.in_range (subst (λ (q : Parameters). FitCodec q.codec ys) same_params may.frames.in_range);
-    shape = shape_by e.automatic e.shape e.write_place (length ys / e.shape.params.channels) m.automatic m.shape m.write_place frames_are ∙ ap (λ (v : ℕ). record says { frames = v }) (sym count);
-    bytes = bytes_by e.automatic e.bytes e.shape e.write_place (length ys / e.shape.params.channels) m.automatic m.bytes m.shape m.write_place frames_are
-        ∙ longer_bytes ∙ ap (λ (v : ℕ). head ++ coded p (xs ++ ys) ++ closing_so_far says v) (sym count);
+    numbers = λ same. longer_holds;
+    blocks = λ is. absurd (let no : true ≡ false = sym is ∙ plain in cc);
     write_place = (let e' : e.write_place + length ys / e.shape.params.channels ≡ n + k = omega (arith, m.write_place, frames_are) in e') ∙ sym count;
     automatic = m.automatic;
   }
 
 pub written_is_making : WrittenIsMaking
-written_is_making kind p pieces xs ys e m may = longer_is_making kind p pieces xs ys e m may
+written_is_making kind p pieces xs ys e m plain may = longer_is_making kind p pieces xs ys e m plain may

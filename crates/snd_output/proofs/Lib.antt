@@ -3,9 +3,13 @@ pub mod Begun
 pub mod Bytes
 pub mod Carried
 pub mod Changing
+pub mod Encoding
 pub mod Finished
+pub mod Giving
 pub mod Lengthened
+pub mod Likeness
 pub mod Lists
+pub mod MadeBlocks
 pub mod MadeSounds
 pub mod Numbers
 pub mod Ranges

@@ -6,6 +6,7 @@ use Rattle.snd_chunks.specs.Written.{NewChunk}
 use Rattle.snd_container.proofs.FixedSamples.{numbers_are_kept}
 use Rattle.snd_container.specs.Sound.{Kept, Sound, decoded, decoded_as, fixed_of, kept_as, kept_numbers, kept_of, sound_bytes, sound_of}
 use Rattle.snd_container.specs.declared.fixed.Fixed.{Fixed}
+use Rattle.snd_layout.specs.Blocks.{is_adpcm}
 use Rattle.snd_layout.specs.Params.{Parameters, data_bytes}
 use Rattle.snd_layout.specs.Shape.{Shape}
 use Rattle.snd_layout.specs.declared.kind.Kind.{Kind}
@@ -19,7 +20,7 @@ use Rattle.snd_modes.proofs.EditedFiles.{is_linear, now_decoded, sealed_is_edite
 use Rattle.snd_modes.proofs.EditedSounds.{edited_pieces, sound_by, sound_with}
 use Rattle.snd_modes.proofs.Ranges.{in_form}
 use Rattle.snd_output.specs.Laws.{MadeHasSound}
-use Rattle.snd_output.specs.Made.{IsMaking, closing_so_far, frame_count, kept_chunk, made_sound}
+use Rattle.snd_output.specs.Made.{HoldsNumbers, IsMaking, closing_so_far, frame_count, kept_chunk, made_sound}
 use Rattle.snd_output.proofs.Bytes.{coded_data}
 use Rattle.snd_output.proofs.Finished.{linear, sealed_is_made, whole}
 
@@ -31,7 +32,7 @@ decoded_coded_as p xs (Some form) is linear fit = ap (groups p.channels) (number
 pub decoded_coded : (p : Parameters) (xs : List ℤ) → is_none (fixed_of p.codec) ≡ false → FitCodec p.codec xs → decoded p (coded p xs) ≡ groups p.channels (kept_numbers p xs)
 decoded_coded p xs linear fit = decoded_coded_as p xs (fixed_of p.codec) refl linear fit
 
-module _ (kind : Kind) (p : Parameters) (pieces : List NewChunk) (xs : List ℤ) (e : Editing) (m : IsMaking kind p pieces xs e) where
+module _ (kind : Kind) (p : Parameters) (pieces : List NewChunk) (xs : List ℤ) (e : Editing) (m : IsMaking kind p pieces xs e) (plain : is_adpcm p.codec ≡ false) where
   abbrev head : List ℕ
   head = head_with kind p pieces
 
@@ -44,23 +45,26 @@ module _ (kind : Kind) (p : Parameters) (pieces : List NewChunk) (xs : List ℤ)
   abbrev body : List ℕ
   body = coded p xs
 
+  holds : HoldsNumbers kind p pieces xs e
+  holds = m.numbers plain
+
   -- the bytes of the frames
   sound_is : sound_bytes e.bytes e.shape ≡ body
   sound_is =
       let rest = closing_so_far says n in
-      let size : length body ≡ data_bytes says.params n = coded_data p xs n (linear kind p pieces xs e m) (whole kind p pieces xs e m) ∙ sym (ap (λ (q : Parameters). data_bytes q n) m.params) in
-      ap (sound_bytes e.bytes) m.shape
-      ∙ ap (λ (b : List ℕ). take (data_bytes says.params n) (drop says.start b)) (m.bytes ∙ append_assoc head body rest)
+      let size : length body ≡ data_bytes says.params n = coded_data p xs n (linear kind p pieces xs e m plain) (whole kind p pieces xs e m plain) ∙ sym (ap (λ (q : Parameters). data_bytes q n) m.params) in
+      ap (sound_bytes e.bytes) holds.shape
+      ∙ ap (λ (b : List ℕ). take (data_bytes says.params n) (drop says.start b)) (holds.bytes ∙ append_assoc head body rest)
       ∙ ap (take (data_bytes says.params n)) (drop_at head (body ++ rest) says.start (sym m.start))
       ∙ take_at body rest (data_bytes says.params n) size
 
   pub frames_are : e.frames ≡ groups p.channels (kept_numbers p xs)
   frames_are =
-      now_decoded head e m.edited
-      ∙ ap (λ (s : Shape). decoded s.params (sound_bytes e.bytes e.shape)) m.shape
+      now_decoded head e holds.edited
+      ∙ ap (λ (s : Shape). decoded s.params (sound_bytes e.bytes e.shape)) holds.shape
       ∙ ap (λ (q : Parameters). decoded q (sound_bytes e.bytes e.shape)) m.params
       ∙ ap (decoded p) sound_is
-      ∙ decoded_coded p xs (linear kind p pieces xs e m) m.in_range
+      ∙ decoded_coded p xs (linear kind p pieces xs e m plain) m.in_range
 
   -- the file sealed
   abbrev x : List ℕ
@@ -68,21 +72,21 @@ module _ (kind : Kind) (p : Parameters) (pieces : List NewChunk) (xs : List ℤ)
 
   sealed_pieces : map (kept_of x) says.pieces ≡ map kept_chunk pieces
   sealed_pieces =
-      let then = sealed_is_edited head e m.edited in
-      let same : says.pieces ≡ then.head.pieces = sym (ap (λ (s : Shape). s.pieces) m.shape) ∙ ap (λ (s : Shape). s.pieces) then.shape in
+      let then = sealed_is_edited head e holds.edited in
+      let same : says.pieces ≡ then.head.pieces = sym (ap (λ (s : Shape). s.pieces) holds.shape) ∙ ap (λ (s : Shape). s.pieces) then.shape in
       ap (map (kept_of x)) same ∙ edited_pieces head (sealed_to e) then ∙ ap (map (kept_of head)) (sym same) ∙ m.kept
 
   pub sealed_has_sound : sound_of x ≡ Ok (made_sound kind p pieces xs)
   sealed_has_sound =
-      let then = sealed_is_edited head e m.edited in
+      let then = sealed_is_edited head e holds.edited in
       let s = (sealed_to e).shape in
       let made = λ (k : Kind) (q : Parameters) (frames : List (List ℤ)) (kept : List Kept). ◌≡◌ {A = Result Sound OpenRefusal} (sound_of x) (Ok (record { kind = k; params = q; frames = frames; pieces = kept })) in
-      let first : sound_of x ≡ sound_with x s e.frames = sound_by x s (sealed_told head e m.edited) (is_linear head e m.edited) ∙ ap (sound_with x s) (sym (now_decoded head (sealed_to e) then)) in
-      let second : made says.kind says.params e.frames (map (kept_of x) says.pieces) = first ∙ ap (λ (h : Shape). sound_with x h e.frames) m.shape in
+      let first : sound_of x ≡ sound_with x s e.frames = sound_by x s (sealed_told head e holds.edited) (is_linear head e holds.edited) ∙ ap (sound_with x s) (sym (now_decoded head (sealed_to e) then)) in
+      let second : made says.kind says.params e.frames (map (kept_of x) says.pieces) = first ∙ ap (λ (h : Shape). sound_with x h e.frames) holds.shape in
       let third : made kind says.params e.frames (map (kept_of x) says.pieces) = subst (λ (k : Kind). made k says.params e.frames (map (kept_of x) says.pieces)) m.kind_is second in
       let fourth : made kind p e.frames (map (kept_of x) says.pieces) = subst (λ (q : Parameters). made kind q e.frames (map (kept_of x) says.pieces)) m.params third in
       let fifth : made kind p (groups p.channels (kept_numbers p xs)) (map (kept_of x) says.pieces) = subst (λ (l : List (List ℤ)). made kind p l (map (kept_of x) says.pieces)) frames_are fourth in
       subst (λ (l : List Kept). made kind p (groups p.channels (kept_numbers p xs)) l) sealed_pieces fifth
 
 pub made_has_sound : MadeHasSound
-made_has_sound kind p pieces xs e m = ap sound_of (sym (sealed_is_made kind p pieces xs e m)) ∙ sealed_has_sound kind p pieces xs e m
+made_has_sound kind p pieces xs e m plain = ap sound_of (sym (sealed_is_made kind p pieces xs e m plain)) ∙ sealed_has_sound kind p pieces xs e m plain

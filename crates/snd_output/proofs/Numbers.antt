@@ -1,13 +1,15 @@
 -- Numbers of frames, and their widths.
-use Rattle.std.proofs.Common.{◌≡◌, ◌∙◌, ap, sym, refl, subst, inl, inr, set, get_or, ◌<◌, ℕ, zero, suc, ◌+◌, ◌-◌, ◌*◌, ◌≤◌, ℤ, pos, negsuc, List, [], ◌∷◌, ◌++◌, length, take, drop, cond, Bool, arith}
+use Rattle.std.proofs.Common.{◌≡◌, ◌∙◌, ap, sym, refl, subst, inl, inr, set, get_or, ◌<◌, ℕ, zero, suc, ◌+◌, ◌-◌, ◌*◌, ◌/◌, ◌%◌, ◌≤◌, ℤ, pos, negsuc, List, [], ◌∷◌, ◌++◌, length, take, drop, cond, Bool, arith}
+use Rattle.std.proofs.Math.Nat.{mul-div_cancel_left, mul-mod_right}
 use Rattle.std.proofs.lemmas.Bool.{cases_lt, le-leb}
 use Rattle.std.proofs.lemmas.Grind.{get_or-set_at}
 use Rattle.std.proofs.lemmas.Int.{ints}
-use Rattle.std.proofs.lemmas.List.{get_or-set_other, length-drop, length-set, places, same_lists, take_all}
+use Rattle.std.proofs.lemmas.List.{get_or-set_other, length-append, length-drop, length-set, places, same_lists, take_all}
 use Rattle.std.proofs.lemmas.List.Concat.{flat_map-append}
 use Rattle.std.specs.Prelude.{◌*ℤ◌, ◌^◌}
 use Rattle.snd_pcm.specs.Groups.{first_groups}
 use Rattle.snd_pcm.specs.Width.{changed, floor_div}
+use Rattle.snd_modes.proofs.EditedFrames.{whole_frames}
 use Rattle.snd_output.specs.Widths.{changed_all, joined}
 
 times_one : (x : ℤ) → x *ℤ pos 1 ≡ x
@@ -61,3 +63,12 @@ rest_more xs ys i y stays = λ k d behind lt.
 
 pub set_same : (xs : List ℤ) (i : ℕ) (y z : ℤ) → y ≡ z → set xs i y ≡ set xs i z
 set_same xs i y z same = ap (set xs i) same
+
+-- numbers of whole frames behind others are whole frames, too
+pub counts_joined : (c : ℕ) (xs ys : List ℤ) → 1 ≤ c → length xs % c ≡ 0 → length ys % c ≡ 0 → (length (xs ++ ys) / c ≡ length xs / c + length ys / c) × (length (xs ++ ys) % c ≡ 0)
+counts_joined c xs ys some first second =
+    let n = length xs / c in
+    let k = length ys / c in
+    let all : length (xs ++ ys) ≡ c * (n + k) =
+    length-append xs ys ∙ (let e : length xs + length ys ≡ c * (n + k) = omega (arith, whole_frames (length xs) c n some first refl, whole_frames (length ys) c k some second refl) in e) in
+    (ap (λ (i : ℕ). i / c) all ∙ mul-div_cancel_left (n + k) (let e : 0 < c = omega (arith, some) in e), ap (λ (i : ℕ). i % c) all ∙ mul-mod_right c (n + k))

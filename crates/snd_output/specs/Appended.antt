@@ -1,5 +1,5 @@
 -- How the frames of one file are put behind those of another.
-use Rattle.std.specs.Prelude.{◌≡◌, ◌⊎◌, ℕ, ◌+◌, ◌-◌, ◌*◌, ◌/◌, ◌≤◌, false, ◌||◌, List, ℤ, ◌++◌, None, Result, Ok, Err, drop, take, nat_lt, is_some, true, if◌then◌else◌}
+use Rattle.std.specs.Prelude.{◌≡◌, ◌⊎◌, ℕ, ◌+◌, ◌-◌, ◌*◌, ◌/◌, ◌%◌, ◌^◌, ◌<◌, ◌≤◌, false, List, ℤ, ◌++◌, None, Result, Ok, Err, drop, length, take, is_some, true, if◌then◌else◌}
 use Rattle.snd_blocks.specs.Frames.{has_bad}
 use Rattle.snd_chunks.specs.Written.{NewChunk}
 use Rattle.snd_disk.specs.declared.disk.Disk.{Ghosts}
@@ -7,13 +7,14 @@ use Rattle.snd_disk.specs.Device.{AsksAtMost}
 use Rattle.snd_disk.specs.State.{Rises, State}
 use Rattle.snd_layout.specs.Blocks.{block_align, block_frames, is_adpcm}
 use Rattle.snd_layout.specs.Params.{Parameters, data_bytes}
-use Rattle.snd_layout.specs.Shape.{Shape, room}
+use Rattle.snd_layout.specs.Shape.{room}
 use Rattle.snd_layout.specs.declared.kind.Kind.{Kind}
+use Rattle.snd_layout.specs.declared.kind.Kind.TheVariants.{Wave}
 use Rattle.snd_modes.specs.declared.handle.File.{File}
 use Rattle.snd_modes.specs.declared.mode.Mode.{Ghosts as ModeGhosts}
 use Rattle.snd_modes.specs.Editing.{Editing}
 use Rattle.snd_modes.specs.Handle.{Known, Stands, codec_of, disk_of, known_of}
-use Rattle.snd_modes.specs.Reading.{bytes_of_frames}
+use Rattle.snd_modes.specs.Reading.{FitCodec, bytes_of_frames}
 use Rattle.snd_output.specs.declared.stop.Stop.{Stop}
 use Rattle.snd_output.specs.declared.stop.Stop.TheVariants.{Changed, Fault, Memory}
 use Rattle.snd_output.specs.Ends.{IfChanged}
@@ -30,28 +31,49 @@ left_in k = k.shape.frames - k.place
 abbrev pub read_on : ℕ → Known → Known
 read_on n k = record k { place = k.place + n }
 
--- a file that is made, with so many frames more
-abbrev pub longer : ℕ → Known → Known
-longer n k = record k { shape = record k.shape { frames = k.shape.frames + n }; write_place = k.write_place + n; written = k.written || nat_lt 0 n }
+-- where each number has a fixed size, the frame to write next is behind the last; in ADPCM it is behind those that wait
+abbrev pub IsBehind : Known → Type 0
+IsBehind k = is_adpcm k.shape.params.codec ≡ false → k.write_place ≡ k.shape.frames
+
+-- a file that is made was given so many frames more
+pub record IsLonger (n : ℕ) (old new : Known) : Type 0 where
+  pub working : new.broken ≡ old.broken
+  pub by_hand : new.automatic ≡ old.automatic
+  pub shape : new.shape ≡ record old.shape { frames = new.shape.frames }
+  pub place : new.write_place ≡ old.write_place + n
+  pub behind : IsBehind old → IsBehind new
 
 -- Frames may be put behind those of a file: no call of its disk has failed; it is not sealed with each write; it does not go on
--- behind its data; and the frame to write next is behind the last.
+-- behind its data; and the next frame comes behind all others.
 pub record IsAtEnd (k : Known) : Type 0 where
   pub working : k.broken ≡ None
   pub by_hand : k.automatic ≡ false
   pub free : k.shape.trailing ≡ false
-  pub behind : k.write_place ≡ k.shape.frames
+  pub behind : IsBehind k
 
--- its head has room for so many frames more
-abbrev pub HasRoom : ℕ → Shape → Type 0
-HasRoom n h = data_bytes h.params (h.frames + n) ≤ room h
+-- its head has room for so many frames more, and the count of an ADPCM WAVE file for their number
+pub record HasRoom (n : ℕ) (k : Known) : Type 0 where
+  pub in_room : data_bytes k.shape.params (k.write_place + n) ≤ room k.shape
+  pub few : is_adpcm k.shape.params.codec ≡ true → k.shape.kind ≡ Wave → k.write_place + n < 2 ^ 32
+
+-- numbers of whole frames may be given to it
+pub record MayGive (xs : List ℤ) (k : Known) : Type 0 where
+  pub at_end : IsAtEnd k
+  pub whole : length xs % k.shape.params.channels ≡ 0
+  pub in_range : FitCodec k.shape.params.codec xs
+  pub roomy : HasRoom (length xs / k.shape.params.channels) k
+
+-- and they were; or a call of the disk failed, and the file is broken
+abbrev pub GiveLeaves : {T : Type 0} → ℕ → Known → Known → Result T Stop → Type 0
+GiveLeaves n old new (Ok done) = IsLonger n old new
+GiveLeaves n old new (Err stop) = is_some new.broken ≡ true
 
 -- the frames that are left in one file may be put behind those of another
 pub record MayAppend (from to : Known) : Type 0 where
   pub working : from.broken ≡ None
   pub at_end : IsAtEnd to
   pub alike : from.shape.params.channels ≡ to.shape.params.channels
-  pub in_room : HasRoom (left_in from) to.shape
+  pub in_room : HasRoom (left_in from) to
 
 -- Frames were read; or a call of the disk failed, and the file is broken; or a block is bad, which is so in ADPCM alone.
 abbrev pub SomeLeave : Known → Known → Result ℕ Stop → Type 0
@@ -62,7 +84,7 @@ SomeLeave old new (Err stop) = is_some new.broken ≡ true
 -- So many frames more were read and written; or a call of one of the disks failed, and its file is broken; or a block of the file
 -- that is read is bad.
 abbrev pub AppendLeaves : {T : Type 0} → ℕ → Known → Known → Known → Known → Result T Stop → Type 0
-AppendLeaves n from from' to to' (Ok done) = (from' ≡ read_on n from) × (to' ≡ longer n to)
+AppendLeaves n from from' to to' (Ok done) = (from' ≡ read_on n from) × IsLonger n to to'
 AppendLeaves n from from' to to' (Err Changed) = (is_adpcm from.shape.params.codec ≡ true) × (from'.broken ≡ None) × (to'.broken ≡ None)
 AppendLeaves n from from' to to' (Err stop) = (is_some from'.broken ≡ true) ⊎ (is_some to'.broken ≡ true)
 
@@ -117,6 +139,12 @@ frames_ahead e = drop e.place e.frames
 -- A file is said to have changed only where one of some frames of the state for which it stands is bad.
 abbrev pub FindsChanged : {D M T : Type 0} {ghosts : Ghosts D} {mode : ModeGhosts M} → (D → State) → (Editing → List (List ℤ)) → File D M ghosts mode → Result T Stop → Type 0
 FindsChanged state wanted file result = IfChanged ((e : Editing) → Stands state file e → has_bad (wanted e) ≡ true) result
+
+-- Where the disk tells what it holds, a file that was being made was given so many numbers more.
+abbrev pub Gains : {E N : Type 0} {t : Ghosts E} {n : ModeGhosts N} → (E → State) → List ℤ → File E N t n → File E N t n → Type 0
+Gains state numbers to to' =
+    (kind : Kind) (p : Parameters) (pieces : List NewChunk) (xs : List ℤ) (e : Editing) → Stands state to e → IsMaking kind p pieces xs e
+    → (e' : Editing) × Stands state to' e' × IsMaking kind p pieces (xs ++ numbers) e'
 
 -- Where both disks tell what they hold, a file that was being made then holds more numbers: those that a state of the other file
 -- gives, in the width of its own codec.

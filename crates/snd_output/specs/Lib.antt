@@ -1,4 +1,5 @@
 pub mod Appended
+pub mod Codecs
 pub mod Ends
 pub mod Laws
 pub mod Made

@@ -1,28 +1,30 @@
 //! The frames of one file, behind those of another.
 
-ghost use Rattle.std.specs.Prelude.{◌≡◌, ◌≤◌, ◌%◌, IfOk, OnOk, false, is_none, length, true};
-ghost use Rattle.snd_container.specs.Sound.{fixed_of};
+ghost use Rattle.std.specs.Prelude.{◌≡◌, ◌≤◌, ◌%◌, IfOk, OnOk, length};
 ghost use Rattle.snd_disk.specs.Device.{GoesOnFrom, OnlyReadsOn};
+ghost use Rattle.snd_layout.specs.Blocks.{block_frames};
 ghost use Rattle.snd_modes.specs.Calls.{AsksForFrames, count_read};
 ghost use Rattle.snd_modes.specs.Handle.{StandsAfter, channels_of, codec_of, disk_of, known_of, loan_of};
 ghost use Rattle.snd_modes.specs.Editing.{frames_read, moved_by};
 ghost use Rattle.snd_modes.specs.Outcomes.{AsksNothing, TellsOn};
 ghost use Rattle.snd_output.specs.Appended.{AppendLeaves, AsksForLeft, CountsEither, FindsChanged, Lengthens, MayAppend, frames_ahead, left_in, next_numbers, numbers_left};
 
-use crate::steps::{read_some, write_all};
+use crate::making::Making;
+use crate::steps::read_some;
 use crate::stop::Stop;
 use crate::widths::change_numbers;
 use snd_disk::Disk;
 use snd_layout::Codec;
-use snd_modes::{File, Mode, Read, Write};
+use snd_modes::{File, Mode, Read};
 
-// How many numbers a frame of a file has, and their codec: not ADPCM where the file is written.
-fn numbers_of<D: Disk, M: Mode>(file: &File<'_, D, M>) -> (usize, Codec)
+/// How many numbers a frame of a file has, and their codec.
+pub fn numbers_of<D: Disk, M: Mode>(file: &File<'_, D, M>) -> (usize, Codec)
     ensures channels { result.0 ≡ channels_of file.now }
     ensures some { 1 ≤ result.0 }
     ensures codec { result.1 ≡ codec_of file.now }
-    ensures linear { M.PLACES ≡ true → is_none (fixed_of result.1) ≡ false }
+    ensures frames { 1 ≤ block_frames (codec_of file.now) }
 {
+    file.keeps_rule();
     let params = file.params();
     params.are_good();
     (usize::from(params.channels), params.codec)
@@ -30,9 +32,9 @@ fn numbers_of<D: Disk, M: Mode>(file: &File<'_, D, M>) -> (usize, Codec)
 
 // Puts as many frames of one file behind those of another as a block has places for, fewer only at the
 // end. The answer is how many.
-fn append_block<D: Disk, E: Disk>(
+fn append_block<D: Disk, E: Disk, M: Making>(
     from: &mut File<'_, D, Read>,
-    to: &mut File<'_, E, Write>,
+    to: &mut File<'_, E, M>,
     block: &mut [i32],
 ) -> Result<usize, Stop>
     requires may { MayAppend (known_of from.old) (known_of to.old) }
@@ -56,7 +58,7 @@ fn append_block<D: Disk, E: Disk>(
     let count = read_some(from, block)?;
     let numbers = &mut block[..count * channels];
     change_numbers(codec, wanted, numbers);
-    write_all(to, numbers)?;
+    M::give(to, numbers)?;
     Ok(count)
 }
 
@@ -70,9 +72,9 @@ fn append_block<D: Disk, E: Disk>(
 /// The answer is `Fault` where a call of one of the two disks failed: from then on its file is broken; and
 /// `Changed` where a block of the file that is read is bad, so never where `check_blocks` passed them all and
 /// the file has not changed since.
-pub fn append<D: Disk, E: Disk>(
+pub fn append<D: Disk, E: Disk, M: Making>(
     from: &mut File<'_, D, Read>,
-    to: &mut File<'_, E, Write>,
+    to: &mut File<'_, E, M>,
     block: &mut [i32],
 ) -> Result<(), Stop>
     requires may { MayAppend (known_of from.old) (known_of to.old) }

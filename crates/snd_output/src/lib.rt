@@ -3,12 +3,16 @@
 #![tactic(auto)]
 
 mod blocks;
+mod codec;
 mod ends;
 pub mod laws;
+mod making;
 mod steps;
 mod stop;
 mod widths;
 
-pub use blocks::append;
-pub use ends::{begin, finish};
+pub use blocks::{append, numbers_of};
+pub use codec::{codec_like, params_like};
+pub use ends::finish;
+pub use making::Making;
 pub use stop::Stop;

@@ -1,19 +1,16 @@
-//! Frames that are read, and frames that are written, where nothing but the disk can fail.
+//! Frames that are read, where nothing but the disk can fail.
 
-ghost use Rattle.std.specs.Prelude.{◌≡◌, ◌+◌, ◌*◌, ◌/◌, ◌%◌, ◌≤◌, IfOk, MatchResult, None, Some, OnOk, length, min, is_some, true};
-ghost use Rattle.snd_disk.specs.Device.{GoesOnFrom, OnlyReadsOn};
-ghost use Rattle.snd_modes.specs.Edits.{written_to};
+ghost use Rattle.std.specs.Prelude.{◌≡◌, IfOk, length};
+ghost use Rattle.snd_disk.specs.Device.{OnlyReadsOn};
 ghost use Rattle.snd_modes.specs.Handle.{IfOkStanding, StandsAfter, channels_of, codec_of, disk_of, known_of, loan_of};
 ghost use Rattle.snd_modes.specs.Editing.{frames_read, state_read};
 ghost use Rattle.snd_modes.specs.Calls.{AsksForFrames, IsReady, count_read};
-ghost use Rattle.snd_modes.specs.Outcomes.{AsksNothing, TellsOn};
 ghost use Rattle.snd_modes.specs.Reading.{FitCodec, GivesFrames, front_of};
-ghost use Rattle.snd_modes.specs.WriteCalls.{MayWrite, known_written};
-ghost use Rattle.snd_output.specs.Appended.{CountsFault, CountsRead, FindsChanged, SomeLeave};
+ghost use Rattle.snd_output.specs.Appended.{CountsRead, FindsChanged, SomeLeave};
 
 use crate::stop::Stop;
 use snd_disk::Disk;
-use snd_modes::{File, Read, ReadError, Write, WriteError};
+use snd_modes::{File, Read, ReadError};
 
 // Reads frames, as many as the slice has places for, fewer only at the end.
 pub(crate) fn read_some<D: Disk>(
@@ -36,25 +33,6 @@ pub(crate) fn read_some<D: Disk>(
         Ok(count) => Ok(count),
         Err(ReadError::BadBlock) => Err(Stop::Changed),
         Err(ReadError::DiskFault(_)) => Err(Stop::Fault),
-        Err(_) => unreachable!(),
-    }
-}
-
-// Writes frames, which may be written.
-pub(crate) fn write_all<E: Disk>(to: &mut File<'_, E, Write>, from: &[i32]) -> Result<(), Stop>
-    requires working { (known_of to.old).broken ≡ None }
-    requires may { MayWrite from.now (known_of to.old).shape (known_of to.old).write_place }
-    ensures loan { loan_of to.new ≡ loan_of to.old }
-    ensures left { MatchResult result (λ _. known_of to.new ≡ known_written from.now (known_of to.old)) (λ stop. is_some (known_of to.new).broken ≡ true) }
-    ensures stands { OnOk result (StandsAfter E.state to.old to.new (written_to from.now)) }
-    ensures faults { CountsFault (E.state (disk_of to.old)).faults (E.state (disk_of to.new)).faults result }
-    ensures tells { TellsOn E.state to.old to.new }
-    ensures time { GoesOnFrom E.state E.left_between (disk_of to.old) (disk_of to.new) }
-    ensures asked { AsksNothing E.state to.old to.new }
-{
-    match to.write_frames(from) {
-        Ok(()) => Ok(()),
-        Err(WriteError::DiskFault(_)) => Err(Stop::Fault),
         Err(_) => unreachable!(),
     }
 }

@@ -1,4 +1,4 @@
-use Rattle.std.proofs.Common.{◌≡◌, ◌∙◌, ◌+◌, ◌≤◌, ℕ, List, [], ◌∷◌, Option, Some, Ok, length, slice_get, get_or, take, true, false, refl, rules, arith, ap, sym, subst}
+use Rattle.std.proofs.Common.{◌≡◌, ◌∙◌, ◌+◌, ◌≤◌, ℕ, List, [], ◌∷◌, Option, Some, Ok, length, slice_get, get_or, take, true, false, rules, arith, ap, sym, subst}
 use Rattle.std.proofs.lemmas.List.{take_all}
 use Rattle.std.proofs.lemmas.Option.{get_or_from_slice_get, slice_get_within}
 use Rattle.snd_disk.proofs.Chains.{goes_on_then}
@@ -28,6 +28,9 @@ append_input-requires-clause-is_in g c =
 
 pub append_input-requires-clause-at_end : goal.append_input-requires-clause-at_end
 append_input-requires-clause-at_end g c = c.loop-at.invariant.made.0
+
+pub given-requires : goal.given-requires
+given-requires g c = c.loop-at.invariant.made.0
 
 pub append_input-requires-clause-room : goal.append_input-requires-clause-room
 append_input-requires-clause-room g c = c.requires.room ∙ sym (ap (λ (h : Shape). room h) c.loop-at.invariant.made.1)
@@ -63,7 +66,7 @@ returns-in-Err-clause-appended g c = λ files es told all follow.
     let there : slice_get c.args.names.now c.loop-at.at ≡ Some name = search rules in
     let mid = c.loop-at.invariant.reads.files files told in
     let before = c.loop-at.invariant.so_far files es told all follow in
-    let next = follows_at files mid.0 c.args.names.now es c.loop-at.at name c.args.to.now.layout c.loop-at.to.layout all there (mid.2 name) (c.args.to.now.linear refl) c.loop-at.invariant.made.1 before.0 follow in
+    let next = follows_at files mid.0 c.args.names.now es c.loop-at.at name (known_of c.args.to.now) (known_of c.loop-at.to) all there (mid.2 name) c.numbers_of.ensures.frames c.loop-at.invariant.made.1 before.0 follow in
     absurd (refused_not_ok c.in_ok-append_input.field-0 c.in-Err.why c.in-Err.is (c.in_ok-append_input.ensures.appended mid.0 next.0 mid.1 next.2 next.3).0)
 
 pub loop-at-preserved : goal.loop-at-preserved
@@ -89,7 +92,7 @@ loop-at-preserved g c =
       so_far = λ files es told all follow.
           let mid = inv.reads.files files told in
           let before = inv.so_far files es told all follow in
-          let next = follows_at files mid.0 c.args.names.now es c.loop-at.at name old.layout now.layout all there (mid.2 name) (old.linear refl) inv.made.1 before.0 follow in
+          let next = follows_at files mid.0 c.args.names.now es c.loop-at.at name (known_of old) (known_of now) all there (mid.2 name) c.numbers_of.ensures.frames inv.made.1 before.0 follow in
           let done = c.in_ok-append_input.ensures.appended mid.0 next.0 mid.1 next.2 next.3 in
           let same : numbers_for (codec_of now) next.0 ≡ numbers_for (codec_of old) next.0 = ap (λ (h : Shape). numbers_for h.params.codec next.0) inv.made.1 in
           let more = gains_same g.E.Disk.state (numbers_for (codec_of now) next.0) (numbers_for (codec_of old) next.0) now new same done.2 in (
@@ -106,8 +109,8 @@ returns-clause-appended g c = λ files es told all follow.
     let before = c.loop-at.invariant.so_far files es told all follow in
     let past : length c.args.names.now ≤ c.loop-at.at = search rules in
     let whole : take c.loop-at.at es ≡ es = take_all c.loop-at.at es (omega (arith, past, length-inputs files c.args.names.now es all)) in
-    let counted : c.frames.result ≡ old.layout.frames + all_frames (shapes_of es) =
-    c.frames.ensures ∙ before.0 ∙ ap (λ (l : List Editing). old.layout.frames + all_frames (shapes_of l)) whole in
+    let counted : c.given.result ≡ (known_of old).write_place + all_frames (shapes_of es) =
+    c.given.ensures ∙ before.0 ∙ ap (λ (l : List Editing). (known_of old).write_place + all_frames (shapes_of l)) whole in
     (ap Said.made counted, gains_same g.E.Disk.state (all_numbers (codec_of old) (take c.loop-at.at es)) (all_numbers (codec_of old) es) old now (ap (all_numbers (codec_of old)) whole) before.1)
 
 pub returns-in_err-append_input-clause-asked : goal.returns-in_err-append_input-clause-asked

@@ -8,7 +8,8 @@ use Rattle.snd_inputs.specs.Looking.{ReadsFiles}
 use Rattle.snd_modes.specs.Editing.{Editing}
 use Rattle.snd_modes.specs.Handle.{codec_of, disk_of, known_of, loan_of}
 use Rattle.snd_modes.specs.Outcomes.{AsksNothing, TellsOn}
-use Rattle.snd_concat.specs.Appending.{AllFollow, Gains, StillMade}
+use Rattle.snd_output.specs.Appended.{Gains}
+use Rattle.snd_concat.specs.Appending.{AllFollow, StillMade}
 use Rattle.snd_concat.specs.Concat.{all_frames, all_numbers, shapes_of}
 use Rattle.snd_concat.proofs.append.append_all.Given as goal
 
@@ -23,6 +24,6 @@ invariant-loop-at g l = record {
   unasked : AsksNothing g.E.Disk.state l.fn.to l.to;
   tells : TellsOn g.E.Disk.state l.fn.to l.to;
   time : GoesOnFrom g.E.Disk.state g.E.Disk.left_between (disk_of l.fn.to) (disk_of l.to);
-  so_far : (files : Files) (es : List Editing) → TellsFiles g.S.Shelf.state l.fn.shelf files → inputs_in files l.fn.names ≡ Ok es → AllFollow (shapes_of es) (known_of l.fn.to).shape
-      → ((known_of l.to).shape.frames ≡ (known_of l.fn.to).shape.frames + all_frames (shapes_of (take l.at es))) × Gains g.E.Disk.state (all_numbers (codec_of l.fn.to) (take l.at es)) l.fn.to l.to;
+  so_far : (files : Files) (es : List Editing) → TellsFiles g.S.Shelf.state l.fn.shelf files → inputs_in files l.fn.names ≡ Ok es → AllFollow (shapes_of es) (known_of l.fn.to)
+      → ((known_of l.to).write_place ≡ (known_of l.fn.to).write_place + all_frames (shapes_of (take l.at es))) × Gains g.E.Disk.state (all_numbers (codec_of l.fn.to) (take l.at es)) l.fn.to l.to;
 }

@@ -1,16 +1,25 @@
-use Rattle.std.proofs.Common.{◌≡◌, ◌∙◌, ◌+◌, ◌-◌, ap, sym, refl, arith, rules}
+use Rattle.std.proofs.Common.{◌≡◌, ◌∙◌, ap, sym, refl, arith, rules}
 use Rattle.snd_inputs.proofs.Asking.{asks_to_copy}
 use Rattle.snd_layout.specs.Shape.{Shape}
-use Rattle.snd_modes.specs.Handle.{Known, known_of}
+use Rattle.snd_modes.specs.Handle.{known_of}
 use Rattle.snd_inputs.proofs.Copying.{all_ahead}
 use Rattle.snd_output.proofs.Changing.{changed_as}
 use Rattle.snd_output.specs.Appended.{left_in}
-use Rattle.snd_concat.proofs.Gains.{gains_file, made_unless}
+use Rattle.snd_concat.proofs.Gains.{gains_file, made_longer, made_unless, may_append}
+use Rattle.snd_concat.specs.Appending.{Follows}
 use Rattle.snd_concat.proofs.append.append_file.Goals as goal
+
+pub append-requires-clause-may : goal.append-requires-clause-may
+append-requires-clause-may g c =
+    let follows : Follows (known_of c.args.from.now).shape (known_of c.args.to.now) = search rules in
+    may_append (known_of c.args.from.now) (known_of c.args.to.now) c.requires.unread c.requires.at_end follows
+
+pub returns-clause-left : goal.returns-clause-left
+returns-clause-left g c = made_longer (left_in (known_of c.args.from.now)) (known_of c.args.to.now) (known_of c.append.new.to) c.requires.at_end c.in_ok-append.ensures.left.1
 
 pub returns-clause-appended : goal.returns-clause-appended
 returns-clause-appended g c = λ e stands first follows.
-    let counted : c.append.new.to.layout.frames ≡ c.args.to.now.layout.frames + (c.args.from.now.layout.frames - c.args.from.now.read_place) = ap (λ (k : Known). k.shape.frames) c.in_ok-append.ensures.left.1 in
+    let counted = c.in_ok-append.ensures.left.1.place in
     let same : c.args.from.now.layout.frames ≡ e.shape.frames = ap (λ (h : Shape). h.frames) stands.shape in
     (refl, omega (arith, counted, same, c.requires.unread.first), gains_file g.E.Disk.state g.D.Disk.state c.args.from.now c.args.to.now c.append.new.to e stands first c.in_ok-append.ensures.lengthens)
 

@@ -11,7 +11,8 @@ use Rattle.snd_lines.specs.declared.refusal.Refusal.{Refusal}
 use Rattle.snd_modes.specs.Editing.{Editing, first_editing}
 use Rattle.snd_modes.specs.Handle.{codec_of, known_of}
 use Rattle.snd_output.proofs.Changing.{if_changed, unchanged_as}
-use Rattle.snd_concat.specs.Appending.{Follows, Gains}
+use Rattle.snd_output.specs.Appended.{Gains}
+use Rattle.snd_concat.specs.Appending.{Follows}
 use Rattle.snd_concat.specs.Concat.{numbers_for}
 use Rattle.snd_concat.proofs.append.append_input.Goals as goal
 
@@ -42,8 +43,8 @@ returns-clause-appended g c =
     let found = opens.opened files told in
     let same : first_editing found.0 layout ≡ e =
     opened_same (input_in (files c.args.name.now)) (first_editing found.0 layout) e (ap input_in found.1 ∙ read_as found.0 layout found.2) is in
-    let first : Follows layout (known_of to).shape = subst (λ (x : Editing). Follows x.shape (known_of to).shape) (sym same) follows in
-    subst (λ (x : Editing). IsOk done × ((known_of to').shape.frames ≡ (known_of to).shape.frames + x.shape.frames) × Gains g.E.Disk.state (numbers_for (codec_of to) x) to to') same
+    let first : Follows layout (known_of to) = subst (λ (x : Editing). Follows x.shape (known_of to)) (sym same) follows in
+    subst (λ (x : Editing). IsOk done × ((known_of to').write_place ≡ (known_of to).write_place + x.shape.frames) × Gains g.E.Disk.state (numbers_for (codec_of to) x) to to') same
     (appended found.0 found.3.bytes first))
     c.append_laid-appended.ensures.appended
 

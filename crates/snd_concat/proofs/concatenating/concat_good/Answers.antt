@@ -1,7 +1,5 @@
-use Rattle.std.proofs.Common.{◌≡◌, ◌∙◌, ℕ, ◌<◌, List, [], None, Option, Some, Ok, length, get_or, rules, arith, ap, refl, subst, sym}
+use Rattle.std.proofs.Common.{◌≡◌, ◌∙◌, ℕ, ◌<◌, List, [], None, Some, Ok, length, get_or, rules, arith, ap, sym}
 use Rattle.std.proofs.lemmas.Result.{IfOk-weaker}
-use Rattle.snd_disk.specs.Shelf.{Files}
-use Rattle.snd_disk.specs.Shelves.{TellsFiles}
 use Rattle.snd_inputs.proofs.Answering.{done_same, refused_as}
 use Rattle.snd_inputs.proofs.Asking.{both_then, each_less}
 use Rattle.snd_inputs.proofs.Between.{changes_after}
@@ -9,7 +7,6 @@ use Rattle.snd_inputs.proofs.Lists.{length-inputs, same_inputs}
 use Rattle.snd_inputs.proofs.Reading.{reads_changes}
 use Rattle.snd_inputs.specs.Inputs.{first_bad, inputs_in}
 use Rattle.snd_lines.specs.declared.refusal.Refusal.TheVariants.{BadBlock}
-use Rattle.snd_modes.specs.Editing.{Editing}
 use Rattle.snd_output.proofs.Changing.{if_changed, unchanged_as}
 use Rattle.snd_tools.specs.Done.{Done}
 use Rattle.snd_concat.specs.Concat.{all_frames, made_if_good, shapes_of}
@@ -30,14 +27,15 @@ pub returns-in-Some-clause-done : goal.returns-in-Some-clause-done
 returns-in-Some-clause-done g c = λ files es told all may.
     let inputs = c.args.concatenation.now.inputs in
     let output = c.args.concatenation.now.output.now in
-    let h = c.args.like.now in
+    let kind = c.args.kind in
+    let p = c.args.params in
     let at = c.in-Some.at in
     let found : Some at ≡ first_bad es = sym c.in-Some.is ∙ c.in_ok-bad.ensures.found files told es all in
     let within : at < length inputs = omega (arith, bad_within es at found, length-inputs files inputs es all) in
     let name : c.name_at-name.result.now ≡ get_or inputs at [] = c.name_at-name.ensures (omega (arith, within)) ∙ named inputs output at within in
-    let todo : made_if_good inputs output h es (first_bad es) ≡ Done.refuses c.name_at-name.result.now BadBlock =
-    ap (made_if_good inputs output h es) (sym found) ∙ ap (λ (n : List ℕ). Done.refuses n BadBlock) (sym name) in
-    refused_as g.S.Shelf.state c.first_bad.new.shelf files c.name_at-name.result.now BadBlock (made_if_good inputs output h es (first_bad es)) (c.first_bad.ensures.reads.files files told) todo
+    let todo : made_if_good inputs output kind p es (first_bad es) ≡ Done.refuses c.name_at-name.result.now BadBlock =
+    ap (made_if_good inputs output kind p es) (sym found) ∙ ap (λ (n : List ℕ). Done.refuses n BadBlock) (sym name) in
+    refused_as g.S.Shelf.state c.first_bad.new.shelf files c.name_at-name.result.now BadBlock (made_if_good inputs output kind p es (first_bad es)) (c.first_bad.ensures.reads.files files told) todo
 
 pub returns-in-Some-clause-changes : goal.returns-in-Some-clause-changes
 returns-in-Some-clause-changes g c = reads_changes g.S.Shelf c.args.concatenation.now.output.now _ _ c.first_bad.ensures.reads
@@ -54,12 +52,13 @@ returns-in-None-clause-done g c =
     (λ answer made files es told all may.
     let inputs = c.args.concatenation.now.inputs in
     let output = c.args.concatenation.now.output.now in
-    let h = c.args.like.now in
+    let kind = c.args.kind in
+    let p = c.args.params in
     let read = c.first_bad.ensures.reads.files files told in
     let opened : inputs_in read.0 inputs ≡ Ok es = same_inputs files read.0 inputs (λ k d lt. read.2 (get_or inputs k d)) ∙ all in
     let found : None ≡ first_bad es = sym c.in-None.is ∙ c.in_ok-bad.ensures.found files told es all in
-    let whole = Done.makes output (bytes_made h es) (all_frames (shapes_of es)) in
-    done_same g.S.Shelf.state c.make_under.new.shelf files answer whole (made_if_good inputs output h es (first_bad es)) (ap (made_if_good inputs output h es) (sym found))
+    let whole = Done.makes output (bytes_made kind p es) (all_frames (shapes_of es)) in
+    done_same g.S.Shelf.state c.make_under.new.shelf files answer whole (made_if_good inputs output kind p es (first_bad es)) (ap (made_if_good inputs output kind p es) (sym found))
     (done_over g.S.Shelf.state c.make_under.new.shelf answer whole files read.0 read.2 (made read.0 es read.1 opened may)))
     c.make_under.ensures.made
 

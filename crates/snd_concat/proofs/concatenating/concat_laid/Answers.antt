@@ -1,20 +1,20 @@
-use Rattle.std.proofs.Common.{◌≡◌, ◌∙◌, ◌<◌, ℕ, List, [], All, Bool, true, false, cond, None, Some, length, get_or, slice_get, rules, arith, ap, refl, subst, sym}
+use Rattle.std.proofs.Common.{◌≡◌, ◌∙◌, ◌<◌, ℕ, List, [], true, false, None, Some, Ok, Err, length, get_or, slice_get, rules, arith, ap, refl, subst, sym}
 use Rattle.std.proofs.lemmas.List.{length-map}
-use Rattle.std.specs.Prelude.{is_none}
-use Rattle.snd_container.specs.Sound.{fixed_of}
-use Rattle.snd_layout.specs.declared.refusal.OpenRefusal.TheVariants.{NotBuilt}
 use Rattle.snd_inputs.proofs.Lists.{length-inputs}
+use Rattle.snd_inputs.specs.Rooms.{is_full}
 use Rattle.snd_layout.specs.Shape.{Shape}
+use Rattle.snd_layout.specs.declared.kind.Kind.{Kind}
 use Rattle.snd_lines.specs.declared.refusal.Refusal.TheVariants.{ContainerFull, MixedParams, Open}
 use Rattle.snd_modes.specs.Editing.{Editing}
+use Rattle.snd_output.specs.Codecs.{params_like}
 use Rattle.snd_tools.specs.Done.{Done, Said, files_after, said_of}
-use Rattle.snd_tools.specs.Shelves.{HasFiles}
-use Rattle.snd_concat.specs.Concat.{all_frames, done_if_alike, done_like, first_mixed, is_alike, is_full, made_if_good, shapes_of}
+use Rattle.snd_tools.specs.Shelves.{HasFiles, IsDone}
+use Rattle.snd_concat.specs.Concat.{all_frames, done_if_alike, done_like, first_mixed, made_if_good, shapes_of}
 use Rattle.snd_concat.specs.Making.{MayJoin}
 use Rattle.std.proofs.lemmas.Result.{IfOk-weaker}
 use Rattle.snd_inputs.proofs.Answering.{done_same, refused_as}
 use Rattle.snd_inputs.specs.Inputs.{first_bad}
-use Rattle.snd_concat.proofs.Doing.{full_done, like_done, mixed_within, named, none_mixed, room_done, unbuilt_done}
+use Rattle.snd_concat.proofs.Doing.{full_done, like_done, may_join, mixed_within, named, room_done, unfit_done}
 use Rattle.snd_concat.proofs.concatenating.concat_laid.Goals as goal
 
 pub returns-in-Some-first_mixed-clause-done : goal.returns-in-Some-first_mixed-clause-done
@@ -32,16 +32,16 @@ returns-in-Some-first_mixed-clause-done g c = λ files es told all seen.
     subst (λ (d : Done). (Said.refused c.name_at.result.now MixedParams ≡ said_of d) × HasFiles g.S.Shelf.state c.args.shelf.now (files_after d files)) (sym todo)
     (ap (λ (n : List ℕ). Said.refused n MixedParams) name, (files, told, λ n. refl))
 
-pub returns-then-is_none-clause-done : goal.returns-then-is_none-clause-done
-returns-then-is_none-clause-done g c = λ files es told all seen.
+pub returns-in-Err-clause-done : goal.returns-in-Err-clause-done
+returns-in-Err-clause-done g c = λ files es told all seen.
     let inputs = c.args.concatenation.now.inputs in
     let output = c.args.concatenation.now.output.now in
     let h = c.in-Some.like.now in
     let hs = c.args.layouts.now in
     let first : slice_get hs 0 ≡ Some h = search rules in
     let none : first_mixed h.params hs ≡ None = search rules in
-    let blocks : is_none (fixed_of h.params.codec) ≡ true = search rules in
-    refused_as g.S.Shelf.state c.args.shelf.now files output (Open NotBuilt) (done_like inputs output es) (files, told, λ n. refl) (unbuilt_done inputs output es hs h seen first none blocks)
+    let unfit : params_like h.kind h.params.channels h.params ≡ Err c.in-Err.why = search rules in
+    refused_as g.S.Shelf.state c.args.shelf.now files output (Open c.in-Err.why) (done_like inputs output es) (files, told, λ n. refl) (unfit_done inputs output es hs h seen first none c.in-Err.why unfit)
 
 pub returns-then-is_full-clause-done : goal.returns-then-is_full-clause-done
 returns-then-is_full-clause-done g c = λ files es told all seen.
@@ -49,11 +49,12 @@ returns-then-is_full-clause-done g c = λ files es told all seen.
     let output = c.args.concatenation.now.output.now in
     let h = c.in-Some.like.now in
     let hs = c.args.layouts.now in
+    let p = c.in-Ok.params in
     let first : slice_get hs 0 ≡ Some h = search rules in
     let none : first_mixed h.params hs ≡ None = search rules in
-    let linear : is_none (fixed_of h.params.codec) ≡ false = search rules in
-    let full : is_full h (all_frames hs) ≡ true = search rules in
-    refused_as g.S.Shelf.state c.args.shelf.now files output ContainerFull (done_like inputs output es) (files, told, λ n. refl) (full_done inputs output es hs h seen first none linear full)
+    let fit : params_like h.kind h.params.channels h.params ≡ Ok p = search rules in
+    let full : is_full h.kind p (all_frames hs) ≡ true = search rules in
+    refused_as g.S.Shelf.state c.args.shelf.now files output ContainerFull (done_like inputs output es) (files, told, λ n. refl) (full_done inputs output es hs h seen first none p fit full)
 
 pub returns-clause-done : goal.returns-clause-done
 returns-clause-done g c =
@@ -63,14 +64,13 @@ returns-clause-done g c =
     let output = c.args.concatenation.now.output.now in
     let h = c.in-Some.like.now in
     let hs = c.args.layouts.now in
+    let p = c.in-Ok.params in
     let first : slice_get hs 0 ≡ Some h = search rules in
     let none : first_mixed h.params hs ≡ None = search rules in
-    let linear : is_none (fixed_of h.params.codec) ≡ false = search rules in
-    let has_room : is_full h (all_frames hs) ≡ false = search rules in
-    let room : is_full h (all_frames (shapes_of es)) ≡ false = ap (λ (l : List Shape). is_full h (all_frames l)) seen ∙ has_room in
-    let may : MayJoin h (shapes_of es) = record {
-      alike = subst (λ (l : List Shape). All (λ (x : Shape). is_alike h.params x.params ≡ true) l) (sym seen) (none_mixed h hs none);
-      in_room = room;
-    } in
-    done_same g.S.Shelf.state c.concat_good.new.shelf files answer (made_if_good inputs output h es (first_bad es)) (done_like inputs output es) (room_done inputs output es hs h seen first none linear has_room) (done files es told all may))
+    let fit : params_like h.kind h.params.channels h.params ≡ Ok p = search rules in
+    let has_room : is_full h.kind p (all_frames hs) ≡ false = search rules in
+    let same_kind : c.like-inside.inside.0.0 ≡ h.kind = search rules in
+    done_same g.S.Shelf.state c.concat_good.new.shelf files answer (made_if_good inputs output h.kind p es (first_bad es)) (done_like inputs output es)
+    (room_done inputs output es hs h seen first none p fit has_room) (subst (λ (k : Kind). IsDone g.S.Shelf.state c.concat_good.new.shelf answer (made_if_good inputs output k p es (first_bad es)) files) same_kind
+    (done files es told all (subst (λ (k : Kind). MayJoin k p (shapes_of es)) (sym same_kind) (may_join inputs output es hs h seen first none p fit has_room)))))
     c.concat_good.ensures.done

@@ -22,7 +22,7 @@ returns-clause-made g c =
     let done = made out.0 es _ out.1 (c.in_ok-disk.ensures.out.takes.contents files told) opened may in (
       done.0,
       between_files g.S.Shelf g.S.Disk.Disk c.args.shelf.now c.take_output.new.shelf c.make_apart-made.new.shelf c.give.new.self c.in_ok-disk.disk c.make_apart-made.new.disk output true c.in_ok-disk.ensures.out.takes c.make_apart-made.ensures.reads c.give.ensures.given
-          files (bytes_made c.args.like.now es) told done.1,
+          files (bytes_made c.args.kind c.args.params es) told done.1,
     ))
     c.make_apart-made.ensures.made
 

@@ -21,7 +21,7 @@ pub returns-then-not-go-clause-carried : goal.returns-then-not-go-clause-carried
 returns-then-not-go-clause-carried g c = λ r e stands made begun.
     let h : Shape = (known_of c.args.from.now).shape in
     let none : carries c.args.plan.now.kind h.kind ≡ false = ap (carries c.args.plan.now.kind) (sym c.kind.ensures) ∙ sym c.carries-go.ensures ∙ c.if-not-go.true in
-    (e, begun, making_without (planned_by c.args.plan.now) h none r e c.requires.good c.requires.linear made stands.shape)
+    (e, begun, making_without (planned_by c.args.plan.now) h none r e c.requires.good made stands.shape)
 
 pub carry_pieces-requires-clause-empty : goal.carry_pieces-requires-clause-empty
 carry_pieces-requires-clause-empty g c = new_shape_is (planned_by c.args.plan.now) (known_of c.args.to.now) c.requires.begun
@@ -45,7 +45,7 @@ returns-clause-carried g c =
     let both : carries plan.kind h.kind ≡ true = ap (carries plan.kind) (sym c.kind.ensures) ∙ sym c.carries-go.ensures ∙ c.if-not-go.false in
     on_both c.carry_pieces.result _ _ _
     (λ put chunks r e stands made begun.
-    (made_with plan.kind plan.params (carried r.bytes r.shape.pieces), put r e plan.kind plan.params stands made begun, making_with plan h both r e c.requires.good c.requires.linear made stands.shape (chunks r stands)))
+    (made_with plan.kind plan.params (carried r.bytes r.shape.pieces), put r e plan.kind plan.params stands made begun, making_with plan h both r e c.requires.good made stands.shape (chunks r stands)))
     c.carry_pieces.ensures.carried c.carry_pieces.ensures.chunks
 
 pub returns-clause-asked : goal.returns-clause-asked

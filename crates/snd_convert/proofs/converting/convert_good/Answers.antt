@@ -1,10 +1,7 @@
-use Rattle.std.proofs.Common.{◌≡◌, ◌∙◌, ap, sym, subst, refl, true, false, rules, arith}
+use Rattle.std.proofs.Common.{◌≡◌, ◌∙◌, ap, sym, refl, true, false, rules}
 use Rattle.snd_disk.proofs.Chains.{only_reads_then}
-use Rattle.snd_inputs.proofs.Asking.{asks_then}
-use Rattle.snd_inputs.proofs.Copying.{counts_then}
 use Rattle.snd_inputs.specs.Inputs.{is_bad}
 use Rattle.snd_layout.specs.Shape.{Shape}
-use Rattle.snd_modes.specs.Handle.{Known, known_of}
 use Rattle.snd_output.proofs.Changing.{changed_err, unchanged_as}
 use Rattle.snd_convert.specs.Planning.{asked_of, planned_by}
 use Rattle.snd_convert.proofs.Doing.{bad_refused, output_made}

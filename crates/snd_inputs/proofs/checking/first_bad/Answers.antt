@@ -1,12 +1,11 @@
-use Rattle.std.proofs.Common.{◌≡◌, ◌∙◌, ℕ, ◌<◌, List, [], ◌∷◌, Option, Some, Ok, Result, IfOk, true, false, length, slice_get, get_or, take, rules, arith, ap, subst, sym, inl, inr}
+use Rattle.std.proofs.Common.{◌≡◌, ◌∙◌, ℕ, List, [], ◌∷◌, Option, Some, Ok, true, false, length, slice_get, get_or, take, rules, arith, ap, subst, sym, inl, inr}
 use Rattle.std.proofs.lemmas.Bool.{cases_lt}
-use Rattle.std.proofs.lemmas.Option.{get_or_from_slice_get, slice_get_within}
+use Rattle.std.proofs.lemmas.Option.{get_or_from_slice_get}
 use Rattle.snd_inputs.proofs.Asking.{asks_next, each_front, each_then, one_more}
 use Rattle.snd_inputs.proofs.Lists.{bad_first, bad_none, input_at, length-inputs}
 use Rattle.snd_inputs.proofs.Reading.{reads_then}
 use Rattle.snd_inputs.specs.Asking.{AsksForEach}
 use Rattle.snd_inputs.specs.Inputs.{input_in, is_bad}
-use Rattle.snd_modes.specs.Editing.{Editing, first_editing}
 use Rattle.snd_inputs.proofs.checking.first_bad.Goals as goal
 
 pub check_input-requires : goal.check_input-requires

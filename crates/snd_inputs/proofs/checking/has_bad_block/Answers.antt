@@ -1,6 +1,5 @@
-use Rattle.std.proofs.Common.{◌≡◌, ◌∙◌, ap, sym, false, refl, rules, List, ℤ}
+use Rattle.std.proofs.Common.{◌≡◌, false, rules}
 use Rattle.std.specs.Prelude.{is_none}
-use Rattle.snd_blocks.specs.Frames.{has_bad}
 use Rattle.snd_container.specs.Sound.{fixed_of}
 use Rattle.snd_inputs.proofs.Checked.{check_fails, good_unless}
 use Rattle.snd_modes.specs.Handle.{known_of}

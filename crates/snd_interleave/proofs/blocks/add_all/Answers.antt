@@ -2,9 +2,9 @@ use Rattle.std.proofs.Common.{rules, ◌≡◌, ◌∙◌, ap, sym, subst, refl,
 use Rattle.std.proofs.lemmas.List.{append-nil, length-take}
 use Rattle.snd_disk.proofs.Chains.{goes_on_then}
 use Rattle.snd_layout.specs.declared.codec.Codec.{Codec}
-use Rattle.snd_modes.specs.Handle.{Known, codec_of, disk_of, known_of}
-use Rattle.snd_output.proofs.Appending.{longer_none, longer_twice}
-use Rattle.snd_output.specs.Appended.{HasRoom, longer}
+use Rattle.snd_modes.specs.Handle.{codec_of, disk_of, known_of}
+use Rattle.snd_layout.specs.Shape.{Shape}
+use Rattle.snd_output.proofs.Appending.{at_end_then, longer_as, longer_none, longer_then}
 use Rattle.snd_output.specs.Made.{IsMaking}
 use Rattle.snd_interleave.specs.Asking.{AsksEach, bytes_upto}
 use Rattle.snd_interleave.specs.Beside.{frames_from}
@@ -37,13 +37,18 @@ pub add_block-requires-clause-mono : goal.add_block-requires-clause-mono
 add_block-requires-clause-mono g c =
     still_mono g.D.Disk c.args.inputs.now c.loop-place.inputs c.loop-place.invariant.reads c.requires.mono
 
+pub add_block-requires-clause-at_end : goal.add_block-requires-clause-at_end
+add_block-requires-clause-at_end g c = at_end_then c.loop-place.place (known_of c.args.to.now) (known_of c.loop-place.to) c.requires.at_end c.loop-place.invariant.known
+
+pub add_block-requires-clause-alike : goal.add_block-requires-clause-alike
+add_block-requires-clause-alike g c = ap (λ (h : Shape). h.params.channels) c.loop-place.invariant.known.shape ∙ c.requires.alike ∙ sym c.loop-place.auto.inputs
+
 pub add_block-requires-clause-room : goal.add_block-requires-clause-room
 add_block-requires-clause-room g c =
     let inv = c.loop-place.invariant in
-    let known = known_of c.args.to.now in
     let numbers = take c.min-count.result c.loop-place.buffer in
     let few : c.loop-place.place + length numbers ≤ c.args.frames = omega (arith, length-take c.min-count.result c.loop-place.buffer, c.min-count.ensures, inv.within) in
-    subst (λ (k : Known). HasRoom (length numbers) k.shape) (sym inv.known) (room_on known c.args.frames c.loop-place.place (length numbers) (c.args.to.now.linear refl) few c.requires.room)
+    room_on (known_of c.args.to.now) (known_of c.loop-place.to) c.args.frames c.loop-place.place (length numbers) c.numbers_of-channels.ensures.frames few c.requires.room inv.known
 
 pub loop-place-preserved : goal.loop-place-preserved
 loop-place-preserved g c =
@@ -56,10 +61,10 @@ loop-place-preserved g c =
     let n = c.loop-place.place in
     let k = length (take c.min-count.result c.loop-place.buffer) in
     let sum : n + k ≡ n + c.min-count.result = omega (arith, length-take c.min-count.result c.loop-place.buffer, c.min-count.array_long, c.min-count.ensures) in
-    let to_codec : codec_of c.loop-place.to ≡ codec_of c.args.to.now = ap (λ (k : Known). k.shape.params.codec) inv.known in
+    let to_codec : codec_of c.loop-place.to ≡ codec_of c.args.to.now = ap (λ (h : Shape). h.params.codec) inv.known.shape in
     record {
       loan = one.loan ∙ inv.loan;
-      known = one.left ∙ ap (longer k) inv.known ∙ longer_twice n k known ∙ ap (λ (m : ℕ). longer m known) sum;
+      known = longer_as (n + k) (n + c.min-count.result) known (known_of c.add_block.new.to) sum (longer_then n k known (known_of c.loop-place.to) (known_of c.add_block.new.to) inv.known one.left);
       within = omega (arith, c.min-count.ensures, inv.within);
       lengthens = λ kind p pieces xs es e hold stands making.
           let channels = channels_in (codec_of c.args.to.now) es in

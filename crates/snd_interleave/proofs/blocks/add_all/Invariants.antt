@@ -2,7 +2,7 @@ use Rattle.std.proofs.Common.{◌≡◌, ◌-◌, ◌≤◌}
 use Rattle.snd_disk.specs.Device.{GoesOnFrom}
 use Rattle.snd_modes.specs.Handle.{disk_of, known_of, loan_of}
 use Rattle.snd_modes.specs.Outcomes.{AsksNothing, TellsOn}
-use Rattle.snd_output.specs.Appended.{longer}
+use Rattle.snd_output.specs.Appended.{IsLonger}
 use Rattle.snd_interleave.specs.Asking.{AsksEach, bytes_upto}
 use Rattle.snd_interleave.specs.Channels.{AreCalm, Lengthens, ReadAll}
 use Rattle.snd_interleave.proofs.blocks.add_all.Given as goal
@@ -10,7 +10,7 @@ use Rattle.snd_interleave.proofs.blocks.add_all.Given as goal
 abbrev pub invariant-loop-place : goal.invariant-loop-place
 invariant-loop-place g l = record {
   loan : loan_of l.to ≡ loan_of l.fn.to;
-  known : known_of l.to ≡ longer l.place (known_of l.fn.to);
+  known : IsLonger l.place (known_of l.fn.to) (known_of l.to);
   within : l.place ≤ l.frames;
   lengthens : Lengthens g.D.Disk.state g.E.Disk.state 0 l.place l.fn.inputs l.fn.to l.to;
   calm : AreCalm g.D.Disk.state l.fn.inputs l.inputs;

@@ -1,11 +1,11 @@
-use Rattle.std.proofs.Common.{rules, ◌≡◌, ◌∙◌, ap, sym, subst, inl, inr, ℕ, ◌+◌, ◌<◌, List, [], true, false, Some, length, get_or, set, slice_get, Ok, Err, arith}
+use Rattle.std.proofs.Common.{rules, ◌≡◌, ◌∙◌, ap, sym, subst, inl, inr, ℕ, ◌+◌, ◌<◌, [], true, false, Some, length, get_or, set, slice_get, Ok, Err, arith}
 use Rattle.std.proofs.lemmas.Bool.{cases_lt}
 use Rattle.std.proofs.lemmas.List.{get_or_default}
 use Rattle.std.proofs.lemmas.Option.{slice_get-get_or}
 use Rattle.snd_inputs.proofs.Lists.{bad_first, bad_none}
 use Rattle.snd_inputs.specs.Copying.{bytes_checked}
 use Rattle.snd_inputs.specs.Inputs.{is_bad}
-use Rattle.snd_modes.specs.Editing.{Editing, first_editing}
+use Rattle.snd_modes.specs.Editing.{first_editing}
 use Rattle.snd_interleave.specs.Channels.{CountsInputs}
 use Rattle.snd_interleave.proofs.Asking.{first_each, first_more, first_none}
 use Rattle.snd_interleave.proofs.Bad.{held_at}

@@ -1,4 +1,4 @@
-use Rattle.std.proofs.Common.{◌≡◌, ◌∙◌, ap, sym, subst, ◌<◌, All, arith}
+use Rattle.std.proofs.Common.{◌∙◌, ap, sym, subst, All, arith}
 use Rattle.std.proofs.lemmas.Result.{IfOk-weaker}
 use Rattle.snd_disk.specs.State.{AtMost}
 use Rattle.snd_inputs.specs.Copying.{bytes_checked}

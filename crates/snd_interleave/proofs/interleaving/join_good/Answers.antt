@@ -1,11 +1,11 @@
-use Rattle.std.proofs.Common.{rules, ◌≡◌, ◌∙◌, ap, sym, subst, refl, ℕ, ◌+◌, ◌<◌, List, [], ◌∷◌, ◌++◌, None, Some, Ok, Err, length, get_or, arith}
+use Rattle.std.proofs.Common.{rules, ◌≡◌, ◌∙◌, ap, sym, refl, ℕ, ◌<◌, List, [], ◌∷◌, None, Some, Ok, Err, length, get_or, arith}
 use Rattle.std.proofs.lemmas.List.{get_or_append_left}
 use Rattle.snd_inputs.specs.Inputs.{first_bad}
 use Rattle.snd_lines.specs.declared.refusal.Refusal.TheVariants.{BadBlock}
 use Rattle.snd_output.proofs.Changing.{changed_err, unchanged_as}
 use Rattle.snd_tools.specs.Done.{Done}
 use Rattle.snd_interleave.specs.Beside.{longest}
-use Rattle.snd_interleave.specs.Channels.{layouts_of, most_frames}
+use Rattle.snd_interleave.specs.Channels.{most_frames}
 use Rattle.snd_interleave.specs.Interleave.{channels_in, made_if_good}
 use Rattle.snd_interleave.proofs.Asking.{checked_only, checked_then}
 use Rattle.snd_interleave.proofs.Bad.{bad_within}

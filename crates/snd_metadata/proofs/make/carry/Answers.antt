@@ -116,14 +116,12 @@ returns-clause-carried g c = λ r e s made stands.
     let plan : List PlannedChunk = c.args.plan.now in
     let all : take c.loop-at.at plan ≡ plan = take_all c.loop-at.at plan (omega arith) in
     let put = c.loop-at.invariant.so_far r e s made stands in
-    let params = ap (λ (l : Shape). l.params) c.requires.begun ∙ (says_of h.kind h.params [] c.requires.ready.meta).params in
-    let linear : is_none (fixed_of h.params.codec) ≡ false = sym (ap (λ (p : Parameters). is_none (fixed_of p.codec)) params) ∙ c.args.to.now.linear refl in
     let chunks : List NewChunk = chunks_planned r plan in
     let has : HasPut g.E.Disk.state h.kind h.params chunks c.loop-at.to = subst (λ (l : List PlannedChunk). HasPut g.E.Disk.state h.kind h.params (chunks_planned r l) c.loop-at.to) all put.0 in
     let each : All IsChunk chunks = subst (λ (l : List PlannedChunk). All IsChunk (chunks_planned r l)) all put.1 in (
       made_with h.kind h.params chunks,
       has.stands,
-      carried_is_making h.kind h.params chunks e c.requires.good linear made c.requires.ready.meta (record { each = each; few = omega (arith, length-map plan (chunk_planned r.bytes), c.requires.ready.plan_is.few) }),
+      carried_is_making h.kind h.params chunks e c.requires.good made c.requires.ready.meta (record { each = each; few = omega (arith, length-map plan (chunk_planned r.bytes), c.requires.ready.plan_is.few) }),
     )
 
 pub returns-in_err-put_planned-clause-asked : goal.returns-in_err-put_planned-clause-asked

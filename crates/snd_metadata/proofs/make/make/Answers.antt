@@ -10,9 +10,7 @@ use Rattle.snd_output.specs.Widths.{joined}
 use Rattle.snd_metadata.specs.Making.{chunks_planned, file_planned}
 use Rattle.snd_metadata.specs.declared.chunks.PlannedChunk.{PlannedChunk}
 use Rattle.snd_inputs.proofs.Told.{told_as}
-use Rattle.std.specs.Prelude.{is_none}
-use Rattle.snd_container.specs.Sound.{fixed_of}
-use Rattle.snd_modes.proofs.FixedFrames.{is_fixed}
+use Rattle.snd_layout.specs.Blocks.{is_adpcm}
 use Rattle.snd_output.proofs.Changing.{fault_only, never_is}
 use Rattle.snd_metadata.proofs.make.make.Goals as goal
 
@@ -31,9 +29,8 @@ returns-in-Ok-finish-clause-made g c =
     (c.in-Ok-finish.ensures.made h.kind h.params (chunks_planned r plan) (joined r.frames) full.0 full.1 full.2 ∙ ap (λ (l : List ℕ). Some l) same))
     c.fill-filled.ensures.fills
 
-pub begin-requires-clause-linear : goal.begin-requires-clause-linear
-begin-requires-clause-linear g c =
-    ap (λ (p : Parameters). is_none (fixed_of p.codec)) c.params_of-params.ensures.params ∙ is_fixed (known_of c.args.from.now).shape.params.codec c.requires.ready.linear
+pub begin-requires-clause-codec : goal.begin-requires-clause-codec
+begin-requires-clause-codec g c = ap (λ (p : Parameters). is_adpcm p.codec) c.params_of-params.ensures.params ∙ c.requires.ready.linear
 
 pub returns-in-Err-finish-clause-unchanged : goal.returns-in-Err-finish-clause-unchanged
 returns-in-Err-finish-clause-unchanged g c = never_is {T = Unit {0}} (Err c.in-Err-finish.stop) (fault_only ⊥ c.in-Err-finish.stop c.in-Err-finish.ensures.cause.0)

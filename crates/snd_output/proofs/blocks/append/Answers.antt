@@ -8,10 +8,10 @@ use Rattle.snd_modes.specs.Calls.{count_read}
 use Rattle.snd_modes.specs.Editing.{Editing, moved_by}
 use Rattle.snd_modes.specs.Handle.{Known, Stands, channels_of, codec_of, disk_of, known_of}
 use Rattle.snd_modes.specs.Reading.{bytes_to_read}
-use Rattle.snd_output.specs.Appended.{left_in, longer, next_numbers, read_on}
+use Rattle.snd_output.specs.Appended.{MayAppend, left_in, next_numbers, read_on}
 use Rattle.snd_output.specs.Made.{IsMaking}
 use Rattle.snd_output.specs.Widths.{change_numbers}
-use Rattle.snd_output.proofs.Appending.{all_numbers, asked_all, asked_before, asked_by, asked_none, asked_on, bad_ahead, count_fits, each_whole, left_later, longer_none, longer_twice, moved_none, moved_twice, none_left, numbers_none, one_fits, numbers_twice, read_none, read_twice, whole_places}
+use Rattle.snd_output.proofs.Appending.{all_numbers, asked_all, asked_before, asked_by, asked_none, asked_on, bad_ahead, count_fits, each_whole, left_later, longer_as, longer_none, longer_then, may_go_on, moved_none, moved_twice, none_left, numbers_none, one_fits, numbers_twice, read_none, read_twice, whole_places}
 use Rattle.snd_output.proofs.Changing.{changed_as}
 use Rattle.snd_output.proofs.blocks.append.Goals as goal
 
@@ -29,7 +29,7 @@ loop-count-init g c =
       loan = refl;
       to_loan = refl;
       read = read_none from.place from;
-      written = longer_none to ∙ ap (λ (n : ℕ). longer n to) (sym nothing);
+      written = longer_as 0 (from.place - from.place) to to (sym nothing) (longer_none to);
       within = omega arith;
       ended = λ one. absurd (omega (arith, one));
       stands = λ e stands. subst (λ (r : Editing). Stands g.D.Disk.state c.args.from.now r) (moved_none from.place e) stands;
@@ -54,6 +54,7 @@ loop-count-preserved g c =
     let to_first = known_of c.args.to.now in
     let now = known_of c.loop-count.from in
     let to_now = known_of c.loop-count.to in
+    let to_new = known_of c.append_block.new.to in
     let inv = c.loop-count.invariant in
     let one = c.in_ok-count.ensures in
     let count = c.in_ok-count.count in
@@ -68,12 +69,12 @@ loop-count-preserved g c =
     let some : 1 ≤ now.shape.params.channels = omega (arith, channels, c.numbers_of-channels.ensures.channels, c.numbers_of-channels.ensures.some) in
     let fits = count_fits now places count some (ap (λ (n : ℕ). places % n) channels ∙ inv.whole) one.count in
     let from_codec : codec_of c.loop-count.from ≡ codec_of c.args.from.now = ap (λ (k : Known). k.shape.params.codec) inv.read in
-    let to_codec : codec_of c.loop-count.to ≡ codec_of c.args.to.now = ap (λ (k : Known). k.shape.params.codec) inv.written in
+    let to_codec : codec_of c.loop-count.to ≡ codec_of c.args.to.now = ap (λ (s : Shape). s.params.codec) inv.written.shape in
     record {
       loan = one.loan ∙ inv.loan;
       to_loan = one.to_loan ∙ inv.to_loan;
       read = one.left.0 ∙ ap (λ (n : ℕ). read_on n now) (sym one.count) ∙ ap (read_on count) inv.read ∙ read_twice j count first ∙ ap (λ (n : ℕ). read_on n first) (sym sum);
-      written = one.left.1 ∙ ap (λ (n : ℕ). longer n to_now) (sym one.count) ∙ ap (longer count) inv.written ∙ longer_twice j count to_first ∙ ap (λ (n : ℕ). longer n to_first) (sym sum);
+      written = longer_as (j + count) i to_first to_new (sym sum) (longer_then j count to_first to_now to_new inv.written (longer_as (count_read places now) count to_now to_new (sym one.count) one.left.1));
       within = omega (arith, sum, fits.0, here, frames, inv.within);
       ended = λ none.
           let gone : left_in now ≡ 0 = none_left now places count some (omega (arith, channels, inv.some)) one.count none in
@@ -113,6 +114,21 @@ loop-count-preserved g c =
           subst (λ (n : ℕ). AtMost begun (asked_by first.shape.params each i n count) end) rest
           (asked_on now first.shape.params each j (left_in now) count i begun mid end params many is sum before more);
     }
+
+pub append_block-requires-clause-may : goal.append_block-requires-clause-may
+append_block-requires-clause-may g c =
+    let first = known_of c.args.from.now in
+    let inv = c.loop-count.invariant in
+    subst (λ (k : Known). MayAppend k (known_of c.loop-count.to)) (sym inv.read)
+    (may_go_on first (known_of c.args.to.now) (known_of c.loop-count.to) ((known_of c.loop-count.from).place - first.place) c.requires.may inv.within inv.written)
+
+pub returns-clause-left : goal.returns-clause-left
+returns-clause-left g c =
+    let inv = c.loop-count.invariant in
+    let first = known_of c.args.from.now in
+    let j = (known_of c.loop-count.from).place - first.place in
+    let all : j ≡ left_in first = inv.ended (omega (arith, c.loop-count-test.false)) in
+    (inv.read ∙ ap (λ (n : ℕ). read_on n first) all, longer_as j (left_in first) (known_of c.args.to.now) (known_of c.loop-count.to) all inv.written)
 
 pub returns-clause-lengthens : goal.returns-clause-lengthens
 returns-clause-lengthens g c = λ kind p pieces xs r e reads stands making.

@@ -3,7 +3,7 @@ use Rattle.snd_disk.specs.Device.{AsksAtMost, GoesOnFrom, OnlyReadsOn}
 use Rattle.snd_modes.specs.Editing.{moved_by}
 use Rattle.snd_modes.specs.Handle.{StandsAfter, channels_of, disk_of, known_of, loan_of}
 use Rattle.snd_modes.specs.Outcomes.{AsksNothing, TellsOn}
-use Rattle.snd_output.specs.Appended.{Lengthens, left_in, longer, next_numbers, read_on}
+use Rattle.snd_output.specs.Appended.{IsLonger, Lengthens, left_in, next_numbers, read_on}
 use Rattle.snd_output.proofs.Appending.{asked_by}
 use Rattle.snd_output.proofs.blocks.append.Given as goal
 
@@ -14,7 +14,7 @@ invariant-loop-count g l =
       loan : loan_of l.from ≡ loan_of l.fn.from;
       to_loan : loan_of l.to ≡ loan_of l.fn.to;
       read : known_of l.from ≡ read_on k (known_of l.fn.from);
-      written : known_of l.to ≡ longer k (known_of l.fn.to);
+      written : IsLonger k (known_of l.fn.to) (known_of l.to);
       within : k ≤ left_in (known_of l.fn.from);
       ended : l.count ≡ 0 → k ≡ left_in (known_of l.fn.from);
       stands : StandsAfter g.D.Disk.state l.fn.from l.from (moved_by k);

@@ -1,5 +1,6 @@
 use Rattle.snd_output.proofs.Begun.{begun_is_making}
 use Rattle.snd_output.proofs.Carried.{carried_is_making}
+use Rattle.snd_output.proofs.Encoding.{encoded_is_making, filled_is_made}
 use Rattle.snd_output.proofs.Finished.{sealed_is_made}
 use Rattle.snd_output.proofs.Lengthened.{written_is_making}
 use Rattle.snd_output.proofs.laws.files_are_made.Goals as goal
@@ -15,3 +16,9 @@ returns-clause-written c = written_is_making
 
 pub returns-clause-sealed : goal.returns-clause-sealed
 returns-clause-sealed c = sealed_is_made
+
+pub returns-clause-encoded : goal.returns-clause-encoded
+returns-clause-encoded c = encoded_is_making
+
+pub returns-clause-filled : goal.returns-clause-filled
+returns-clause-filled c = filled_is_made

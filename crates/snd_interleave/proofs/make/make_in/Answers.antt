@@ -1,9 +1,12 @@
 use Rattle.std.proofs.Common.{rules, ◌≡◌, ◌∙◌, ap, subst, inl, inr, ℕ, [], ◌++◌, List, Some, Err}
 use Rattle.snd_disk.proofs.Chains.{goes_on_then}
 use Rattle.snd_disk.specs.Device.{GoesOnFrom}
+use Rattle.snd_inputs.proofs.Begun.{begun_as, begun_at_end, begun_room}
 use Rattle.snd_layout.specs.Params.{Parameters}
+use Rattle.snd_layout.specs.Shape.{Shape}
 use Rattle.snd_layout.specs.declared.codec.Codec.{Codec}
 use Rattle.snd_modes.specs.Handle.{codec_of, disk_of, known_of}
+use Rattle.snd_modes.specs.Relaid.{shape_with}
 use Rattle.snd_output.specs.Made.{made_file}
 use Rattle.snd_interleave.specs.Beside.{frames_from}
 use Rattle.snd_interleave.specs.Channels.{CountsWith, bytes_made}
@@ -12,33 +15,37 @@ use Rattle.snd_output.proofs.Changing.{fault_only, unchanged_err}
 use Rattle.snd_inputs.proofs.Told.{told_as}
 use Rattle.snd_interleave.proofs.Asking.{each_none}
 use Rattle.snd_interleave.specs.Asking.{bytes_copied}
-use Rattle.snd_interleave.proofs.Making.{begun_at_end, begun_room, counts_not_finished, is_begun}
+use Rattle.snd_interleave.proofs.Making.{counts_not_finished}
 use Rattle.snd_interleave.proofs.Numbers.{most_numbers}
 use Rattle.std.proofs.lemmas.Result.{on_ok_weaker}
-use Rattle.snd_interleave.proofs.make.make.Goals as goal
+use Rattle.snd_interleave.proofs.make.make_in.Goals as goal
 
 pub add_frames-added-requires-clause-alike : goal.add_frames-added-requires-clause-alike
 add_frames-added-requires-clause-alike g c =
-    let begun = is_begun c.args.kind c.args.params (known_of c.in-Ok.to) c.are_good.ensures c.requires.fits c.in-Ok.ensures.fresh c.in-Ok.ensures.shape in
-    ap (λ (p : Parameters). p.channels) begun.params ∙ c.requires.alike
+    let begun = begun_as c.args.kind c.args.params c.are_good.ensures c.requires.fits in
+    ap (λ (h : Shape). h.params.channels) c.in-Ok.ensures.shape ∙ ap (λ (p : Parameters). p.channels) begun.params ∙ c.requires.alike
 
 pub add_frames-added-requires-clause-at_end : goal.add_frames-added-requires-clause-at_end
-add_frames-added-requires-clause-at_end g c = begun_at_end c.args.kind c.args.params (known_of c.in-Ok.to) c.are_good.ensures c.requires.fits c.in-Ok.ensures.fresh c.in-Ok.ensures.shape
+add_frames-added-requires-clause-at_end g c =
+    begun_at_end c.args.kind c.args.params (shape_with c.args.kind c.args.params []) (known_of c.in-Ok.to) (begun_as c.args.kind c.args.params c.are_good.ensures c.requires.fits) c.in-Ok.ensures.fresh c.in-Ok.ensures.shape
 
 pub add_frames-added-requires-clause-room : goal.add_frames-added-requires-clause-room
-add_frames-added-requires-clause-room g c = begun_room c.args.kind c.args.params (known_of c.in-Ok.to) c.are_good.ensures c.requires.fits c.in-Ok.ensures.fresh c.in-Ok.ensures.shape c.args.frames c.requires.room
+add_frames-added-requires-clause-room g c =
+    begun_room c.args.kind c.args.params (shape_with c.args.kind c.args.params []) (known_of c.in-Ok.to) (begun_as c.args.kind c.args.params c.are_good.ensures c.requires.fits) c.in-Ok.ensures.fresh c.in-Ok.ensures.shape
+    c.args.frames c.requires.room
 
 pub returns-in-Ok-finish-clause-made : goal.returns-in-Ok-finish-clause-made
 returns-in-Ok-finish-clause-made g c =
     on_ok_weaker c.add_frames-added.result
     (λ lengthens b es tells hold.
     let p = c.args.params in
-    let is = is_begun c.args.kind p (known_of c.in-Ok.to) c.are_good.ensures c.requires.fits c.in-Ok.ensures.fresh c.in-Ok.ensures.shape in
+    let is = begun_as c.args.kind p c.are_good.ensures c.requires.fits in
+    let codec : codec_of c.in-Ok.to ≡ p.codec = ap (λ (h : Shape). h.params.codec) c.in-Ok.ensures.shape ∙ ap (λ (q : Parameters). q.codec) is.params in
     let begun = c.in-Ok.ensures.begun b tells in
     let longer = lengthens c.args.kind p [] [] es begun.0 hold begun.1 begun.2 in
     let whole = c.in-Ok-finish.ensures.made c.args.kind p [] ([] ++ frames_from (channels_in (codec_of c.in-Ok.to) es) 0 c.args.frames) longer.0 longer.1 longer.2 in
     let same : made_file c.args.kind p [] ([] ++ frames_from (channels_in (codec_of c.in-Ok.to) es) 0 c.args.frames) ≡ bytes_made c.args.kind p es =
-    ap (λ (q : Codec). made_file c.args.kind p [] (frames_from (channels_in q es) 0 c.args.frames)) (ap (λ (q : Parameters). q.codec) is.params)
+    ap (λ (q : Codec). made_file c.args.kind p [] (frames_from (channels_in q es) 0 c.args.frames)) codec
     ∙ ap (λ (n : ℕ). made_file c.args.kind p [] (frames_from (channels_in p.codec es) 0 n)) (c.requires.all ∙ most_numbers g.D.Disk.state c.args.inputs.now es p.codec hold) in
     told_as g.E.Disk.state c.in-Ok-finish.back.now _ (bytes_made c.args.kind p es) (search rules) (whole ∙ ap (λ (l : List ℕ). Some l) same))
     c.add_frames-added.ensures.lengthens

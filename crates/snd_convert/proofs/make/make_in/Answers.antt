@@ -4,7 +4,7 @@ use Rattle.snd_convert.specs.Planning.{planned_by}
 use Rattle.snd_inputs.proofs.Told.{told_as}
 use Rattle.snd_output.proofs.Changing.{fault_only}
 use Rattle.std.proofs.lemmas.Result.{on_ok_weaker}
-use Rattle.snd_convert.proofs.make.make.Goals as goal
+use Rattle.snd_convert.proofs.make.make_in.Goals as goal
 
 pub returns-in-Ok-finish-clause-made : goal.returns-in-Ok-finish-clause-made
 returns-in-Ok-finish-clause-made g c =
