@@ -8,6 +8,7 @@
 set -u
 source "$(dirname "$(readlink -f "${BASH_SOURCE[0]}")")/built_program.bash"
 PYTHONDONTWRITEBYTECODE=1 PYTHONPATH=$top/checks python3 - "$program" <<'PY'
+import math
 import os
 import subprocess
 import sys
@@ -49,25 +50,33 @@ def as_decoded(name, kind, codec, channels, rate, found):
     return wrong
 
 
-def made(what, words, frames, kind, codec, channels, rate, found):
+def made(what, words, frames, kind, codec, channels, rate, found, decode=True):
     wrong = wrong_run(words, f"ok {frames}\n".encode(), b"", 0, (words[-1], blocks.whole_file(kind, codec, channels, rate, found)))
-    cases.case(what, wrong or as_decoded(words[-1], kind, codec, channels, rate, found))
+    cases.case(what, wrong or (as_decoded(words[-1], kind, codec, channels, rate, found) if decode else []))
+
+
+def tone(codec, count):
+    """Numbers of a codec as a recording has them."""
+    shift = kinds.width(codec) - 16
+    found = [int(9000 * math.sin(i / 20) + 2500 * math.sin(i / 3.1)) + 40 * (i * 7919 % 13 - 6) for i in range(count)]
+    return kinds.kept(codec, [x << shift if shift >= 0 else x >> -shift for x in found])
 
 
 def converted(one, codec, kind, channels, rate):
-    """Converts a WAVE file of some codec; a script makes the same of the same frames."""
-    held = numbers(one, FRAMES * channels)
-    wanted = changed(one, codec, held)
-    put("in.wav", kinds.whole_file("wave", one, channels, rate, held))
+    """Converts WAVE files of some codec; a script makes the same of the same frames."""
     out = f"out.{SUFFIX[kind]}"
-    made(f"{one} to {kind} {codec} {channels} {rate}", ["convert", OPTION[codec], "in.wav", out], FRAMES, kind, codec, channels, rate, wanted)
-    if one == "pcm_16_le" and rate == RATES[0]:
-        lines = [f"create {kind} {codec} {channels} {rate} by-script.{SUFFIX[kind]}"]
-        lines += ["write " + " ".join(map(str, wanted[i:i + 200])) for i in range(0, len(wanted), 200)]
-        subprocess.run([program, "script"], input="\n".join([*lines, "close", ""]).encode(), check=True, capture_output=True, timeout=SECONDS)
-        with open(f"by-script.{SUFFIX[kind]}", "rb") as one_file, open(out, "rb") as other:
-            cases.case(f"a script makes the same: {kind} {codec} {channels}", [] if one_file.read() == other.read() else ["another file"])
-    os.remove(out)
+    for what, held in (("a tone", tone(one, FRAMES * channels)), ("any numbers", numbers(one, FRAMES * channels))):
+        wanted = changed(one, codec, held)
+        put("in.wav", kinds.whole_file("wave", one, channels, rate, held))
+        # of any numbers the step of Microsoft's decoder leaves 16 bits, in which libsndfile keeps it
+        made(f"{what}, {one} to {kind} {codec} {channels} {rate}", ["convert", OPTION[codec], "in.wav", out], FRAMES, kind, codec, channels, rate, wanted, codec == "ima" or what == "a tone")
+        if one == "pcm_16_le" and rate == RATES[0]:
+            lines = [f"create {kind} {codec} {channels} {rate} by-script.{SUFFIX[kind]}"]
+            lines += ["write " + " ".join(map(str, wanted[i:i + 200])) for i in range(0, len(wanted), 200)]
+            subprocess.run([program, "script"], input="\n".join([*lines, "close", ""]).encode(), check=True, capture_output=True, timeout=SECONDS)
+            with open(f"by-script.{SUFFIX[kind]}", "rb") as one_file, open(out, "rb") as other:
+                cases.case(f"a script makes the same: {what}, {kind} {codec} {channels}", [] if one_file.read() == other.read() else ["another file"])
+        os.remove(out)
 
 
 def small(codec, channels, rate, found, size):
@@ -89,18 +98,18 @@ for codec in OPTION:
 # ---- blocks of another size are coded anew
 for codec in OPTION:
     for channels in (1, 2):
-        whole, held = small(codec, channels, 8000, numbers("pcm_16_le", 1234 * channels), 64 * channels)
+        whole, held = small(codec, channels, 8000, tone("pcm_16_le", 1234 * channels), 64 * channels)
         put("small.wav", whole)
         made(f"{codec} {channels}, copied", ["convert", "small.wav", "copy.w64"], 1234, "w64", codec, channels, 8000, held)
-        other = numbers("pcm_24_le", 77 * channels)
+        other = tone("pcm_24_le", 77 * channels)
         put("other.w64", kinds.whole_file("w64", "pcm_24_le", channels, 8000, other))
         made(f"{codec} {channels}, and another behind it", ["concat", "small.wav", "other.w64", "joined.wav"], 1311, "wave", codec, channels, 8000, held + changed("pcm_24_le", codec, other))
         put("first.wav", kinds.whole_file("wave", "pcm_16_le", channels, 8000, held))
         cases.case(f"{codec} {channels}, behind another", wrong_run(["concat", "first.wav", "small.wav", "twice.wav"], b"ok 2468\n", b"", 0,
                    ("twice.wav", kinds.whole_file("wave", "pcm_16_le", channels, 8000, held + held))))
-    whole, left = small(codec, 1, 8000, numbers("pcm_16_le", 600), 64)
+    whole, left = small(codec, 1, 8000, tone("pcm_16_le", 600), 64)
     put("left.wav", whole)
-    right = numbers("ulaw", 900)
+    right = tone("ulaw", 900)
     put("right.au", kinds.whole_file("au", "ulaw", 1, 8000, right))
     left += [0] * 300
     made(f"{codec}, side by side", ["interleave", "left.wav", "right.au", "-o", "both.wav"], 900, "wave", codec, 2, 8000, [x for frame in zip(left, right) for x in frame])
@@ -112,7 +121,7 @@ for codec in OPTION:
 
 # ---- files of sox
 if readers.tools["sox"]:
-    held = numbers("pcm_16_le", 4000)
+    held = tone("pcm_16_le", 4000)
     put("plain.wav", kinds.whole_file("wave", "pcm_16_le", 2, 44100, held))
     for codec in OPTION:
         subprocess.run(["sox", "plain.wav", "-e", {"ima": "ima-adpcm", "ms": "ms-adpcm"}[codec], f"sox-{codec}.wav"], check=True, capture_output=True)
@@ -123,5 +132,5 @@ if readers.tools["sox"]:
         at, many = bodies[b"data"]
         found = blocks.numbers_of(codec, 2, size, b[at:at + many], 2000)
         made(f"{codec} of sox, copied", ["convert", f"sox-{codec}.wav", f"copy-{codec}.wav"], 2000, "wave", codec, 2, 44100, found)
-cases.end(2 * (2 * 2 * len(RATES) + 5) + 2 * 2 * 2 + 2 * (2 * 3 + 3 + 5) + (2 if readers.tools["sox"] else 0))
+cases.end(2 * 2 * (2 * 2 * len(RATES) + 5) + 2 * 2 * 2 * 2 + 2 * (2 * 3 + 3 + 5) + (2 if readers.tools["sox"] else 0))
 PY

@@ -391,5 +391,5 @@ else:
     print("scripts: skipped: a full disk, since no file system can be mounted")
     skipped += 1
 os.rmdir(folder)
-cases.end(24 + 4 + 2 + 3 + 12 + 12 + 8 + 9 + 5 + 6 + 3 - skipped)
+cases.end(24 + 4 + 2 + 2 + 3 + 12 + 12 + 8 + 9 + 5 + 6 + 3 - skipped)
 PY
