@@ -9,7 +9,7 @@ use Rattle.snd_fields.specs.Field.{bytes_of, number}
 use Rattle.snd_fields.specs.Laws.{IsByte}
 use Rattle.snd_fields.specs.declared.field.Order.{Order}
 use Rattle.snd_fields.specs.declared.field.Order.TheVariants.{Little, Big}
-use Rattle.snd_layout.specs.Blocks.{block_align, is_adpcm}
+use Rattle.snd_layout.specs.Blocks.{block_align}
 use Rattle.snd_layout.specs.Container.{AreBytes, ClosesNear, EndsAreInOrder, FieldsApart, FillsFields, FitsField, FitsFields, KeepsHead, KeepsMarks, LiesIn, NewCountReadsBack, OldCountReadsBack, PiecesStay, SameBody, SameOutsideDataReadsBack, SameValues, Says, VoiceDeclares, VoiceReadsBack, counted_shape, is_in, is_in_fields, is_in_some, is_mark}
 use Rattle.snd_layout.specs.Params.{AreParams, Parameters, data_bytes}
 use Rattle.snd_layout.specs.Shape.{KeepsRule, Shape, is_inner_size, room}
@@ -289,7 +289,7 @@ no_pieces : (x b : List ℕ) → All (SameBody x b) []
 no_pieces x b k d lt = absurd (omega (arith, lt))
 
 pub pieces_stay : (order : Order) → PiecesStay (au order)
-pieces_stay order b x h is fixed good within keeps goes_on =
+pieces_stay order b x h is good within keeps goes_on =
     let k : Known order b h = known order b h is in
     rw k.pieces (no_pieces x b)
 
@@ -307,8 +307,8 @@ marks order b h is =
 by_shape : (order : Order) (b : List ℕ) (n : Numbers) (p : Parameters) → AreParams p → IsPlaced (length b) n.offset → LiesWell order (length b) n p → LiesIn b (au_shape order (length b) n p)
 by_shape order b n p good place well = record { params = good; rule = well.rule; within = place.within; held = well.held; room_ends = well.room_ends; declared = well.declared }
 
-pub lies : (order : Order) (b : List ℕ) (h : Shape) → All IsByte b → au_layout order b ≡ Ok h → is_adpcm h.params.codec ≡ false → LiesIn b h
-lies order b h bytes is other =
+pub lies : (order : Order) (b : List ℕ) (h : Shape) → All IsByte b → au_layout order b ≡ Ok h → LiesIn b h
+lies order b h bytes is =
     let k : Known order b h = known order b h is in
     let n : Numbers = numbers_of order b in
     subst (λ (s : Shape). LiesIn b s) (sym k.from.gives.shape)

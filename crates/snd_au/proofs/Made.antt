@@ -151,7 +151,7 @@ reads_back order p good fit =
 is_new : (order : Order) (p : Parameters) → AreParams p → fit_refusal (kind_of order) p ≡ None → IsNew (kind_of order) (au order) p
 is_new order p good fit = record {
   told = reads_back order p good fit;
-  bytes = λ fixed. rw (head_is order p) (joined_bytes order 24 0 (encoding_of p.codec) p.rate p.channels);
+  bytes = rw (head_is order p) (joined_bytes order 24 0 (encoding_of p.codec) p.rate p.channels);
   is_kind = refl;
   params = refl;
   frames = refl;

@@ -4,7 +4,7 @@ use Rattle.snd_layout.specs.declared.refusal.OpenRefusal.{OpenRefusal}
 use Rattle.snd_layout.specs.Blocks.{is_adpcm}
 use Rattle.snd_layout.specs.Params.{AreParams, Parameters}
 use Rattle.snd_layout.specs.Shape.{KeepsRule, Shape, end}
-use Rattle.snd_container.specs.Sound.{Sound, decoded, kept_of, layout_of, sound_bytes, sound_of}
+use Rattle.snd_container.specs.Sound.{Sound, decoded, kept_of, layout_of, sound_bytes}
 use Rattle.snd_blocks.specs.Frames.{blocks_decoded, frames_in_blocks}
 
 -- the frames that data bytes stand for, and of blocks the first n
@@ -15,18 +15,14 @@ decode p n bytes = if is_adpcm p.codec then take n (blocks_decoded p bytes) else
 abbrev pub frames_in : List ℕ → Shape → List (List ℤ)
 frames_in b s = decode s.params s.frames (sound_bytes b s)
 
-abbrev pub sound_in_any : List ℕ → Result Shape OpenRefusal → Result Sound OpenRefusal
-sound_in_any b (Err refusal) = Err refusal
-sound_in_any b (Ok s) = Ok (record { kind = s.kind; params = s.params; frames = frames_in b s; pieces = map (kept_of b) s.pieces })
+abbrev pub sound_in : List ℕ → Result Shape OpenRefusal → Result Sound OpenRefusal
+sound_in b (Err refusal) = Err refusal
+sound_in b (Ok s) = Ok (record { kind = s.kind; params = s.params; frames = frames_in b s; pieces = map (kept_of b) s.pieces })
 
-abbrev pub sound_of_any : List ℕ → Result Sound OpenRefusal
-sound_of_any b = sound_in_any b (layout_of b)
+abbrev pub sound_of : List ℕ → Result Sound OpenRefusal
+sound_of b = sound_in b (layout_of b)
 
 -- ---- laws
-
--- a file whose codec has a fixed number of bytes for each sample has the sound that it has by these
-abbrev pub FixedSoundsStay : Type 0
-FixedSoundsStay = (b : List ℕ) (sound : Sound) → sound_of b ≡ Ok sound → sound_of_any b ≡ Ok sound
 
 -- the frames of an ADPCM file are those of its blocks
 abbrev pub FramesAreInBlocks : Type 0

@@ -1,8 +1,7 @@
 -- The laws of layouts hold for files of every kind, since they hold for each.
-use Rattle.std.proofs.Common.{◌≡◌, ◌∙◌, ap, sym, refl, inl, inr, ℕ, ◌<◌, ◌≤◌, Bool, false, List, All, Result, None, Ok, Err, length, take, get_or, arith}
+use Rattle.std.proofs.Common.{◌≡◌, ◌∙◌, ap, sym, refl, inl, inr, ℕ, ◌<◌, ◌≤◌, Bool, List, All, Result, None, Ok, Err, length, take, get_or, arith}
 use Rattle.snd_fields.specs.Laws.{IsByte}
 use Rattle.snd_fields.specs.declared.field.Order.TheVariants.{Little, Big}
-use Rattle.snd_layout.specs.Blocks.{is_adpcm}
 use Rattle.snd_layout.specs.Container.{AreBytes, ClosesNear, EndsAreInOrder, FieldsApart, FillsFields, FitsFields, IsNew, KeepsHead, KeepsLaws, LiesIn, MayBeCounted, NewCountReadsBack, OldCountReadsBack, OuterIsWithin, OuterReaches, OuterStops, PiecesStay, SameOutsideDataReadsBack, SameValues, Says, VoiceDeclares, VoiceReadsBack, counted_shape}
 use Rattle.snd_layout.specs.Fit.{fit_refusal}
 use Rattle.snd_layout.specs.Params.{AreParams, Parameters}
@@ -142,7 +141,7 @@ module _ (kind : Kind) where
   order b h n says = let so = says_so kind b h says in (laws_of h.kind).order b h n so.says
 
   pub pieces : PiecesStay (any kind)
-  pieces b x h is blocks good within keeps behind = let so = known b h is in (laws_of h.kind).pieces b x h so.laid blocks good within keeps behind
+  pieces b x h is good within keeps behind = let so = known b h is in (laws_of h.kind).pieces b x h so.laid good within keeps behind
 
   pub made : (p : Parameters) → AreParams p → fit_refusal kind p ≡ None → IsNew kind (any kind) p
   made p good fits =
@@ -182,8 +181,8 @@ bytes h n = let is = (laws_of h.kind).bytes h n in record { inner = is.inner; ou
 
 -- ---- the rest
 
-pub lies : (b : List ℕ) (h : Shape) → All IsByte b → layout_of b ≡ Ok h → is_adpcm h.params.codec ≡ false → LiesIn b h
-lies b h are is blocks = let so = known b h is in (laws_of h.kind).lies b h are so.laid blocks
+pub lies : (b : List ℕ) (h : Shape) → All IsByte b → layout_of b ≡ Ok h → LiesIn b h
+lies b h are is = let so = known b h is in (laws_of h.kind).lies b h are so.laid
 
 pub apart : (b : List ℕ) (h : Shape) → FileSays b h → FieldsApart h
 apart b h says = let so = says_so h.kind b h says in (laws_of h.kind).apart b h so.says

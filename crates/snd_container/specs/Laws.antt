@@ -1,7 +1,6 @@
 -- The laws of layouts, for files of every kind.
-use Rattle.std.specs.Prelude.{◌≡◌, ℕ, Bool, false, List, All, Ok, None}
+use Rattle.std.specs.Prelude.{◌≡◌, ℕ, Bool, List, All, Ok, None}
 use Rattle.snd_fields.specs.Laws.{IsByte}
-use Rattle.snd_layout.specs.Blocks.{is_adpcm}
 use Rattle.snd_layout.specs.Container.{AreBytes, ClosesNear, EndsAreInOrder, FieldsApart, FillsFields, FitsFields, IsNew, LiesIn, NewCountReadsBack, OldCountReadsBack, OuterIsWithin, OuterReaches, OuterStops, PiecesStay, SameOutsideDataReadsBack, SameValues, Says, VoiceDeclares, VoiceReadsBack}
 use Rattle.snd_layout.specs.Fit.{fit_refusal}
 use Rattle.snd_layout.specs.Params.{AreParams, Parameters}
@@ -15,7 +14,7 @@ abbrev pub FileSays : List ℕ → Shape → Type 0
 FileSays b h = Says (any h.kind) b h
 
 pub record KeepAllLaws : Type 0 where
-  pub lies : (b : List ℕ) (h : Shape) → All IsByte b → layout_of b ≡ Ok h → is_adpcm h.params.codec ≡ false → LiesIn b h
+  pub lies : (b : List ℕ) (h : Shape) → All IsByte b → layout_of b ≡ Ok h → LiesIn b h
   pub old : (kind : Kind) → OldCountReadsBack (any kind)
   pub new : (kind : Kind) → NewCountReadsBack (any kind)
   pub outside : (kind : Kind) → SameOutsideDataReadsBack (any kind)

@@ -1,11 +1,10 @@
--- The layout of a file of any kind, and its sound.
-use Rattle.std.specs.Prelude.{ℕ, ℤ, Bool, List, [], Option, None, Some, Result, Ok, Err, take, drop, map, is_none, if◌then◌else◌}
+-- The layout of a file of any kind, and what a sound is.
+use Rattle.std.specs.Prelude.{ℕ, ℤ, Bool, List, [], Option, None, Some, Result, Ok, Err, take, drop, map}
 use Rattle.snd_layout.specs.declared.codec.Codec.{Codec}
 use Rattle.snd_layout.specs.declared.codec.Codec.TheVariants.{U8, S8, S16, S24, S32, MuLaw, ALaw}
 use Rattle.snd_layout.specs.declared.kind.Kind.{Kind}
 use Rattle.snd_layout.specs.declared.piece.Piece.{Piece}
 use Rattle.snd_layout.specs.declared.refusal.OpenRefusal.{OpenRefusal}
-use Rattle.snd_layout.specs.declared.refusal.OpenRefusal.TheVariants.{NotBuilt}
 use Rattle.snd_layout.specs.Params.{Parameters, data_bytes}
 use Rattle.snd_layout.specs.Shape.{Shape}
 use Rattle.snd_pcm.specs.Groups.{groups}
@@ -39,8 +38,7 @@ fixed_of MuLaw = Some fixed.TheVariants.MuLaw
 fixed_of ALaw = Some fixed.TheVariants.ALaw
 fixed_of codec = None
 
--- The frames that data bytes stand for: a number for each channel, in turn. The data of ADPCM are not read yet, and a file of
--- these has no sound.
+-- The frames that data bytes stand for, where each sample has bytes of its own: a number for each channel, in turn.
 abbrev pub decoded_as : Option Fixed → ℕ → List ℕ → List (List ℤ)
 decoded_as None channels bytes = []
 decoded_as (Some form) channels bytes = groups channels (samples form bytes)
@@ -75,12 +73,3 @@ sound_bytes b s = take (data_bytes s.params s.frames) (drop s.start b)
 
 abbrev pub kept_of : List ℕ → Piece → Kept
 kept_of b piece = record { id = piece.id.0; body = take piece.len (drop piece.at b); after = piece.after }
-
-abbrev pub sound_in : List ℕ → Result Shape OpenRefusal → Result Sound OpenRefusal
-sound_in b (Err refusal) = Err refusal
-sound_in b (Ok s) =
-    if is_none (fixed_of s.params.codec) then Err NotBuilt
-    else Ok (record { kind = s.kind; params = s.params; frames = decoded s.params (sound_bytes b s); pieces = map (kept_of b) s.pieces })
-
-abbrev pub sound_of : List ℕ → Result Sound OpenRefusal
-sound_of b = sound_in b (layout_of b)

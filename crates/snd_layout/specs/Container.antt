@@ -218,14 +218,14 @@ SameBody x b piece = take piece.len (drop piece.at x) ≡ take piece.len (drop p
 
 -- The further chunks stay where a head stays, and all behind the data where the file goes on there.
 abbrev pub PiecesStay : Container → Type 0
-PiecesStay c = (b x : List ℕ) (h : Shape) → c.layout b ≡ Ok h → is_adpcm h.params.codec ≡ false → AreParams h.params → h.start ≤ length x → KeepsHead h b x →
+PiecesStay c = (b x : List ℕ) (h : Shape) → c.layout b ≡ Ok h → AreParams h.params → h.start ≤ length x → KeepsHead h b x →
     (h.trailing ≡ true → (length x ≡ length b) × ((i : ℕ) → end h h.frames ≤ i → get_or x i 0 ≡ get_or b i 0)) → All (SameBody x b) h.pieces
 
 -- What is made has the layout that it is given: of its kind and parameters, without pieces and frames, of a known length, and
 -- its data begin behind it.
 pub record IsNew (kind : Kind) (c : Container) (p : Parameters) : Type 0 where
   pub told : c.layout (c.head p) ≡ Ok (c.made p)
-  pub bytes : is_adpcm p.codec ≡ false → All IsByte (c.head p)
+  pub bytes : All IsByte (c.head p)
   pub is_kind : (c.made p).kind ≡ kind
   pub params : (c.made p).params ≡ p
   pub frames : (c.made p).frames ≡ 0
@@ -238,7 +238,7 @@ pub record IsNew (kind : Kind) (c : Container) (p : Parameters) : Type 0 where
 
 pub record KeepsLaws (kind : Kind) (c : Container) : Type 0 where
   pub marks : (b : List ℕ) (h : Shape) → c.layout b ≡ Ok h → KeepsMarks kind h
-  pub lies : (b : List ℕ) (h : Shape) → All IsByte b → c.layout b ≡ Ok h → is_adpcm h.params.codec ≡ false → LiesIn b h
+  pub lies : (b : List ℕ) (h : Shape) → All IsByte b → c.layout b ≡ Ok h → LiesIn b h
   pub old : OldCountReadsBack c
   pub new : NewCountReadsBack c
   pub outside : SameOutsideDataReadsBack c

@@ -6,7 +6,7 @@ use Rattle.snd_layout.specs.declared.kind.Kind.TheVariants.{Wave, Rf64, W64, Au,
 use Rattle.snd_layout.specs.declared.codec.Codec.{Codec}
 use Rattle.snd_layout.specs.declared.codec.Codec.TheVariants.{U8, S8, S16, S24, S32, MuLaw, ALaw, Ima, Ms}
 use Rattle.snd_layout.specs.declared.refusal.OpenRefusal.{OpenRefusal}
-use Rattle.snd_layout.specs.declared.refusal.OpenRefusal.TheVariants.{NotSound, FloatRate, ShortHeader, BadField, TooManyChunks, NoFormat, NoData, LeadingBlock, UnknownCodec, FloatSamples, BadChannels, BadRate, BadBits, BadAlign, BlockTooLarge, OtherCoefs, PackedBody, BadPair, NotBuilt}
+use Rattle.snd_layout.specs.declared.refusal.OpenRefusal.TheVariants.{NotSound, FloatRate, ShortHeader, BadField, TooManyChunks, NoFormat, NoData, LeadingBlock, UnknownCodec, FloatSamples, BadChannels, BadRate, BadBits, BadAlign, BlockTooLarge, OtherCoefs, PackedBody, BadPair}
 
 abbrev pub kind_name : Kind → List ℕ
 kind_name Wave = codes "wave"
@@ -51,7 +51,6 @@ refusal_number BlockTooLarge = 15
 refusal_number OtherCoefs = 16
 refusal_number PackedBody = 17
 refusal_number BadPair = 18
-refusal_number NotBuilt = 99
 
 abbrev pub refusal_name : OpenRefusal → List ℕ
 refusal_name NotSound = codes "NotSound"
@@ -72,4 +71,3 @@ refusal_name BlockTooLarge = codes "BlockTooLarge"
 refusal_name OtherCoefs = codes "OtherCoefs"
 refusal_name PackedBody = codes "PackedBody"
 refusal_name BadPair = codes "BadPair"
-refusal_name NotBuilt = codes "NotBuilt"

@@ -63,13 +63,10 @@ pub enum OpenRefusal {
     /// Its kind does not hold its codec, byte order or number of channels.
     #[error("the kind does not hold this codec, order or number of channels")]
     BadPair,
-    /// It is of a kind, or of a codec, that is not built yet.
-    #[error("this kind of file is not built yet")]
-    NotBuilt,
 }
 
 impl OpenRefusal {
-    /// The number that is printed: 1 to 18, or 99.
+    /// The number that is printed: 1 to 18.
     pub fn number(&self) -> u8
         ensures { result ≡ refusal_number self.now }
     {
@@ -92,7 +89,6 @@ impl OpenRefusal {
             OpenRefusal::OtherCoefs => 16,
             OpenRefusal::PackedBody => 17,
             OpenRefusal::BadPair => 18,
-            OpenRefusal::NotBuilt => 99,
         }
     }
 
@@ -119,7 +115,6 @@ impl OpenRefusal {
             OpenRefusal::OtherCoefs => "OtherCoefs",
             OpenRefusal::PackedBody => "PackedBody",
             OpenRefusal::BadPair => "BadPair",
-            OpenRefusal::NotBuilt => "NotBuilt",
         }
     }
 }

@@ -31,7 +31,7 @@ before_stay x y sizes sound reach behind in_x same =
     (λ i from to beside. same i (omega (arith, to, head.at)) (inr (omega (arith, from, behind))))
 
 pub pieces_stay : PiecesStay rf64
-pieces_stay y x h is plain good in_x keeps behind =
+pieces_stay y x h is good in_x keeps behind =
     let there : Stays x y h = stays x y h is in_x keeps in
     let sizes : Sizes = there.sizes in
     let at : ℕ = there.sound.at in

@@ -1,5 +1,5 @@
 -- What holds of the layout that a list of bytes gives.
-use Rattle.std.proofs.Common.{Bool, ◌≡◌, ap, sym, subst, refl, ℕ, ◌+◌, ◌*◌, ◌-◌, ◌^◌, ◌<◌, ◌≤◌, false, List, All, None, Ok, length, drop, arith}
+use Rattle.std.proofs.Common.{Bool, ◌≡◌, ap, sym, subst, refl, ℕ, ◌+◌, ◌*◌, ◌-◌, ◌^◌, ◌<◌, ◌≤◌, List, All, None, Ok, length, drop, arith}
 use Rattle.std.proofs.lemmas.List.Elements.{All-drop, All-take, All-weaker}
 use Rattle.std.specs.Prelude.{codes}
 use Rattle.snd_chunks.proofs.Chains.{IsBetween, IsHead, in_order, is_head}
@@ -11,7 +11,6 @@ use Rattle.snd_fields.proofs.Numbers.{number_fits}
 use Rattle.snd_fields.specs.Field.{number}
 use Rattle.snd_fields.specs.Laws.{IsByte}
 use Rattle.snd_fields.specs.declared.field.Order.TheVariants.{Little}
-use Rattle.snd_layout.specs.Blocks.{is_adpcm}
 use Rattle.snd_layout.specs.Container.{LiesIn}
 use Rattle.snd_layout.specs.Format.{format_of}
 use Rattle.snd_layout.specs.Opened.{EndsIn}
@@ -20,12 +19,12 @@ use Rattle.snd_layout.specs.Shape.{IsPlaced, KeepsRule, Shape}
 use Rattle.snd_layout.specs.declared.kind.Kind.TheVariants.{Rf64}
 use Rattle.snd_layout.specs.declared.piece.Piece.{Piece}
 use Rattle.snd_layout.specs.Fit.{fit_refusal}
-use Rattle.snd_wave.proofs.Lies.{good_params}
+use Rattle.snd_layout.proofs.StatedFormats.{good_params}
 use Rattle.snd_wave.proofs.Shapes.{pieces_end}
 use Rattle.snd_wave.specs.Layout.{body_of, whole_frames}
 use Rattle.snd_rf64.specs.Layout.{held, outer_end, rf64_front, rf64_layout, rf64_shape, rf64_tail, shape_at}
 use Rattle.snd_rf64.specs.declared.sizes.Sizes.{Sizes}
-use Rattle.snd_rf64.proofs.Counted.{frames_few, plain_codec}
+use Rattle.snd_rf64.proofs.Counted.{frames_few}
 use Rattle.snd_rf64.proofs.Opens.{Begins, Opens, TellsSizes, begins, fits_rf64, opens, reached, tells}
 
 keeps_rule : (p : Parameters) (start bytes sound : ℕ) (trailing : Bool) (pieces : List Piece) → AreParams p → fit_refusal Rf64 p ≡ None → 56 ≤ start → start + bytes + 8 ≤ 2 ^ 63 → bytes ≤ sound → sound < 2 ^ 63 → All IsPlaced pieces
@@ -59,8 +58,8 @@ early b h from bytes =
     chain_end Little b (codes "data") (length b) from.sizes.next reach.last (rf64_front b from.sizes.next).chunks bytes reach.chain in
     omega (arith, near, reach.few, head.at, next, few)
 
-pub lies_in : (b : List ℕ) (h : Shape) → All IsByte b → rf64_layout b ≡ Ok h → is_adpcm h.params.codec ≡ false → LiesIn b h
-lies_in b h bytes is plain =
+pub lies_in : (b : List ℕ) (h : Shape) → All IsByte b → rf64_layout b ≡ Ok h → LiesIn b h
+lies_in b h bytes is =
     let from : Opens b h = opens b h is in
     let s : Sizes = from.sizes in
     let f : Front = rf64_front b s.next in
@@ -68,7 +67,7 @@ lies_in b h bytes is plain =
     let start : ℕ = from.sound.at in
     let fit = fits_rf64 (format_of (body_of b from.format)) p from.params_are in
     let format_bytes : All IsByte (body_of b from.format) = All-take IsByte from.format.len (drop from.format.at b) (All-drop IsByte from.format.at b bytes) in
-    let good : AreParams p = good_params (body_of b from.format) p format_bytes fit.1 (plain_codec p fit.0) in
+    let good : AreParams p = good_params (body_of b from.format) p format_bytes fit.1 in
     let tell : TellsSizes b s = tells b s from.told in
     let sound : s.sound < 2 ^ 63 = let e = ap (λ (t : Sizes). t.sound) tell.is in omega (arith, e) in
     let begin : Begins b s.next from.sound = begins b s.next from.sound from.sound_is in

@@ -15,12 +15,12 @@ use Rattle.snd_layout.specs.declared.codec.Codec.{Codec}
 use Rattle.snd_layout.specs.declared.codec.Codec.TheVariants.{U8, S8, S16, S24, S32, MuLaw, ALaw, Ima, Ms}
 use Rattle.snd_layout.specs.declared.kind.Kind.TheVariants.{Rf64}
 use Rattle.snd_layout.specs.declared.piece.Piece.{Piece}
-use Rattle.snd_wave.proofs.ByteValues.{both, format_bytes, from_test, number_bytes, three, two_chunks}
+use Rattle.snd_layout.proofs.StatedFormats.{format_bytes}
+use Rattle.snd_wave.proofs.ByteValues.{both, from_test, number_bytes, three, two_chunks}
 use Rattle.snd_wave.specs.Written.{MayBePiece, new_format}
 use Rattle.snd_rf64.specs.Container.{rf64}
 use Rattle.snd_rf64.specs.Layout.{shape_at}
 use Rattle.snd_rf64.specs.Written.{MayBeMade, chunks_before, head_size, made_pieces, made_shape, no_size, plain_start, rf64_head, top}
-use Rattle.snd_rf64.proofs.Counted.{plain_codec}
 use Rattle.snd_rf64.proofs.Made.{head_reads_back, length-head}
 
 -- ---- where the data begin
@@ -107,14 +107,14 @@ head_are_bytes : (p : Parameters) → fit_refusal Rf64 p ≡ None → All IsByte
 unfolding rf64_head head_bytes
 head_are_bytes p fits =
     three (top (head_size p [] - 8)) (chunks_bytes Little (chunks_before p [])) (codes "data" ++ bytes_of Little 4 no_size) (top_bytes (head_size p [] - 8))
-    (two_chunks (new_format p) [] (from_test (codes "fmt ") refl, format_bytes p (plain_codec p fits)) no_chunk)
+    (two_chunks (new_format p) [] (from_test (codes "fmt ") refl, format_bytes p) no_chunk)
     (both (codes "data") (bytes_of Little 4 no_size) (from_test (codes "data") refl) (number_bytes 4 no_size))
 
 pub is_new : (p : Parameters) → AreParams p → fit_refusal Rf64 p ≡ None → IsNew Rf64 rf64 p
 unfolding made_shape
 is_new p good fits = record {
   told = head_reads_back p [] (no_pieces p good fits) (omega (arith, plain_size p fits, few_start p.codec));
-  bytes = λ plain. head_are_bytes p fits;
+  bytes = head_are_bytes p fits;
   is_kind = refl;
   params = refl;
   frames = refl;

@@ -17,7 +17,7 @@ pub keeps_laws : KeepsLaws Sphere sphere
 unfolding inner_value made_shape
 keeps_laws = record {
   marks = marked;
-  lies = λ b h bytes told fixed. lie b h told;
+  lies = λ b h bytes told. lie b h told;
   old = λ b x h says bytes free known hold keeps has reach. old b h says x hold keeps has;
   new = λ b x h n may keeps has there reach. new b h may.says x n may keeps has (omega (arith, there));
   outside = λ b x h told params size same. outside_data b x h told size same;
@@ -33,10 +33,10 @@ keeps_laws = record {
   fit = fitting;
   free = λ h n declared trailing m. record { inner = refl; outer = refl; side = refl; closing = refl };
   bytes = λ h n. record { inner = are_bytes h.inner.size n; outer = All-nil IsByte; side = All-nil IsByte; closing = All-nil IsByte };
-  pieces = λ b x h told fixed params there keeps same. no_pieces b x h told;
+  pieces = λ b x h told params there keeps same. no_pieces b x h told;
   made = λ p good fits. record {
     told = head_reads_back p good fits;
-    bytes = λ fixed. head_bytes p good;
+    bytes = head_bytes p good;
     is_kind = refl;
     params = refl;
     frames = refl;

@@ -14,7 +14,6 @@ use Rattle.snd_fields.proofs.Numbers.{number_fits}
 use Rattle.snd_fields.specs.Field.{number}
 use Rattle.snd_fields.specs.Laws.{IsByte}
 use Rattle.snd_fields.specs.declared.field.Order.TheVariants.{Big}
-use Rattle.snd_layout.specs.Blocks.{is_adpcm}
 use Rattle.snd_layout.specs.Container.{KeepsHead, LiesIn, PiecesStay, SameBody}
 use Rattle.snd_layout.specs.Fit.{fit_refusal}
 use Rattle.snd_layout.specs.Opened.{EndsIn}
@@ -117,8 +116,8 @@ module _ (b : List ℕ) (header : Header) (chunk sound : Chunk) (bytes : All IsB
     declared = λ known. omega (arith, count, sizes.few);
   }
 
-pub lies_in : (b : List ℕ) (h : Shape) → All IsByte b → svx_layout b ≡ Ok h → is_adpcm h.params.codec ≡ false → LiesIn b h
-lies_in b h bytes is plain =
+pub lies_in : (b : List ℕ) (h : Shape) → All IsByte b → svx_layout b ≡ Ok h → LiesIn b h
+lies_in b h bytes is =
     let from : Opens b (svx_front b) h = opens b h is in
     rw from.shape (lies b from.header from.chunk from.sound bytes (stands b h from) (good_rate b (svx_front b).chunks from.chunk from.header bytes from.header_is))
 
@@ -166,7 +165,7 @@ module _ (x y : List ℕ) (header : Header) (chunk sound : Chunk) (there : Stand
       All-append (SameBody x y) front back before after
 
 pub pieces_stay : PiecesStay svx
-pieces_stay y x h is blocks good in_x kept behind =
+pieces_stay y x h is good in_x kept behind =
     let from : Opens y (svx_front y) h = opens y h is in
     let keeps : KeepsHead (svx_shape y (svx_front y) from.header from.chunk from.sound) y x = subst (λ (s : Shape). KeepsHead s y x) from.shape kept in
     subst (λ (s : Shape). All (SameBody x y) s.pieces) (sym from.shape)

@@ -143,7 +143,7 @@ new_voice_file : (rate : ℕ) → 1 ≤ rate → rate < 2 ^ 16 → IsNew Svx svx
 unfolding made_shape chunks_bytes chunk_bytes head_bytes all_placed
 new_voice_file rate some few = record {
   told = told rate some few;
-  bytes = λ plain. head_bytes_are rate;
+  bytes = head_bytes_are rate;
   is_kind = refl;
   params = refl;
   frames = refl;

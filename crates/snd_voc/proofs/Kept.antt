@@ -8,7 +8,7 @@ use Rattle.snd_fields.proofs.Numbers.{bytes_are_bytes, length-bytes_of, number_f
 use Rattle.snd_fields.specs.Field.{bytes_of, number}
 use Rattle.snd_fields.specs.Laws.{IsByte}
 use Rattle.snd_fields.specs.declared.field.Order.TheVariants.{Little}
-use Rattle.snd_layout.specs.Blocks.{block_align, is_adpcm}
+use Rattle.snd_layout.specs.Blocks.{block_align}
 use Rattle.snd_layout.specs.Container.{AreBytes, ClosesNear, EndsAreInOrder, FieldsApart, FillsFields, FitsField, FitsFields, IsNew, KeepsHead, KeepsLaws, KeepsMarks, LiesIn, NewCountReadsBack, OldCountReadsBack, PiecesStay, SameBody, SameOutsideDataReadsBack, SameValues, Says, VoiceDeclares, VoiceReadsBack, is_in_fields}
 use Rattle.snd_layout.specs.Fit.{fit_refusal}
 use Rattle.snd_layout.specs.Params.{AreParams, Parameters, data_bytes}
@@ -320,8 +320,8 @@ sound_start h s kind start at = elim (cases_Bool (s.kind == 1)) [
       rw (kind, first, test) refl
 ]
 
-lies : (b : List ℕ) (h : Shape) → All IsByte b → voc_layout b ≡ Ok h → is_adpcm h.params.codec ≡ false → LiesIn b h
-lies b h bytes_are is other =
+lies : (b : List ℕ) (h : Shape) → All IsByte b → voc_layout b ≡ Ok h → LiesIn b h
+lies b h bytes_are is =
     let o = opens b h is in
     let st = stands b h o in
     let f : IsOf b h o.sound o.params = is_of b h h.trailing o.sound o.params o.shape in
@@ -366,7 +366,7 @@ fill b h frames says =
     record { inner = inner_length h frames ∙ sym f.size; outer = rw f.outer tt; side = rw f.side tt }
 
 pieces : PiecesStay voc
-pieces b x h is other params within keeps more =
+pieces b x h is params within keeps more =
     let o = opens b h is in
     let f : IsOf b h o.sound o.params = is_of b h h.trailing o.sound o.params o.shape in
     no_pieces (SameBody x b) h.pieces f.pieces
@@ -375,7 +375,7 @@ made : (p : Parameters) → AreParams p → fit_refusal Voc p ≡ None → IsNew
 unfolding made_shape voc_head file_head block_head
 made p good fits = record {
   told = made_told p good fits;
-  bytes = λ other. head_bytes p good fits;
+  bytes = head_bytes p good fits;
   is_kind = refl;
   params = refl;
   frames = refl;

@@ -265,7 +265,7 @@ outer_reaches b x h n said_b outer =
     omega (arith, read, closed_is h n)
 
 pub pieces_stay : PiecesStay w64
-pieces_stay b x h is linear good within keeps behind = rw (opens b h is).shape (λ k d lt. absurd (omega (arith, lt)))
+pieces_stay b x h is good within keeps behind = rw (opens b h is).shape (λ k d lt. absurd (omega (arith, lt)))
 
 pub voice_reads_back : VoiceReadsBack w64
 voice_reads_back b x h says voc =

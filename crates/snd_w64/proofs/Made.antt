@@ -1,5 +1,5 @@
 -- A file that is made reads back.
-use Rattle.std.proofs.Common.{◌≡◌, ℕ, zero, suc, ◌+◌, ◌-◌, ◌*◌, ◌/◌, ◌<◌, List, [], ◌∷◌, ◌++◌, All, false, None, Some, Ok, length, min, replicate, refl, sym, ap, ◌∙◌, inl, inr, arith}
+use Rattle.std.proofs.Common.{◌≡◌, ℕ, zero, suc, ◌+◌, ◌-◌, ◌*◌, ◌/◌, ◌<◌, List, [], ◌∷◌, ◌++◌, All, None, Some, Ok, length, min, replicate, refl, sym, ap, ◌∙◌, inl, inr, arith}
 use Rattle.std.proofs.Math.Nat.{div-zero}
 use Rattle.std.proofs.lemmas.Bool.{cases_Bool}
 use Rattle.std.proofs.lemmas.Nat.{div_below}
@@ -14,12 +14,12 @@ use Rattle.snd_fields.specs.Field.{bytes_of}
 use Rattle.snd_fields.specs.Laws.{IsByte}
 use Rattle.snd_fields.specs.declared.field.Order.TheVariants.{Little}
 use Rattle.snd_layout.proofs.RoundTrips.{written_format_reads_back}
-use Rattle.snd_layout.specs.Blocks.{block_align, is_adpcm}
 use Rattle.snd_layout.specs.Container.{IsNew}
 use Rattle.snd_layout.specs.Fit.{fit_refusal}
 use Rattle.snd_layout.specs.Format.{format_of}
+use Rattle.snd_layout.proofs.StatedFormats.{format_bytes}
 use Rattle.snd_layout.specs.Params.{AreParams, Parameters}
-use Rattle.snd_layout.specs.Written.{bits_per_sample, bytes_per_second, extension, tag_of, written_format}
+use Rattle.snd_layout.specs.Written.{written_format}
 use Rattle.snd_layout.specs.declared.codec.Codec.{Codec}
 use Rattle.snd_layout.specs.declared.codec.Codec.TheVariants.{U8, S8, S16, S24, S32, MuLaw, ALaw, Ima, Ms}
 use Rattle.snd_layout.specs.declared.kind.Kind.TheVariants.{W64}
@@ -179,46 +179,20 @@ chunk_is : (id body : List ℕ) → All IsByte id → All IsByte body → All Is
 chunk_is id body is bytes =
     joins (head_bytes id (length body)) (body ++ replicate (raised (length body) - length body) 0) (head_is id (length body) is) (joins body (replicate (raised (length body) - length body) 0) bytes (zeros_are (raised (length body) - length body)))
 
-extends : (codec : Codec) → is_adpcm codec ≡ false → All IsByte (extension codec)
-extends MuLaw linear = number_is 2 0
-extends ALaw linear = number_is 2 0
-extends (Ima align per_block) linear = absurd (cc)
-extends (Ms align per_block) linear = absurd (cc)
-extends U8 linear = All-nil IsByte
-extends S8 linear = All-nil IsByte
-extends (S16 order) linear = All-nil IsByte
-extends (S24 order) linear = All-nil IsByte
-extends (S32 order) linear = All-nil IsByte
-
-three : (xs ys zs : List ℕ) → All IsByte xs → All IsByte ys → All IsByte zs → All IsByte (xs ++ ys ++ zs)
-three xs ys zs one two more = joins (xs ++ ys) zs (joins xs ys one two) more
-
-format_bytes : (p : Parameters) → is_adpcm p.codec ≡ false → All IsByte (written_format p)
-format_bytes p linear =
-    let first = bytes_of Little 2 (tag_of p.codec) ++ bytes_of Little 2 p.channels ++ bytes_of Little 4 p.rate in
-    let second = bytes_of Little 4 (bytes_per_second p) in
-    let third = bytes_of Little 2 (block_align p.channels p.codec) in
-    let last = bytes_of Little 2 (bits_per_sample p.codec) in
-    joins (first ++ second ++ third ++ last) (extension p.codec)
-    (three (first ++ second) third last
-    (joins first second (three (bytes_of Little 2 (tag_of p.codec)) (bytes_of Little 2 p.channels) (bytes_of Little 4 p.rate) (number_is 2 (tag_of p.codec)) (number_is 2 p.channels) (number_is 4 p.rate)) (number_is 4 (bytes_per_second p)))
-    (number_is 2 (block_align p.channels p.codec)) (number_is 2 (bits_per_sample p.codec)))
-    (extends p.codec linear)
-
 fact_is : (codec : Codec) → All IsByte (fact_bytes codec)
 fact_is codec = elim (cases_Bool (has_fact codec)) [
   | inl has ↦ rw has (chunk_is (codes "fact") (bytes_of Little 8 0) (from_test (codes "fact") refl) (number_is 8 0))
   | inr none ↦ rw none (All-nil IsByte)
 ]
 
-pub head_bytes_are : (p : Parameters) → is_adpcm p.codec ≡ false → All IsByte (w64_head p)
+pub head_bytes_are : (p : Parameters) → All IsByte (w64_head p)
 unfolding w64_head
-head_bytes_are p linear =
+head_bytes_are p =
     let format = chunk_bytes (codes "fmt ") (written_format p) in
     let fact = fact_bytes p.codec in
     let sound = head_bytes (codes "data") 0 in
     let size = bytes_of Little 8 (start_of p.codec) in
-    let six = joins format (fact ++ sound) (chunk_is (codes "fmt ") (written_format p) (from_test (codes "fmt ") refl) (format_bytes p linear)) (joins fact sound (fact_is p.codec) (head_is (codes "data") 0 (from_test (codes "data") refl))) in
+    let six = joins format (fact ++ sound) (chunk_is (codes "fmt ") (written_format p) (from_test (codes "fmt ") refl) (format_bytes p)) (joins fact sound (fact_is p.codec) (head_is (codes "data") 0 (from_test (codes "data") refl))) in
     let five = joins id_end (format ++ (fact ++ sound)) end_is six in
     let four = joins (codes "wave") (id_end ++ (format ++ (fact ++ sound))) (from_test (codes "wave") refl) five in
     let three = joins size (codes "wave" ++ (id_end ++ (format ++ (fact ++ sound)))) (number_is 8 (start_of p.codec)) four in

@@ -8,13 +8,10 @@ use Rattle.snd_fields.proofs.Numbers.{bytes_are_bytes}
 use Rattle.snd_fields.specs.Field.{bytes_of}
 use Rattle.snd_fields.specs.Laws.{IsByte}
 use Rattle.snd_fields.specs.declared.field.Order.TheVariants.{Little}
-use Rattle.snd_layout.specs.Blocks.{block_align, is_adpcm}
+use Rattle.snd_layout.proofs.StatedFormats.{format_bytes}
 use Rattle.snd_layout.specs.Container.{AreBytes}
 use Rattle.snd_layout.specs.Params.{Parameters, data_bytes}
 use Rattle.snd_layout.specs.Shape.{Shape}
-use Rattle.snd_layout.specs.Written.{bits_per_sample, bytes_per_second, extension, tag_of, written_format}
-use Rattle.snd_layout.specs.declared.codec.Codec.{Codec}
-use Rattle.snd_layout.specs.declared.codec.Codec.TheVariants.{MuLaw, ALaw, Ima, Ms}
 use Rattle.snd_layout.specs.declared.field.Field.{Field}
 use Rattle.snd_wave.proofs.Relaying.{chunks-joined}
 use Rattle.snd_wave.specs.Container.{wave}
@@ -66,27 +63,8 @@ values_are_bytes h n = record { inner = inner_bytes h n; outer = outer_bytes h n
 pub both : (xs ys : List ℕ) → All IsByte xs → All IsByte ys → All IsByte (xs ++ ys)
 both xs ys one two = All-append IsByte xs ys one two
 
-extension_bytes : (codec : Codec) → is_adpcm codec ≡ false → All IsByte (extension codec)
-extension_bytes MuLaw plain = number_bytes 2 0
-extension_bytes ALaw plain = number_bytes 2 0
-extension_bytes (Ima align per_block) plain = absurd (cc)
-extension_bytes (Ms align per_block) plain = absurd (cc)
-extension_bytes _ plain = All-nil IsByte
-
 pub three : (xs ys zs : List ℕ) → All IsByte xs → All IsByte ys → All IsByte zs → All IsByte (xs ++ ys ++ zs)
 three xs ys zs one two more = both (xs ++ ys) zs (both xs ys one two) more
-
-pub format_bytes : (p : Parameters) → is_adpcm p.codec ≡ false → All IsByte (written_format p)
-format_bytes p plain =
-    let first = bytes_of Little 2 (tag_of p.codec) ++ bytes_of Little 2 p.channels ++ bytes_of Little 4 p.rate in
-    let second = bytes_of Little 4 (bytes_per_second p) in
-    let third = bytes_of Little 2 (block_align p.channels p.codec) in
-    let last = bytes_of Little 2 (bits_per_sample p.codec) in
-    both (first ++ second ++ third ++ last) (extension p.codec)
-    (three (first ++ second) third last
-    (both first second (three (bytes_of Little 2 (tag_of p.codec)) (bytes_of Little 2 p.channels) (bytes_of Little 4 p.rate) (number_bytes 2 (tag_of p.codec)) (number_bytes 2 p.channels) (number_bytes 4 p.rate)) (number_bytes 4 (bytes_per_second p)))
-    (number_bytes 2 (block_align p.channels p.codec)) (number_bytes 2 (bits_per_sample p.codec)))
-    (extension_bytes p.codec plain)
 
 abbrev IsBytes : NewChunk → Type 0
 IsBytes chunk = All IsByte chunk.id × All IsByte chunk.body
@@ -111,19 +89,19 @@ unfolding chunks_bytes
 fact_bytes true = two_chunks (record { id = codes "fact"; body = bytes_of Little 4 0 }) [] (from_test (codes "fact") refl, number_bytes 4 0) (All-nil IsByte)
 fact_bytes false = All-nil IsByte
 
-before_bytes : (p : Parameters) → is_adpcm p.codec ≡ false → All IsByte (chunks_bytes Little (chunks_before p [] 0))
+before_bytes : (p : Parameters) → All IsByte (chunks_bytes Little (chunks_before p [] 0))
 unfolding chunks_before
-before_bytes p plain =
-    two_chunks (new_format p) (filler p [] ++ new_fact p.codec 0) (from_test (codes "fmt ") refl, format_bytes p plain)
+before_bytes p =
+    two_chunks (new_format p) (filler p [] ++ new_fact p.codec 0) (from_test (codes "fmt ") refl, format_bytes p)
     (subst (All IsByte) (sym (chunks-joined Little (filler p []) (new_fact p.codec 0))) (both (chunks_bytes Little (filler p [])) (chunks_bytes Little (new_fact p.codec 0)) (filler_bytes _) (fact_bytes (has_fact p.codec))))
 
-pub head_bytes_are : (p : Parameters) → is_adpcm p.codec ≡ false → All IsByte (wave_head p [])
+pub head_bytes_are : (p : Parameters) → All IsByte (wave_head p [])
 unfolding head_for riff_head head_bytes
-head_bytes_are p plain =
+head_bytes_are p =
     let size = bytes_of Little 4 (riff_size (head_size p []) (data_bytes p 0)) in
     let bytes = bytes_of Little 4 (data_bytes p 0) in
     let chunks = chunks_bytes Little (chunks_before p [] 0) in
     three (codes "RIFF" ++ size ++ codes "WAVE") chunks (codes "data" ++ bytes)
     (three (codes "RIFF") size (codes "WAVE") (from_test (codes "RIFF") refl) (number_bytes 4 (riff_size (head_size p []) (data_bytes p 0))) (from_test (codes "WAVE") refl))
-    (before_bytes p plain)
+    (before_bytes p)
     (both (codes "data") bytes (from_test (codes "data") refl) (number_bytes 4 (data_bytes p 0)))

@@ -1,8 +1,8 @@
 -- What holds of the layout that a list of bytes gives.
-use Rattle.std.proofs.Common.{◌≡◌, ◌∙◌, ap, sym, refl, inl, inr, ℕ, ◌+◌, ◌*◌, ◌-◌, ◌^◌, ◌<◌, ◌≤◌, false, not, List, [], ◌∷◌, All, Option, None, Some, Ok, Err, length, drop, arith}
-use Rattle.std.proofs.lemmas.Bool.{and_parts, cases_Bool, cases_lt, eqb-false, leb-true}
+use Rattle.std.proofs.Common.{◌≡◌, refl, ℕ, ◌+◌, ◌*◌, ◌-◌, ◌^◌, ◌<◌, ◌≤◌, List, All, Option, None, Some, Ok, length, drop, arith}
+use Rattle.std.proofs.lemmas.Bool.{and_parts, leb-true}
 use Rattle.std.proofs.lemmas.List.Elements.{All-drop, All-take, All-weaker}
-use Rattle.std.specs.Prelude.{◌==◌, IfSome, Result, codes, nat_le, option_map}
+use Rattle.std.specs.Prelude.{IfSome, codes, nat_le, option_map}
 use Rattle.snd_chunks.proofs.Chains.{IsBetween, IsHead, Reaches, find_has, in_order, is_head}
 use Rattle.snd_chunks.proofs.Stays.{chain_end, tail_ends}
 use Rattle.snd_chunks.specs.declared.chunk.Chunk.{Chunk}
@@ -13,72 +13,18 @@ use Rattle.snd_fields.specs.Field.{number}
 use Rattle.snd_fields.specs.Laws.{IsByte}
 use Rattle.snd_fields.specs.declared.field.Order.TheVariants.{Little}
 use Rattle.snd_layout.proofs.Formats.{format_fits}
-use Rattle.snd_layout.specs.Blocks.{is_adpcm}
 use Rattle.snd_layout.specs.Container.{LiesIn}
 use Rattle.snd_layout.specs.Fit.{fit_refusal}
-use Rattle.snd_layout.specs.Format.{channels_of, coded_format, coding_of, coding_refusal, format_of, format_refusal, parameters, rate_of}
+use Rattle.snd_layout.proofs.StatedFormats.{good_params}
 use Rattle.snd_layout.specs.Opened.{EndsIn}
-use Rattle.snd_layout.specs.Params.{AreParams, Parameters, block_refusal, is_channel_count}
-use Rattle.snd_layout.specs.Refusals.{first_refusal, refuse_if, unless}
+use Rattle.snd_layout.specs.Params.{AreParams, Parameters}
 use Rattle.snd_layout.specs.Shape.{IsPlaced, Shape}
-use Rattle.snd_layout.specs.declared.codec.Codec.{Codec}
-use Rattle.snd_layout.specs.declared.codec.Codec.TheVariants.{Ima, Ms}
 use Rattle.snd_layout.specs.declared.kind.Kind.TheVariants.{Wave}
-use Rattle.snd_layout.specs.declared.refusal.OpenRefusal.{OpenRefusal}
-use Rattle.snd_layout.specs.declared.refusal.OpenRefusal.TheVariants.{BadChannels, BadRate}
 use Rattle.snd_wave.proofs.Counts.{reached}
 use Rattle.snd_wave.proofs.Opens.{Opens, opens}
 use Rattle.snd_wave.proofs.Shapes.{counted_bytes, keeps_rule, pieces_end}
 use Rattle.snd_wave.specs.Layout.{body_of, fact_chunk, fact_count, has_id, held, is_fact, outer_end, wave_front, wave_layout, wave_shape, wave_tail}
 use Rattle.snd_wave.specs.Parts.{IsFact}
-
--- ---- the parameters that a format states
-
-plain_blocks : (codec : Codec) (channels : ℕ) → is_adpcm codec ≡ false → block_refusal channels codec ≡ None
-plain_blocks (Ima align per_block) channels plain = absurd (cc)
-plain_blocks (Ms align per_block) channels plain = absurd (cc)
-plain_blocks _ channels plain = refl
-
-some_channels : (c : ℕ) → refuse_if (not (is_channel_count c)) BadChannels ≡ None → (1 ≤ c) × (c ≤ 256)
-some_channels c is = elim (cases_Bool (is_channel_count c)) [
-  | inl good ↦ let parts = and_parts (nat_le 1 c) (nat_le c 256) good in (leb-true 1 c parts.0, leb-true c 256 parts.1)
-  | inr other ↦ absurd (let h = rw other at is in cc)
-]
-
-some_rate : (r : ℕ) → refuse_if (r == 0) BadRate ≡ None → 1 ≤ r
-some_rate r is = elim (cases_Bool (r == 0)) [
-  | inl none ↦ absurd (let h = rw none at is in cc)
-  | inr other ↦ elim (cases_lt 0 r) [ inl lt ↦ omega (arith, lt) | inr le ↦ absurd (eqb-false r 0 other (omega (arith, le))) ]
-]
-
-first_none : (a b c : Option OpenRefusal) → first_refusal (a ∷ b ∷ c ∷ []) ≡ None → (a ≡ None) × (b ≡ None)
-first_none (Some a) b c is = absurd (cc)
-first_none None (Some b) c is = absurd (cc)
-first_none None None c is = (refl, refl)
-
-unless_ok : (refusal : Option OpenRefusal) (p q : Parameters) → unless refusal p ≡ Ok q → (refusal ≡ None) × (p ≡ q)
-unless_ok None p q is = (refl, cc)
-unless_ok (Some refusal) p q is = absurd (cc)
-
-coded_good : (r : Result _ OpenRefusal) (b : List ℕ) (p : Parameters) → All IsByte b → coded_format r b ≡ Ok p → is_adpcm p.codec ≡ false → AreParams p
-coded_good (Err refusal) b p bytes is plain = absurd (cc)
-coded_good (Ok coding) b p bytes is plain =
-    let good = unless_ok (format_refusal coding b) (parameters coding b) p is in
-    let none = first_none (refuse_if (not (is_channel_count (channels_of b))) BadChannels) (refuse_if (rate_of b == 0) BadRate) (coding_refusal coding b) good.0 in
-    let some = some_channels (channels_of b) none.0 in
-    let channels : p.channels ≡ channels_of b = sym (ap (λ (q : Parameters). q.channels) good.1) in
-    let rate : p.rate ≡ rate_of b = sym (ap (λ (q : Parameters). q.rate) good.1) in
-    let few : number Little b 4 4 < 2 ^ 32 = number_fits Little b 4 4 bytes in
-    record {
-      some_channel = omega (arith, channels, some.0);
-      most_channels = omega (arith, channels, some.1);
-      some_rate = omega (arith, rate, some_rate (rate_of b) none.1);
-      most_rate = omega (arith, rate, few);
-      blocks = plain_blocks p.codec p.channels plain;
-    }
-
-pub good_params : (b : List ℕ) (p : Parameters) → All IsByte b → format_of b ≡ Ok p → is_adpcm p.codec ≡ false → AreParams p
-good_params b p bytes is plain = coded_good (coding_of b) b p bytes is plain
 
 -- ---- where the chunks lie
 
@@ -139,11 +85,9 @@ module _ (b : List ℕ) (p : Parameters) (sound : Chunk) (bytes : All IsByte b) 
         declared = λ known. omega (arith, counted_bytes p some (option_map (fact_count b) (fact_chunk (wave_front b).chunks)) good fits);
       }
 
-pub lies_in : (b : List ℕ) (h : Shape) → All IsByte b → wave_layout b ≡ Ok h → is_adpcm h.params.codec ≡ false → LiesIn b h
-lies_in b h bytes is plain =
+pub lies_in : (b : List ℕ) (h : Shape) → All IsByte b → wave_layout b ≡ Ok h → LiesIn b h
+lies_in b h bytes is =
     let from : Opens b (wave_front b) h = opens b h is in
-    let params_are : h.params ≡ from.params = ap (λ (s : Shape). s.params) from.shape in
-    let plain_too : is_adpcm from.params.codec ≡ false = sym (ap (λ (p : Parameters). is_adpcm p.codec) params_are) ∙ plain in
     let format_bytes : All IsByte (body_of b from.format) = All-take IsByte from.format.len (drop from.format.at b) (All-drop IsByte from.format.at b bytes) in
-    let good : AreParams from.params = good_params (body_of b from.format) from.params format_bytes from.params_are plain_too in
+    let good : AreParams from.params = good_params (body_of b from.format) from.params format_bytes from.params_are in
     rw from.shape (lies b from.params from.sound bytes good (format_fits (body_of b from.format) from.params from.params_are) (reached b from.sound from.sound_is))

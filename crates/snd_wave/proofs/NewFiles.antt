@@ -29,7 +29,7 @@ pub is_new : (p : Parameters) → AreParams p → fit_refusal Wave p ≡ None �
 unfolding made_shape
 is_new p good fits = record {
   told = head_reads_back p [] (no_pieces p good fits);
-  bytes = λ plain. head_bytes_are p plain;
+  bytes = head_bytes_are p;
   is_kind = refl;
   params = refl;
   frames = refl;
