@@ -1,4 +1,5 @@
 pub mod BlockLaws
+pub mod CodedBytes
 pub mod ImaCodes
 pub mod ImaWritten
 pub mod MsCodes

@@ -2,7 +2,8 @@
 use Rattle.std.specs.Prelude.{◌≡◌, ◌⊎◌, ℕ, ℤ, List, [], ◌∷◌, ◌++◌, length, IsTrue}
 use Rattle.std.specs.List.{All}
 use Rattle.snd_fields.specs.Blocks.{is_ima_align, is_ms_align}
-use Rattle.snd_adpcm.specs.Frames.{high_half_first, bytes_high_half_first}
+use Rattle.snd_fields.specs.Laws.{IsByte}
+use Rattle.snd_adpcm.specs.Frames.{Is16Bit, high_half_first, bytes_high_half_first}
 use Rattle.snd_adpcm.specs.Blocks.{Rule, filled, joined, bytes_of_list, bytes_of_calls}
 use Rattle.snd_adpcm.specs.Ima.{Indices, ima_bytes, ima_next_indices, ima_numbers}
 use Rattle.snd_adpcm.specs.Microsoft.{ms_bytes, ms_numbers}
@@ -45,6 +46,18 @@ MsCallsGiveData = (channels align : ℕ) (samples : List ℤ) (calls : List (Lis
 abbrev pub MsCallsAreWhole : Type 0
 MsCallsAreWhole = (channels align : ℕ) (calls : List (List ℤ)) → (channels ≡ 1) ⊎ (channels ≡ 2) → IsTrue (is_ms_align channels align) →
     All (λ call. length call ≡ ms_numbers channels align) calls → bytes_of_calls (ms_rule channels) tt calls ≡ ms_data channels align (joined calls)
+
+-- ---- bytes
+
+-- the data bytes of numbers of 16 bits are bytes
+abbrev pub DataAreBytes : (List ℤ → List ℕ) → Type 0
+DataAreBytes bytes = (samples : List ℤ) → All Is16Bit samples → All IsByte (bytes samples)
+
+abbrev pub ImaDataAreBytes : Type 0
+ImaDataAreBytes = (channels align : ℕ) → DataAreBytes (ima_data channels align)
+
+abbrev pub MsDataAreBytes : Type 0
+MsDataAreBytes = (channels align : ℕ) → DataAreBytes (ms_data channels align)
 
 -- ---- VOX
 

@@ -1,6 +1,6 @@
 //! Laws: what calls give one after another. Each function does nothing; its contract is the law.
 
-ghost use Rattle.snd_adpcm.specs.Laws.{ImaCallsGiveData, ImaCallsAreWhole, MsCallsGiveData, MsCallsAreWhole, VoxReadsGiveSound, VoxPutsGiveFile};
+ghost use Rattle.snd_adpcm.specs.Laws.{ImaCallsGiveData, ImaCallsAreWhole, ImaDataAreBytes, MsCallsGiveData, MsCallsAreWhole, MsDataAreBytes, VoxReadsGiveSound, VoxPutsGiveFile};
 
 /// Calls of `encode` on one new [`ImaWriter`](crate::ImaWriter), all with the same channels and the same number of samples,
 /// give the blocks of the joined samples: each channel's step index starts at 0 and goes on from block to block.
@@ -14,6 +14,13 @@ pub fn ima_calls_give_blocks()
 pub fn ms_calls_give_blocks()
     ensures filled { MsCallsGiveData }
     ensures joined { MsCallsAreWhole }
+{}
+
+/// The blocks of samples of 16 bits are bytes.
+#[tactic(auto, using(crate::proofs::CodedBytes::ima_data_bytes, crate::proofs::CodedBytes::ms_data_bytes))]
+pub fn blocks_are_bytes()
+    ensures ima { ImaDataAreBytes }
+    ensures ms { MsDataAreBytes }
 {}
 
 /// Calls of `next` on one new [`VoxReader`](crate::VoxReader) give the samples of the joined bytes, and calls of `put` on one new

@@ -1,16 +1,22 @@
 -- The laws of blocks that are written.
-use Rattle.std.proofs.Common.{◌≡◌, ◌⊎◌, ◌∙◌, refl, sym, ap, inl, inr, ℕ, ℤ, ◌+◌, ◌-◌, ◌*◌, ◌/◌, ◌<◌, ◌≤◌, List, ◌++◌, length, take, drop, append_assoc, arith}
+use Rattle.std.proofs.Common.{◌≡◌, ◌⊎◌, ◌∙◌, refl, sym, ap, inl, inr, ℕ, ℤ, ◌+◌, ◌-◌, ◌*◌, ◌/◌, ◌%◌, ◌<◌, ◌≤◌, List, All, ◌++◌, length, take, drop, append_assoc, arith}
 use Rattle.std.proofs.Math.Nat.{div-add-mod, div-div-eq-div-mul, div-eq_of_lt-le, div-le_of_le-mul, div-mul-le_self, mul-div_left}
 use Rattle.std.proofs.lemmas.Nat.{le-div}
 use Rattle.std.proofs.lemmas.List.{length-append, length-take-le, places, same_lists, take-take, take_all, take_at}
+use Rattle.std.proofs.lemmas.List.Elements.{All-nil}
+use Rattle.snd_adpcm.proofs.CodedBytes.{ima_data_bytes, ms_data_bytes}
 use Rattle.snd_adpcm.specs.Blocks.{filled}
+use Rattle.snd_adpcm.specs.Frames.{Is16Bit}
 use Rattle.snd_disk.specs.Bytes.{over}
+use Rattle.snd_fields.specs.Laws.{IsByte}
 use Rattle.snd_layout.specs.Blocks.{block_align, block_frames}
+use Rattle.snd_layout.specs.declared.codec.Codec.{Codec}
+use Rattle.snd_layout.specs.declared.codec.Codec.TheVariants.{Ima, Ms}
 use Rattle.snd_layout.specs.Params.{Parameters, data_bytes}
 use Rattle.snd_blocks.specs.Calls.{AreBlocks}
 use Rattle.snd_blocks.specs.Frames.{blocks_decoded, frames_in_blocks, has_bad}
-use Rattle.snd_block_writer.specs.Coded.{block_numbers, coded, kept, whole, whole_blocks}
-use Rattle.snd_block_writer.specs.Laws.{AllAreKept, KeptIsRead, KeptStays, NoneIsBad, WholeFramesAreKept, WholeIsFront}
+use Rattle.snd_block_writer.specs.Coded.{block_numbers, blocks_coded, coded, kept, whole, whole_blocks}
+use Rattle.snd_block_writer.specs.Laws.{AllAreKept, CodedAreBytes, KeptIsRead, KeptStays, NoneIsBad, WholeFramesAreKept, WholeIsFront}
 use Rattle.snd_block_writer.specs.Writing.{given, more_bytes, padding}
 use Rattle.snd_block_writer.proofs.Decoded.{count_decoded, decoded_joined, good_blocks, some_channel}
 use Rattle.snd_block_writer.proofs.Given.{some_numbers}
@@ -119,18 +125,32 @@ same_count channels per frames length_xs n count length_all few some n_is size w
 behind : (b : List ℕ) (at : ℕ) (l : List ℕ) → drop at (over b at l) ≡ l ++ drop (at + length l) b
 behind b at l = same_lists _ _ (grind (arith, places)) (λ k d lt. grind (arith, places))
 
-pub kept_is_read : KeptIsRead
-unfolding frames_in_blocks
-kept_is_read b s xs blocks even counted =
-    let p = s.params in
+-- the blocks of numbers of whole frames have the bytes of the data of these
+pub coded_size : (p : Parameters) → AreBlocks p → (xs : List ℤ) → length xs % p.channels ≡ 0 → length (coded p xs) ≡ data_bytes p (length xs / p.channels)
+coded_size p blocks xs even =
     let n = block_numbers p in
-    let l = coded p xs in
     let frames = length xs / p.channels in
     let few = filled_few n xs (some_numbers p blocks) in
     let exact : length xs ≡ frames * p.channels = let h = div-add-mod (length xs) p.channels in omega (arith, h, even) in
     let count : (frames + block_frames p.codec - 1) / block_frames p.codec ≡ length (filled n xs) / n =
     same_count p.channels (block_frames p.codec) frames (length xs) n (length (filled n xs) / n) (length (filled n xs)) blocks.channels blocks.some_frames refl exact (blocks_of_filled p xs blocks) few.0 few.1 in
-    let size : length l ≡ data_bytes p frames = length-coded p blocks xs ∙ ap (λ (m : ℕ). m * block_align p.channels p.codec) (sym count) in
+    length-coded p blocks xs ∙ ap (λ (m : ℕ). m * block_align p.channels p.codec) (sym count)
+
+pub kept_is_read : KeptIsRead
+unfolding frames_in_blocks
+kept_is_read b s xs blocks even counted =
+    let p = s.params in
+    let l = coded p xs in
+    let frames = length xs / p.channels in
     ap (λ (m : ℕ). take m (blocks_decoded p (take (data_bytes p m) (drop s.start (over b s.start l))))) counted
     ∙ ap (λ (x : List ℕ). take frames (blocks_decoded p (take (data_bytes p frames) x))) (behind b s.start l)
-    ∙ ap (λ (x : List ℕ). take frames (blocks_decoded p x)) (take_at l (drop (s.start + length l) b) (data_bytes p frames) size)
+    ∙ ap (λ (x : List ℕ). take frames (blocks_decoded p x)) (take_at l (drop (s.start + length l) b) (data_bytes p frames) (coded_size p blocks xs even))
+
+bytes_coded : (channels : ℕ) (codec : Codec) (xs : List ℤ) → All Is16Bit xs → All IsByte (blocks_coded channels codec xs)
+unfolding blocks_coded
+bytes_coded channels (Ima align per_block) xs range = ima_data_bytes channels align xs range
+bytes_coded channels (Ms align per_block) xs range = ms_data_bytes channels align xs range
+bytes_coded channels _ xs range = All-nil IsByte
+
+pub coded_are_bytes : CodedAreBytes
+coded_are_bytes p xs range = bytes_coded p.channels p.codec xs range

@@ -1,6 +1,8 @@
 -- The laws of blocks that are written.
-use Rattle.std.specs.Prelude.{◌≡◌, ℕ, ℤ, ◌*◌, ◌/◌, ◌%◌, false, List, ◌++◌, length, take}
+use Rattle.std.specs.Prelude.{◌≡◌, ℕ, ℤ, ◌*◌, ◌/◌, ◌%◌, false, List, All, ◌++◌, length, take}
+use Rattle.snd_adpcm.specs.Frames.{Is16Bit}
 use Rattle.snd_disk.specs.Bytes.{over}
+use Rattle.snd_fields.specs.Laws.{IsByte}
 use Rattle.snd_layout.specs.Blocks.{block_frames}
 use Rattle.snd_layout.specs.Params.{Parameters}
 use Rattle.snd_layout.specs.Shape.{Shape}
@@ -33,3 +35,7 @@ WholeFramesAreKept = (p : Parameters) (xs : List ℤ) → AreBlocks p
 abbrev pub KeptIsRead : Type 0
 KeptIsRead = (b : List ℕ) (s : Shape) (xs : List ℤ) → AreBlocks s.params → length xs % s.params.channels ≡ 0 → s.frames ≡ length xs / s.params.channels
     → frames_in_blocks (over b s.start (coded s.params xs)) s ≡ kept s.params xs
+
+-- the blocks of numbers of 16 bits are bytes
+abbrev pub CodedAreBytes : Type 0
+CodedAreBytes = (p : Parameters) (xs : List ℤ) → All Is16Bit xs → All IsByte (coded p xs)
