@@ -149,7 +149,7 @@ pub fn seal<D: Disk>(disk: &mut D, layout: &mut Layout) -> Result<(), Step>
 
     ensures time { GoesOnFrom D.state D.left_between disk.old disk.new }
     ensures faults { CountsOn D.state disk.old disk.new result }
-    ensures written { WritesAtMost D.state 72 disk.old disk.new }
+    ensures written { WritesAtMost D.state 64 disk.old disk.new }
     ensures asked { (D.state disk.new).asked ≡ (D.state disk.old).asked }
 {
     if layout.trailing {
