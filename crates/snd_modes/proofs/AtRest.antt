@@ -1,5 +1,5 @@
 -- What a call leaves of a file at rest.
-use Rattle.std.proofs.Common.{◌≡◌, ◌∙◌, ap, sym, subst, inl, inr, ℕ, ◌/◌, ◌≤◌, ℤ, true, List, Err, length}
+use Rattle.std.proofs.Common.{◌≡◌, ◌∙◌, ap, sym, subst, inl, inr, ℕ, ◌/◌, ◌≤◌, ℤ, false, true, List, Err, length}
 use Rattle.std.specs.Prelude.{Result}
 use Rattle.snd_disk.specs.Device.{IsStable}
 use Rattle.snd_disk.specs.declared.disk.Disk.{Ghosts}
@@ -12,7 +12,7 @@ use Rattle.snd_modes.specs.declared.mode.Mode.{Ghosts as ModeGhosts}
 use Rattle.snd_modes.specs.Editing.{Editing}
 use Rattle.snd_modes.specs.Edits.{count_written, written_to}
 use Rattle.snd_modes.specs.Handle.{Stands, disk_of, known_of}
-use Rattle.snd_modes.specs.Laws.{writes}
+use Rattle.snd_modes.specs.Laws.{IsEdited, writes}
 use Rattle.snd_modes.specs.Putting.{IsUnderWay, LeavesWritten}
 use Rattle.snd_modes.specs.Outcomes.{write_outcome}
 use Rattle.snd_modes.specs.Rest.{IsAtRest, StaysAtRest}
@@ -21,10 +21,10 @@ use Rattle.snd_modes.specs.SafeLaws.{data_then, frames_then}
 use Rattle.snd_modes.specs.WriteCalls.{IsWriteRefusal, MayWrite}
 use Rattle.snd_modes.specs.declared.error.WriteError.{WriteError}
 use Rattle.snd_modes.specs.declared.error.WriteError.TheVariants as write
-use Rattle.snd_modes.proofs.EditedSteps.{leads_to_edited}
+use Rattle.snd_modes.proofs.LeftSafe.{edited_of, keeps_of, rests_after}
 use Rattle.snd_modes.proofs.PartlyPut.{leaves_still}
 use Rattle.snd_modes.proofs.SafeImages.{at_rest, wider}
-use Rattle.snd_modes.proofs.SafeRests.{edited_apart, written_rest}
+use Rattle.snd_modes.proofs.SafeRests.{fields_apart, written_rest}
 use Rattle.snd_modes.proofs.SafeWrites.{grown_safe, written_safe}
 
 module _ {D M : Type 0} {mode : ModeGhosts M} (d : Ghosts D) (old : File D M d mode) where
@@ -34,11 +34,14 @@ module _ {D M : Type 0} {mode : ModeGhosts M} (d : Ghosts D) (old : File D M d m
       leaves_weaker d (disk_of old) (disk_of old) (d.may_leave (disk_of old)) (IsSafe e e')
       (λ x left.
       let is : e.bytes ≡ x = same_some e.bytes x (sym rest.stands.bytes ∙ rest.stable x left) in
-      wider e e' x (subst (IsSafe e e) is (at_rest opened e rest.edited rest.fit.told)))
+      wider e e' x (subst (IsSafe e e) is (at_rest opened e (keeps_of mode.ENCODES opened e rest.state) rest.fit.told)))
       (leaves_still d only_now (disk_of old))
 
   -- a write from rest, by what the handle knows
-  module _ (opened : List ℕ) (e : Editing) (xs : List ℤ) (rest : IsAtRest d opened old e) (auto : (known_of old).automatic ≡ true) (ready : MayWrite xs (known_of old).shape (known_of old).write_place) where
+  module _ (by_place : mode.ENCODES ≡ false) (opened : List ℕ) (e : Editing) (xs : List ℤ) (rest : IsAtRest d opened old e) (auto : (known_of old).automatic ≡ true) (ready : MayWrite xs (known_of old).shape (known_of old).write_place) where
+    ed : IsEdited opened e
+    ed = edited_of mode.ENCODES opened e by_place rest.state
+
     on : e.automatic ≡ true
     on = sym rest.stands.automatic ∙ auto
 
@@ -46,8 +49,8 @@ module _ {D M : Type 0} {mode : ModeGhosts M} (d : Ghosts D) (old : File D M d m
     may = subst (MayWrite xs e.shape) rest.stands.write_place (subst (λ (s : Shape). MayWrite xs s (known_of old).write_place) rest.stands.shape ready)
 
     safe_under_way : (x : List ℕ) → IsUnderWay e.bytes (data_then xs e) e.shape (frames_then xs e) x → IsSafe e (written_to xs e) x
-    safe_under_way x (inl part) = written_safe opened e rest.edited rest.fit xs may (rest.sized on) x part
-    safe_under_way x (inr growing) = grown_safe opened e rest.edited rest.fit xs may growing.0 (rest.sized on growing.0) x growing.1
+    safe_under_way x (inl part) = written_safe opened e ed rest.fit xs may (λ free. rest.sized (inl on) free) x part
+    safe_under_way x (inr growing) = grown_safe opened e ed rest.fit xs may growing.0 (rest.sized (inl on) growing.0) x growing.1
 
     pub written_leaves : (k : ℕ) (last : D) → k ≡ length xs / (known_of old).shape.params.channels
         → LeavesWritten d (known_of old).shape (known_of old).write_place (count_written (known_of old).shape (known_of old).write_place k) xs (disk_of old) last
@@ -60,18 +63,12 @@ module _ {D M : Type 0} {mode : ModeGhosts M} (d : Ghosts D) (old : File D M d m
         (subst (λ (p : ℕ). LeavesWritten d e.shape p (count_written e.shape p k) xs to last) rest.stands.write_place
         (subst (λ (s : Shape). LeavesWritten d s (known_of old).write_place (count_written s (known_of old).write_place k) xs to last) rest.stands.shape leaves)) in
         leaves_weaker d to last (IsUnderWay e.bytes (data_then xs e) e.shape (frames_then xs e)) (IsSafe e (written_to xs e)) safe_under_way
-        (mine (edited_apart opened e rest.edited) e.bytes rest.stands.bytes rest.stable)
+        (mine (fields_apart opened e ed.keeps) e.bytes rest.stands.bytes rest.stable)
 
     pub written_at_rest : (new : File D M d mode) → Stands d.state new (written_to xs e) → IsStable d.state d.may_leave (disk_of new) → IsAtRest d opened new (written_to xs e)
     written_at_rest new stands stable =
-        let then = written_rest opened e xs rest.edited rest.fit.bytes rest.fit.whole may on in
-        record {
-          edited = leads_to_edited opened e (written_to xs e) rest.edited (writes xs may);
-          stands = stands;
-          stable = stable;
-          fit = then.0;
-          sized = λ still. then.1;
-        }
+        let then = written_rest opened e xs ed rest.fit.bytes rest.fit.whole may on in
+        rests_after d opened new e (written_to xs e) by_place ed (writes xs may) then stands stable
 
 -- what refuses frames leaves a file at rest
 pub stays_refused : {D M : Type 0} {mode : ModeGhosts M} (d : Ghosts D) (old new : File D M d mode) (step : Editing → Editing) (xs : List ℤ) (h : Shape) (place : ℕ) (error : WriteError)

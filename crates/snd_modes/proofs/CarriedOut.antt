@@ -32,4 +32,4 @@ pub seek_write_leads : SeekWriteLeads
 seek_write_leads k k' e to done knows left = seeks_to_write to (subst (λ (s : Shape). to ≤ s.frames) knows.shape left.1)
 
 pub reached_sound : ReachedSound
-reached_sound file e bytes reached = sealed_sound file e (reached_is_edited file e bytes reached)
+reached_sound file e bytes reached = sealed_sound file e (reached_is_edited file e bytes reached).keeps

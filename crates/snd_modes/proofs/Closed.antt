@@ -8,7 +8,6 @@ use Rattle.snd_block_writer.specs.Writing.{Writing}
 use Rattle.snd_disk.specs.Device.{Tells}
 use Rattle.snd_disk.specs.State.{State}
 use Rattle.snd_disk.specs.declared.disk.Disk.{Ghosts}
-use Rattle.snd_layout.specs.Blocks.{is_adpcm}
 use Rattle.snd_layout.specs.Shape.{Shape, end}
 use Rattle.snd_patch.specs.Sealed.{sealed}
 use Rattle.snd_modes.specs.declared.handle.File.{File}
@@ -18,14 +17,8 @@ use Rattle.snd_modes.specs.Editing.{Editing}
 use Rattle.snd_modes.specs.Edits.{sealed_to}
 use Rattle.snd_modes.specs.Encoding.{HoldsClosed as HoldsSealed, over_blocks}
 use Rattle.snd_modes.specs.Handle.{Stands, disk_of, known_of, writer_of}
-use Rattle.snd_modes.specs.Laws.{IsEdited}
-use Rattle.snd_modes.proofs.EditedFiles.{is_linear}
-use Rattle.snd_modes.proofs.Encoded.{frames_of, no_form, whole_bytes}
+use Rattle.snd_modes.proofs.Encoded.{frames_of, whole_bytes}
 use Rattle.snd_modes.proofs.HeadBytes.{over_stays}
-
--- no state of one is edited
-pub never_edited : (file : List ℕ) (e : Editing) → IsEdited file e → is_adpcm e.shape.params.codec ≡ true → ⊥
-never_edited file e ed blocks = no_form e.shape.params blocks (is_linear file e ed)
 
 -- of others it is sealed
 pub closed_by_hand : {D M : Type 0} {ghosts : Ghosts D} {mode : ModeGhosts M} (state : D → State) (file : File D M ghosts mode) (disk : D) → mode.ENCODES ≡ false → HoldsClosed state file disk
@@ -38,14 +31,14 @@ pub closed_whole : {D M : Type 0} {ghosts : Ghosts D} {mode : ModeGhosts M} (sta
 closed_whole state file disk w encodes is told there holds = λ e stands.
     let h = e.shape in
     let given = stands.given encodes in
-    let bytes = whole_bytes h.params given.form e.given in
+    let bytes = whole_bytes h.params given.holds.form e.given in
     let reach : end h h.frames ≤ length e.bytes = subst (λ (s : Shape). end s s.frames ≤ length e.bytes) stands.shape (omega (arith, told e.bytes stands.bytes, there)) in
     let same : over_blocks e.bytes h (whole h.params e.given) ≡ e.bytes =
-    over_stays e.bytes h.start (coded h.params (whole h.params e.given)) (omega (arith, reach, bytes, ap (λ (n : ℕ). end h n) given.frames)) given.held in
+    over_stays e.bytes h.start (coded h.params (whole h.params e.given)) (omega (arith, reach, bytes, ap (λ (n : ℕ). end h n) given.holds.frames)) given.holds.held in
     let before : (state (disk_of file)).contents ≡ Some (over_blocks e.bytes h (whole h.params e.given)) = stands.bytes ∙ ap (λ (l : List ℕ). Some l) (sym same) in
     let of_shape = subst (λ (s : Shape). HoldsSealed state s (known_of file).write_place w.value (disk_of file) disk) stands.shape holds in
     let got = of_shape e.given e.bytes (given.stands w is) before in
-    let place : (known_of file).write_place ≡ length e.given / h.params.channels = stands.write_place ∙ sym (frames_of h.params given.form e.given e.write_place given.whole) in
+    let place : (known_of file).write_place ≡ length e.given / h.params.channels = stands.write_place ∙ sym (frames_of h.params given.holds.form e.given e.write_place given.holds.whole) in
     subst (λ (t : Bool). Tells state disk (closed_to t e).bytes) (sym encodes)
     (subst (λ (n : ℕ). Tells state disk (sealed (over_blocks e.bytes h e.given) (record h { frames = n }) n)) place got)
 

@@ -10,6 +10,8 @@ use Rattle.snd_disk.specs.Runs.{HasAt}
 use Rattle.snd_blocks.specs.Calls.{AreBlocks, HasForm}
 use Rattle.snd_blocks.specs.Sound.{frames_in}
 use Rattle.snd_blocks.proofs.Counted.{frames_are_in_blocks}
+use Rattle.snd_adpcm.specs.Frames.{Is16Bit}
+use Rattle.std.proofs.lemmas.List.Elements.{All-nil}
 use Rattle.snd_block_writer.specs.Coded.{block_numbers, coded, kept, whole, whole_blocks}
 use Rattle.snd_block_writer.specs.Writing.{StandsFor, Writing}
 use Rattle.snd_block_writer.proofs.Decoded.{some_channel}
@@ -32,7 +34,7 @@ use Rattle.snd_disk.specs.State.{State}
 use Rattle.snd_modes.specs.declared.handle.File.{File}
 use Rattle.snd_modes.specs.declared.mode.Mode.{Ghosts as ModeGhosts}
 use Rattle.snd_modes.specs.Editing.{Editing}
-use Rattle.snd_modes.specs.Handle.{IsGiven, Known, Stands, disk_of, known_of, writer_of}
+use Rattle.snd_modes.specs.Handle.{HoldsBlocks, IsGiven, Known, Stands, disk_of, known_of, writer_of}
 use Rattle.snd_modes.specs.Pacing.{HasPlaceFor, KeepsPace, PacesIn}
 use Rattle.snd_modes.proofs.EncodedPlaces.{blocks_of, may_encode, whole_data}
 use Rattle.snd_modes.proofs.Overwritten.{data_beside}
@@ -65,7 +67,7 @@ module _ (p : Parameters) (form : AreBlocks p) where
   frames_whole ys = sym (all_are_kept p (whole p ys) form) ∙ whole_frames_are_kept p ys form
 
   -- whole blocks are whole frames
-  whole_even : (ys : List ℤ) → length (whole p ys) % p.channels ≡ 0
+  pub whole_even : (ys : List ℤ) → length (whole p ys) % p.channels ≡ 0
   whole_even ys =
       let product : whole_blocks p ys * block_numbers p ≡ whole_blocks p ys * block_frames p.codec * p.channels = omega arith in
       ap (λ (n : ℕ). n % p.channels) ((length-whole p form ys).0 ∙ product) ∙ mul-mod_left (whole_blocks p ys * block_frames p.codec) p.channels
@@ -131,37 +133,46 @@ frames_where false h n = refl
 pub given_none : (writer : Option (Box Writing)) (b : List ℕ) (h : Shape) → AreBlocks h.params → h.frames ≡ 0 → ((w : Box Writing) → writer ≡ Some w → StandsFor w.value h.params [])
     → IsGiven writer [] b h 0
 given_none writer b h form empty stands = record {
-  form = form;
+  holds = record {
+    form = form;
+    range = All-nil Is16Bit;
+    whole = omega arith;
+    frames = empty ∙ sym (frames_whole h.params form [] ∙ ap (whole_frames h.params) (zero-div h.params.channels) ∙ none_of_none);
+    held = λ j lt. absurd (omega (arith, lt, ap length (none_coded h.params form)));
+  };
   stands = stands;
-  whole = omega arith;
-  frames = empty ∙ sym (frames_whole h.params form [] ∙ ap (whole_frames h.params) (zero-div h.params.channels) ∙ none_of_none);
-  held = λ j lt. absurd (omega (arith, lt, ap length (none_coded h.params form)));
 }
   where
     none_of_none : whole_frames h.params 0 ≡ 0
     none_of_none = ap (λ (n : ℕ). n * block_frames h.params.codec) (zero-div (block_frames h.params.codec)) ∙ (let e : 0 * block_frames h.params.codec ≡ 0 = omega arith in e)
 
 -- sealing leaves it
-pub given_sealed : (writer : Option (Box Writing)) (ys : List ℤ) (b : List ℕ) (h : Shape) (place : ℕ) → KeepsRule h → IsGiven writer ys b h place
-    → IsGiven writer ys (sealed b h h.frames) (counted h h.frames) place
-given_sealed writer ys b h place rule was = record {
+pub holds_sealed : (ys : List ℤ) (b : List ℕ) (h : Shape) (place : ℕ) → KeepsRule h → HoldsBlocks ys b h place → HoldsBlocks ys (sealed b h h.frames) (counted h h.frames) place
+holds_sealed ys b h place rule was = record {
   form = was.form;
-  stands = was.stands;
+  range = was.range;
   whole = was.whole;
   frames = was.frames;
   held = held_sealed b h (coded h.params (whole h.params ys)) rule (omega (arith, whole_bytes h.params was.form ys, ap (data_bytes h.params) was.frames)) was.held;
 }
 
+pub given_sealed : (writer : Option (Box Writing)) (ys : List ℤ) (b : List ℕ) (h : Shape) (place : ℕ) → KeepsRule h → IsGiven writer ys b h place
+    → IsGiven writer ys (sealed b h h.frames) (counted h h.frames) place
+given_sealed writer ys b h place rule was = record {
+  holds = holds_sealed ys b h place rule was.holds;
+  stands = was.stands;
+}
+
 -- a head laid anew before the first frame
 pub nothing_given : (writer : Option (Box Writing)) (ys : List ℤ) (b : List ℕ) (h : Shape) (place : ℕ) → IsGiven writer ys b h place → place ≡ 0 → ys ≡ []
 nothing_given writer ys b h place was first =
-    nil_from_length ys (was.whole ∙ ap (λ (n : ℕ). n * h.params.channels) first ∙ (let e : 0 * h.params.channels ≡ 0 = omega arith in e))
+    nil_from_length ys (was.holds.whole ∙ ap (λ (n : ℕ). n * h.params.channels) first ∙ (let e : 0 * h.params.channels ≡ 0 = omega arith in e))
 
 pub given_anew : (writer : Option (Box Writing)) (ys : List ℤ) (b x : List ℕ) (h h' : Shape) (place : ℕ) → IsGiven writer ys b h place → place ≡ 0 → h'.params ≡ h.params → h'.frames ≡ 0
     → IsGiven writer ys x h' place
 given_anew writer ys b x h h' place was first params empty =
     let none = nothing_given writer ys b h place was first in
-    let form : AreBlocks h'.params = subst AreBlocks (sym params) was.form in
+    let form : AreBlocks h'.params = subst AreBlocks (sym params) was.holds.form in
     let anew = given_none writer x h' form empty (λ w is. subst (λ (p : Parameters). StandsFor w.value p []) (sym params) (subst (StandsFor w.value h.params) none (was.stands w is))) in
     subst (λ (l : List ℤ). IsGiven writer l x h' place) (sym none) (subst (IsGiven writer [] x h') (sym first) anew)
 

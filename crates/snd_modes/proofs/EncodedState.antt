@@ -1,8 +1,10 @@
 -- The state for which the handle of a file of ADPCM stands once it was given more frames.
-use Rattle.std.proofs.Common.{◌≡◌, ◌∙◌, ap, sym, subst, refl, ℕ, ℤ, ◌+◌, ◌*◌, ◌/◌, ◌%◌, ◌^◌, ◌≤◌, Bool, true, false, List, ◌++◌, Option, Some, length, arith}
+use Rattle.std.proofs.Common.{◌≡◌, ◌∙◌, ap, sym, subst, refl, ℕ, ℤ, ◌+◌, ◌*◌, ◌/◌, ◌%◌, ◌^◌, ◌≤◌, Bool, true, false, List, All, ◌++◌, Option, Some, length, arith}
 use Rattle.std.specs.Global.{Box}
 use Rattle.std.proofs.Math.Nat.{div-add-mod, le-div_iff_mul-le, mul-le-mul_right}
 use Rattle.std.proofs.lemmas.List.{length-append}
+use Rattle.std.proofs.lemmas.List.Elements.{All-append}
+use Rattle.snd_adpcm.specs.Frames.{Is16Bit}
 use Rattle.snd_block_writer.specs.Calls.{TakesMore}
 use Rattle.snd_block_writer.specs.Coded.{coded, whole}
 use Rattle.snd_block_writer.specs.Writing.{StandsFor, Writing}
@@ -19,15 +21,19 @@ use Rattle.snd_modes.specs.declared.mode.Mode.{Ghosts as ModeGhosts}
 use Rattle.snd_modes.specs.Editing.{Editing}
 use Rattle.snd_modes.specs.Edits.{sealed_where, written_shape}
 use Rattle.snd_modes.specs.Encoding.{HoldsEncoded, counting, counting_whole, encoded_shape, encoded_to, known_encoded, over_blocks, whole_frames}
-use Rattle.snd_modes.specs.Handle.{IsGiven, Known, Stands, disk_of, known_of, writer_of}
+use Rattle.snd_modes.specs.Handle.{HoldsBlocks, IsGiven, Known, Stands, disk_of, known_of, writer_of}
 use Rattle.snd_modes.specs.WriteCalls.{end_written}
 use Rattle.snd_modes.proofs.Encoded.{blocks_read_where, frames_of, frames_where, frames_whole, held_where, whole_bytes}
 use Rattle.snd_modes.proofs.HeadBytes.{over_stays}
 
 -- what holds of a layout that counts some frames, also once the head says so
+pub holds_where : (automatic : Bool) (ys : List ℤ) (b : List ℕ) (h : Shape) (n place : ℕ) → h.frames ≡ n → HoldsBlocks ys b h place → HoldsBlocks ys b (written_shape automatic h n) place
+holds_where true ys b h n place is was = record { form = was.form; range = was.range; whole = was.whole; frames = sym is ∙ was.frames; held = was.held }
+holds_where false ys b h n place is was = record { form = was.form; range = was.range; whole = was.whole; frames = sym is ∙ was.frames; held = was.held }
+
 given_where : (automatic : Bool) (writer : Option (Box Writing)) (ys : List ℤ) (b : List ℕ) (h : Shape) (n place : ℕ) → h.frames ≡ n → IsGiven writer ys b h place → IsGiven writer ys b (written_shape automatic h n) place
-given_where true writer ys b h n place is was = record { form = was.form; stands = was.stands; whole = was.whole; frames = sym is ∙ was.frames; held = was.held }
-given_where false writer ys b h n place is was = record { form = was.form; stands = was.stands; whole = was.whole; frames = sym is ∙ was.frames; held = was.held }
+given_where true writer ys b h n place is was = record { holds = holds_where true ys b h n place is was.holds; stands = was.stands }
+given_where false writer ys b h n place is was = record { holds = holds_where false ys b h n place is was.holds; stands = was.stands }
 
 pub record TakesOn {D M : Type 0} {ghosts : Ghosts D} {mode : ModeGhosts M} (state : D → State) (old new : File D M ghosts mode) (xs : List ℤ) (to : ℕ) (w w' : Box Writing) : Type 0 where
   pub encodes : mode.ENCODES ≡ true
@@ -38,6 +44,7 @@ pub record TakesOn {D M : Type 0} {ghosts : Ghosts D} {mode : ModeGhosts M} (sta
   pub known : known_of new ≡ known_encoded xs (known_of old)
   pub reaches : to ≡ end_written xs (known_of old).shape (known_of old).write_place
   pub even : length xs % (known_of old).shape.params.channels ≡ 0
+  pub range : All Is16Bit xs
   pub rule : KeepsRule (counting_whole (known_of old).shape to)
   pub told : (b : List ℕ) → (state (disk_of old)).contents ≡ Some b → (state (disk_of old)).size ≡ length b
   pub told_then : (b : List ℕ) → (state (disk_of new)).contents ≡ Some b → (state (disk_of new)).size ≡ length b
@@ -52,10 +59,10 @@ encoded_stands state old new xs to w w' on e stands =
     let ys = e.given in
     let zs = whole e.shape.params (e.given ++ xs) in
     let given = stands.given on.encodes in
-    let form = given.form in
+    let form = given.holds.form in
     let reach : end h h.frames ≤ length e.bytes = subst (λ (s : Shape). end s s.frames ≤ length e.bytes) stands.shape (omega (arith, on.told e.bytes stands.bytes, on.there)) in
     let same : over_blocks e.bytes h (whole p ys) ≡ e.bytes =
-    over_stays e.bytes h.start (coded p (whole p ys)) (omega (arith, reach, whole_bytes p form ys, ap (λ (n : ℕ). end h n) given.frames)) given.held in
+    over_stays e.bytes h.start (coded p (whole p ys)) (omega (arith, reach, whole_bytes p form ys, ap (λ (n : ℕ). end h n) given.holds.frames)) given.holds.held in
     let before : (state (disk_of old)).contents ≡ Some (over_blocks e.bytes h (whole p ys)) = stands.bytes ∙ ap (λ (l : List ℕ). Some l) (sym same) in
     let auto = (known_of old).automatic in
     let holds = subst (λ (s : Shape). HoldsEncoded state auto s to xs w.value (disk_of old) (disk_of new)) stands.shape on.holds in
@@ -68,7 +75,7 @@ encoded_stands state old new xs to w w' on e stands =
     let parts : p.channels * k + 0 ≡ length xs = sym (ap (λ (r : ℕ). p.channels * k + r) even) ∙ div-add-mod (length xs) p.channels in
     let turn : p.channels * k ≡ k * p.channels = omega arith in
     let sum : (e.write_place + k) * p.channels ≡ e.write_place * p.channels + k * p.channels = omega arith in
-    omega (arith, length-append ys xs, given.whole, parts, turn, sum, ap (λ (n : ℕ). n * p.channels) to_is) in
+    omega (arith, length-append ys xs, given.holds.whole, parts, turn, sum, ap (λ (n : ℕ). n * p.channels) to_is) in
     let n_is : whole_frames p to ≡ length zs / p.channels = sym (frames_whole p form (ys ++ xs) ∙ ap (whole_frames p) (frames_of p form (ys ++ xs) to count)) in
     let bytes : (state (disk_of new)).contents ≡ Some (sealed_where e.automatic (over_blocks e.bytes h zs) (counting h zs) (length zs / p.channels)) =
     got ∙ ap (λ (n : ℕ). Some (sealed_where auto (over_blocks e.bytes h zs) (record h { frames = n }) n)) n_is
@@ -93,11 +100,14 @@ encoded_stands state old new xs to w w' on e stands =
       count = frames_where e.automatic (counting h zs) (length zs / p.channels) ∙ sym (all_are_kept p zs form);
       none_given = λ no. absurd (let yes = on.encodes in cc);
       given = λ encodes. given_where e.automatic (writer_of new) (ys ++ xs) x (counting h zs) (length zs / p.channels) (end_written xs h e.write_place) refl (record {
-        form = form;
+        holds = record {
+          form = form;
+          range = All-append Is16Bit ys xs given.holds.range on.range;
+          whole = count ∙ ap (λ (n : ℕ). n * p.channels) to_is;
+          frames = refl;
+          held = held_where h form e.bytes (ys ++ xs) e.automatic rule;
+        };
         stands = λ v is. let one : v ≡ w' = some_same v w' (sym is ∙ on.then) in subst (λ (u : Box Writing). StandsFor u.value p (ys ++ xs)) (sym one) (on.takes p ys (given.stands w on.writer));
-        whole = count ∙ ap (λ (n : ℕ). n * p.channels) to_is;
-        frames = refl;
-        held = held_where h form e.bytes (ys ++ xs) e.automatic rule;
       });
     }
   where

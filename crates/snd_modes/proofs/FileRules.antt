@@ -1,14 +1,11 @@
 -- What holds of the layout that a list of bytes says.
-use Rattle.std.proofs.Common.{◌≡◌, inl, ℕ, Bool, false, List, All}
-use Rattle.std.specs.Prelude.{is_none}
+use Rattle.std.proofs.Common.{◌≡◌, inl, ℕ, Bool, List, All}
 use Rattle.snd_container.proofs.EveryKind.{lies}
 use Rattle.snd_container.specs.Laws.{FileSays}
-use Rattle.snd_container.specs.Sound.{fixed_of}
 use Rattle.snd_fields.specs.Laws.{IsByte}
 use Rattle.snd_layout.specs.Container.{LiesIn}
 use Rattle.snd_layout.specs.Shape.{KeepsRule, Shape}
 use Rattle.snd_layout.specs.declared.kind.Kind.TheVariants.{Voc}
-use Rattle.snd_modes.proofs.Rooms.{not_adpcm}
 
 -- the rule of layouts says nothing of what stands behind the data
 pub going_on_rule : (h : Shape) (t : Bool) → KeepsRule h → KeepsRule (record h { trailing = t })
@@ -27,9 +24,9 @@ going_on_rule h t rule = record {
   declared_fits = rule.declared_fits;
 }
 
-pub lies_in : (b : List ℕ) (h : Shape) → All IsByte b → FileSays b h → is_none (fixed_of h.params.codec) ≡ false → LiesIn b h
-lies_in b h bytes says linear =
-    let is = lies b (record h { trailing = says.goes_on }) bytes says.told (not_adpcm h.params.codec linear) in
+pub lies_in : (b : List ℕ) (h : Shape) → All IsByte b → FileSays b h → LiesIn b h
+lies_in b h bytes says =
+    let is = lies b (record h { trailing = says.goes_on }) bytes says.told in
     record {
       params = is.params;
       rule = going_on_rule (record h { trailing = says.goes_on }) h.trailing is.rule;

@@ -1,5 +1,6 @@
 -- The frames of a file whose samples have a fixed number of bytes, and of one whose samples stand in blocks.
-use Rattle.std.proofs.Common.{◌≡◌, ◌∙◌, ap, sym, refl, ℕ, ℤ, ◌*◌, ◌/◌, ◌<◌, ◌≤◌, Bool, true, false, cond, List, take, drop, length, arith}
+use Rattle.std.proofs.Common.{◌≡◌, ◌∙◌, ap, sym, inl, inr, refl, ℕ, ℤ, ◌*◌, ◌/◌, ◌<◌, ◌≤◌, Bool, true, false, cond, List, take, drop, length, arith}
+use Rattle.std.proofs.lemmas.Bool.{cases_Bool}
 use Rattle.std.proofs.Math.Nat.{mul-div-le, mul-div_cancel_left}
 use Rattle.std.specs.Global.{Box}
 use Rattle.std.specs.Prelude.{IfOk, Option, None, Some, Result, Ok, Err, is_none}
@@ -9,18 +10,22 @@ use Rattle.snd_blocks.specs.declared.buffer.BlockCache.{BlockCache}
 use Rattle.snd_blocks.proofs.BlockFrames.{no_bad_groups}
 use Rattle.snd_blocks.specs.Frames.{HasBadFrame, HasFrames as BlocksHaveFrames, blocks_decoded, frames_in_blocks, has_bad}
 use Rattle.snd_blocks.specs.Sound.{decode, frames_in}
-use Rattle.snd_blocks.proofs.Counted.{blocks_are_counted, frames_are_in_blocks}
+use Rattle.snd_blocks.proofs.Counted.{counted, frames_are_in_blocks}
+use Rattle.snd_block_writer.proofs.Parameters.{are_blocks}
 use Rattle.snd_container.specs.Fixed.{samples}
 use Rattle.snd_container.specs.Sound.{decoded, decoded_as, fixed_of, sound_bytes}
 use Rattle.snd_container.specs.declared.fixed.Fixed.{Fixed}
 use Rattle.snd_pcm.specs.Groups.{first_groups}
 use Rattle.snd_layout.specs.Blocks.{is_adpcm}
+use Rattle.snd_layout.specs.Fit.{fit_refusal}
 use Rattle.snd_layout.specs.Params.{AreParams, Parameters}
-use Rattle.snd_layout.specs.Shape.{KeepsRule, Shape, end}
+use Rattle.snd_layout.specs.Shape.{Shape, end}
 use Rattle.snd_layout.specs.declared.codec.Codec.{Codec}
 use Rattle.snd_layout.specs.declared.codec.Codec.TheVariants.{Ima, Ms}
+use Rattle.snd_layout.specs.declared.kind.Kind.{Kind}
 use Rattle.snd_modes.specs.Caching.{CachesIn}
 use Rattle.snd_modes.specs.Reading.{HasFrames}
+use Rattle.snd_modes.proofs.BlockBytes.{few_channels, is_held}
 use Rattle.snd_modes.proofs.Opening.{count_decoded}
 use Rattle.snd_modes.proofs.Rooms.{not_adpcm}
 
@@ -40,9 +45,12 @@ is_fixed _ none = refl
 pub count_opened : (b : List ℕ) (s : Shape) → is_none (fixed_of s.params.codec) ≡ false → 1 ≤ s.params.channels → end s s.frames ≤ length b → s.frames ≡ length (frames_in b s)
 count_opened b s linear some fits = count_decoded b s linear some fits ∙ sym (ap length (frames_fixed b s linear))
 
-pub count_any : (b : List ℕ) (s : Shape) → KeepsRule s → AreParams s.params → end s s.frames ≤ length b → (t : Bool) → is_adpcm s.params.codec ≡ t → s.frames ≡ length (frames_in b s)
-count_any b s rule good fits true is = sym (ap length (frames_are_in_blocks b s is) ∙ blocks_are_counted b s rule good is fits)
-count_any b s rule good fits false is = count_opened b s (is_fixed s.params.codec is) good.some_channel fits
+-- .. of any codec
+pub count_any : (b : List ℕ) (s : Shape) (kind : Kind) → fit_refusal kind s.params ≡ None → AreParams s.params → end s s.frames ≤ length b → s.frames ≡ length (frames_in b s)
+count_any b s kind fits good there = elim (cases_Bool (is_adpcm s.params.codec)) [
+  | inl blocks ↦ sym (ap length (frames_are_in_blocks b s blocks) ∙ counted b s (are_blocks s.params blocks (few_channels kind s.params.channels s.params.codec blocks (is_held kind s.params fits)) good) there)
+  | inr none ↦ count_opened b s (is_fixed s.params.codec none) good.some_channel there
+]
 
 -- a cache stands for a disk whose contents stay
 pub same_cache : {D : Type 0} (state : D → State) (old new : D) (s : Shape) (c : BlockCache) → (state new).contents ≡ (state old).contents → Caches state old s c → Caches state new s c

@@ -13,9 +13,9 @@ use Rattle.snd_patch.proofs.Bytes.{over_beside}
 use Rattle.snd_patch.proofs.Moments.{leaves_then, leaves_weaker}
 use Rattle.snd_patch.specs.Images.{AllLieApart, IsGrowing, LeavesEach}
 use Rattle.snd_patch.specs.Sealed.{over_closing}
+use Rattle.snd_block_writer.specs.Puts.{IsPartly, LeavesPartly}
 use Rattle.snd_modes.specs.Edits.{closed_behind, coded, over_data}
-use Rattle.snd_modes.specs.Putting.{IsUnderWay, LeavesFields, PutsPartly, closing_put}
-use Rattle.snd_modes.specs.Safe.{IsPartly}
+use Rattle.snd_modes.specs.Putting.{IsUnderWay, LeavesFields, closing_put}
 use Rattle.snd_modes.proofs.PartlyPut.{over_has}
 
 pub closing_is : (h : Shape) (n : ℕ) → nat_lt h.frames n ≡ true → closing h n ≡ closing_put h n
@@ -57,11 +57,11 @@ module _ (h : Shape) (place n : ℕ) (xs : List ℤ) (within : end h place + len
     starts_partly : IsPartly b meant b
     starts_partly = record { least = omega arith; most = omega (arith, put_length, meant_longer); each = λ i. inl refl }
 
-    module _ {D : Type 0} (d : Ghosts D) (start next : D) (told : Tells d.state start b) (stable : IsStable d.state d.may_leave start) (puts : PutsPartly d (end h place) (coded h.params xs) start next) where
+    module _ {D : Type 0} (d : Ghosts D) (start next : D) (told : Tells d.state start b) (stable : IsStable d.state d.may_leave start) (puts : LeavesPartly d (end h place) (coded h.params xs) start next) where
       pub data_partly : LeavesEach d start next (IsPartly b meant)
       data_partly = puts b meant b meant_coded (omega (arith, put_length, meant_longer)) told (λ x left. subst (IsPartly b meant) (same_some b x (sym told ∙ stable x left)) starts_partly)
 
-      module _ (shut : D) (tells : Tells d.state next put) (closes : PutsPartly d (end h n) (closing_put h n) next shut) where
+      module _ (shut : D) (tells : Tells d.state next put) (closes : LeavesPartly d (end h n) (closing_put h n) next shut) where
         pub shut_partly : LeavesEach d start shut (IsPartly b meant)
         shut_partly = leaves_then d start next shut (IsPartly b meant) data_partly (closes b meant put meant_closing meant_closed tells data_partly.now)
 

@@ -3,9 +3,10 @@ use Rattle.std.proofs.Common.{◌≡◌, ◌∙◌, ap, sym, inl, ℕ, ℤ, ◌+
 use Rattle.std.proofs.Math.Nat.{div-add-mod, div-div-eq-div-mul, div-mul-le_self, mod-eq-sub-div-mul}
 use Rattle.std.proofs.lemmas.List.{length-append, length-drop}
 use Rattle.snd_blocks.specs.Calls.{AreBlocks}
-use Rattle.snd_block_writer.specs.Coded.{block_numbers}
+use Rattle.snd_block_writer.proofs.Standing.{coded_more, coded_padded, padded}
+use Rattle.snd_block_writer.specs.Coded.{block_numbers, coded, rest, whole, whole_blocks}
 use Rattle.snd_block_writer.specs.Puts.{Puts}
-use Rattle.snd_block_writer.specs.Writing.{Writing, block_size, given_more, new_blocks, next_place, place_after}
+use Rattle.snd_block_writer.specs.Writing.{StandsFor, Writing, block_size, given_more, more_bytes, new_blocks, next_place, padding, place_after}
 use Rattle.snd_disk.specs.Device.{WritesAtMost}
 use Rattle.snd_disk.specs.declared.disk.Disk.{Ghosts}
 use Rattle.snd_layout.specs.Blocks.{block_align, block_frames}
@@ -81,6 +82,23 @@ module _ (h : Shape) (form : AreBlocks h.params) (w : Writing) (to : ℕ) (xs : 
       ap (λ (n : ℕ). (n + 1) * block_size w) (div-div-eq-div-mul (length xs) w.params.channels (block_frames w.params.codec) ∙ ap (λ (n : ℕ). length xs / n) pace.numbers
       ∙ sym (div-div-eq-div-mul (length xs) h.params.channels (block_frames h.params.codec)))
       ∙ ap (λ (n : ℕ). (length xs / h.params.channels / block_frames h.params.codec + 1) * n) pace.size
+
+-- the numbers for which a writer stands are those of the frames before a place
+pub all_numbers : (h : Shape) (w : Writing) (place : ℕ) (ys : List ℤ) → KeepsPace h place w → StandsFor w h.params ys → length ys ≡ place * h.params.channels
+all_numbers h w place ys pace stands =
+    let n = block_numbers h.params in
+    let count : w.blocks ≡ whole_blocks h.params ys = ap (λ (v : Writing). v.blocks) stands in
+    let waits : length w.waiting ≡ length (rest h.params ys) = ap (λ (v : Writing). length v.waiting) stands in
+    let behind : length (rest h.params ys) ≡ length ys - whole_blocks h.params ys * n = length-drop (whole_blocks h.params ys * n) ys in
+    let put : h.frames * h.params.channels ≡ whole_blocks h.params ys * n =
+    ap (λ (m : ℕ). m * h.params.channels) (pace.blocks ∙ ap (λ (m : ℕ). m * block_frames h.params.codec) count)
+    ∙ (let turn : whole_blocks h.params ys * block_frames h.params.codec * h.params.channels ≡ whole_blocks h.params ys * (h.params.channels * block_frames h.params.codec) = omega arith in turn) in
+    omega (arith, pace.waiting, waits, behind, put, div-mul-le_self (length ys) n)
+
+-- the blocks of all of these are those that are there, and the one of the numbers that wait
+pub last_given : (p : Parameters) (form : AreBlocks p) (w : Writing) (ys : List ℤ) → StandsFor w p ys → coded p ys ≡ coded p (whole p ys) ++ more_bytes w (padding w)
+last_given p form w ys stands =
+    sym (coded_padded p form ys) ∙ ap (λ (l : List ℤ). coded p (whole p l)) (sym (padded p form w ys stands)) ∙ sym (coded_more p form w (padding w) ys stands)
 
 -- bytes that are put from the end of some frames on leave these
 pub puts_behind : {D : Type 0} (d : Ghosts D) (h : Shape) (n most at : ℕ) (s : List ℕ) (old new : D) → at ≡ end h n → Puts d at s old new → WritesAtMost d.state most old new

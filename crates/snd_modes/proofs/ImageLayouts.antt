@@ -13,11 +13,10 @@ use Rattle.snd_layout.specs.declared.kind.Kind.{Kind}
 use Rattle.snd_layout.specs.declared.kind.Kind.TheVariants.{Voc}
 use Rattle.snd_patch.specs.Images.{HasNew, HasOld, IsOldOrNew}
 use Rattle.snd_modes.specs.Editing.{Editing}
-use Rattle.snd_modes.specs.Laws.{IsEdited}
+use Rattle.snd_modes.specs.Laws.{KeepsFile}
 use Rattle.snd_modes.specs.Safe.{DeclaresFew, IsFit, IsSized}
-use Rattle.snd_modes.proofs.EditedFiles.{is_known, is_linear}
+use Rattle.snd_modes.proofs.EditedFiles.{is_joined, is_known}
 use Rattle.snd_modes.proofs.FileRules.{lies_in}
-use Rattle.snd_modes.proofs.Rooms.{not_adpcm}
 use Rattle.snd_modes.proofs.ImageFields.{recounted, still_has, whole_some}
 
 -- an image holds the data that a layout declares, as its file does, or those of the frames, of which it declares no more
@@ -30,7 +29,7 @@ only_inner false None None i none none' is = is
 only_inner false None (Some field) i none none' is = absurd (cc)
 only_inner false (Some field) side i none none' is = absurd (cc)
 
-module _ (opened : List ℕ) (e : Editing) (ed : IsEdited opened e) (fit : IsFit e) where
+module _ (opened : List ℕ) (e : Editing) (of : KeepsFile opened e) (fit : IsFit e) where
   abbrev h : Shape
   h = e.shape
 
@@ -38,10 +37,10 @@ module _ (opened : List ℕ) (e : Editing) (ed : IsEdited opened e) (fit : IsFit
   b = e.bytes
 
   pub lies : LiesIn b h
-  lies = lies_in b h fit.bytes fit.told (is_linear opened e ed)
+  lies = lies_in b h fit.bytes fit.told
 
   pub declared_more : data_bytes h.params h.frames ≤ h.declared
-  declared_more = lies.declared (is_known opened e ed)
+  declared_more = lies.declared (is_known opened e of)
 
   pub closed_declared : (n : ℕ) → data_bytes h.params n ≤ h.declared → closed_end h n ≤ declared_end h
   closed_declared n few = (order h.kind b h n fit.told).1 few
@@ -98,15 +97,14 @@ module _ (opened : List ℕ) (e : Editing) (ed : IsEdited opened e) (fit : IsFit
 
   pub old_count : (x : List ℕ) → h.trailing ≡ false → HoldsOld h b x → KeepsHead h b x → HasOld b x h.inner → outer_reach h x ≤ declared_end h → FileSays x h
   old_count x free there kept inner reach =
-      ⊎_elim (λ all. old h.kind b x h fit.told fit.bytes free (is_known opened e ed) (record { old = all.0; new = all.1 }) kept inner reach)
+      ⊎_elim (λ all. old h.kind b x h fit.told fit.bytes free (is_known opened e of) (record { old = all.0; new = all.1 }) kept inner reach)
       (λ few. voice h.kind b x h fit.told few.0.0 few.0.1 few.1 (voice_before few.0.0 x kept inner)) there
 
   pub new_count : (x : List ℕ) (n : ℕ) → h.trailing ≡ false → HasRoomFor h n × (end h n + 8 ≤ 2 ^ 63) → KeepsHead h b x → HasNew (inner_value h n) x h.inner → end h n ≤ length x → outer_reach h x ≤ closed_end h n
       → FileSays x (recounted h n (data_bytes h.params n))
   new_count x n free room kept inner there reach =
-      let blocks = not_adpcm h.params.codec (is_linear opened e ed) in
       new h.kind b x h n
-      (record { says = fit.told; bytes = fit.bytes; params = lies.params; free = free; known = is_known opened e ed; room = room.0; on_disk = room.1; joined = λ adpcm. absurd (cc) }) kept inner there reach
+      (record { says = fit.told; bytes = fit.bytes; params = lies.params; free = free; known = is_known opened e of; room = room.0; on_disk = room.1; joined = is_joined opened e of }) kept inner there reach
 
   -- data alone that have changed
   pub data_changed : (x : List ℕ) → length x ≡ length b → ((i : ℕ) → (i < h.start) ⊎ (end h h.frames ≤ i) → get_or x i 0 ≡ get_or b i 0) → FileSays x h

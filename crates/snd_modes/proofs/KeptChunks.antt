@@ -34,18 +34,18 @@ same_bodies x b (piece ∷ pieces) same =
 -- ---- laws of editing
 
 module _ (file : List ℕ) (e : Editing) (ed : IsEdited file e) where
-  listed : e.shape.pieces ≡ ed.head.pieces
-  listed = ap (λ (s : Shape). s.pieces) ed.shape
+  listed : e.shape.pieces ≡ ed.keeps.head.pieces
+  listed = ap (λ (s : Shape). s.pieces) ed.keeps.shape
 
   kept : map (kept_of e.bytes) e.shape.pieces ≡ map (kept_of file) e.shape.pieces
-  kept = subst (λ (l : List Piece). map (kept_of e.bytes) l ≡ map (kept_of file) l) (sym listed) (edited_pieces file e ed)
+  kept = subst (λ (l : List Piece). map (kept_of e.bytes) l ≡ map (kept_of file) l) (sym listed) (edited_pieces file e ed.keeps)
 
 pub edited_has_chunks : EditedHasChunks
 edited_has_chunks file e ed = record {
-  head = record ed.head { trailing = ed.opened.goes_on };
-  opened = ed.opened.told;
+  head = record ed.keeps.head { trailing = ed.keeps.opened.goes_on };
+  opened = ed.keeps.opened.told;
   listed = listed file e ed;
-  bodies = same_bodies e.bytes file ed.head.pieces (edited_pieces file e ed);
+  bodies = same_bodies e.bytes file ed.keeps.head.pieces (edited_pieces file e ed.keeps);
 }
 
 -- no call changes the list

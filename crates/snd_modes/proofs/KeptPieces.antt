@@ -1,11 +1,10 @@
 -- The further chunks of an edited file are those of the file that was opened or made.
-use Rattle.std.proofs.Common.{◌≡◌, ◌⊎◌, ◌∙◌, ap, sym, subst, refl, inl, inr, ⊎_elim, ℕ, ◌≤◌, true, false, List, [], ◌∷◌, All, length, get_or, map}
+use Rattle.std.proofs.Common.{◌≡◌, ◌⊎◌, ◌∙◌, ap, sym, subst, refl, inl, inr, ⊎_elim, ℕ, ◌≤◌, true, List, [], ◌∷◌, All, length, get_or, map}
 use Rattle.std.proofs.lemmas.Bool.{cases_Bool}
 use Rattle.std.proofs.lemmas.List.Elements.{All-head, All-tail}
 use Rattle.snd_container.proofs.EveryKind.{declares, pieces}
 use Rattle.snd_container.specs.Laws.{FileSays}
 use Rattle.snd_container.specs.Sound.{Kept, kept_of}
-use Rattle.snd_layout.specs.Blocks.{is_adpcm}
 use Rattle.snd_layout.specs.Container.{KeepsHead, SameBody}
 use Rattle.snd_layout.specs.Params.{AreParams}
 use Rattle.snd_layout.specs.Shape.{Shape, end}
@@ -28,12 +27,12 @@ SameTail h x y = (length x ≡ length y) × ((i : ℕ) → end h h.frames ≤ i 
 
 -- where the bytes before the data are those of a file, but for the fields, and behind them too where it goes on there, but in
 -- Creative Voice, which has none
-pub pieces_stay : (x y : List ℕ) (h : Shape) → FileSays y h → is_adpcm h.params.codec ≡ false → AreParams h.params → h.start ≤ length x → KeepsHead h y x
+pub pieces_stay : (x y : List ℕ) (h : Shape) → FileSays y h → AreParams h.params → h.start ≤ length x → KeepsHead h y x
     → (h.trailing ≡ true → (h.kind ≡ Voc) ⊎ SameTail h x y) → map (kept_of x) h.pieces ≡ map (kept_of y) h.pieces
-pieces_stay x y h says blocks good within keeps behind =
+pieces_stay x y h says good within keeps behind =
     let told = record h { trailing = says.goes_on } in
     let none = λ (voc : h.kind ≡ Voc). no_pieces x y h.pieces (declares h.kind y told says.told voc).1 in
-    let by_tail = λ (tail : says.goes_on ≡ true → SameTail h x y). same_pieces x y h.pieces (pieces h.kind y x told says.told blocks good within keeps tail) in
+    let by_tail = λ (tail : says.goes_on ≡ true → SameTail h x y). same_pieces x y h.pieces (pieces h.kind y x told says.told good within keeps tail) in
     elim says.same [
       | inl voc ↦ none voc
       | inr same ↦ elim (cases_Bool h.trailing) [

@@ -3,6 +3,7 @@ pub mod AtRest
 pub mod BareHeads
 pub mod BlockBytes
 pub mod Blanks
+pub mod BlocksUnderWay
 pub mod CarriedOut
 pub mod Closed
 pub mod CutFrames
@@ -11,7 +12,10 @@ pub mod EditedFrames
 pub mod EditedSounds
 pub mod EditedSteps
 pub mod Encoded
+pub mod EncodedFiles
 pub mod EncodedPlaces
+pub mod EncodedRest
+pub mod EncodedSafe
 pub mod EncodedState
 pub mod FileRules
 pub mod Giving
@@ -45,6 +49,7 @@ pub mod Runs
 pub mod SafeCuts
 pub mod SafeImages
 pub mod SafeRests
+pub mod SafeSeals
 pub mod SafeWrites
 pub mod SealedFrames
 pub mod SealedHeads

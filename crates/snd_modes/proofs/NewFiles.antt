@@ -10,7 +10,7 @@ use Rattle.snd_block_writer.specs.Writing.{StandsFor, Writing}
 use Rattle.snd_layout.specs.Blocks.{block_align, block_frames, is_adpcm}
 use Rattle.std.specs.Global.{Box}
 use Rattle.snd_modes.specs.Pacing.{BeginsIn}
-use Rattle.snd_layout.specs.Shape.{KeepsRule, Shape, end, room}
+use Rattle.snd_layout.specs.Shape.{Shape, end, room}
 use Rattle.snd_layout.specs.declared.kind.Kind.{Kind}
 use Rattle.snd_layout.specs.declared.refusal.OpenRefusal.{OpenRefusal}
 use Rattle.snd_layout.specs.declared.error.OpenError.{OpenError}
@@ -19,8 +19,7 @@ use Rattle.snd_container.specs.Fixed.{byte_count}
 use Rattle.snd_container.specs.declared.fixed.Fixed.{Fixed}
 use Rattle.snd_modes.specs.Editing.{Editing, first_editing}
 use Rattle.snd_modes.specs.Making.{making_as, making_of}
-use Rattle.snd_modes.proofs.EncodedPlaces.{room_on_disk, whole_data}
-use Rattle.snd_modes.proofs.Rooms.{not_adpcm}
+use Rattle.snd_modes.proofs.EncodedPlaces.{whole_data}
 use Rattle.snd_modes.proofs.SoundFrames.{linear_bytes}
 
 -- a layout of a file without frames, of a known length, whose data begin behind its head
@@ -31,26 +30,11 @@ pub record IsNew (kind : Kind) (p : Parameters) (l : Shape) : Type 0 where
   pub known : l.unknown_length ≡ false
   pub room_ends : l.start + room l + 8 ≤ 2 ^ 63
 
-module _ (kind : Kind) (p : Parameters) (good : AreParams p) (fits : fit_refusal kind p ≡ None) (linear : is_none (fixed_of p.codec) ≡ false) where
-  pub is_new : (l : Shape) → l ≡ new_shape kind p → IsNew kind p l
-  is_new l is =
-      let first = new_shape kind p in
-      let new = made kind p good fits in
-      let lie = lies (new_file kind p) first (new.bytes (not_adpcm p.codec linear)) new.told (not_adpcm first.params.codec (ap (λ (q : Parameters). is_none (fixed_of q.codec)) new.params ∙ linear)) in
-      subst (IsNew kind p) (sym is) (record { params = new.params; frames = new.frames; start = new.start; known = new.known; room_ends = lie.room_ends })
-
--- .. also where its samples stand in blocks
-pub is_new_blocks : (kind : Kind) (p : Parameters) (l : Shape) → AreParams p → fit_refusal kind p ≡ None → is_adpcm p.codec ≡ true → KeepsRule l → l ≡ new_shape kind p → IsNew kind p l
-is_new_blocks kind p l good fits blocks rule is =
+pub is_new : (kind : Kind) (p : Parameters) (l : Shape) → AreParams p → fit_refusal kind p ≡ None → l ≡ new_shape kind p → IsNew kind p l
+is_new kind p l good fits is =
     let new = made kind p good fits in
-    let params : l.params ≡ p = ap (λ (s : Shape). s.params) is ∙ new.params in
-    record {
-      params = params;
-      frames = ap (λ (s : Shape). s.frames) is ∙ new.frames;
-      start = ap (λ (s : Shape). s.start) is ∙ new.start;
-      known = ap (λ (s : Shape). s.unknown_length) is ∙ new.known;
-      room_ends = room_on_disk l rule (ap (λ (q : Parameters). is_adpcm q.codec) params ∙ blocks);
-    }
+    let lie = lies (new_file kind p) (new_shape kind p) new.bytes new.told in
+    subst (IsNew kind p) (sym is) (record { params = new.params; frames = new.frames; start = new.start; known = new.known; room_ends = lie.room_ends })
 
 no_blocks : (p : Parameters) → 1 ≤ block_frames p.codec → data_bytes p 0 ≡ 0
 no_blocks p some =

@@ -16,8 +16,7 @@ use Rattle.snd_patch.specs.Images.{LeavesEach}
 use Rattle.snd_container.proofs.FixedSamples.{bytes_of_joined, count_of_bytes}
 use Rattle.snd_container.specs.Fixed.{byte_count, samples_bytes}
 use Rattle.snd_container.specs.declared.fixed.Fixed.{Fixed}
-use Rattle.snd_modes.specs.Putting.{PutsPartly}
-use Rattle.snd_modes.specs.Safe.{IsPartly}
+use Rattle.snd_block_writer.specs.Puts.{IsPartly, LeavesPartly}
 use Rattle.snd_modes.specs.Writing.{PutsAt}
 
 -- bytes are there where they were put
@@ -98,7 +97,7 @@ module _ (b c : List ℕ) where
 
 module _ {D : Type 0} (d : Ghosts D) (is_left : (disk : D) (l : List ℕ) → (d.state disk).contents ≡ Some l → d.may_leave disk l) where
   -- one call
-  pub puts_partly : (old new : D) (at : ℕ) (s : List ℕ) → ((l : List ℕ) → (d.state old).contents ≡ Some l → Since d.state d.may_leave d.left_between old new (over l at s ∷ [])) → PutsPartly d at s old new
+  pub puts_partly : (old new : D) (at : ℕ) (s : List ℕ) → ((l : List ℕ) → (d.state old).contents ≡ Some l → Since d.state d.may_leave d.left_between old new (over l at s ∷ [])) → LeavesPartly d at s old new
   puts_partly old new at s run b c l has within told each =
       leaves_by d old new (over l at s ∷ []) (IsPartly b c) (λ x made. partly_made b c (d.may_leave old) l at s has within (is_left old l told) each x made) (run l told)
 
@@ -109,12 +108,12 @@ tells_put state left_between at n a b puts l told = let then = puts.beside l tol
 module _ {D : Type 0} (d : Ghosts D) where
   -- so it is with some of the samples
   pub part_partly : (form : Fixed) (at : ℕ) (xs : List ℤ) (done n : ℕ) (a b : D) → done + n ≤ length xs
-      → PutsPartly d (at + byte_count form * done) (samples_bytes form (take n (drop done xs))) a b → PutsPartly d at (samples_bytes form xs) a b
+      → LeavesPartly d (at + byte_count form * done) (samples_bytes form (take n (drop done xs))) a b → LeavesPartly d at (samples_bytes form xs) a b
   part_partly form at xs done n a b within some old c l has fits told each =
       some old c l (has_samples form c at xs done n within has) (samples_within form c at xs done n within fits) told each
 
   -- two calls, one after the other
-  pub partly_then : (at : ℕ) (s : List ℕ) (a b c : D) → ((l : List ℕ) → Tells d.state a l → (m : List ℕ) × Tells d.state b m) → PutsPartly d at s a b → PutsPartly d at s b c → PutsPartly d at s a c
+  pub partly_then : (at : ℕ) (s : List ℕ) (a b c : D) → ((l : List ℕ) → Tells d.state a l → (m : List ℕ) × Tells d.state b m) → LeavesPartly d at s a b → LeavesPartly d at s b c → LeavesPartly d at s a c
   partly_then at s a b c tells one two old new l has fits told each =
       let first = one old new l has fits told each in
       leaves_then d a b c (IsPartly old new) first (two old new (tells l told).0 has fits (tells l told).1 first.now)
@@ -123,5 +122,5 @@ module _ {D : Type 0} (d : Ghosts D) where
   pub leaves_still : ((disk : D) (s t : ℕ) (x : List ℕ) → (d.state disk).clock ≤ s → d.left_between disk s t x → d.may_leave disk x) → (a : D) → LeavesEach d a a (d.may_leave a)
   leaves_still only_now a = leaves_made d a a [] (still d.state d.may_leave d.left_between only_now a)
 
-  pub none_partly : ((disk : D) (s t : ℕ) (x : List ℕ) → (d.state disk).clock ≤ s → d.left_between disk s t x → d.may_leave disk x) → (at : ℕ) (s : List ℕ) (a : D) → PutsPartly d at s a a
+  pub none_partly : ((disk : D) (s t : ℕ) (x : List ℕ) → (d.state disk).clock ≤ s → d.left_between disk s t x → d.may_leave disk x) → (at : ℕ) (s : List ℕ) (a : D) → LeavesPartly d at s a a
   none_partly only_now at s a b c l has fits told each = leaves_weaker d a a (d.may_leave a) (IsPartly b c) each (leaves_still only_now a)

@@ -12,10 +12,10 @@ use Rattle.snd_disk.specs.Runs.{ComesFrom, IsMade, IsSource}
 use Rattle.snd_layout.specs.Shape.{end}
 use Rattle.snd_patch.proofs.Bytes.{over_beside}
 use Rattle.snd_patch.specs.Sealed.{over_closing}
+use Rattle.snd_block_writer.specs.Puts.{IsPartly}
 use Rattle.snd_modes.specs.Editing.{Editing}
 use Rattle.snd_modes.specs.Edits.{coded, over_data}
 use Rattle.snd_modes.specs.Laws.{IsEdited}
-use Rattle.snd_modes.specs.Safe.{IsPartly}
 use Rattle.snd_modes.specs.SafeLaws.{data_then, frames_then}
 use Rattle.snd_modes.specs.WriteCalls.{MayWrite}
 use Rattle.snd_modes.proofs.EditedFiles.{is_linear}

@@ -4,7 +4,6 @@ use Rattle.std.specs.Prelude.{is_none, is_some}
 use Rattle.std.proofs.lemmas.List.{nil_from_length}
 use Rattle.snd_blocks.specs.Sound.{frames_in}
 use Rattle.snd_container.specs.Sound.{fixed_of, layout_of}
-use Rattle.snd_layout.specs.Blocks.{is_adpcm}
 use Rattle.snd_layout.specs.Params.{AreParams}
 use Rattle.snd_layout.specs.Shape.{KeepsRule, Shape, end}
 use Rattle.snd_modes.specs.Chunks.{IsOpenedAs}
@@ -22,7 +21,7 @@ some_told (Some x) is = (x, refl)
 pub no_sound : (b : List ℕ) (s : Shape) (frames : List (List ℤ)) → KeepsRule s → AreParams s.params → s.frames ≡ 0 → end s s.frames ≤ length b → length frames ≡ 0
     → frames ≡ frames_in b s
 no_sound b s frames rule good none fits few =
-    nil_from_length frames few ∙ sym (nil_from_length (frames_in b s) (sym (count_any b s rule good fits (is_adpcm s.params.codec) refl) ∙ none))
+    nil_from_length frames few ∙ sym (nil_from_length (frames_in b s) (sym (count_any b s s.kind rule.fits good fits) ∙ none))
 
 -- a state of which nothing but the bytes and the layout is known is the one in which editing begins
 pub record IsFirst (e : Editing) : Type 0 where

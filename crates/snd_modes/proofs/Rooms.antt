@@ -1,5 +1,5 @@
 -- How many frames the head of a file has room for.
-use Rattle.std.proofs.Common.{◌≡◌, ◌∙◌, ap, sym, subst, inl, inr, ℕ, ◌+◌, ◌*◌, ◌/◌, ◌^◌, ◌<◌, ◌≤◌, false, Some, max, refl, arith}
+use Rattle.std.proofs.Common.{◌≡◌, ◌∙◌, ap, sym, subst, inl, inr, ℕ, ◌+◌, ◌*◌, ◌/◌, ◌^◌, ◌<◌, ◌≤◌, false, true, Some, max, refl, arith}
 use Rattle.std.specs.Prelude.{◌⊎◌, is_none}
 use Rattle.std.proofs.Math.Nat.{mul-le-mul_left}
 use Rattle.std.proofs.lemmas.Bool.{cases_lt}
@@ -46,3 +46,10 @@ may_count h n rule linear known roomy (inl same) =
 may_count h n rule linear known roomy (inr few) =
     let ends : end h n + 8 ≤ 2 ^ 63 = omega (arith, few, roomy) in
     (record { in_room = omega (arith, few); on_disk = omega (arith, ends); counted = λ wave blocks. absurd (let no = not_adpcm h.params.codec linear in cc) }, ends)
+
+-- of samples that have bytes of their own no count is read
+pub room_by : (h : Shape) (n : ℕ) → is_none (fixed_of h.params.codec) ≡ false → data_bytes h.params n ≤ max (room h) h.declared → end h n + 8 ≤ 2 ^ 63 → HasRoomFor h n
+room_by h n linear few ends = record { in_room = few; on_disk = omega (arith, ends); counted = λ wave blocks. absurd (let no = not_adpcm h.params.codec linear in cc) }
+
+pub not_joined : (h : Shape) → is_none (fixed_of h.params.codec) ≡ false → is_adpcm h.params.codec ≡ true → 12 ≤ h.inner.size
+not_joined h linear blocks = absurd (let no = not_adpcm h.params.codec linear in cc)

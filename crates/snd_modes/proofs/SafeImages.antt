@@ -1,28 +1,37 @@
 -- When an image is safe: what it owes the state before a call and the state to which the call leads.
-use Rattle.std.proofs.Common.{◌≡◌, ◌⊎◌, ◌∙◌, ap, sym, refl, inl, inr, ⊎_elim, ℕ, ◌<◌, ◌≤◌, ℤ, true, List, [], Ok, length, map, take, arith}
+use Rattle.std.proofs.Common.{◌≡◌, ◌⊎◌, ◌∙◌, ap, sym, subst, refl, inl, inr, ⊎_elim, ℕ, ◌<◌, ◌≤◌, ℤ, false, true, List, [], Ok, length, map, take, drop, arith}
 use Rattle.std.proofs.lemmas.List.{ext_get_or, take_all}
-use Rattle.std.specs.Prelude.{Result}
+use Rattle.std.specs.Prelude.{Result, is_none}
+use Rattle.snd_blocks.specs.Sound.{decode, sound_of}
 use Rattle.snd_container.specs.Laws.{FileSays}
-use Rattle.snd_container.specs.Sound.{Sound, kept_of, sound_of}
+use Rattle.snd_container.specs.Sound.{Sound, fixed_of, kept_of}
+use Rattle.snd_layout.specs.Container.{KeepsHead}
+use Rattle.snd_layout.specs.Params.{AreParams, data_bytes}
 use Rattle.snd_layout.specs.Shape.{Shape, end}
 use Rattle.snd_layout.specs.declared.kind.Kind.TheVariants.{Voc}
 use Rattle.snd_layout.specs.declared.piece.Piece.{Piece}
 use Rattle.snd_layout.specs.declared.refusal.OpenRefusal.{OpenRefusal}
 use Rattle.snd_modes.specs.Editing.{Editing}
-use Rattle.snd_modes.specs.Laws.{IsEdited}
-use Rattle.snd_layout.specs.Container.{KeepsHead}
+use Rattle.snd_modes.specs.Laws.{KeepsFile}
 use Rattle.snd_modes.specs.Safe.{IsSafe, IsUnwritten, acknowledged, chunks_of, frame_at}
-use Rattle.snd_modes.proofs.EditedFiles.{is_linear, now_decoded, some_channel}
+use Rattle.snd_modes.proofs.EditedFiles.{lies_under}
 use Rattle.snd_modes.proofs.EditedSounds.{edited_pieces, image_pieces, sound_by}
+use Rattle.snd_modes.proofs.FixedFrames.{count_any, decode_fixed}
+use Rattle.snd_modes.proofs.ImageFields.{recounted}
 use Rattle.snd_modes.proofs.ImageFrames.{frames_in}
 use Rattle.snd_modes.proofs.KeptPieces.{SameTail}
-use Rattle.snd_modes.proofs.Opening.{count_decoded}
-use Rattle.snd_modes.proofs.ImageFields.{recounted}
 
--- what an image says that has the layout of an edited file, but for the frames and the declared length: its head and, where it
--- goes on behind its data, its tail are that file's
+-- the first n frames of a file of any codec; they are those of the bytes, where samples have bytes of their own
+abbrev pub frames_of : Shape → ℕ → List ℕ → List (List ℤ)
+frames_of h n x = decode h.params n (take (data_bytes h.params n) (drop h.start x))
+
+pub frames_by_place : (h : Shape) (n : ℕ) (x : List ℕ) → is_none (fixed_of h.params.codec) ≡ false → frames_of h n x ≡ frames_in h n x
+frames_by_place h n x linear = decode_fixed h.params n (take (data_bytes h.params n) (drop h.start x)) linear
+
+-- what an image says that has the layout of a state, but for the frames and the declared length: its head and, where it goes on
+-- behind its data, its tail are that file's
 pub record ImageSays (opened : List ℕ) (e : Editing) (x : List ℕ) (n d : ℕ) : Type 0 where
-  pub edited : IsEdited opened e
+  pub keeps : KeepsFile opened e
   pub told : FileSays x (recounted e.shape n d)
   pub kept : KeepsHead e.shape e.bytes x
   pub there : end e.shape n ≤ length x
@@ -32,32 +41,34 @@ module _ (opened : List ℕ) (e : Editing) (x : List ℕ) (n d : ℕ) (says : Im
   abbrev h : Shape
   h = e.shape
 
-  abbrev ed : IsEdited opened e
-  ed = says.edited
+  abbrev of : KeepsFile opened e
+  of = says.keeps
 
   abbrev frames : List (List ℤ)
-  frames = frames_in h n x
+  frames = frames_of h n x
 
   count_is : length frames ≡ n
-  count_is = sym (count_decoded x (recounted h n d) (is_linear opened e ed) (some_channel opened e ed) says.there)
+  count_is =
+      let good : AreParams h.params = subst (λ (s : Shape). AreParams s.params) (sym of.shape) (lies_under opened e of).params in
+      sym (count_any x (recounted h n d) h.kind of.rule.fits good says.there)
 
   pieces_are : map (kept_of x) h.pieces ≡ chunks_of e
   pieces_are =
-      let pieces : h.pieces ≡ ed.head.pieces = ap (λ (s : Shape). s.pieces) ed.shape in
+      let pieces : h.pieces ≡ of.head.pieces = ap (λ (s : Shape). s.pieces) of.shape in
       let begins : h.start ≤ length x = omega (arith, says.there) in
-      let image : map (kept_of x) ed.head.pieces ≡ map (kept_of opened) ed.head.pieces =
-      image_pieces opened e ed x begins (λ i lt out. says.kept i lt out ∙ ed.kept i lt out)
+      let image : map (kept_of x) of.head.pieces ≡ map (kept_of opened) of.head.pieces =
+      image_pieces opened e of x begins (λ i lt out. says.kept i lt out ∙ of.kept i lt out)
       (λ goes_on.
-      let its = ed.stays goes_on in
-      let ends : end h h.frames ≡ end ed.head ed.head.frames = ap (λ (s : Shape). end s s.frames) its.shape in
+      let its = of.stays goes_on in
+      let ends : end h h.frames ≡ end of.head of.head.frames = ap (λ (s : Shape). end s s.frames) its.shape in
       ⊎_elim (λ voc. inl voc) (λ mine. inr (mine.0 ∙ its.size, λ i behind. mine.1 i (omega (arith, ends, behind)) ∙ its.behind i behind)) (says.tail goes_on)) in
-      ap (λ (l : List Piece). map (kept_of x) l) pieces ∙ image ∙ sym (edited_pieces opened e ed) ∙ sym (ap (λ (l : List Piece). map (kept_of e.bytes) l) pieces)
+      ap (λ (l : List Piece). map (kept_of x) l) pieces ∙ image ∙ sym (edited_pieces opened e of) ∙ sym (ap (λ (l : List Piece). map (kept_of e.bytes) l) pieces)
 
   abbrev sound_is : Sound
   sound_is = record { kind = h.kind; params = h.params; frames = frames; pieces = map (kept_of x) h.pieces }
 
   opens_as : sound_of x ≡ Ok sound_is
-  opens_as = sound_by x (recounted h n d) says.told (is_linear opened e ed)
+  opens_as = sound_by x (recounted h n d) says.told
 
   -- by its frames
   pub safe_by : (e' : Editing) → (n ≡ acknowledged e) ⊎ (n ≡ acknowledged e') → ((i : ℕ) → i < n → i < acknowledged e → IsUnwritten e e' i → frame_at frames i ≡ frame_at e.frames i)
@@ -131,22 +142,22 @@ from_after e e' x params safe =
     }
 
 -- the states of one file have its parameters, its kind and its further chunks
-chunks_are : (opened : List ℕ) (e : Editing) (ed : IsEdited opened e) → chunks_of e ≡ map (kept_of opened) ed.head.pieces
-chunks_are opened e ed = ap (λ (s : Shape). map (kept_of e.bytes) s.pieces) ed.shape ∙ edited_pieces opened e ed
+chunks_are : (opened : List ℕ) (e : Editing) (of : KeepsFile opened e) → chunks_of e ≡ map (kept_of opened) of.head.pieces
+chunks_are opened e of = ap (λ (s : Shape). map (kept_of e.bytes) s.pieces) of.shape ∙ edited_pieces opened e of
 
-pub same_file : (opened : List ℕ) (e g : Editing) → IsEdited opened e → IsEdited opened g → (g.shape.params ≡ e.shape.params) × (g.shape.kind ≡ e.shape.kind) × (chunks_of g ≡ chunks_of e)
-same_file opened e g ed of_g =
-    let one : ◌≡◌ {A = Result Shape OpenRefusal} (Ok (record of_g.head { trailing = of_g.opened.goes_on })) (Ok (record ed.head { trailing = ed.opened.goes_on })) = sym of_g.opened.told ∙ ed.opened.told in
-    let head : record of_g.head { trailing = of_g.opened.goes_on } ≡ record ed.head { trailing = ed.opened.goes_on } = cc in (
-      ap (λ (s : Shape). s.params) of_g.shape ∙ ap (λ (s : Shape). s.params) head ∙ sym (ap (λ (s : Shape). s.params) ed.shape),
-      ap (λ (s : Shape). s.kind) of_g.shape ∙ ap (λ (s : Shape). s.kind) head ∙ sym (ap (λ (s : Shape). s.kind) ed.shape),
-      chunks_are opened g of_g ∙ ap (λ (s : Shape). map (kept_of opened) s.pieces) head ∙ sym (chunks_are opened e ed),
+pub same_file : (opened : List ℕ) (e g : Editing) → KeepsFile opened e → KeepsFile opened g → (g.shape.params ≡ e.shape.params) × (g.shape.kind ≡ e.shape.kind) × (chunks_of g ≡ chunks_of e)
+same_file opened e g of of_g =
+    let one : ◌≡◌ {A = Result Shape OpenRefusal} (Ok (record of_g.head { trailing = of_g.opened.goes_on })) (Ok (record of.head { trailing = of.opened.goes_on })) = sym of_g.opened.told ∙ of.opened.told in
+    let head : record of_g.head { trailing = of_g.opened.goes_on } ≡ record of.head { trailing = of.opened.goes_on } = cc in (
+      ap (λ (s : Shape). s.params) of_g.shape ∙ ap (λ (s : Shape). s.params) head ∙ sym (ap (λ (s : Shape). s.params) of.shape),
+      ap (λ (s : Shape). s.kind) of_g.shape ∙ ap (λ (s : Shape). s.kind) head ∙ sym (ap (λ (s : Shape). s.kind) of.shape),
+      chunks_are opened g of_g ∙ ap (λ (s : Shape). map (kept_of opened) s.pieces) head ∙ sym (chunks_are opened e of),
     )
 
 -- what is safe at rest in a state of the same file with the same frames
-pub safe_across : (opened : List ℕ) (e g e' : Editing) (x : List ℕ) → IsEdited opened e → IsEdited opened g → g.frames ≡ e.frames → IsSafe g g x → IsSafe e e' x
-safe_across opened e g e' x ed of_g same safe =
-    let file = same_file opened e g ed of_g in
+pub safe_across : (opened : List ℕ) (e g e' : Editing) (x : List ℕ) → KeepsFile opened e → KeepsFile opened g → g.frames ≡ e.frames → IsSafe g g x → IsSafe e e' x
+safe_across opened e g e' x of of_g same safe =
+    let file = same_file opened e g of of_g in
     let frames : safe.sound.frames ≡ e.frames = frames_at_rest g x safe ∙ same in
     let count : length safe.sound.frames ≡ acknowledged e = ap (λ (l : List (List ℤ)). length l) frames in
     record {
@@ -161,7 +172,7 @@ safe_across opened e g e' x ed of_g same safe =
     }
 
 -- a file at rest
-pub at_rest : (opened : List ℕ) (e : Editing) → IsEdited opened e → FileSays e.bytes e.shape → IsSafe e e e.bytes
-at_rest opened e ed told =
+pub at_rest : (opened : List ℕ) (e : Editing) → KeepsFile opened e → FileSays e.bytes e.shape → IsSafe e e e.bytes
+at_rest opened e of told =
     safe_old opened e e.bytes e.shape.frames e.shape.declared
-    (record { edited = ed; told = told; kept = λ i lt out. refl; there = ed.holds.held; tail = λ goes_on. inr (refl, λ i behind. refl) }) e (sym (now_decoded opened e ed))
+    (record { keeps = of; told = told; kept = λ i lt out. refl; there = of.holds.held; tail = λ goes_on. inr (refl, λ i behind. refl) }) e (sym of.holds.sound)

@@ -1,5 +1,5 @@
 -- Where calls leave a file at rest: it says what its state knows, and its size is that of its frames.
-use Rattle.std.proofs.Common.{◌≡◌, ◌∙◌, ap, sym, subst, refl, inl, inr, ℕ, ◌+◌, ◌/◌, ◌<◌, ◌≤◌, ℤ, Bool, true, false, cond, List, All, Option, None, Some, length, get_or, max, arith}
+use Rattle.std.proofs.Common.{◌≡◌, ◌∙◌, ap, sym, subst, refl, inl, inr, ℕ, ◌+◌, ◌/◌, ◌^◌, ◌<◌, ◌≤◌, ℤ, Bool, true, false, cond, List, All, Option, None, Some, length, get_or, max, arith}
 use Rattle.std.proofs.lemmas.Bool.{cases_Bool, cond_both, ltb-true}
 use Rattle.std.specs.Prelude.{IfSome, IsTrue, is_none, nat_lt}
 use Rattle.snd_container.proofs.EveryKind as every
@@ -16,17 +16,18 @@ use Rattle.snd_patch.specs.Images.{AllLieApart, HasNew, IsCutting}
 use Rattle.snd_patch.specs.Sealed.{closed, counted, sealed, sealed_size, shrunk, with_fewer}
 use Rattle.snd_modes.specs.Editing.{Editing}
 use Rattle.snd_modes.specs.Edits.{automatic_to, closed_behind, count_written, cut_off, cut_to, over_data, sealed_to, trimmed, trimmed_to, truncated_to, written_to}
-use Rattle.snd_modes.specs.Laws.{IsEdited, MayTruncate, reads, seals, seeks, seeks_to_write, sets_automatic, trims, truncates, writes}
+use Rattle.snd_modes.specs.Laws.{IsEdited, KeepsFile, MayTruncate, reads, seals, seeks, seeks_to_write, sets_automatic, trims, truncates, writes}
 use Rattle.snd_modes.specs.SafeLaws.{AutomaticRests, CutRests, LeadsToRest, Rests, SealedRests, TrimmedIsSafe, TrimmedRests, WrittenRests}
 use Rattle.snd_modes.specs.WriteCalls.{MayWrite, is_whole_field}
 use Rattle.snd_modes.proofs.AreBytes.{bytes_off, bytes_sealed, bytes_shrunk, bytes_written}
-use Rattle.snd_modes.proofs.EditedFiles.{counted_stays, is_known, is_linear, longer_closed, off_before, off_length, room_ends, sealed_is, sealed_is_edited, sealed_same, sealed_told, shrunk_says, trimmed_says}
+use Rattle.snd_modes.proofs.EditedFiles.{counted_stays, head_linear, is_known, is_linear, longer_closed, off_before, off_length, room_ends, sealed_is, sealed_keeps_file, sealed_same, sealed_told, shrunk_says, trimmed_says}
 use Rattle.snd_modes.proofs.EditedFrames.{closed_counted}
 use Rattle.snd_modes.proofs.EditedSteps.{cut_says, few_declared, may_cut, shut_there, then, then_edited, trimmed_voice}
 use Rattle.snd_modes.proofs.CutFrames.{closed_free, may_count_fewer}
 use Rattle.snd_modes.proofs.ImageFields.{fewer_outer, fields_lie_apart, new_before}
-use Rattle.snd_modes.proofs.SafeCuts.{tail_safe, voice_cut_safe}
+use Rattle.snd_modes.proofs.Rooms.{room_by}
 use Rattle.snd_modes.proofs.SafeImages.{safe_across}
+use Rattle.snd_modes.proofs.SafeSeals.{tail_safe, voice_cut_safe}
 use Rattle.snd_modes.proofs.SealedFrames.{sealed_declared}
 
 -- a field that is missing has any value
@@ -35,13 +36,13 @@ if_none x v None none = tt
 if_none x v (Some field) none = absurd (cc)
 
 -- the fields of an edited file have no byte in common
-pub edited_apart : (file : List ℕ) (e : Editing) → IsEdited file e → AllLieApart e.shape
-edited_apart file e ed = subst AllLieApart (sym ed.shape) (fields_lie_apart file ed.head e.shape.frames e.shape.declared ed.opened)
+pub fields_apart : (file : List ℕ) (e : Editing) → KeepsFile file e → AllLieApart e.shape
+fields_apart file e of = subst AllLieApart (sym of.shape) (fields_lie_apart file of.head e.shape.frames e.shape.declared of.opened)
 
 -- ---- a file that ends with what closes its data
 
 -- as a state holds it with such bytes and so many frames
-abbrev holding : Editing → List ℕ → Shape → ℕ → Editing
+abbrev pub holding : Editing → List ℕ → Shape → ℕ → Editing
 holding g x h n = record g { bytes = x; shape = counted h n }
 
 module _ (g : Editing) (x : List ℕ) (h : Shape) (n : ℕ) (free : h.trailing ≡ false) (bytes : All IsByte x) (told : FileSays x (counted h n)) (whole : is_whole_field h ≡ true)
@@ -49,7 +50,7 @@ module _ (g : Editing) (x : List ℕ) (h : Shape) (n : ℕ) (free : h.trailing �
   there : h.start + (counted h n).declared ≤ length x
   there = omega (arith, sealed_declared h n free, closes)
 
-  rests_free : Rests (holding g x h n)
+  pub rests_free : Rests (holding g x h n)
   rests_free = (
     record { bytes = bytes; told = told; there = λ still. inl there; whole = whole },
     λ still. record {
@@ -68,14 +69,14 @@ module _ (g : Editing) (x : List ℕ) (h : Shape) (n : ℕ) (goes_on : h.trailin
 
 -- the size of the whole in a file that is sealed
 module _ (b : List ℕ) (h : Shape) (n : ℕ) (rule : KeepsRule h) (apart : AllLieApart h) (free : h.trailing ≡ false) (held : end h n ≤ length b) where
-  sealed_outer : IfSome h.outer (HasNew (outer_value h n) (sealed b h n))
+  pub sealed_outer : IfSome h.outer (HasNew (outer_value h n) (sealed b h n))
   sealed_outer =
       let c = closed b h n in
       let begins : h.start ≤ length c = omega (arith, held, longer_closed b h n) in
       let is : sealed b h n ≡ with_fewer c h n = sealed_is b h n rule apart.inner free begins ∙ sym (order_is_free c h n rule apart.inner begins) in
       subst (λ (l : List ℕ). IfSome h.outer (HasNew (outer_value h n) l)) (sym is) (fewer_outer c h n rule apart begins)
 
-  sealed_closes : closed_end h n ≤ length (sealed b h n)
+  pub sealed_closes : closed_end h n ≤ length (sealed b h n)
   sealed_closes =
       let size : sealed_size (length b) h n ≡ max (length b) (closed_end h n) = ap (λ (t : Bool). cond t (length b) (max (length b) (closed_end h n))) free in
       omega (arith, sealed_length b h n rule held, size)
@@ -88,32 +89,33 @@ sealed_holds_at g b h n rule apart held are told whole = elim (cases_Bool h.trai
   | inr free ↦ rests_free g (sealed b h n) h n free (bytes_sealed h n b are) told whole (sealed_outer b h n rule apart free held) (sealed_closes b h n rule apart free held)
 ]
 
+pub automatic_rests : (file : List ℕ) (e : Editing) → KeepsFile file e → All IsByte e.bytes → is_whole_field e.shape ≡ true → (on : Bool) → Rests (automatic_to on e)
+automatic_rests file e of are whole on =
+    sealed_holds_at (automatic_to on e) e.bytes e.shape e.shape.frames of.rule (fields_apart file e of) of.holds.held are (sealed_told file e of) whole
+
 module _ (file : List ℕ) (e : Editing) (ed : IsEdited file e) (are : All IsByte e.bytes) (whole : is_whole_field e.shape ≡ true) where
   abbrev h : Shape
   h = e.shape
 
-  pub automatic_rests : (on : Bool) → Rests (automatic_to on e)
-  automatic_rests on =
-      sealed_holds_at (automatic_to on e) e.bytes h h.frames ed.rule (edited_apart file e ed) ed.holds.held are (sealed_told file e ed) whole
-
   cut_rests : (to : ℕ) → to < h.frames → h.trailing ≡ false → Rests (cut_to to e)
   cut_rests to fewer free =
-      let apart = edited_apart file e ed in
+      let apart = fields_apart file e ed.keeps in
       let may = may_cut file e ed to fewer in
-      let size : length (shrunk e.bytes h to) ≡ closed_end h to = shrunk_length e.bytes h to ed.rule may.0 in
+      let ends : end h to + 8 ≤ 2 ^ 63 = (may_count_fewer h to ed.keeps.rule (is_linear file e ed) (is_known file e ed.keeps) (room_ends file e ed.keeps) (omega (arith, fewer))).1 in
+      let size : length (shrunk e.bytes h to) ≡ closed_end h to = shrunk_length e.bytes h to ed.keeps.rule may.0 in
       let early : (i : ℕ) → i < h.start → get_or (shrunk e.bytes h to) i 0 ≡ get_or (with_fewer e.bytes h to) i 0 = λ i lt. off_before (with_fewer e.bytes h to) h to i lt in
       rests_free (cut_to to e) (shrunk e.bytes h to) h to free (bytes_shrunk h to e.bytes are)
-      (shrunk_says file ed.head ed.bytes ed.opened ed.linear ed.known h ed.shape ed.rule free to may.1
-      (may_count_fewer h to ed.rule (is_linear file e ed) (is_known file e ed) (room_ends file e ed) (omega (arith, fewer))).1 e.bytes ed.kept may.0) whole
-      (new_before h.outer (outer_value h to) h.start (shrunk e.bytes h to) (with_fewer e.bytes h to) (outer_value_fits h to ed.rule) ed.rule.outer_end early
-      (fewer_outer e.bytes h to ed.rule apart (omega (arith, may.0))))
+      (shrunk_says file ed.keeps.head ed.keeps.bytes ed.keeps.opened ed.keeps.joined ed.keeps.known h ed.keeps.shape ed.keeps.rule free to
+      (room_by ed.keeps.head to (head_linear file e ed) may.1 (subst (λ (s : Shape). end s to + 8 ≤ 2 ^ 63) ed.keeps.shape ends)) ends e.bytes ed.keeps.kept may.0) whole
+      (new_before h.outer (outer_value h to) h.start (shrunk e.bytes h to) (with_fewer e.bytes h to) (outer_value_fits h to ed.keeps.rule) ed.keeps.rule.outer_end early
+      (fewer_outer e.bytes h to ed.keeps.rule apart (omega (arith, may.0))))
       (omega (arith, size))
 
   pub truncated_rests : (to : ℕ) → MayTruncate to h → Rests (truncated_to to e)
   truncated_rests to may =
       cond_both (nat_lt to h.frames) (cut_to to e) (sealed_to e) Rests
       (λ is. let fewer = ltb-true to h.frames is in cut_rests to fewer (may.free fewer))
-      (λ other. automatic_rests e.automatic)
+      (λ other. automatic_rests file e ed.keeps are whole e.automatic)
 
   trimmed_free : h.trailing ≡ false → Rests (holding e (trimmed e.bytes h h.frames) h h.frames)
   trimmed_free free =
@@ -121,15 +123,15 @@ module _ (file : List ℕ) (e : Editing) (ed : IsEdited file e) (are : All IsByt
       let put = sealed e.bytes h n in
       let early : (i : ℕ) → i < h.start → get_or (cut_off put h n) i 0 ≡ get_or put i 0 = λ i lt. off_before put h n i lt in
       rests_free e (trimmed e.bytes h n) h n free (bytes_off h n put (bytes_sealed h n e.bytes are))
-      (trimmed_says file ed.head ed.bytes ed.opened ed.linear ed.known h ed.shape ed.rule free n ed.in_room ed.rule.data_end e.bytes ed.kept ed.holds.held) whole
-      (new_before h.outer (outer_value h n) h.start (cut_off put h n) put (outer_value_fits h n ed.rule) ed.rule.outer_end early
-      (sealed_outer e.bytes h n ed.rule (edited_apart file e ed) free ed.holds.held))
+      (trimmed_says file ed.keeps.head ed.keeps.bytes ed.keeps.opened ed.keeps.joined ed.keeps.known h ed.keeps.shape ed.keeps.rule free n ed.keeps.room ed.keeps.rule.data_end e.bytes ed.keeps.kept ed.keeps.holds.held) whole
+      (new_before h.outer (outer_value h n) h.start (cut_off put h n) put (outer_value_fits h n ed.keeps.rule) ed.keeps.rule.outer_end early
+      (sealed_outer e.bytes h n ed.keeps.rule (fields_apart file e ed.keeps) free ed.keeps.holds.held))
       (omega (arith, off_length put h n))
 
   trimmed_voice_rests : h.trailing ≡ true → h.kind ≡ Voc → Rests (trimmed_to e)
   trimmed_voice_rests goes_on voc =
       let few = few_declared file e ed goes_on voc in
-      let none : is_none h.outer ≡ true = subst (λ (k : Kind). IsTrue (is_outer_size k h.outer)) voc ed.rule.outer_size in
+      let none : is_none h.outer ≡ true = subst (λ (k : Kind). IsTrue (is_outer_size k h.outer)) voc ed.keeps.rule.outer_size in
       let size = off_length e.bytes h h.frames in
       subst Rests (trimmed_voice file e ed goes_on voc) (
         record { bytes = bytes_off h h.frames e.bytes are; told = cut_says file e ed goes_on voc; there = λ free. inr (voc, few); whole = whole },
@@ -147,16 +149,16 @@ module _ (file : List ℕ) (e : Editing) (ed : IsEdited file e) (are : All IsByt
   written_rests xs may on =
       let n = count_written h e.write_place (length xs / h.params.channels) in
       subst (λ (t : Bool). Rests (then file e ed xs may t)) (sym on)
-      (sealed_holds_at (then file e ed xs may true) (closed_behind (over_data e.bytes h e.write_place xs) h n) h n ed.rule (edited_apart file e ed) (shut_there file e ed xs may)
-      (bytes_written e.bytes h e.write_place xs n are) ((then_edited file e ed xs may true).told (inl refl)) whole)
+      (sealed_holds_at (then file e ed xs may true) (closed_behind (over_data e.bytes h e.write_place xs) h n) h n ed.keeps.rule (fields_apart file e ed.keeps) (shut_there file e ed xs may)
+      (bytes_written e.bytes h e.write_place xs n are) ((then_edited file e ed xs may true).keeps.told (inl refl)) whole)
 
 -- ---- each of them
 
 pub sealed_rest : SealedRests
-sealed_rest file e ed are whole = automatic_rests file e ed are whole e.automatic
+sealed_rest file e of are whole = automatic_rests file e of are whole e.automatic
 
 pub automatic_rest : AutomaticRests
-automatic_rest file e on ed are whole = automatic_rests file e ed are whole on
+automatic_rest file e on of are whole = automatic_rests file e of are whole on
 
 pub cut_rest : CutRests
 cut_rest file e to ed are whole may = truncated_rests file e ed are whole to may
@@ -173,11 +175,11 @@ trimmed_safe file e e' x ed fit may cutting = elim (cases_Bool e.shape.trailing)
   | inl goes_on ↦
       let h = e.shape in
       let bytes : IsCutting e.bytes (counted h h.frames) h.frames x = subst (λ (b : List ℕ). IsCutting b (counted h h.frames) h.frames x) (sealed_same e.bytes h h.frames goes_on) cutting in
-      voice_cut_safe file e ed fit goes_on (may goes_on) x e' (subst (λ (s : Shape). IsCutting e.bytes s h.frames x) (counted_stays h goes_on) bytes)
+      voice_cut_safe file e ed.keeps fit (may goes_on, few_declared file e ed goes_on (may goes_on)) x e' (subst (λ (s : Shape). IsCutting e.bytes s h.frames x) (counted_stays h goes_on) bytes)
   | inr free ↦
-      let then = sealed_is_edited file e ed in
-      let rests = automatic_rests file e ed fit.bytes fit.whole e.automatic in
-      safe_across file e (sealed_to e) e' x ed then refl (tail_safe file (sealed_to e) then rests.0 free x (sealed_to e) (rests.1 free) cutting)
+      let then = sealed_keeps_file file e ed.keeps in
+      let rests = automatic_rests file e ed.keeps fit.bytes fit.whole e.automatic in
+      safe_across file e (sealed_to e) e' x ed.keeps then refl (tail_safe file (sealed_to e) then rests.0 free x (sealed_to e) (rests.1 free) cutting)
 ]
 
 -- a state with other places
@@ -189,8 +191,8 @@ moved e place write_place rests = (
 
 pub leads_to_rest : LeadsToRest
 leads_to_rest file e _ ed rests on (writes xs may) = written_rests file e ed rests.0.bytes rests.0.whole xs may on
-leads_to_rest file e _ ed rests on seals = automatic_rests file e ed rests.0.bytes rests.0.whole e.automatic
-leads_to_rest file e _ ed rests on (sets_automatic t) = automatic_rests file e ed rests.0.bytes rests.0.whole t
+leads_to_rest file e _ ed rests on seals = automatic_rests file e ed.keeps rests.0.bytes rests.0.whole e.automatic
+leads_to_rest file e _ ed rests on (sets_automatic t) = automatic_rests file e ed.keeps rests.0.bytes rests.0.whole t
 leads_to_rest file e _ ed rests on (truncates to may) = truncated_rests file e ed rests.0.bytes rests.0.whole to may
 leads_to_rest file e _ ed rests on (trims may) = trimmed_rests file e ed rests.0.bytes rests.0.whole may
 leads_to_rest file e _ ed rests on (reads n within) = moved e (e.place + n) e.write_place rests

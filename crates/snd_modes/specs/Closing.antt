@@ -32,8 +32,8 @@ ClosesFile true state file (Err error) = Unit {0}
 
 -- it writes the fields and what closes the data, and one more block, where it is written by blocks
 abbrev pub most_closed : Bool → Parameters → ℕ
-most_closed true p = 72 + block_align p.channels p.codec
-most_closed false p = 72
+most_closed true p = 64 + block_align p.channels p.codec
+most_closed false p = 64
 
 -- A file is not closed as it should where a call of the disk failed before, and then the disk is as it was; or, in a mode that
 -- writes, where one fails now.

@@ -101,10 +101,10 @@ EncodeLeaves xs old new (Err (write.DiskFault step)) =
     (old.broken ≡ None) × MayEncode xs old.shape old.write_place × (new ≡ record old { broken = Some step })
 EncodeLeaves xs old new (Err refusal) = (old.broken ≡ None) × IsEncodeRefusal xs old.shape old.write_place refusal × (new ≡ old)
 
--- the blocks that so many numbers' frames fill are written, one more, and 72 bytes more where updates are automatic
+-- the blocks that so many numbers' frames fill are written, one more, and 64 bytes more where updates are automatic
 abbrev pub most_encoded : Bool → Shape → ℕ → ℕ
 most_encoded automatic h numbers =
-    (numbers / h.params.channels / block_frames h.params.codec + 1) * block_align h.params.channels h.params.codec + (if automatic then 72 else 0)
+    (numbers / h.params.channels / block_frames h.params.codec + 1) * block_align h.params.channels h.params.codec + (if automatic then 64 else 0)
 
 abbrev pub WritesBlocks : {D M : Type 0} {ghosts : Ghosts D} {mode : ModeGhosts M} → (D → State) → ℕ → File D M ghosts mode → File D M ghosts mode → Type 0
 WritesBlocks state numbers old new = WritesAtMost state (most_encoded (known_of old).automatic (known_of old).shape numbers) (disk_of old) (disk_of new)

@@ -1,7 +1,8 @@
 -- What is seen of a handle. Its fields are named here alone.
-use Rattle.std.specs.Prelude.{◌≡◌, ℕ, ℤ, ◌*◌, ◌/◌, Bool, true, false, List, [], Option, None, Some, Result, IfOk, length}
+use Rattle.std.specs.Prelude.{◌≡◌, ℕ, ℤ, ◌*◌, ◌/◌, Bool, true, false, List, [], All, Option, None, Some, Result, IfOk, length}
 use Rattle.std.specs.Borrow.{GName}
 use Rattle.std.specs.Global.{Box}
+use Rattle.snd_adpcm.specs.Frames.{Is16Bit}
 use Rattle.snd_disk.specs.Runs.{HasAt}
 use Rattle.snd_disk.specs.declared.disk.Disk.{Ghosts}
 use Rattle.snd_disk.specs.declared.disk.Step.{Step}
@@ -62,14 +63,19 @@ codec_of file = (known_of file).shape.params.codec
 abbrev pub writer_of : {D M : Type 0} {ghosts : Ghosts D} {mode : ModeGhosts M} → File D M ghosts mode → Option (Box Writing)
 writer_of file = file.writer
 
--- It was given these numbers of whole frames, the last of which stands before the place; and b has the blocks that they fill for its
--- data, whose frames the layout counts.
-pub record IsGiven (writer : Option (Box Writing)) (ys : List ℤ) (b : List ℕ) (h : Shape) (place : ℕ) : Type 0 where
+-- Bytes have the blocks for their data that numbers of whole frames fill, the last of which stands before a place; the layout counts
+-- the frames of these blocks.
+pub record HoldsBlocks (ys : List ℤ) (b : List ℕ) (h : Shape) (place : ℕ) : Type 0 where
   pub form : AreBlocks h.params
-  pub stands : (w : Box Writing) → writer ≡ Some w → StandsFor w.value h.params ys
+  pub range : All Is16Bit ys
   pub whole : length ys ≡ place * h.params.channels
   pub frames : h.frames ≡ length (blocks.whole h.params ys) / h.params.channels
   pub held : HasAt b h.start (blocks.coded h.params (blocks.whole h.params ys))
+
+-- .. and these are the numbers that were given to what makes the blocks
+pub record IsGiven (writer : Option (Box Writing)) (ys : List ℤ) (b : List ℕ) (h : Shape) (place : ℕ) : Type 0 where
+  pub holds : HoldsBlocks ys b h place
+  pub stands : (w : Box Writing) → writer ≡ Some w → StandsFor w.value h.params ys
 
 -- The handle with its disk stands for an editing state. The disk tells its contents.
 pub record Stands {D M : Type 0} {ghosts : Ghosts D} {mode : ModeGhosts M} (state : D → State) (file : File D M ghosts mode) (e : Editing) : Type 0 where

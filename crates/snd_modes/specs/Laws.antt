@@ -1,31 +1,34 @@
 -- What an editing state owes the file that was opened or made, and what this file says once it is sealed. Nothing is claimed of
 -- a file in the midst of a call or after one that failed, nor of what stands in it behind all that its head says it has.
-use Rattle.std.specs.Prelude.{◌≡◌, ◌⊎◌, ℕ, ℤ, ◌+◌, ◌<◌, ◌≤◌, Bool, true, false, List, [], All, Ok, get_or, is_none, length, max}
+use Rattle.std.specs.Prelude.{◌≡◌, ◌⊎◌, ℕ, ℤ, ◌+◌, ◌<◌, ◌≤◌, Bool, true, false, List, [], All, Ok, get_or, is_none, length}
 use Rattle.snd_container.specs.Made.{new_file}
 use Rattle.snd_container.specs.Laws.{FileSays}
-use Rattle.snd_blocks.specs.Sound.{frames_in}
-use Rattle.snd_container.specs.Sound.{Sound, layout_of, fixed_of, sound_of}
+use Rattle.snd_block_writer.specs.Coded as blocks
+use Rattle.snd_blocks.specs.Sound.{frames_in, sound_of}
+use Rattle.snd_container.specs.Sound.{Sound, layout_of, fixed_of}
 use Rattle.snd_fields.specs.Laws.{IsByte}
-use Rattle.snd_layout.specs.Params.{AreParams, Parameters, data_bytes}
+use Rattle.snd_layout.specs.Params.{AreParams, Parameters}
 use Rattle.snd_layout.specs.Shape.{KeepsRule, Shape, end, room}
 use Rattle.snd_layout.specs.declared.kind.Kind.{Kind}
 use Rattle.snd_layout.specs.declared.kind.Kind.TheVariants.{Voc}
-use Rattle.snd_layout.specs.Container.{KeepsHead}
+use Rattle.snd_layout.specs.Blocks.{is_adpcm}
+use Rattle.snd_layout.specs.Container.{HasRoomFor, KeepsHead}
 use Rattle.snd_modes.specs.Calls.{ReadLeaves, SeekLeaves}
 use Rattle.snd_modes.specs.Editing.{Editing, moved_by, moved_to, opening_of}
 use Rattle.snd_modes.specs.Edits.{automatic_to, moved_write_to, sealed_to, trimmed_to, truncated_to, written_to}
-use Rattle.snd_modes.specs.Handle.{Known}
+use Rattle.snd_modes.specs.Encoding.{MayEncode, encoded_to, encoded_whole}
+use Rattle.snd_modes.specs.Handle.{HoldsBlocks, Known}
 use Rattle.snd_modes.specs.Making.{making_of}
+use Rattle.snd_modes.specs.Pacing.{HasPlaceFor}
 use Rattle.snd_modes.specs.Updating.{updating_of}
 use Rattle.snd_modes.specs.WriteCalls.{MayWrite, SeekWriteLeaves, TrimLeaves, TruncateLeaves, WriteLeaves}
 
--- The frames are those that the bytes give; these are all there, and as many as the layout says; the places are among them.
+-- The frames are those that the bytes give; these are all there, and as many as the layout says; the place is among them.
 pub record HoldsFrames (e : Editing) : Type 0 where
   pub sound : e.frames ≡ frames_in e.bytes e.shape
   pub count : e.shape.frames ≡ length e.frames
   pub held : end e.shape e.shape.frames ≤ length e.bytes
   pub placed : e.place ≤ e.shape.frames
-  pub write_placed : e.write_place ≤ e.shape.frames
 
 -- the layout is that of a file, and so are the length and every byte behind the data
 pub record KeepsTail (file : List ℕ) (head : Shape) (e : Editing) : Type 0 where
@@ -34,29 +37,45 @@ pub record KeepsTail (file : List ℕ) (head : Shape) (e : Editing) : Type 0 whe
   pub size : length e.bytes ≡ length file
   pub behind : (i : ℕ) → end head head.frames ≤ i → get_or e.bytes i 0 ≡ get_or file i 0
 
--- An editing state to which a file came that was opened, or made, and says a layout. The state's layout is that, but for the
--- frames and the declared length, and its bytes before the data are the file's, but for the fields. The fields have room for the
--- frames. Where the file goes on behind its data, all but these is as it was. Where updates are automatic, and there, the bytes
--- say already what the state does.
-pub record IsEdited (file : List ℕ) (e : Editing) : Type 0 where
+-- A state to which a file came that was opened, or made, and says a layout. The state's layout is that, but for the frames and
+-- the declared length, and its bytes before the data are the file's, but for the fields. The fields have room for the frames.
+-- Where the file goes on behind its data, all but these is as it was. Where updates are automatic, and there, the bytes say
+-- already what the state does. In ADPCM the count and the data size are one field.
+pub record KeepsFile (file : List ℕ) (e : Editing) : Type 0 where
   pub head : Shape
   pub bytes : All IsByte file
   pub opened : FileSays file head
-  pub linear : is_none (fixed_of head.params.codec) ≡ false
   pub known : head.unknown_length ≡ false
+  pub joined : is_adpcm head.params.codec ≡ true → 12 ≤ head.inner.size
   pub shape : e.shape ≡ record head { frames = e.shape.frames; declared = e.shape.declared }
   pub rule : KeepsRule e.shape
   pub kept : KeepsHead e.shape file e.bytes
   pub stays : e.shape.trailing ≡ true → KeepsTail file head e
   pub holds : HoldsFrames e
-  pub in_room : data_bytes head.params e.shape.frames ≤ max (room head) head.declared
+  pub room : HasRoomFor head e.shape.frames
   pub told : (e.automatic ≡ true) ⊎ (e.shape.trailing ≡ true) → FileSays e.bytes e.shape
+
+-- An editing state: its samples have bytes of their own, so that frames are written at places.
+pub record IsEdited (file : List ℕ) (e : Editing) : Type 0 where
+  pub keeps : KeepsFile file e
+  pub linear : is_none (fixed_of e.shape.params.codec) ≡ false
+  pub write_placed : e.write_place ≤ e.shape.frames
+
+-- A state of a file of ADPCM that is made: its data are the blocks that the numbers fill that were given.
+pub record IsEncoded (file : List ℕ) (e : Editing) : Type 0 where
+  pub keeps : KeepsFile file e
+  pub given : HoldsBlocks e.given e.bytes e.shape e.write_place
+  pub place : HasPlaceFor e.shape e.write_place
+
+-- the one or the other; the first argument is whether frames are written by blocks
+abbrev pub IsStateOf : Bool → List ℕ → Editing → Type 0
+IsStateOf true file e = IsEncoded file e
+IsStateOf false file e = IsEdited file e
 
 -- ---- where editing begins
 
--- where its samples have a fixed number of bytes
 abbrev pub OpenedHoldsFrames : Type 0
-OpenedHoldsFrames = (b : List ℕ) (e : Editing) → All IsByte b → opening_of b ≡ Ok e → is_none (fixed_of e.shape.params.codec) ≡ false → HoldsFrames e
+OpenedHoldsFrames = (b : List ℕ) (e : Editing) → All IsByte b → opening_of b ≡ Ok e → HoldsFrames e
 
 abbrev pub UpdatedIsEdited : Type 0
 UpdatedIsEdited = (b : List ℕ) (e : Editing) → All IsByte b → updating_of b ≡ Ok e → IsEdited b e
@@ -148,13 +167,36 @@ SealedReadsBack = (file : List ℕ) (e : Editing) → IsEdited file e → OpensA
 abbrev pub AutomaticReadsBack : Type 0
 AutomaticReadsBack = (file : List ℕ) (e : Editing) → IsEdited file e → e.automatic ≡ true → OpensAgain e
 
--- The sealed file has the sound of the file that was opened or made, further chunks and all, but that its frames are the state's.
+-- A file has the sound of another, further chunks and all, but for its frames.
+abbrev pub HasSoundOf : List ℕ → List (List ℤ) → List ℕ → Type 0
+HasSoundOf file frames x = (sound : Sound) × (sound_of file ≡ Ok sound) × (sound_of x ≡ Ok (record sound { frames = frames }))
+
+-- The sealed file has the sound of the file that was opened or made, but that its frames are the state's.
 abbrev pub KeepsSound : List ℕ → Editing → Type 0
-KeepsSound file e = (sound : Sound) × (sound_of file ≡ Ok sound) × (sound_of (sealed_to e).bytes ≡ Ok (record sound { frames = e.frames }))
+KeepsSound file e = HasSoundOf file e.frames (sealed_to e).bytes
 
 abbrev pub SealedSound : Type 0
-SealedSound = (file : List ℕ) (e : Editing) → IsEdited file e → KeepsSound file e
+SealedSound = (file : List ℕ) (e : Editing) → KeepsFile file e → KeepsSound file e
 
 -- So it is wherever calls lead.
 abbrev pub ReachedSound : Type 0
 ReachedSound = (file : List ℕ) (e : Editing) → All IsByte file → Reached file e → KeepsSound file e
+
+-- ---- files of ADPCM that are made
+
+-- each begins as one, and stays one while more numbers are given, while it is sealed, and as updates are made automatic or not
+abbrev pub MadeIsEncoded : Type 0
+MadeIsEncoded = (kind : Kind) (p : Parameters) (e : Editing) → AreParams p → is_adpcm p.codec ≡ true → making_of kind p ≡ Ok e → IsEncoded (new_file kind p) e
+
+abbrev pub EncodedStays : Type 0
+EncodedStays = (file : List ℕ) (e : Editing) (xs : List ℤ) → IsEncoded file e → MayEncode xs e.shape e.write_place → IsEncoded file (encoded_to xs e)
+
+abbrev pub AutomaticStays : Type 0
+AutomaticStays = (file : List ℕ) (e : Editing) (on : Bool) → IsEncoded file e → IsEncoded file (automatic_to on e)
+
+-- Its frames are those that are kept of the numbers in whole blocks; closed, it has those that are kept of all.
+abbrev pub EncodedFrames : Type 0
+EncodedFrames = (file : List ℕ) (e : Editing) → IsEncoded file e → e.frames ≡ blocks.kept e.shape.params (blocks.whole e.shape.params e.given)
+
+abbrev pub EncodedSound : Type 0
+EncodedSound = (file : List ℕ) (e : Editing) → IsEncoded file e → HasSoundOf file (blocks.kept e.shape.params e.given) (encoded_whole e).bytes

@@ -21,6 +21,7 @@ pub mod Relaid
 pub mod Rest
 pub mod Safe
 pub mod SafeLaws
+pub mod UnderWay
 pub mod Updating
 pub mod WriteCalls
 pub mod Writing

@@ -1,29 +1,23 @@
 -- What a crash may leave at each moment while frames are written. The first argument is the meaning of the disk.
-use Rattle.std.specs.Prelude.{◌≡◌, ◌⊎◌, ℕ, ◌+◌, ◌≤◌, ℤ, false, true, List, [], length, nat_lt, if◌then◌else◌}
+use Rattle.std.specs.Prelude.{◌≡◌, ◌⊎◌, ℕ, ℤ, false, true, List, [], nat_lt, if◌then◌else◌}
 use Rattle.snd_container.specs.Values.{closing}
 use Rattle.snd_disk.specs.Device.{IsStable, Tells}
-use Rattle.snd_disk.specs.Runs.{HasAt}
 use Rattle.snd_disk.specs.declared.disk.Disk.{Ghosts}
 use Rattle.snd_layout.specs.Shape.{Shape, end}
 use Rattle.snd_patch.specs.Images.{AllLieApart, IsGrowing, LeavesEach, LeavesGrowing}
+use Rattle.snd_block_writer.specs.Puts.{IsPartly, LeavesPartly}
 use Rattle.snd_modes.specs.Edits.{closed_behind, coded, over_data}
-use Rattle.snd_modes.specs.Safe.{IsPartly}
 
--- Bytes are put at a place where c has them: while each image at the start is b or c at each place, so it is at every moment.
-abbrev pub PutsPartly : {D : Type 0} → Ghosts D → ℕ → List ℕ → D → D → Type 0
-PutsPartly d at s old new = (b c l : List ℕ) → HasAt c at s → at + length s ≤ length c → Tells d.state old l
-    → ((x : List ℕ) → d.may_leave old x → IsPartly b c x) → LeavesEach d old new (IsPartly b c)
-
--- .. the numbers of frames, over the data from a frame on
+-- the numbers of frames are put over the data from a frame on
 abbrev pub PutsData : {D : Type 0} → Ghosts D → Shape → ℕ → List ℤ → D → D → Type 0
-PutsData d h place xs old new = PutsPartly d (end h place) (coded h.params xs) old new
+PutsData d h place xs old new = LeavesPartly d (end h place) (coded h.params xs) old new
 
 -- what closes the data of n frames, where these are more than there were; and that it is put so
 abbrev pub closing_put : Shape → ℕ → List ℕ
 closing_put h n = if nat_lt h.frames n then closing h n else []
 
 abbrev pub PutsClosing : {D : Type 0} → Ghosts D → Shape → ℕ → D → D → Type 0
-PutsClosing d h n old new = PutsPartly d (end h n) (closing_put h n) old new
+PutsClosing d h n old new = LeavesPartly d (end h n) (closing_put h n) old new
 
 -- The fields are brought up to n frames, but not where the file goes on behind its data.
 pub record LeavesFields {D : Type 0} (d : Ghosts D) (h : Shape) (n : ℕ) (old new : D) : Type 0 where

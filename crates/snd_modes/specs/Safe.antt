@@ -3,7 +3,8 @@
 -- write. That a crash leaves no more is this library's own promise, for files that are updated automatically.
 use Rattle.std.specs.Prelude.{◌≡◌, ◌⊎◌, ℕ, ◌+◌, ◌<◌, ◌≤◌, ℤ, false, true, List, [], All, Ok, IfSome, get_or, length, map, take}
 use Rattle.snd_container.specs.Laws.{FileSays}
-use Rattle.snd_container.specs.Sound.{Kept, Sound, kept_of, sound_of}
+use Rattle.snd_blocks.specs.Sound.{sound_of}
+use Rattle.snd_container.specs.Sound.{Kept, Sound, kept_of}
 use Rattle.snd_container.specs.Values.{closed_end, outer_value}
 use Rattle.snd_disk.specs.Runs.{HasAt}
 use Rattle.snd_fields.specs.Laws.{IsByte}
@@ -13,7 +14,7 @@ use Rattle.snd_layout.specs.declared.kind.Kind.TheVariants.{Voc}
 use Rattle.snd_modes.specs.Editing.{Editing}
 use Rattle.snd_modes.specs.WriteCalls.{is_whole_field}
 
--- how many frames a state acknowledges: all, where each has its bytes
+-- how many frames a state acknowledges: all, but for those that wait for their block
 abbrev pub acknowledged : Editing → ℕ
 acknowledged e = length e.frames
 
@@ -60,11 +61,3 @@ pub record IsSized (e : Editing) : Type 0 where
   pub outer : IfSome e.shape.outer (λ field. HasAt e.bytes field.at (outer_value e.shape e.shape.frames))
   pub declared : (e.shape.declared ≡ data_bytes e.shape.params e.shape.frames) ⊎ DeclaresFew e.shape
   pub closed : closed_end e.shape e.shape.frames ≤ length e.bytes
-
--- ---- what a crash may leave while frames are written
-
--- x is b while bytes are put over it and behind it, which make it c: each byte is that of b or that of c
-pub record IsPartly (b c x : List ℕ) : Type 0 where
-  pub least : length b ≤ length x
-  pub most : length x ≤ length c
-  pub each : (i : ℕ) → (get_or x i 0 ≡ get_or b i 0) ⊎ (get_or x i 0 ≡ get_or c i 0)

@@ -6,17 +6,18 @@ use Rattle.snd_fields.specs.Laws.{IsByte}
 use Rattle.snd_layout.specs.declared.kind.Kind.TheVariants.{Voc}
 use Rattle.snd_patch.specs.Images.{IsClosing, IsCounting, IsCutting, IsGrowing, IsShrinking}
 use Rattle.snd_patch.specs.Sealed.{closed, with_fewer}
+use Rattle.snd_block_writer.specs.Puts.{IsPartly}
 use Rattle.snd_modes.specs.Editing.{Editing}
 use Rattle.snd_modes.specs.Edits.{automatic_to, closed_behind, count_written, cut_to, over_data, sealed_to, trimmed_to, truncated_to, written_to}
-use Rattle.snd_modes.specs.Laws.{IsEdited, Leads, MayTruncate, Reached}
-use Rattle.snd_modes.specs.Safe.{IsFit, IsPartly, IsSafe, IsSized}
+use Rattle.snd_modes.specs.Laws.{IsEdited, KeepsFile, Leads, MayTruncate, Reached}
+use Rattle.snd_modes.specs.Safe.{IsFit, IsSafe, IsSized}
 use Rattle.snd_modes.specs.WriteCalls.{MayWrite, is_whole_field}
 
 -- ---- at rest
 
 -- a file that says what its state knows of it
 abbrev pub RestIsSafe : Type 0
-RestIsSafe = (file : List ℕ) (e : Editing) → IsEdited file e → FileSays e.bytes e.shape → IsSafe e e e.bytes
+RestIsSafe = (file : List ℕ) (e : Editing) → KeepsFile file e → FileSays e.bytes e.shape → IsSafe e e e.bytes
 
 -- What is safe at rest is so during each call from there, and during each that leads there.
 abbrev pub StaysSafe : Type 0
@@ -27,7 +28,7 @@ SafeFromAfter = (e e' : Editing) (x : List ℕ) → e'.shape.params ≡ e.shape.
 
 -- and so is what is safe at rest in another state of the same file with the same frames
 abbrev pub SafeAcross : Type 0
-SafeAcross = (file : List ℕ) (e g e' : Editing) (x : List ℕ) → IsEdited file e → IsEdited file g → g.frames ≡ e.frames → IsSafe g g x → IsSafe e e' x
+SafeAcross = (file : List ℕ) (e g e' : Editing) (x : List ℕ) → KeepsFile file e → KeepsFile file g → g.frames ≡ e.frames → IsSafe g g x → IsSafe e e' x
 
 -- ---- while frames are written
 
@@ -57,12 +58,12 @@ CutIsSafe = (file : List ℕ) (e : Editing) (to : ℕ) (x : List ℕ) → IsEdit
 -- ---- while a file is sealed: what closes the data is put, and then the head is brought up
 
 abbrev pub SealedIsSafe : Type 0
-SealedIsSafe = (file : List ℕ) (e e' : Editing) (x : List ℕ) → IsEdited file e → IsFit e → e.shape.trailing ≡ false
+SealedIsSafe = (file : List ℕ) (e e' : Editing) (x : List ℕ) → KeepsFile file e → IsFit e → e.shape.trailing ≡ false
     → IsClosing e.bytes e.shape e.shape.frames x ⊎ IsCounting (closed e.bytes e.shape e.shape.frames) e.shape e.shape.frames x → IsSafe e e' x
 
 -- .. and then all behind its data is cut off
 abbrev pub TailCutIsSafe : Type 0
-TailCutIsSafe = (file : List ℕ) (e e' : Editing) (x : List ℕ) → IsEdited file e → IsFit e → e.shape.trailing ≡ false → IsSized e
+TailCutIsSafe = (file : List ℕ) (e e' : Editing) (x : List ℕ) → KeepsFile file e → IsFit e → e.shape.trailing ≡ false → IsSized e
     → IsCutting e.bytes e.shape e.shape.frames x → IsSafe e e' x
 
 abbrev pub TrimmedIsSafe : Type 0
@@ -84,10 +85,10 @@ Rests e = IsFit e × (e.shape.trailing ≡ false → IsSized e)
 
 -- A sealed file rests where the field that decides the count lies in one sector; and so does one that is cut or trimmed.
 abbrev pub SealedRests : Type 0
-SealedRests = (file : List ℕ) (e : Editing) → IsEdited file e → All IsByte e.bytes → is_whole_field e.shape ≡ true → Rests (sealed_to e)
+SealedRests = (file : List ℕ) (e : Editing) → KeepsFile file e → All IsByte e.bytes → is_whole_field e.shape ≡ true → Rests (sealed_to e)
 
 abbrev pub AutomaticRests : Type 0
-AutomaticRests = (file : List ℕ) (e : Editing) (on : Bool) → IsEdited file e → All IsByte e.bytes → is_whole_field e.shape ≡ true → Rests (automatic_to on e)
+AutomaticRests = (file : List ℕ) (e : Editing) (on : Bool) → KeepsFile file e → All IsByte e.bytes → is_whole_field e.shape ≡ true → Rests (automatic_to on e)
 
 abbrev pub CutRests : Type 0
 CutRests = (file : List ℕ) (e : Editing) (to : ℕ) → IsEdited file e → All IsByte e.bytes → is_whole_field e.shape ≡ true → MayTruncate to e.shape → Rests (truncated_to to e)

@@ -2,7 +2,8 @@
 
 ghost use Rattle.std.specs.Prelude.{◌≡◌, ◌+◌, ◌-◌, ◌/◌, ◌%◌, ◌≤◌, ◌^◌, ◌↔◌, IfErr, IfOk, IsTrue, OnErr, OnOk, is_some, length, true};
 ghost use Rattle.snd_blocks.specs.Calls.{AreBlocks};
-ghost use Rattle.snd_block_writer.specs.Calls.{TakesMore};
+ghost use Rattle.snd_block_writer.specs.Calls.{PutsBlocks, TakesMore};
+ghost use Rattle.snd_block_writer.specs.Writing.{padding};
 ghost use Rattle.snd_container.specs.Values.{closed_end};
 ghost use Rattle.snd_disk.specs.Device.{CountsOn, GoesOnFrom, IsStable};
 ghost use Rattle.snd_layout.specs.Blocks.{block_align, is_adpcm};
@@ -14,6 +15,8 @@ ghost use Rattle.snd_modes.specs.Handle.{disk_of, known_of, loan_of};
 ghost use Rattle.snd_modes.specs.Outcomes.{AsksNothing, CountsCall, KeepsFrames, TellsOn, write_outcome};
 ghost use Rattle.snd_modes.specs.Pacing.{HasPlaceFor, HasRoomToEncode, KeepsPace, PacesIn};
 ghost use Rattle.snd_modes.specs.Reading.{FitCodec};
+ghost use Rattle.snd_modes.specs.Rest.{LeavesSafe, StaysAtRest};
+ghost use Rattle.snd_modes.specs.UnderWay.{LeavesAll, LeavesAllIn, LeavesGiven, LeavesGivenIn};
 
 use crate::coding::put_in_range;
 use crate::error::WriteError;
@@ -106,6 +109,7 @@ fn give<D: Disk>(
     ensures held { OnOk result (end layout.new layout.new.frames ≤ (D.state disk.new).size) }
     ensures closed { OnOk result (automatic ≡ true → closed_end layout.new layout.new.frames ≤ (D.state disk.new).size) }
     ensures stable { OnOk result (automatic ≡ true → IsStable D.state D.may_leave disk.new) }
+    ensures leaves { automatic ≡ true → LeavesGiven D.Disk layout.old to from.now writer.old disk.old disk.new }
     ensures updates { Updates D.state D.left_between layout.old layout.old.frames (most_encoded automatic layout.old (length from.now)) disk.old disk.new }
     ensures faults { CountsOn D.state disk.old disk.new result }
 {
@@ -152,6 +156,7 @@ fn give_writer<D: Disk>(
     ensures held { OnOk result (end layout.new layout.new.frames ≤ (D.state disk.new).size) }
     ensures closed { OnOk result (automatic ≡ true → closed_end layout.new layout.new.frames ≤ (D.state disk.new).size) }
     ensures stable { OnOk result (automatic ≡ true → IsStable D.state D.may_leave disk.new) }
+    ensures leaves { automatic ≡ true → LeavesGivenIn D.Disk layout.old to from.now writer.old disk.old disk.new }
     ensures updates { Updates D.state D.left_between layout.old layout.old.frames (most_encoded automatic layout.old (length from.now)) disk.old disk.new }
     ensures faults { CountsOn D.state disk.old disk.new result }
 {
@@ -176,6 +181,7 @@ fn finish_blocks<D: Disk>(
     ensures rule { OnOk result (KeepsRule layout.new) }
     ensures may { OnOk result (MayCount layout.new layout.new.frames (D.state disk.new).size) }
     ensures contents { OnOk result (HoldsFinished D.state layout.old writer.old disk.old disk.new) }
+    ensures puts { PutsBlocks D.Disk layout.old.start (padding writer.old) writer.old disk.old disk.new }
     ensures updates { Updates D.state D.left_between layout.old layout.old.frames (block_align layout.old.params.channels layout.old.params.codec) disk.old disk.new }
     ensures faults { CountsOn D.state disk.old disk.new result }
 {
@@ -203,7 +209,8 @@ fn seal_all<D: Disk>(
     requires held { end layout.old layout.old.frames ≤ (D.state disk.old).size }
     ensures contents { OnOk result (HoldsClosed D.state layout.old place writer.old disk.old disk.new) }
     ensures stable { OnOk result (IsStable D.state D.may_leave disk.new) }
-    ensures updates { Updates D.state D.left_between layout.old layout.old.frames (72 + block_align layout.old.params.channels layout.old.params.codec) disk.old disk.new }
+    ensures leaves { LeavesAll D.Disk layout.old place writer.old disk.old disk.new }
+    ensures updates { Updates D.state D.left_between layout.old layout.old.frames (64 + block_align layout.old.params.channels layout.old.params.codec) disk.old disk.new }
     ensures faults { CountsOn D.state disk.old disk.new result }
 {
     keeps_rules(layout);
@@ -226,7 +233,8 @@ pub(crate) fn seal_writer<D: Disk>(
     requires held { end layout.old layout.old.frames ≤ (D.state disk.old).size }
     ensures contents { OnOk result (ClosesBlocks D.state layout.old place writer.old disk.old disk.new) }
     ensures stable { OnOk result (IsStable D.state D.may_leave disk.new) }
-    ensures updates { Updates D.state D.left_between layout.old layout.old.frames (72 + block_align layout.old.params.channels layout.old.params.codec) disk.old disk.new }
+    ensures leaves { LeavesAllIn D.Disk layout.old place writer.old disk.old disk.new }
+    ensures updates { Updates D.state D.left_between layout.old layout.old.frames (64 + block_align layout.old.params.channels layout.old.params.codec) disk.old disk.new }
     ensures faults { CountsOn D.state disk.old disk.new result }
 {
     match writer {
@@ -246,7 +254,7 @@ impl<'d, D: Disk> File<'d, D, Encode> {
     /// Writes frames behind those that were written before. A frame has one number of 16 bits for each
     /// channel, in turn. Blocks reach the disk whole: the numbers of the last one wait until it is, or until
     /// the file is closed. Where updates are automatic, the file is sealed with the frames of its whole
-    /// blocks. It writes the bytes of the blocks that as many frames fill, of one more, and 72 more where
+    /// blocks. It writes the bytes of the blocks that as many frames fill, of one more, and 64 more where
     /// updates are automatic; it takes no memory.
     ///
     /// `Broken` where a call of the disk failed before; then `PartFrame` exactly where the slice does not
@@ -254,11 +262,17 @@ impl<'d, D: Disk> File<'d, D, Encode> {
     /// where there is a frame and the head has no room for the data, or the count of a WAVE file for the
     /// number of the frames: these leave all as it was. `DiskFault` where a call of the disk failed now: from
     /// then on the file is broken; the frames on its disk are as they were.
+    ///
+    /// Where updates are automatic and the file is at rest, a crash at any moment of the call leaves a file
+    /// that opens, with the frames of the whole blocks of before or of those that the call leads to. A call
+    /// that succeeds leaves the file at rest.
     pub fn encode_frames(&mut self, from: &[i32]) -> Result<(), WriteError>
         ensures loan { loan_of self.new ≡ loan_of self.old }
         ensures left { EncodeLeaves from.now (known_of self.old) (known_of self.new) result }
         ensures stands { EncodesOn (write_outcome result) D.state self.old self.new (encoded_to from.now) }
         ensures stable { OnOk result ((known_of self.old).automatic ≡ true → IsStable D.state D.may_leave (disk_of self.new)) }
+        ensures leaves { (known_of self.old).automatic ≡ true → LeavesSafe D.Disk (write_outcome result) (encoded_to from.now) self.old self.new }
+        ensures rests { (known_of self.old).automatic ≡ true → StaysAtRest D.Disk (write_outcome result) (encoded_to from.now) self.old self.new }
 
         ensures beside { KeepsFrames D.state self.old self.new }
         ensures tells { TellsOn D.state self.old self.new }

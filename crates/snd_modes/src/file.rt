@@ -56,7 +56,7 @@ impl<'d, D: Disk, M: Mode> File<'d, D, M> {
 
     /// Gives the disk back. In a mode that writes, the file is sealed first, as `update_now` does; else the
     /// disk is as it was. In a file of ADPCM that is made the frames that wait are written before that, as a
-    /// block that zeros fill. It writes at most 72 bytes, and one such block, and takes no memory.
+    /// block that zeros fill. It writes at most 64 bytes, and one such block, and takes no memory.
     ///
     /// The answer is the step at which the disk failed, where it did: before, and then nothing is done; or
     /// now, in a mode that writes.

@@ -2,12 +2,12 @@
 //! contracts are the laws.
 
 ghost use Rattle.snd_modes.specs.Chunks.{EditedHasChunks, LeadsKeepChunks};
-ghost use Rattle.snd_modes.specs.Laws.{AutomaticReadsBack, CutLeads, LeadsToEdited, MadeIsEdited, MadeIsUpdated, OpenedHoldsFrames, ReachedIsEdited, ReachedSound, ReadLeads, SealedReadsBack, SealedSound, SeekLeads, SeekWriteLeads, TrimLeads, UpdatedIsEdited, WriteLeads};
+ghost use Rattle.snd_modes.specs.Laws.{AutomaticReadsBack, AutomaticStays, CutLeads, EncodedFrames, EncodedSound, EncodedStays, LeadsToEdited, MadeIsEdited, MadeIsEncoded, MadeIsUpdated, OpenedHoldsFrames, ReachedIsEdited, ReachedSound, ReadLeads, SealedReadsBack, SealedSound, SeekLeads, SeekWriteLeads, TrimLeads, UpdatedIsEdited, WriteLeads};
 ghost use Rattle.snd_modes.specs.SafeLaws.{AutomaticRests, CutIsSafe, CutRests, GrownIsSafe, LeadsToBytes, LeadsToRest, ReachedIsBytes, RestIsSafe, SafeAcross, SafeFromAfter, SealedIsSafe, SealedRests, StaysSafe, TailCutIsSafe, TrimmedIsSafe, TrimmedRests, WrittenIsSafe, WrittenRests};
 
 /// A file that is opened holds the frames that it counts. One that is opened to be updated, or made, begins
 /// as an edited file.
-#[tactic(auto, using(crate::proofs::EditedFiles::updated_is_edited, crate::proofs::MadeFiles::made_is_edited, crate::proofs::MadeFiles::made_is_updated))]
+#[tactic(auto, using(crate::proofs::MadeFiles::made_is_updated))]
 pub fn opened_files_are_edited()
     ensures read { OpenedHoldsFrames }
     ensures updated { UpdatedIsEdited }
@@ -26,7 +26,7 @@ pub fn calls_lead_on()
 {}
 
 /// Each call that is carried out leaves an edited file, and so do all of them, one after the other.
-#[tactic(auto, using(crate::proofs::EditedSteps::leads_to_edited, crate::proofs::EditedSteps::reached_is_edited))]
+#[tactic(auto, using(crate::proofs::EditedSteps::reached_is_edited))]
 pub fn calls_leave_edited_files()
     ensures step { LeadsToEdited }
     ensures steps { ReachedIsEdited }
@@ -41,6 +41,17 @@ pub fn sealed_files_read_back()
     ensures automatic { AutomaticReadsBack }
     ensures sound { SealedSound }
     ensures reached { ReachedSound }
+{}
+
+/// A file of ADPCM that is made begins as one whose blocks are those of the numbers that were given, and stays
+/// one while more are given and while it is sealed. Its frames are those that are kept of its whole blocks;
+/// once it is closed it reads back with those that are kept of all numbers.
+pub fn encoded_files_read_back()
+    ensures made { MadeIsEncoded }
+    ensures given { EncodedStays }
+    ensures sealed { AutomaticStays }
+    ensures frames { EncodedFrames }
+    ensures sound { EncodedSound }
 {}
 
 /// An edited file has the further chunks of the file that was opened or made, at their places and with their

@@ -4,7 +4,7 @@ ghost use Rattle.std.specs.Prelude.{◌+◌, ◌-◌, ◌*◌, ◌<◌, ◌≤�
 ghost use Rattle.snd_disk.specs.Device.{CountsOn};
 ghost use Rattle.snd_disk.specs.State.{IsWritten};
 ghost use Rattle.snd_container.specs.Fixed.{InRange, byte_count, samples_bytes};
-ghost use Rattle.snd_modes.specs.Putting.{PutsPartly};
+ghost use Rattle.snd_block_writer.specs.Puts.{LeavesPartly};
 ghost use Rattle.snd_modes.specs.Writing.{HasWritten, HoldsEarly, PutsAt, PutsSamples};
 
 use snd_container::{Fixed, put_samples};
@@ -18,7 +18,7 @@ fn write_bytes<D: Disk>(disk: &mut D, at: u64, bytes: &[u8]) -> Result<(), Step>
     requires { at + length bytes.now < 2 ^ 63 }
     ensures done { OnOk result (IsWritten at bytes.now (D.state disk.old) (D.state disk.new)) }
     ensures puts { PutsAt D.state D.left_between at (length bytes.now) disk.old disk.new }
-    ensures partly { PutsPartly D.Disk at bytes.now disk.old disk.new }
+    ensures partly { LeavesPartly D.Disk at bytes.now disk.old disk.new }
     ensures faults { CountsOn D.state disk.old disk.new result }
 {
     match disk.write_at(at, bytes) {
@@ -40,7 +40,7 @@ fn write_block<D: Disk>(
     requires in_range { All (InRange form) from.now }
     ensures done { OnOk result (HasWritten D.state form at from.now disk.old disk.new) }
     ensures puts { PutsSamples D.state D.left_between form at (length from.now) disk.old disk.new }
-    ensures partly { PutsPartly D.Disk at (samples_bytes form from.now) disk.old disk.new }
+    ensures partly { LeavesPartly D.Disk at (samples_bytes form from.now) disk.old disk.new }
     ensures faults { CountsOn D.state disk.old disk.new result }
 {
     let bytes = &mut block[..form.bytes() * from.len()];
@@ -65,7 +65,7 @@ fn write_next<D: Disk>(
     ensures done { IfOk result (λ n. HasWritten D.state form (at + byte_count form * done) (take (n - done) (drop done from.now)) disk.old disk.new) }
     ensures puts { IfOk result (λ n. PutsSamples D.state D.left_between form (at + byte_count form * done) (n - done) disk.old disk.new) }
     ensures broken { OnErr result (PutsSamples D.state D.left_between form (at + byte_count form * done) (length from.now - done) disk.old disk.new) }
-    ensures partly { PutsPartly D.Disk at (samples_bytes form from.now) disk.old disk.new }
+    ensures partly { LeavesPartly D.Disk at (samples_bytes form from.now) disk.old disk.new }
     ensures faults { CountsOn D.state disk.old disk.new result }
 {
     let width = form.bytes();
@@ -89,7 +89,7 @@ fn write_blocks<D: Disk>(disk: &mut D, form: Fixed, at: u64, from: &[i32]) -> Re
     requires in_range { All (InRange form) from.now }
     ensures done { OnOk result (HasWritten D.state form at from.now disk.old disk.new) }
     ensures puts { PutsSamples D.state D.left_between form at (length from.now) disk.old disk.new }
-    ensures partly { PutsPartly D.Disk at (samples_bytes form from.now) disk.old disk.new }
+    ensures partly { LeavesPartly D.Disk at (samples_bytes form from.now) disk.old disk.new }
     ensures faults { CountsOn D.state disk.old disk.new result }
 {
     // once for all, since it is cleared where it is made
@@ -116,7 +116,7 @@ pub(crate) fn write_run<D: Disk>(
     requires held { HoldsEarly form from.now block.now }
     ensures done { OnOk result (HasWritten D.state form at from.now disk.old disk.new) }
     ensures puts { PutsSamples D.state D.left_between form at (length from.now) disk.old disk.new }
-    ensures partly { PutsPartly D.Disk at (samples_bytes form from.now) disk.old disk.new }
+    ensures partly { LeavesPartly D.Disk at (samples_bytes form from.now) disk.old disk.new }
     ensures faults { CountsOn D.state disk.old disk.new result }
 {
     let Fixed::Linear(Linear::S16(_)) = form else {

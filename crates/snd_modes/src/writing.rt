@@ -102,7 +102,7 @@ impl<'d, D: Disk, M: CanWrite> File<'d, D, M> {
 impl<'d, D: Disk, M: CanSeal> File<'d, D, M> {
     /// Brings the head up to the frames, and makes the file stable: what closes the data is put behind it
     /// where it is missing. A file that goes on behind its data is made stable as it is. Each further chunk
-    /// stays. The answer is how many frames the head then says. It writes at most 72 bytes and takes no
+    /// stays. The answer is how many frames the head then says. It writes at most 64 bytes and takes no
     /// memory.
     ///
     /// `Broken` where a call of the disk failed before, which leaves all as it was. `DiskFault` where a
@@ -125,7 +125,7 @@ impl<'d, D: Disk, M: CanSeal> File<'d, D, M> {
         ensures tells { TellsOn D.state self.old self.new }
         ensures time { GoesOnFrom D.state D.left_between (disk_of self.old) (disk_of self.new) }
         ensures faults { CountsCall (update_outcome result) D.state self.old self.new }
-        ensures written { WritesAtMost D.state 72 (disk_of self.old) (disk_of self.new) }
+        ensures written { WritesAtMost D.state 64 (disk_of self.old) (disk_of self.new) }
         ensures asked { AsksNothing D.state self.old self.new }
     {
         if let Some(step) = self.broken {
@@ -136,7 +136,7 @@ impl<'d, D: Disk, M: CanSeal> File<'d, D, M> {
     }
 
     /// Seals the file as `update_now` does, and from then on each write does so, or none does. The answer
-    /// is how many frames the head then says. It writes at most 72 bytes and takes no memory.
+    /// is how many frames the head then says. It writes at most 64 bytes and takes no memory.
     ///
     /// `Broken` where a call of the disk failed before; then `Straddle` exactly where updates are to be
     /// automatic and the field that decides the count does not lie in one sector of 512 bytes: these leave
@@ -161,7 +161,7 @@ impl<'d, D: Disk, M: CanSeal> File<'d, D, M> {
         ensures tells { TellsOn D.state self.old self.new }
         ensures time { GoesOnFrom D.state D.left_between (disk_of self.old) (disk_of self.new) }
         ensures faults { CountsCall (auto_outcome result) D.state self.old self.new }
-        ensures written { WritesAtMost D.state 72 (disk_of self.old) (disk_of self.new) }
+        ensures written { WritesAtMost D.state 64 (disk_of self.old) (disk_of self.new) }
         ensures asked { AsksNothing D.state self.old self.new }
     {
         if let Some(step) = self.broken {
@@ -190,7 +190,7 @@ impl<'d, D: Disk, M: CanSeal> File<'d, D, M> {
         ensures tells { TellsOn D.state self.old self.new }
         ensures time { GoesOnFrom D.state D.left_between (disk_of self.old) (disk_of self.new) }
         ensures faults { CountsOn D.state (disk_of self.old) (disk_of self.new) result }
-        ensures written { WritesAtMost D.state 72 (disk_of self.old) (disk_of self.new) }
+        ensures written { WritesAtMost D.state 64 (disk_of self.old) (disk_of self.new) }
         ensures asked { AsksNothing D.state self.old self.new }
     {
         keeps_rules(&self.layout);

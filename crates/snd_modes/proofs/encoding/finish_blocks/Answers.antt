@@ -1,4 +1,4 @@
-use Rattle.std.proofs.Common.{rules, ◌≡◌, ◌∙◌, ap, sym, subst, ℕ, ℤ, ◌+◌, ◌*◌, ◌≤◌, List, Some, length, arith}
+use Rattle.std.proofs.Common.{rules, ◌≡◌, ◌∙◌, ap, sym, subst, refl, ℕ, ℤ, ◌+◌, ◌*◌, ◌≤◌, List, Some, length, arith}
 use Rattle.snd_disk.specs.Bytes.{over}
 use Rattle.snd_layout.specs.Blocks.{block_align}
 use Rattle.snd_layout.specs.Shape.{Shape, end}
@@ -6,6 +6,7 @@ use Rattle.snd_block_writer.specs.Coded.{coded, rest, whole}
 use Rattle.snd_block_writer.specs.Writing.{Writing, block_size, new_blocks, next_place, padding}
 use Rattle.snd_block_writer.proofs.Filling.{is_filled}
 use Rattle.snd_block_writer.proofs.Given.{one_new}
+use Rattle.snd_block_writer.proofs.Putting.{none_put, puts_as}
 use Rattle.snd_patch.proofs.Updating.{updates_more}
 use Rattle.snd_patch.specs.Steps.{MayCount}
 use Rattle.snd_modes.specs.Encoding.{over_blocks}
@@ -106,3 +107,16 @@ returns-then-waiting-eq0-clause-contents g c = λ ys b stands told.
     let same : c.args.place ≡ h.frames = none_ends h form w c.args.place c.requires.pace c.keeps_rule.ensures.few none in
     let waits : length (rest h.params ys) ≡ 0 = ap (λ (v : Writing). length v.waiting) (sym stands) ∙ none in
     subst (λ (l : List ℤ). (g.D.Disk.state c.args.disk.now).contents ≡ Some (over_blocks b h l)) (whole_all h.params form ys waits) told
+
+pub returns-then-waiting-eq0-clause-puts : goal.returns-then-waiting-eq0-clause-puts
+returns-then-waiting-eq0-clause-puts g c = none_put g.D.Disk g.met.D.Disk.only_now c.args.disk.now _ _
+
+pub returns-in_err-finish-clause-puts : goal.returns-in_err-finish-clause-puts
+returns-in_err-finish-clause-puts g c =
+    let start : c.layout.inside.start ≡ c.args.layout.now.start = search rules in
+    puts_as g.D.Disk c.args.disk.now c.finish.new.disk _ _ _ _ (ap (λ (m : ℕ). next_place m c.args.writer.now) start) refl c.finish.ensures.puts
+
+pub returns-clause-puts : goal.returns-clause-puts
+returns-clause-puts g c =
+    let start : c.layout.inside.start ≡ c.args.layout.now.start = search rules in
+    puts_as g.D.Disk c.args.disk.now c.finish.new.disk _ _ _ _ (ap (λ (m : ℕ). next_place m c.args.writer.now) start) refl c.finish.ensures.puts

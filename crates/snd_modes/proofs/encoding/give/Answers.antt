@@ -1,17 +1,20 @@
-use Rattle.std.proofs.Common.{rules, ◌≡◌, ◌∙◌, ap, sym, subst, ℕ, ◌≤◌, Bool, true, false, cond, List, ◌++◌, Some, option_map, length, arith}
+use Rattle.std.proofs.Common.{rules, ◌≡◌, ◌∙◌, ap, sym, subst, refl, ℕ, ◌≤◌, Bool, true, false, cond, List, ◌++◌, Some, option_map, length, arith}
 use Rattle.snd_disk.specs.Bytes.{over}
 use Rattle.snd_container.specs.Values.{closed_end}
 use Rattle.snd_layout.specs.Blocks.{block_frames}
 use Rattle.snd_layout.specs.Container.{HasRoomFor}
 use Rattle.snd_layout.specs.Shape.{Shape, end}
 use Rattle.snd_block_writer.specs.Coded.{coded, whole}
+use Rattle.snd_block_writer.proofs.Putting.{puts_as}
 use Rattle.snd_block_writer.specs.Writing.{next_place}
 use Rattle.snd_patch.proofs.Updating.{updates_more, updates_then}
+use Rattle.snd_patch.specs.Images.{LeavesSealing}
 use Rattle.snd_patch.specs.Sealed.{counted, sealed}
 use Rattle.snd_patch.specs.Steps.{MayCount, Updates}
 use Rattle.snd_modes.specs.Edits.{sealed_where}
 use Rattle.snd_modes.specs.Encoding.{counting_whole, most_encoded, over_blocks, whole_frames}
 use Rattle.snd_modes.specs.Pacing.{KeepsPace}
+use Rattle.snd_modes.proofs.BlocksUnderWay.{given_partly, given_sealing}
 use Rattle.snd_modes.proofs.EncodedPlaces.{blocks_of, data_more, may_encode, whole_least}
 use Rattle.snd_modes.proofs.Giving.{counted_whole, ends_whole, ends_within, is_there, most_written, paces_on, puts_behind, whole_more}
 use Rattle.snd_modes.proofs.Ranges.{are_16_bits}
@@ -210,16 +213,16 @@ returns-in-Ok-clause-updates g c =
     let place : next_place c.layout.inside.start w ≡ end h h.frames = omega (arith, start, is_there h form w to xs c.requires.whole c.requires.more c.requires.pace) in
     let put = puts_behind g.D.Disk h h.frames _ (next_place c.layout.inside.start w) _ c.args.disk.now c.write.new.disk place c.write.ensures.puts c.write.ensures.written in
     let most = most_written h form w to xs c.requires.whole c.requires.more c.requires.pace in
-    let sealed_so : Updates g.D.Disk.state g.D.Disk.left_between (counting_whole h to) (whole_frames h.params to) 72 c.write.new.disk c.seal.new.disk =
-    subst (λ (l : Shape). Updates g.D.Disk.state g.D.Disk.left_between l l.frames 72 c.write.new.disk c.seal.new.disk) laid
+    let sealed_so : Updates g.D.Disk.state g.D.Disk.left_between (counting_whole h to) (whole_frames h.params to) 64 c.write.new.disk c.seal.new.disk =
+    subst (λ (l : Shape). Updates g.D.Disk.state g.D.Disk.left_between l l.frames 64 c.write.new.disk c.seal.new.disk) laid
     (record { beside = c.seal.ensures.beside; tells = c.seal.ensures.tells; time = c.seal.ensures.time; written = c.seal.ensures.written; asked = c.seal.ensures.asked }) in
-    let sealing : Updates g.D.Disk.state g.D.Disk.left_between h (whole_frames h.params to) 72 c.write.new.disk c.seal.new.disk =
+    let sealing : Updates g.D.Disk.state g.D.Disk.left_between h (whole_frames h.params to) 64 c.write.new.disk c.seal.new.disk =
     record { beside = sealed_so.beside; tells = sealed_so.tells; time = sealed_so.time; written = sealed_so.written; asked = sealed_so.asked } in
     let automatic : c.args.automatic ≡ true = search rules in
     let more : end h h.frames ≤ end h (whole_frames h.params to) = omega (arith, data_more h.params h.frames (whole_frames h.params to) form.some_frames (whole_more h form w to xs c.requires.whole c.requires.more c.requires.pace)) in
-    let behind = updates_before g.D.Disk.state g.D.Disk.left_between h h.frames (whole_frames h.params to) 72 c.write.new.disk c.seal.new.disk more sealing in
-    updates_then g.D.Disk.state g.D.Disk.left_between h h.frames c.args.disk.now c.write.new.disk c.seal.new.disk _ 72 (most_encoded c.args.automatic h (length xs))
-    (omega (arith, most, ap {B = ℕ} (λ (t : Bool). cond t 72 0) automatic)) put behind
+    let behind = updates_before g.D.Disk.state g.D.Disk.left_between h h.frames (whole_frames h.params to) 64 c.write.new.disk c.seal.new.disk more sealing in
+    updates_then g.D.Disk.state g.D.Disk.left_between h h.frames c.args.disk.now c.write.new.disk c.seal.new.disk _ 64 (most_encoded c.args.automatic h (length xs))
+    (omega (arith, most, ap {B = ℕ} (λ (t : Bool). cond t 64 0) automatic)) put behind
 
 pub returns-in-Err-clause-updates : goal.returns-in-Err-clause-updates
 returns-in-Err-clause-updates g c =
@@ -234,13 +237,61 @@ returns-in-Err-clause-updates g c =
     let place : next_place c.layout.inside.start w ≡ end h h.frames = omega (arith, start, is_there h form w to xs c.requires.whole c.requires.more c.requires.pace) in
     let put = puts_behind g.D.Disk h h.frames _ (next_place c.layout.inside.start w) _ c.args.disk.now c.write.new.disk place c.write.ensures.puts c.write.ensures.written in
     let most = most_written h form w to xs c.requires.whole c.requires.more c.requires.pace in
-    let sealed_so : Updates g.D.Disk.state g.D.Disk.left_between (counting_whole h to) (whole_frames h.params to) 72 c.write.new.disk c.seal.new.disk =
-    subst (λ (l : Shape). Updates g.D.Disk.state g.D.Disk.left_between l l.frames 72 c.write.new.disk c.seal.new.disk) laid
+    let sealed_so : Updates g.D.Disk.state g.D.Disk.left_between (counting_whole h to) (whole_frames h.params to) 64 c.write.new.disk c.seal.new.disk =
+    subst (λ (l : Shape). Updates g.D.Disk.state g.D.Disk.left_between l l.frames 64 c.write.new.disk c.seal.new.disk) laid
     (record { beside = c.seal.ensures.beside; tells = c.seal.ensures.tells; time = c.seal.ensures.time; written = c.seal.ensures.written; asked = c.seal.ensures.asked }) in
-    let sealing : Updates g.D.Disk.state g.D.Disk.left_between h (whole_frames h.params to) 72 c.write.new.disk c.seal.new.disk =
+    let sealing : Updates g.D.Disk.state g.D.Disk.left_between h (whole_frames h.params to) 64 c.write.new.disk c.seal.new.disk =
     record { beside = sealed_so.beside; tells = sealed_so.tells; time = sealed_so.time; written = sealed_so.written; asked = sealed_so.asked } in
     let automatic : c.args.automatic ≡ true = search rules in
     let more : end h h.frames ≤ end h (whole_frames h.params to) = omega (arith, data_more h.params h.frames (whole_frames h.params to) form.some_frames (whole_more h form w to xs c.requires.whole c.requires.more c.requires.pace)) in
-    let behind = updates_before g.D.Disk.state g.D.Disk.left_between h h.frames (whole_frames h.params to) 72 c.write.new.disk c.seal.new.disk more sealing in
-    updates_then g.D.Disk.state g.D.Disk.left_between h h.frames c.args.disk.now c.write.new.disk c.seal.new.disk _ 72 (most_encoded c.args.automatic h (length xs))
-    (omega (arith, most, ap {B = ℕ} (λ (t : Bool). cond t 72 0) automatic)) put behind
+    let behind = updates_before g.D.Disk.state g.D.Disk.left_between h h.frames (whole_frames h.params to) 64 c.write.new.disk c.seal.new.disk more sealing in
+    updates_then g.D.Disk.state g.D.Disk.left_between h h.frames c.args.disk.now c.write.new.disk c.seal.new.disk _ 64 (most_encoded c.args.automatic h (length xs))
+    (omega (arith, most, ap {B = ℕ} (λ (t : Bool). cond t 64 0) automatic)) put behind
+
+pub returns-in_err-write-clause-leaves : goal.returns-in_err-write-clause-leaves
+returns-in_err-write-clause-leaves g c = λ automatic apart ys b stands again told stable.
+    let h = c.args.layout.now in
+    let form = blocks_of h c.keeps_rules.ensures.rule c.requires.fits.blocks c.keeps_rules.ensures.params in
+    let start : c.layout.inside.start ≡ h.start = search rules in
+    given_partly g.D.Disk h form c.args.writer.now c.args.to c.args.from.now c.requires.whole c.requires.more c.requires.pace ys stands b c.args.disk.now c.write.new.disk told stable
+    (puts_as g.D.Disk c.args.disk.now c.write.new.disk _ _ _ _ (ap (λ (m : ℕ). next_place m c.args.writer.now) start) refl c.write.ensures.puts)
+
+pub returns-in-Ok-clause-leaves : goal.returns-in-Ok-clause-leaves
+returns-in-Ok-clause-leaves g c = λ automatic apart ys b stands again told stable.
+    let h = c.args.layout.now in
+    let form = blocks_of h c.keeps_rules.ensures.rule c.requires.fits.blocks c.keeps_rules.ensures.params in
+    let w = c.args.writer.now in
+    let xs = c.args.from.now in
+    let to = c.args.to in
+    let start : c.layout.inside.start ≡ h.start = search rules in
+    let per : c.from.result ≡ block_frames h.params.codec = search rules in
+    let laid : c.count.new.layout ≡ counting_whole h to = c.count.ensures ∙ ap (λ (n : ℕ). record h { frames = n }) (counted_whole h.params to c.from.result per) in
+    let before : (g.D.Disk.state c.args.disk.now).contents ≡ Some (over b c.layout.inside.start (coded h.params (whole h.params ys))) =
+    told ∙ ap (λ (l : List ℕ). Some l) (sym again) ∙ ap (λ (n : ℕ). Some (over b n (coded h.params (whole h.params ys)))) (sym start) in
+    let put : (g.D.Disk.state c.write.new.disk).contents ≡ Some (over_blocks b h (whole h.params (ys ++ xs))) =
+    subst (λ (n : ℕ). (g.D.Disk.state c.write.new.disk).contents ≡ Some (over b n (coded h.params (whole h.params (ys ++ xs))))) start (c.in_ok-write.ensures.holds h.params ys b stands before) in
+    given_sealing g.D.Disk h form w to xs c.requires.whole c.requires.more c.requires.pace ys stands b c.args.disk.now c.write.new.disk told stable
+    (puts_as g.D.Disk c.args.disk.now c.write.new.disk _ _ _ _ (ap (λ (m : ℕ). next_place m w) start) refl c.write.ensures.puts) c.seal.new.disk apart put
+    (subst (λ (l : Shape). LeavesSealing g.D.Disk l l.frames c.write.new.disk c.seal.new.disk) laid c.seal.ensures.leaves)
+
+pub returns-in-Err-clause-leaves : goal.returns-in-Err-clause-leaves
+returns-in-Err-clause-leaves g c = λ automatic apart ys b stands again told stable.
+    let h = c.args.layout.now in
+    let form = blocks_of h c.keeps_rules.ensures.rule c.requires.fits.blocks c.keeps_rules.ensures.params in
+    let w = c.args.writer.now in
+    let xs = c.args.from.now in
+    let to = c.args.to in
+    let start : c.layout.inside.start ≡ h.start = search rules in
+    let per : c.from.result ≡ block_frames h.params.codec = search rules in
+    let laid : c.count.new.layout ≡ counting_whole h to = c.count.ensures ∙ ap (λ (n : ℕ). record h { frames = n }) (counted_whole h.params to c.from.result per) in
+    let before : (g.D.Disk.state c.args.disk.now).contents ≡ Some (over b c.layout.inside.start (coded h.params (whole h.params ys))) =
+    told ∙ ap (λ (l : List ℕ). Some l) (sym again) ∙ ap (λ (n : ℕ). Some (over b n (coded h.params (whole h.params ys)))) (sym start) in
+    let put : (g.D.Disk.state c.write.new.disk).contents ≡ Some (over_blocks b h (whole h.params (ys ++ xs))) =
+    subst (λ (n : ℕ). (g.D.Disk.state c.write.new.disk).contents ≡ Some (over b n (coded h.params (whole h.params (ys ++ xs))))) start (c.in_ok-write.ensures.holds h.params ys b stands before) in
+    given_sealing g.D.Disk h form w to xs c.requires.whole c.requires.more c.requires.pace ys stands b c.args.disk.now c.write.new.disk told stable
+    (puts_as g.D.Disk c.args.disk.now c.write.new.disk _ _ _ _ (ap (λ (m : ℕ). next_place m w) start) refl c.write.ensures.puts) c.seal.new.disk apart put
+    (subst (λ (l : Shape). LeavesSealing g.D.Disk l l.frames c.write.new.disk c.seal.new.disk) laid c.seal.ensures.leaves)
+
+pub returns-then-not-automatic-clause-leaves : goal.returns-then-not-automatic-clause-leaves
+returns-then-not-automatic-clause-leaves g c = λ automatic.
+    absurd (let by_hand : c.args.automatic ≡ false = search rules in let both = sym by_hand ∙ automatic in cc)

@@ -48,7 +48,7 @@ at_first_frame-requires-clause-held g c =
     let made : s ≡ new_shape c.args.kind c.args.params = search rules in
     let fits : fit_refusal c.args.kind c.args.params ≡ None = search rules in
     let linear = c.requires.linear in
-    let new = is_new c.args.kind c.args.params c.are_good.ensures fits linear s made in
+    let new = is_new c.args.kind c.args.params s c.are_good.ensures fits made in
     let linear' : is_none (fixed_of s.params.codec) ≡ false = ap (λ q. is_none (fixed_of q.codec)) new.params ∙ linear in
     omega (arith, ends_at_start s linear' new.frames, new.start, c.in-Ok.ensures.laid.size)
 
@@ -57,21 +57,21 @@ at_first_frame-requires-clause-linear g c = λ writes.
     let made : c.in-Ok.layout ≡ new_shape c.args.kind c.args.params = search rules in
     let linear = c.requires.linear in
     let fits : fit_refusal c.args.kind c.args.params ≡ None = search rules in
-    ap (λ q. is_none (fixed_of q.codec)) (is_new c.args.kind c.args.params c.are_good.ensures fits linear c.in-Ok.layout made).params ∙ linear
+    ap (λ q. is_none (fixed_of q.codec)) (is_new c.args.kind c.args.params c.in-Ok.layout c.are_good.ensures fits made).params ∙ linear
 
 pub at_first_frame-requires-clause-room_ends : goal.at_first_frame-requires-clause-room_ends
 at_first_frame-requires-clause-room_ends g c =
     let made : c.in-Ok.layout ≡ new_shape c.args.kind c.args.params = search rules in
     let fits : fit_refusal c.args.kind c.args.params ≡ None = search rules in
     let linear = c.requires.linear in
-    (is_new c.args.kind c.args.params c.are_good.ensures fits linear c.in-Ok.layout made).room_ends
+    (is_new c.args.kind c.args.params c.in-Ok.layout c.are_good.ensures fits made).room_ends
 
 pub at_first_frame-requires-clause-sized : goal.at_first_frame-requires-clause-sized
 at_first_frame-requires-clause-sized g c = λ writes.
     let made : c.in-Ok.layout ≡ new_shape c.args.kind c.args.params = search rules in
     let fits : fit_refusal c.args.kind c.args.params ≡ None = search rules in
     let linear = c.requires.linear in
-    (is_new c.args.kind c.args.params c.are_good.ensures fits linear c.in-Ok.layout made).known
+    (is_new c.args.kind c.args.params c.in-Ok.layout c.are_good.ensures fits made).known
 
 pub at_first_frame-requires-clause-headed : goal.at_first_frame-requires-clause-headed
 at_first_frame-requires-clause-headed g c = λ makes holds. ∣ (c.args.params, [], c.in-Ok.ensures.head) ∣₁

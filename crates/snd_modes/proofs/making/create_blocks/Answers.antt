@@ -9,7 +9,7 @@ use Rattle.snd_layout.specs.Params.{Parameters}
 use Rattle.snd_layout.specs.Shape.{Shape}
 use Rattle.snd_layout.specs.declared.refusal.OpenRefusal.{OpenRefusal}
 use Rattle.snd_modes.specs.Editing.{first_editing}
-use Rattle.snd_modes.proofs.NewFiles.{begins_at_start, begins_new, is_new_blocks, making_ok, making_refused, never_refused, no_refusal}
+use Rattle.snd_modes.proofs.NewFiles.{begins_at_start, begins_new, is_new, making_ok, making_refused, never_refused, no_refusal}
 use Rattle.snd_modes.proofs.making.create_blocks.Goals as goal
 
 pub returns-clause-made : goal.returns-clause-made
@@ -47,7 +47,7 @@ at_first_frame-requires-clause-held g c =
     let s = c.in-Ok-lay_head.layout in
     let made : s ≡ new_shape c.args.kind c.args.params = search rules in
     let fits : fit_refusal c.args.kind c.args.params ≡ None = search rules in
-    let new = is_new_blocks c.args.kind c.args.params s c.are_good.ensures fits c.requires.blocks c.keeps_rule.ensures made in
+    let new = is_new c.args.kind c.args.params s c.are_good.ensures fits made in
     omega (arith, begins_at_start s (subst (λ (p : Parameters). 1 ≤ block_frames p.codec) (sym new.params) c.writer_for.ensures.form.some_frames) new.frames, new.start, c.in-Ok-lay_head.ensures.laid.size)
 
 pub at_first_frame-requires-clause-begins : goal.at_first_frame-requires-clause-begins
@@ -55,7 +55,7 @@ at_first_frame-requires-clause-begins g c = λ encodes.
     let s = c.in-Ok-lay_head.layout in
     let made : s ≡ new_shape c.args.kind c.args.params = search rules in
     let fits : fit_refusal c.args.kind c.args.params ≡ None = search rules in
-    let new = is_new_blocks c.args.kind c.args.params s c.are_good.ensures fits c.requires.blocks c.keeps_rule.ensures made in
+    let new = is_new c.args.kind c.args.params s c.are_good.ensures fits made in
     let made_so = made_by c.args.kind c.args.params c.are_good.ensures fits in
     begins_new s c.args.params _ c.writer_for.ensures.form.some_frames new.params c.requires.blocks new.frames (ap (λ (h : Shape). h.trailing) made ∙ made_so.free) (λ w is. let one : w ≡ c.in-Ok.writer = cc in subst (λ (v : Box Writing). StandsFor v.value c.args.params []) (sym one) c.in-Ok.ensures.stands)
 
@@ -63,13 +63,13 @@ pub at_first_frame-requires-clause-room_ends : goal.at_first_frame-requires-clau
 at_first_frame-requires-clause-room_ends g c =
     let made : c.in-Ok-lay_head.layout ≡ new_shape c.args.kind c.args.params = search rules in
     let fits : fit_refusal c.args.kind c.args.params ≡ None = search rules in
-    (is_new_blocks c.args.kind c.args.params c.in-Ok-lay_head.layout c.are_good.ensures fits c.requires.blocks c.keeps_rule.ensures made).room_ends
+    (is_new c.args.kind c.args.params c.in-Ok-lay_head.layout c.are_good.ensures fits made).room_ends
 
 pub at_first_frame-requires-clause-sized : goal.at_first_frame-requires-clause-sized
 at_first_frame-requires-clause-sized g c = λ writes.
     let made : c.in-Ok-lay_head.layout ≡ new_shape c.args.kind c.args.params = search rules in
     let fits : fit_refusal c.args.kind c.args.params ≡ None = search rules in
-    (is_new_blocks c.args.kind c.args.params c.in-Ok-lay_head.layout c.are_good.ensures fits c.requires.blocks c.keeps_rule.ensures made).known
+    (is_new c.args.kind c.args.params c.in-Ok-lay_head.layout c.are_good.ensures fits made).known
 
 pub at_first_frame-requires-clause-headed : goal.at_first_frame-requires-clause-headed
 at_first_frame-requires-clause-headed g c = λ makes holds. ∣ (c.args.params, [], c.in-Ok-lay_head.ensures.head) ∣₁

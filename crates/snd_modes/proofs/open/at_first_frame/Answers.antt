@@ -1,6 +1,5 @@
 use Rattle.std.proofs.Common.{refl, arith, ◌≤◌, length}
 use Rattle.snd_layout.specs.Shape.{end}
-use Rattle.snd_layout.specs.Blocks.{is_adpcm}
 use Rattle.snd_modes.proofs.Encoded.{given_none}
 use Rattle.snd_modes.proofs.EncodedPlaces.{blocks_of}
 use Rattle.snd_modes.proofs.FixedFrames.{count_any}
@@ -22,5 +21,5 @@ returns-clause-stands g c = λ b told.
       given = λ encodes.
           let begins = c.requires.begins encodes in
           given_none c.args.writer b layout (blocks_of layout c.keeps_rules.ensures.rule begins.place.blocks c.keeps_rules.ensures.params) begins.empty begins.stands;
-      count = count_any b layout c.keeps_rules.ensures.rule c.keeps_rules.ensures.params fits (is_adpcm layout.params.codec) refl;
+      count = count_any b layout layout.kind c.keeps_rules.ensures.rule.fits c.keeps_rules.ensures.params fits;
     }

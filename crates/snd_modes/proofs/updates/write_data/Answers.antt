@@ -1,8 +1,8 @@
 use Rattle.std.proofs.Common.{◌≡◌, ◌∙◌, Some, sym, subst, ℕ, List, length, arith}
 use Rattle.snd_container.specs.Sound.{fixed_of}
 use Rattle.snd_layout.specs.Shape.{end}
+use Rattle.snd_block_writer.specs.Puts.{LeavesPartly}
 use Rattle.snd_modes.specs.Edits.{coded}
-use Rattle.snd_modes.specs.Putting.{PutsPartly}
 use Rattle.snd_modes.specs.Writing.{PutsAt}
 use Rattle.snd_modes.proofs.Sealing.{coded_is, end_before, end_is, length-coded, written_data}
 use Rattle.snd_modes.proofs.updates.write_data.Goals as goal
@@ -38,5 +38,5 @@ returns-clause-partly g c =
     let h = c.args.layout.now in
     let is : fixed_of h.params.codec ≡ Some c.in-Some.form = sym c.in-Some.ensures.form in
     let at : c.place_of.result ≡ end h c.args.place = c.place_of.ensures ∙ end_is h c.in-Some.form c.args.place is in
-    subst (λ (m : ℕ). PutsPartly g.D.Disk m (coded h.params c.args.from.now) c.args.disk.now c.write_run.new.disk) at
-    (subst (λ (s : List ℕ). PutsPartly g.D.Disk c.place_of.result s c.args.disk.now c.write_run.new.disk) (coded_is h.params c.in-Some.form c.args.from.now is) c.write_run.ensures.partly)
+    subst (λ (m : ℕ). LeavesPartly g.D.Disk m (coded h.params c.args.from.now) c.args.disk.now c.write_run.new.disk) at
+    (subst (λ (s : List ℕ). LeavesPartly g.D.Disk c.place_of.result s c.args.disk.now c.write_run.new.disk) (coded_is h.params c.in-Some.form c.args.from.now is) c.write_run.ensures.partly)

@@ -1,4 +1,4 @@
-use Rattle.std.proofs.Common.{rules, ◌≡◌, ◌∙◌, true, false}
+use Rattle.std.proofs.Common.{rules, refl, ◌≡◌, ◌∙◌, true, false}
 use Rattle.snd_layout.specs.Blocks.{is_adpcm}
 use Rattle.snd_modes.specs.Editing.{first_editing}
 use Rattle.snd_modes.proofs.FixedFrames.{is_fixed}
@@ -30,7 +30,7 @@ returns-clause-opened g c = λ b told.
     )
 
 pub returns-clause-rests : goal.returns-clause-rests
-returns-clause-rests g c = opens_at_rest g.D.Disk c.args.disk.now _ (returns-clause-opened g c) (search rules)
+returns-clause-rests g c = opens_at_rest g.D.Disk c.args.disk.now _ refl (returns-clause-opened g c) (search rules)
 
 pub at_first_frame-requires-clause-linear : goal.at_first_frame-requires-clause-linear
 at_first_frame-requires-clause-linear g c = λ writes.

@@ -1,6 +1,6 @@
 use Rattle.std.proofs.Common.{◌∙◌, ap, subst, ℕ, List, length}
 use Rattle.snd_container.proofs.FixedSamples.{count_of_bytes}
-use Rattle.snd_modes.specs.Putting.{PutsPartly}
+use Rattle.snd_block_writer.specs.Puts.{LeavesPartly}
 use Rattle.snd_modes.specs.Writing.{PutsAt}
 use Rattle.snd_modes.proofs.writes.write_block.Goals as goal
 
@@ -11,4 +11,4 @@ returns-clause-puts g c =
 
 pub returns-clause-partly : goal.returns-clause-partly
 returns-clause-partly g c =
-    subst (λ (s : List ℕ). PutsPartly g.D.Disk c.args.at s c.args.disk.now c.write_bytes.new.disk) c.put_samples.ensures c.write_bytes.ensures.partly
+    subst (λ (s : List ℕ). LeavesPartly g.D.Disk c.args.at s c.args.disk.now c.write_bytes.new.disk) c.put_samples.ensures c.write_bytes.ensures.partly

@@ -1,6 +1,6 @@
 use Rattle.std.proofs.Common.{◌≡◌, ◌-◌, ◌≤◌, length, take}
 use Rattle.snd_container.specs.Fixed.{samples_bytes}
-use Rattle.snd_modes.specs.Putting.{PutsPartly}
+use Rattle.snd_block_writer.specs.Puts.{LeavesPartly}
 use Rattle.snd_modes.specs.Writing.{HasWritten, PutsSamples}
 use Rattle.snd_modes.proofs.writes.write_blocks.Given as goal
 
@@ -10,7 +10,7 @@ invariant-loop-done g l =
       within : l.done ≤ length l.from;
       done : HasWritten g.D.Disk.state l.form l.at (take l.done l.from) l.fn.disk l.disk;
       puts : PutsSamples g.D.Disk.state g.D.Disk.left_between l.form l.at l.done l.fn.disk l.disk;
-      partly : PutsPartly g.D.Disk l.at (samples_bytes l.form l.from) l.fn.disk l.disk;
+      partly : LeavesPartly g.D.Disk l.at (samples_bytes l.form l.from) l.fn.disk l.disk;
       calm : (g.D.Disk.state l.disk).faults ≡ (g.D.Disk.state l.fn.disk).faults;
     }
 

@@ -1,11 +1,16 @@
 use Rattle.std.proofs.Common.{rules, ◌≡◌, ◌∙◌, ap, sym, subst, refl, inr, ◌+◌, ◌^◌, ◌≤◌, true, None, arith}
 use Rattle.snd_layout.specs.Shape.{Shape, end, room}
-use Rattle.snd_modes.specs.Encoding.{counting_whole, whole_frames}
+use Rattle.snd_modes.specs.Encoding.{MayEncode, counting_whole, encoded_to, whole_frames}
+use Rattle.snd_modes.specs.UnderWay.{LeavesGivenIn}
+use Rattle.snd_modes.specs.WriteCalls.{end_written}
+use Rattle.snd_modes.proofs.AtRest.{still_safe}
 use Rattle.snd_modes.proofs.EditedSteps.{more_frames}
+use Rattle.snd_modes.proofs.EncodedRest.{given_at_rest, giving_is_safe, stays_refused_as}
 use Rattle.snd_modes.proofs.EncodedPlaces.{blocks_of, data_more, may_encode, whole_least}
 use Rattle.snd_modes.proofs.EncodedState.{declared_where, encoded_stands, ends_where, known_where, place_where, room_where, whole_reaches}
-use Rattle.snd_modes.proofs.Encoded.{counted_within, frames_where, some_writer}
+use Rattle.snd_modes.proofs.Encoded.{counted_within, frames_where, some_writer, stands_again}
 use Rattle.snd_modes.specs.Pacing.{HasPlaceFor}
+use Rattle.snd_modes.proofs.Ranges.{are_16_bits}
 use Rattle.snd_modes.proofs.encoding.«File+D+Encode».encode_frames.Goals as goal
 
 pub returns-in-Ok-clause-stands : goal.returns-in-Ok-clause-stands
@@ -31,6 +36,7 @@ returns-in-Ok-clause-stands g c =
       known = search rules;
       reaches = c.in_ok-next.ensures.value;
       even = c.in_ok-next.ensures.ready.frames.whole;
+      range = are_16_bits h.params.codec xs fits.blocks c.in_ok-next.ensures.ready.frames.in_range;
       rule = more_frames h (whole_frames h.params to) c.end_of_encode.ensures.rule (file.sized refl) may.1 (inr (omega (arith, bytes, fits.fits.in_room)));
       told = g.met.D.Disk.size_told file.disk.now;
       told_then = g.met.D.Disk.size_told c.give_writer.new.disk;
@@ -68,3 +74,45 @@ invariant_of-self-in-Ok g c =
       counted = λ automatic still free other. declared_where file.automatic h to c.give_writer.new.layout automatic laid free;
       closed = λ automatic still free. c.in-Ok.ensures.closed automatic;
     }
+
+-- what a crash leaves, from rest
+
+pub returns-in-Some-clause-leaves : goal.returns-in-Some-clause-leaves
+returns-in-Some-clause-leaves g c = λ auto opened e rest. still_safe g.D.Disk c.args.self.now g.met.D.Disk.only_now opened e _ rest
+
+pub returns-in_err-next-clause-leaves : goal.returns-in_err-next-clause-leaves
+returns-in_err-next-clause-leaves g c = λ auto opened e rest. still_safe g.D.Disk c.args.self.now g.met.D.Disk.only_now opened e _ rest
+
+pub returns-in-Ok-clause-leaves : goal.returns-in-Ok-clause-leaves
+returns-in-Ok-clause-leaves g c = λ auto opened e rest.
+    let file = c.args.self.now in
+    let xs = c.args.from.now in
+    let w = some_writer true file.writer file.encodes refl in
+    let may : MayEncode xs e.shape e.write_place = subst (MayEncode xs e.shape) rest.stands.write_place (subst (λ (s : Shape). MayEncode xs s file.write_place) rest.stands.shape c.in_ok-next.ensures.ready) in
+    let reaches : c.in_ok-next.next ≡ end_written xs e.shape e.write_place =
+    c.in_ok-next.ensures.value ∙ ap (λ (s : Shape). end_written xs s file.write_place) rest.stands.shape ∙ ap (end_written xs e.shape) rest.stands.write_place in
+    giving_is_safe g.D.Disk opened file e refl rest w.0 w.1 c.give_writer.new.disk xs c.in_ok-next.next reaches may
+    (subst (λ (s : Shape). LeavesGivenIn g.D.Disk s c.in_ok-next.next xs file.writer file.disk.now c.give_writer.new.disk) rest.stands.shape (c.give_writer.ensures.leaves auto))
+
+pub returns-in-Err-clause-leaves : goal.returns-in-Err-clause-leaves
+returns-in-Err-clause-leaves g c = λ auto opened e rest.
+    let file = c.args.self.now in
+    let xs = c.args.from.now in
+    let w = some_writer true file.writer file.encodes refl in
+    let may : MayEncode xs e.shape e.write_place = subst (MayEncode xs e.shape) rest.stands.write_place (subst (λ (s : Shape). MayEncode xs s file.write_place) rest.stands.shape c.in_ok-next.ensures.ready) in
+    let reaches : c.in_ok-next.next ≡ end_written xs e.shape e.write_place =
+    c.in_ok-next.ensures.value ∙ ap (λ (s : Shape). end_written xs s file.write_place) rest.stands.shape ∙ ap (end_written xs e.shape) rest.stands.write_place in
+    giving_is_safe g.D.Disk opened file e refl rest w.0 w.1 c.give_writer.new.disk xs c.in_ok-next.next reaches may
+    (subst (λ (s : Shape). LeavesGivenIn g.D.Disk s c.in_ok-next.next xs file.writer file.disk.now c.give_writer.new.disk) rest.stands.shape (c.give_writer.ensures.leaves auto))
+
+pub returns-in-Ok-clause-rests : goal.returns-in-Ok-clause-rests
+returns-in-Ok-clause-rests g c = λ auto opened e rest.
+    let file = c.args.self.now in
+    let xs = c.args.from.now in
+    let may : MayEncode xs e.shape e.write_place = subst (MayEncode xs e.shape) rest.stands.write_place (subst (λ (s : Shape). MayEncode xs s file.write_place) rest.stands.shape c.in_ok-next.ensures.ready) in
+    given_at_rest g.D.Disk opened file e refl rest _ xs may (sym rest.stands.automatic ∙ auto) (returns-in-Ok-clause-stands g c e rest.stands) (c.in-Ok.ensures.stable auto)
+
+pub returns-in_err-next-clause-rests : goal.returns-in_err-next-clause-rests
+returns-in_err-next-clause-rests g c = λ auto.
+    stays_refused_as g.D.Disk c.args.self.now _ (encoded_to c.args.from.now) c.args.from.now c.args.self.now.layout c.args.self.now.write_place c.in_err-next.field-0.0 c.in_err-next.ensures.refused (λ opened e rest.
+    record { state = rest.state; stands = stands_again g.D.Disk.state c.args.self.now _ e refl refl refl rest.stands; stable = rest.stable; fit = rest.fit; sized = rest.sized }) c.from_residual.result (search rules)

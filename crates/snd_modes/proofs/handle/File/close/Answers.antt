@@ -1,21 +1,22 @@
-use Rattle.std.proofs.Common.{rules, ◌≡◌, subst, true, false, None}
+use Rattle.std.proofs.Common.{rules, ◌≡◌, subst, ℕ, true, false, None}
 use Rattle.snd_modes.proofs.Encoded.{some_writer}
-use Rattle.snd_layout.specs.Blocks.{is_adpcm}
 use Rattle.snd_layout.specs.Shape.{Shape}
-use Rattle.snd_modes.specs.Edits.{sealed_to}
-use Rattle.snd_modes.proofs.Closed.{closed_by_hand, closed_whole, closes_by, never_edited, ok_done}
+use Rattle.snd_modes.specs.Closing.{closed_to}
+use Rattle.snd_modes.specs.UnderWay.{LeavesAllIn}
+use Rattle.snd_modes.proofs.Closed.{closed_by_hand, closed_whole, closes_by, ok_done}
+use Rattle.snd_modes.proofs.EncodedRest.{closing_is_safe}
 use Rattle.snd_modes.proofs.KeptChunks.{given_back}
 use Rattle.snd_modes.proofs.LeftSafe.{sealing_is_safe, unchanged}
 use Rattle.snd_modes.proofs.handle.File.close.Goals as goal
 
 pub returns-in-Some-clause-leaves : goal.returns-in-Some-clause-leaves
-returns-in-Some-clause-leaves g c = λ writes opened e rest. unchanged g.D.Disk opened c.args.self e rest g.met.D.Disk.only_now (sealed_to e)
+returns-in-Some-clause-leaves g c = λ writes opened e rest. unchanged g.D.Disk opened c.args.self e rest g.met.D.Disk.only_now (closed_to g.M.Mode.ENCODES e)
 
 pub returns-clause-leaves : goal.returns-clause-leaves
-returns-clause-leaves g c = λ writes opened e rest. sealing_is_safe g.D.Disk opened c.args.self e rest c.seal.new.disk c.seal.ensures.leaves (sealed_to e) c.seal.ensures.still
+returns-clause-leaves g c = λ writes opened e rest. sealing_is_safe g.D.Disk opened c.args.self e rest c.seal.new.disk c.seal.ensures.leaves (closed_to g.M.Mode.ENCODES e) c.seal.ensures.still
 
 pub returns-in-Ok-clause-leaves : goal.returns-in-Ok-clause-leaves
-returns-in-Ok-clause-leaves g c = λ writes opened e rest. sealing_is_safe g.D.Disk opened c.args.self e rest c.seal.new.disk c.seal.ensures.leaves (sealed_to e) c.seal.ensures.still
+returns-in-Ok-clause-leaves g c = λ writes opened e rest. sealing_is_safe g.D.Disk opened c.args.self e rest c.seal.new.disk c.seal.ensures.leaves (closed_to g.M.Mode.ENCODES e) c.seal.ensures.still
 
 pub returns-in-Ok-clause-chunks : goal.returns-in-Ok-clause-chunks
 returns-in-Ok-clause-chunks g c = λ writes.
@@ -24,13 +25,19 @@ returns-in-Ok-clause-chunks g c = λ writes.
 
 pub returns-in-Err-clause-leaves : goal.returns-in-Err-clause-leaves
 returns-in-Err-clause-leaves g c = λ writes opened e rest.
+    let file = c.args.self in
     let encodes : g.M.Mode.ENCODES ≡ true = search rules in
-    absurd (never_edited opened e rest.edited (subst (λ (s : Shape). is_adpcm s.params.codec ≡ true) rest.stands.shape (c.args.self.roomy encodes).blocks))
+    let w = some_writer g.M.Mode.ENCODES file.writer file.encodes encodes in
+    let here = subst (λ (s : Shape). LeavesAllIn g.D.Disk s file.write_place file.writer file.disk.now c.seal_writer.new.disk) rest.stands.shape c.seal_writer.ensures.leaves in
+    closing_is_safe g.D.Disk opened file e encodes rest w.0 w.1 c.seal_writer.new.disk (subst (λ (n : ℕ). LeavesAllIn g.D.Disk e.shape n file.writer file.disk.now c.seal_writer.new.disk) rest.stands.write_place here)
 
 pub returns-then-is_some-clause-leaves : goal.returns-then-is_some-clause-leaves
 returns-then-is_some-clause-leaves g c = λ writes opened e rest.
+    let file = c.args.self in
     let encodes : g.M.Mode.ENCODES ≡ true = search rules in
-    absurd (never_edited opened e rest.edited (subst (λ (s : Shape). is_adpcm s.params.codec ≡ true) rest.stands.shape (c.args.self.roomy encodes).blocks))
+    let w = some_writer g.M.Mode.ENCODES file.writer file.encodes encodes in
+    let here = subst (λ (s : Shape). LeavesAllIn g.D.Disk s file.write_place file.writer file.disk.now c.seal_writer.new.disk) rest.stands.shape c.seal_writer.ensures.leaves in
+    closing_is_safe g.D.Disk opened file e encodes rest w.0 w.1 c.seal_writer.new.disk (subst (λ (n : ℕ). LeavesAllIn g.D.Disk e.shape n file.writer file.disk.now c.seal_writer.new.disk) rest.stands.write_place here)
 
 pub returns-then-is_some-clause-back : goal.returns-then-is_some-clause-back
 returns-then-is_some-clause-back g c =

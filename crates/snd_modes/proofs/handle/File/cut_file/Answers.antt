@@ -58,10 +58,10 @@ invariant_of-self-clause-closed g c = λ auto working free.
     subst (λ (s : Shape). closed_end s s.frames ≤ size) (sym c.in-Ok.ensures.layout) ends
 
 pub returns-in-Ok-clause-leaves : goal.returns-in-Ok-clause-leaves
-returns-in-Ok-clause-leaves g c = λ opened e rest. cutting_is_safe g.D.Disk opened c.args.self.now e rest c.shrink.new.disk c.args.to c.requires.fewer c.requires.free c.shrink.ensures.leaves
+returns-in-Ok-clause-leaves g c = λ opened e rest. cutting_is_safe g.D.Disk opened c.args.self.now e rest g.met.M.CanWrite.by_place c.shrink.new.disk c.args.to c.requires.fewer c.requires.free c.shrink.ensures.leaves
 
 pub returns-in-Err-clause-leaves : goal.returns-in-Err-clause-leaves
-returns-in-Err-clause-leaves g c = λ opened e rest. cutting_is_safe g.D.Disk opened c.args.self.now e rest c.shrink.new.disk c.args.to c.requires.fewer c.requires.free c.shrink.ensures.leaves
+returns-in-Err-clause-leaves g c = λ opened e rest. cutting_is_safe g.D.Disk opened c.args.self.now e rest g.met.M.CanWrite.by_place c.shrink.new.disk c.args.to c.requires.fewer c.requires.free c.shrink.ensures.leaves
 
 pub invariant_of-self-clause-headed : goal.invariant_of-self-clause-headed
 invariant_of-self-clause-headed g c = λ makes empty working holds.

@@ -1,12 +1,12 @@
 use Rattle.std.proofs.Common.{rules, ◌≡◌, subst, true}
 use Rattle.snd_layout.specs.Shape.{Shape}
 use Rattle.snd_modes.specs.Edits.{automatic_to, sealed_to}
-use Rattle.snd_modes.specs.Laws.{sets_automatic}
 use Rattle.snd_modes.specs.Safe.{IsSafe}
 use Rattle.snd_modes.specs.WriteCalls.{is_whole_field}
 use Rattle.snd_modes.proofs.Encoded.{stands_automatic}
+use Rattle.snd_modes.proofs.EncodedFiles.{state_stays}
 use Rattle.snd_modes.proofs.KeptChunks.{stay_set}
-use Rattle.snd_modes.proofs.LeftSafe.{leaves_same, rests_after, unchanged}
+use Rattle.snd_modes.proofs.LeftSafe.{keeps_of, leaves_same, rests_in, unchanged}
 use Rattle.snd_modes.proofs.SafeRests.{automatic_rest}
 use Rattle.snd_modes.proofs.handle.File.set_auto.Goals as goal
 
@@ -31,13 +31,15 @@ returns-clause-stable g c = search rules
 pub returns-clause-rests : goal.returns-clause-rests
 returns-clause-rests g c = λ opened e rest.
     let on = c.args.on in
-    rests_after g.D.Disk opened _ e (automatic_to on e) rest.edited (sets_automatic on) (automatic_rest opened e on rest.edited rest.fit.bytes rest.fit.whole) (returns-clause-stands g c e rest.stands) (returns-clause-stable g c)
+    rests_in g.D.Disk opened _ (automatic_to on e) (state_stays g.M.Mode.ENCODES opened e on rest.state)
+    (automatic_rest opened e on (keeps_of g.M.Mode.ENCODES opened e rest.state) rest.fit.bytes rest.fit.whole) (returns-clause-stands g c e rest.stands) (returns-clause-stable g c)
 
 pub returns-clause-begins : goal.returns-clause-begins
-returns-clause-begins g c = λ is opened e edited bytes stands.
+returns-clause-begins g c = λ is opened e state bytes stands.
     let on = c.args.on in
     let whole : is_whole_field c.args.self.now.layout ≡ true = search rules in
-    rests_after g.D.Disk opened _ e (automatic_to on e) edited (sets_automatic on) (automatic_rest opened e on edited bytes (subst (λ (s : Shape). is_whole_field s ≡ true) stands.shape whole)) (returns-clause-stands g c e stands) (returns-clause-stable g c)
+    rests_in g.D.Disk opened _ (automatic_to on e) (state_stays g.M.Mode.ENCODES opened e on state)
+    (automatic_rest opened e on (keeps_of g.M.Mode.ENCODES opened e state) bytes (subst (λ (s : Shape). is_whole_field s ≡ true) stands.shape whole)) (returns-clause-stands g c e stands) (returns-clause-stable g c)
 
 pub returns-clause-chunks : goal.returns-clause-chunks
 returns-clause-chunks g c = stay_set g.D.Disk c.args.self.now _ c.args.on (returns-clause-stands g c)

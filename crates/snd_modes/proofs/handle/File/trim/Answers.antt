@@ -7,7 +7,7 @@ use Rattle.snd_modes.specs.Handle.{Stands, disk_of}
 use Rattle.snd_modes.specs.Laws.{trims}
 use Rattle.snd_modes.proofs.CutFrames.{off_counted}
 use Rattle.snd_modes.proofs.KeptChunks.{stay_trimmed}
-use Rattle.snd_modes.proofs.LeftSafe.{rests_after, trimming_is_safe, unchanged}
+use Rattle.snd_modes.proofs.LeftSafe.{edited_of, rests_after, trimming_is_safe, unchanged}
 use Rattle.snd_modes.proofs.SafeRests.{trimmed_rest}
 use Rattle.snd_modes.proofs.handle.File.trim.Goals as goal
 
@@ -29,20 +29,21 @@ returns-in_err-seal_file-clause-leaves g c = λ opened e rest. c.seal_file.ensur
 pub returns-in_err-cut_tail-clause-leaves : goal.returns-in_err-cut_tail-clause-leaves
 returns-in_err-cut_tail-clause-leaves g c = λ opened e rest.
     let may : c.args.self.now.layout.trailing ≡ true → c.args.self.now.layout.kind ≡ Voc = search rules in
-    trimming_is_safe g.D.Disk opened c.args.self.now e rest c.seal_file.new.self (disk_of c.cut_tail.new.self) _ may (c.seal_file.ensures.leaves opened e _ rest)
+    trimming_is_safe g.D.Disk opened c.args.self.now e rest c.seal_file.new.self (disk_of c.cut_tail.new.self) _ g.met.M.CanWrite.by_place may (c.seal_file.ensures.leaves opened e _ rest)
     (c.in_ok-seal_file.ensures.stands e rest.stands) c.in_ok-seal_file.ensures.stable c.cut_tail.ensures.leaves
 
 pub returns-clause-leaves : goal.returns-clause-leaves
 returns-clause-leaves g c = λ opened e rest.
     let may : c.args.self.now.layout.trailing ≡ true → c.args.self.now.layout.kind ≡ Voc = search rules in
-    trimming_is_safe g.D.Disk opened c.args.self.now e rest c.seal_file.new.self (disk_of c.cut_tail.new.self) (trimmed_to e) may (c.seal_file.ensures.leaves opened e (trimmed_to e) rest)
+    trimming_is_safe g.D.Disk opened c.args.self.now e rest c.seal_file.new.self (disk_of c.cut_tail.new.self) (trimmed_to e) g.met.M.CanWrite.by_place may (c.seal_file.ensures.leaves opened e (trimmed_to e) rest)
     (c.in_ok-seal_file.ensures.stands e rest.stands) c.in_ok-seal_file.ensures.stable c.cut_tail.ensures.leaves
 
 pub returns-clause-rests : goal.returns-clause-rests
 returns-clause-rests g c = λ opened e rest.
     let may : c.args.self.now.layout.trailing ≡ true → c.args.self.now.layout.kind ≡ Voc = search rules in
     let may' : e.shape.trailing ≡ true → e.shape.kind ≡ Voc = subst (λ (s : Shape). s.trailing ≡ true → s.kind ≡ Voc) rest.stands.shape may in
-    rests_after g.D.Disk opened c.cut_tail.new.self e (trimmed_to e) rest.edited (trims may') (trimmed_rest opened e rest.edited rest.fit.bytes rest.fit.whole may')
+    let ed = edited_of g.M.Mode.ENCODES opened e g.met.M.CanWrite.by_place rest.state in
+    rests_after g.D.Disk opened c.cut_tail.new.self e (trimmed_to e) g.met.M.CanWrite.by_place ed (trims may') (trimmed_rest opened e ed rest.fit.bytes rest.fit.whole may')
     (returns-clause-stands g c e rest.stands) c.in_ok-cut_tail.ensures.stable
 
 pub returns-clause-chunks : goal.returns-clause-chunks

@@ -5,7 +5,7 @@ use Rattle.snd_modes.specs.Edits.{cut_to, sealed_to, truncated_to}
 use Rattle.snd_modes.specs.Handle.{Stands}
 use Rattle.snd_modes.specs.Laws.{MayTruncate, truncates}
 use Rattle.snd_modes.proofs.KeptChunks.{stay_cut}
-use Rattle.snd_modes.proofs.LeftSafe.{rests_after, truncating_is_safe, unchanged, where_failed}
+use Rattle.snd_modes.proofs.LeftSafe.{edited_of, rests_after, truncating_is_safe, unchanged, where_failed}
 use Rattle.snd_modes.proofs.SafeRests.{cut_rest}
 use Rattle.snd_modes.proofs.handle.File.truncate.Goals as goal
 
@@ -41,7 +41,8 @@ returns-then-to-frames-2-clause-rests g c = λ opened e rest.
     let to = c.args.to in
     let same : to ≡ c.args.self.now.layout.frames = search rules in
     let may : MayTruncate to e.shape = subst (MayTruncate to) rest.stands.shape (record { within = omega (arith, same); free = λ fewer. absurd (omega (arith, same, fewer)) }) in
-    rests_after g.D.Disk opened c.seal_file.new.self e (truncated_to to e) rest.edited (truncates to may) (cut_rest opened e to rest.edited rest.fit.bytes rest.fit.whole may)
+    rests_after g.D.Disk opened c.seal_file.new.self e (truncated_to to e) g.met.M.CanWrite.by_place (edited_of g.M.Mode.ENCODES opened e g.met.M.CanWrite.by_place rest.state) (truncates to may)
+    (cut_rest opened e to (edited_of g.M.Mode.ENCODES opened e g.met.M.CanWrite.by_place rest.state) rest.fit.bytes rest.fit.whole may)
     (returns-then-to-frames-2-clause-stands g c e rest.stands) c.in_ok-seal_file.ensures.stable
 
 pub returns-in_err-cut_file-clause-leaves : goal.returns-in_err-cut_file-clause-leaves
@@ -60,7 +61,8 @@ returns-clause-rests g c = λ opened e rest.
     let fewer : to < c.args.self.now.layout.frames = search rules in
     let free : c.args.self.now.layout.trailing ≡ false = search rules in
     let may : MayTruncate to e.shape = subst (MayTruncate to) rest.stands.shape (record { within = omega (arith, fewer); free = λ less. free }) in
-    rests_after g.D.Disk opened c.cut_file.new.self e (truncated_to to e) rest.edited (truncates to may) (cut_rest opened e to rest.edited rest.fit.bytes rest.fit.whole may)
+    rests_after g.D.Disk opened c.cut_file.new.self e (truncated_to to e) g.met.M.CanWrite.by_place (edited_of g.M.Mode.ENCODES opened e g.met.M.CanWrite.by_place rest.state) (truncates to may)
+    (cut_rest opened e to (edited_of g.M.Mode.ENCODES opened e g.met.M.CanWrite.by_place rest.state) rest.fit.bytes rest.fit.whole may)
     (returns-clause-stands g c e rest.stands) c.in_ok-cut_file.ensures.stable
 
 pub returns-then-to-frames-2-clause-chunks : goal.returns-then-to-frames-2-clause-chunks

@@ -1,7 +1,7 @@
 use Rattle.snd_modes.specs.Edits.{sealed_to}
-use Rattle.snd_modes.specs.Laws.{seals}
+use Rattle.snd_modes.proofs.EncodedFiles.{state_stays}
 use Rattle.snd_modes.proofs.KeptChunks.{stay_sealed}
-use Rattle.snd_modes.proofs.LeftSafe.{rests_after, unchanged}
+use Rattle.snd_modes.proofs.LeftSafe.{keeps_of, rests_in, unchanged}
 use Rattle.snd_modes.proofs.SafeRests.{sealed_rest}
 use Rattle.snd_modes.proofs.handle.File.update_now.Goals as goal
 
@@ -16,7 +16,8 @@ returns-clause-leaves g c = λ opened e rest. c.seal_file.ensures.leaves opened 
 
 pub returns-clause-rests : goal.returns-clause-rests
 returns-clause-rests g c = λ opened e rest.
-    rests_after g.D.Disk opened c.seal_file.new.self e (sealed_to e) rest.edited seals (sealed_rest opened e rest.edited rest.fit.bytes rest.fit.whole) (c.in_ok-seal_file.ensures.stands e rest.stands) c.in_ok-seal_file.ensures.stable
+    rests_in g.D.Disk opened c.seal_file.new.self (sealed_to e) (state_stays g.M.Mode.ENCODES opened e e.automatic rest.state)
+    (sealed_rest opened e (keeps_of g.M.Mode.ENCODES opened e rest.state) rest.fit.bytes rest.fit.whole) (c.in_ok-seal_file.ensures.stands e rest.stands) c.in_ok-seal_file.ensures.stable
 
 pub returns-clause-chunks : goal.returns-clause-chunks
 returns-clause-chunks g c = stay_sealed g.D.Disk c.args.self.now c.seal_file.new.self c.in_ok-seal_file.ensures.stands

@@ -81,12 +81,12 @@ returns-in-Ok-clause-left g c =
 
 pub returns-in-Ok-clause-leaves : goal.returns-in-Ok-clause-leaves
 returns-in-Ok-clause-leaves g c = λ auto opened e rest.
-    written_leaves g.D.Disk c.args.self.now opened e c.args.from.now rest auto c.in_ok-next.ensures.ready
+    written_leaves g.D.Disk c.args.self.now g.met.M.CanWrite.by_place opened e c.args.from.now rest auto c.in_ok-next.ensures.ready
     (c.in_ok-next.next - c.args.self.now.write_place) c.write_over.new.disk (omega (arith, c.in_ok-next.ensures.value)) c.write_over.ensures.leaves
 
 pub returns-in-Err-clause-leaves : goal.returns-in-Err-clause-leaves
 returns-in-Err-clause-leaves g c = λ auto opened e rest.
-    written_leaves g.D.Disk c.args.self.now opened e c.args.from.now rest auto c.in_ok-next.ensures.ready
+    written_leaves g.D.Disk c.args.self.now g.met.M.CanWrite.by_place opened e c.args.from.now rest auto c.in_ok-next.ensures.ready
     (c.in_ok-next.next - c.args.self.now.write_place) c.write_over.new.disk (omega (arith, c.in_ok-next.ensures.value)) c.write_over.ensures.leaves
 
 pub returns-in-Some-clause-leaves : goal.returns-in-Some-clause-leaves
@@ -97,7 +97,7 @@ returns-in_err-next-clause-leaves g c = λ auto opened e rest. still_safe g.D.Di
 
 pub returns-in-Ok-clause-rests : goal.returns-in-Ok-clause-rests
 returns-in-Ok-clause-rests g c = λ auto opened e rest.
-    written_at_rest g.D.Disk c.args.self.now opened e c.args.from.now rest auto c.in_ok-next.ensures.ready _ (returns-in-Ok-clause-stands g c e rest.stands) (c.in-Ok.ensures.stable auto)
+    written_at_rest g.D.Disk c.args.self.now g.met.M.CanWrite.by_place opened e c.args.from.now rest auto c.in_ok-next.ensures.ready _ (returns-in-Ok-clause-stands g c e rest.stands) (c.in-Ok.ensures.stable auto)
 
 pub invariant_of-self-in-Ok-clause-headed : goal.invariant_of-self-in-Ok-clause-headed
 invariant_of-self-in-Ok-clause-headed g c = λ makes empty working.
@@ -122,7 +122,7 @@ returns-in-Ok-clause-chunks g c = stay_written g.D.Disk c.args.self.now _ c.args
 pub returns-in_err-next-clause-rests : goal.returns-in_err-next-clause-rests
 returns-in_err-next-clause-rests g c = λ auto.
     stays_refused_as g.D.Disk c.args.self.now _ (written_to c.args.from.now) c.args.from.now c.args.self.now.layout c.args.self.now.write_place c.in_err-next.field-0.0 c.in_err-next.ensures.refused (λ opened e rest.
-    record { edited = rest.edited; stands = stands_again g.D.Disk.state c.args.self.now _ e refl refl refl rest.stands; stable = rest.stable; fit = rest.fit; sized = rest.sized }) c.from_residual.result (search rules)
+    record { state = rest.state; stands = stands_again g.D.Disk.state c.args.self.now _ e refl refl refl rest.stands; stable = rest.stable; fit = rest.fit; sized = rest.sized }) c.from_residual.result (search rules)
 
 pub invariant_of-self-in-Err : goal.invariant_of-self-in-Err
 invariant_of-self-in-Err g c =
