@@ -58,7 +58,6 @@ short_open chunk.BlockTooLarge = lit≤ tt
 short_open chunk.OtherCoefs = lit≤ tt
 short_open chunk.PackedBody = lit≤ tt
 short_open chunk.BadPair = lit≤ tt
-short_open chunk.NotBuilt = lit≤ tt
 
 pub short_refusal : (refusal : Refusal) → length (refusal_name refusal) ≤ 16
 short_refusal (Open refusal) = short_open refusal

@@ -43,7 +43,7 @@ module _ (between : ℕ → ℕ → List ℕ → Type 0) (images : List ℕ → 
   left_safe : (e' : Editing) (x : List ℕ) → images x → IsSafe e e' x
   left_safe e' x left =
       let bytes : All IsByte b = subst (All IsByte) same_bytes fit.bytes in
-      wider e e' x (subst (IsSafe e e) (same_bytes ∙ sym (only_b x left)) (at_rest b e (updated_is_edited b e bytes is) fit.told))
+      wider e e' x (subst (IsSafe e e) (same_bytes ∙ sym (only_b x left)) (at_rest b e (updated_is_edited b e bytes is).keeps fit.told))
 
   left_then : (e' : Editing) (s t : ℕ) (x : List ℕ) → now ≤ s → between s t x → IsSafe e e' x
   left_then e' s t x le left = left_safe e' x (only_now s t x le left)

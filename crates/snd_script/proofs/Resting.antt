@@ -1,29 +1,31 @@
 -- A file at rest, while commands are carried out on it and when it is closed.
-use Rattle.std.proofs.Common.{◌≡◌, inl, inr, ⊎_elim, ℕ, ◌+◌, ◌≤◌, List, Bool, true, false, ◌&&◌, Option, None, Some, Result, Ok, Err, refl, sym, ◌∙◌, ap, subst, arith}
+use Rattle.std.proofs.Common.{◌≡◌, ◌⊎◌, inl, inr, ⊎_elim, ℕ, ◌+◌, ◌≤◌, List, Bool, true, false, ◌&&◌, Option, None, Some, Result, Ok, Err, refl, sym, ◌∙◌, ap, subst, arith}
 use Rattle.std.specs.Prelude.{is_none, nat_lt, if◌then◌else◌}
 use Rattle.std.proofs.lemmas.Bool.{cases_Bool, ltb-false}
 use Rattle.snd_blocks.specs.Frames.{has_bad}
 use Rattle.snd_disk.specs.Device.{OnlyReadsOn}
 use Rattle.snd_disk.specs.declared.disk.Disk.{Ghosts}
 use Rattle.snd_disk.specs.declared.streams.Sink.{Ghosts as SinkMeaning}
+use Rattle.snd_layout.specs.Shape.{Shape}
 use Rattle.snd_meta.specs.declared.bext.BextKey.{BextKey}
 use Rattle.snd_meta.specs.declared.bext.BextKey.TheVariants.{Description, Originator, OrigRef, OrigDate, OrigTime, TimeRef, CodingHist}
-use Rattle.snd_modes.specs.Editing.{Editing, frames_left, moved_to}
+use Rattle.snd_modes.specs.Closing.{closed_to}
+use Rattle.snd_modes.specs.Editing.{Editing, frames_left}
 use Rattle.snd_modes.specs.Edits.{sealed_to}
 use Rattle.snd_modes.specs.Handle.{Stands, disk_of, known_of}
-use Rattle.snd_modes.specs.Laws.{HoldsFrames, IsEdited, seals}
+use Rattle.snd_modes.specs.Laws.{HoldsFrames, IsStateOf, KeepsFile}
+use Rattle.snd_modes.specs.Pacing.{HasPlaceFor}
 use Rattle.snd_modes.specs.Rest.{IsAtRest}
 use Rattle.snd_modes.specs.Safe.{IsSafe}
 use Rattle.snd_modes.specs.declared.handle.File.{File}
 use Rattle.snd_modes.specs.declared.mode.Mode.{Ghosts as ModeGhosts}
-use Rattle.snd_modes.proofs.EditedFiles.{moved_edited, moved_write_edited}
-use Rattle.snd_modes.proofs.EditedSteps.{leads_to_edited}
-use Rattle.snd_modes.proofs.LeftSafe.{left_at_rest}
+use Rattle.snd_modes.proofs.EditedFiles.{keeps_beside, sealed_keeps_file}
+use Rattle.snd_modes.proofs.LeftSafe.{keeps_of, left_at_rest}
 use Rattle.snd_modes.proofs.SafeImages.{same_file}
 use Rattle.snd_patch.proofs.Moments.{leaves_weaker}
 use Rattle.snd_patch.specs.Images.{LeavesEach}
 use Rattle.snd_meters.specs.Gauge.{Gauge}
-use Rattle.snd_script.specs.Desk.{Mode, encodes, encoding, is_pinned, makes, pinned, reading, reads, updating, writes, writing}
+use Rattle.snd_script.specs.Desk.{Mode, encodes, encoding, all_put, is_pinned, makes, pinned, reading, reads, updating, writes, writing}
 use Rattle.snd_script.specs.Edit.{edit_by, edit_unless}
 use Rattle.snd_script.specs.Rules.{FileEdited, Grounds, Rule, answered, auto_rule, by_blocks, encode_rule, frames_wanted, grounds_of, in_mode, read_rule, refused_if, refused_rule, seek_both_rule, seek_read_rule, seek_rule, seek_write_rule, set_bext_rule, set_chunk_rule, set_cue_rule, set_string_rule, trim_rule, truncate_rule, unless_pinned, update_rule, write_rule}
 use Rattle.snd_script.specs.Stepped.{IsAutomatic, LeavesFile, changes_by}
@@ -50,7 +52,7 @@ pub record IsMoved (e e' : Editing) : Type 0 where
   pub write_place : ℕ
   pub is : e' ≡ record e { place = place; write_place = write_place }
   pub within : place ≤ e.shape.frames
-  pub write_within : write_place ≤ e.shape.frames
+  pub write_within : (write_place ≡ e.write_place) ⊎ (write_place ≤ e.shape.frames)
 
 bext_changes : (key : BextKey) (text : List ℕ) → (set_bext_rule key text).changes ≡ true
 bext_changes Description text = refl
@@ -63,7 +65,7 @@ bext_changes CodingHist text = refl
 
 module _ (e : Editing) (holds : HoldsFrames e) where
   stays : IsMoved e e
-  stays = record { place = e.place; write_place = e.write_place; is = refl; within = holds.placed; write_within = holds.write_placed }
+  stays = record { place = e.place; write_place = e.write_place; is = refl; within = holds.placed; write_within = inl refl }
 
   -- one that is refused
   refused_stays : (refusal : Option Refusal) (done : FileEdited) → is_none refusal ≡ false → IsMoved e (edit_unless refusal done e).editing
@@ -78,13 +80,13 @@ module _ (e : Editing) (holds : HoldsFrames e) where
   ]
 
   sought_read : (n : ℕ) → IsMoved e (edit_by (seek_read_rule n) e).editing
-  sought_read n = sought n _ (λ le. record { place = n; write_place = e.write_place; is = refl; within = le; write_within = holds.write_placed })
+  sought_read n = sought n _ (λ le. record { place = n; write_place = e.write_place; is = refl; within = le; write_within = inl refl })
 
   sought_write : (n : ℕ) → IsMoved e (edit_by (seek_write_rule n) e).editing
-  sought_write n = sought n _ (λ le. record { place = e.place; write_place = n; is = refl; within = holds.placed; write_within = le })
+  sought_write n = sought n _ (λ le. record { place = e.place; write_place = n; is = refl; within = holds.placed; write_within = inr le })
 
   sought_both : (n : ℕ) → IsMoved e (edit_by (seek_both_rule n) e).editing
-  sought_both n = sought n _ (λ le. record { place = n; write_place = n; is = refl; within = le; write_within = le })
+  sought_both n = sought n _ (λ le. record { place = n; write_place = n; is = refl; within = le; write_within = inr le })
 
   -- one that its mode may lack
   by_mode : (has : Bool) (rule : Rule) → IsMoved e (edit_by rule e).editing → IsMoved e (edit_by (in_mode has rule) e).editing
@@ -134,7 +136,7 @@ module _ (e : Editing) (holds : HoldsFrames e) where
       write_place = e.write_place;
       is = refl;
       within = omega (arith, holds.count, holds.placed);
-      write_within = holds.write_placed;
+      write_within = inl refl;
     })
   ]
 
@@ -188,6 +190,20 @@ module _ (e : Editing) (holds : HoldsFrames e) where
   moves mode taps (Make kind codec channels rate name) is = already_open mode
   moves mode taps Close is = already_open mode
 
+-- where a place alone has moved, the state is still one of its file
+moved_state : {D M : Type 0} {mode : ModeGhosts M} (d : Ghosts D) (opened : List ℕ) (new : File D M d mode) (e e' : Editing) (moved : IsMoved e e') → Stands d.state new (record e { place = moved.place; write_place = moved.write_place })
+    → (t : Bool) → mode.ENCODES ≡ t → IsStateOf t opened e → IsStateOf t opened (record e { place = moved.place; write_place = moved.write_place })
+moved_state d opened new e e' moved stands true encodes of = record {
+  keeps = keeps_beside opened e of.keeps moved.place moved.write_place e.written e.given moved.within;
+  given = (stands.given encodes).holds;
+  place = subst (HasPlaceFor e.shape) stands.write_place (subst (λ (s : Shape). HasPlaceFor s (known_of new).write_place) stands.shape (new.roomy encodes));
+}
+moved_state d opened new e e' moved stands false encodes of = record {
+  keeps = keeps_beside opened e of.keeps moved.place moved.write_place e.written e.given moved.within;
+  linear = of.linear;
+  write_placed = ⊎_elim (λ same. omega (arith, same, of.write_placed)) (λ within. within) moved.write_within;
+}
+
 -- ---- a disk that is only read
 
 module _ {D M : Type 0} {mode : ModeGhosts M} (d : Ghosts D) (opened : List ℕ) (old : File D M d mode) (e : Editing) (rest : IsAtRest d opened old e) where
@@ -203,7 +219,7 @@ module _ {D M : Type 0} {mode : ModeGhosts M} (d : Ghosts D) (opened : List ℕ)
   pub reading_rests : (new : File D M d mode) → OnlyReadsOn d.state d.may_leave d.left_between (disk_of old) (disk_of new) → (e' : Editing) → IsMoved e e' → Stands d.state new e' → IsAtRest d opened new e'
   reading_rests new only e' moved stands =
       subst (λ (g : Editing). IsAtRest d opened new g) (sym moved.is) (record {
-        edited = moved_write_edited opened (moved_to moved.place e) (moved_edited opened e rest.edited moved.place moved.within) moved.write_place moved.write_within;
+        state = moved_state d opened new e e' moved (subst (λ (g : Editing). Stands d.state new g) moved.is stands) mode.ENCODES refl rest.state;
         stands = subst (λ (g : Editing). Stands d.state new g) moved.is stands;
         stable = λ x left. only.keeps.contents ∙ rest.stable x (only.images.now.no_more x left);
         fit = record { bytes = rest.fit.bytes; told = rest.fit.told; there = rest.fit.there; whole = rest.fit.whole };
@@ -235,9 +251,9 @@ module _ {D M O : Type 0} {mode : ModeGhosts M} (d : Ghosts D) (o : SinkMeaning 
     same_refusal = ap (λ (g : Grounds). rule.changes && is_none (rule.refusal g)) (sym (same_grounds d.state old e rest.stands)) ∙ none
 
     pub still_rests : (r : Result Reply StepFault) → LeavesFile r (edit_by rule e) e (Stands d.state new) → LeavesFile r (edit_by rule e) e (IsAtRest d opened new)
-    still_rests (Ok reply) stands = reading_rests d opened old e rest new (follows.reads none) _ (moves e rest.edited.holds how taps work same_refusal) stands
-    still_rests (Err Out) stands = reading_rests d opened old e rest new (follows.reads none) _ (moves e rest.edited.holds how taps work same_refusal) stands
-    still_rests (Err Memory) stands = reading_rests d opened old e rest new (follows.reads none) e (stays e rest.edited.holds) stands
+    still_rests (Ok reply) stands = reading_rests d opened old e rest new (follows.reads none) _ (moves e (keeps_of mode.ENCODES opened e rest.state).holds how taps work same_refusal) stands
+    still_rests (Err Out) stands = reading_rests d opened old e rest new (follows.reads none) _ (moves e (keeps_of mode.ENCODES opened e rest.state).holds how taps work same_refusal) stands
+    still_rests (Err Memory) stands = reading_rests d opened old e rest new (follows.reads none) e (stays e (keeps_of mode.ENCODES opened e rest.state).holds) stands
     still_rests (Err Disk) stands = tt
 
   pub works_to_rest : ToRest d rule r old new
@@ -249,9 +265,9 @@ module _ {D M O : Type 0} {mode : ModeGhosts M} (d : Ghosts D) (o : SinkMeaning 
 -- ---- a file is closed
 
 -- what is safe while it is sealed is so in its own state
-pub safe_in_place : (opened : List ℕ) (e : Editing) (x : List ℕ) → IsEdited opened e → IsSafe e (sealed_to e) x → IsSafe e e x
-safe_in_place opened e x edited safe =
-    let file = same_file opened e (sealed_to e) edited (leads_to_edited opened e (sealed_to e) edited seals) in
+pub safe_in_place : (opened : List ℕ) (e : Editing) (x : List ℕ) → KeepsFile opened e → IsSafe e (sealed_to e) x → IsSafe e e x
+safe_in_place opened e x of safe =
+    let file = same_file opened e (sealed_to e) of (sealed_keeps_file opened e of) in
     record {
       sound = safe.sound;
       opens = safe.opens;
@@ -263,5 +279,7 @@ safe_in_place opened e x edited safe =
       risen = safe.risen;
     }
 
-pub closes_in_place : {D : Type 0} (d : Ghosts D) (opened : List ℕ) (e : Editing) (old new : D) → IsEdited opened e → LeavesEach d old new (IsSafe e (sealed_to e)) → LeavesEach d old new (IsSafe e e)
-closes_in_place d opened e old new edited leaves = leaves_weaker d old new (IsSafe e (sealed_to e)) (IsSafe e e) (λ x safe. safe_in_place opened e x edited safe) leaves
+-- .. and while it is closed in the one that has its frames then
+pub closes_in_place : {D : Type 0} (d : Ghosts D) (t : Bool) (opened : List ℕ) (e : Editing) (old new : D) → IsStateOf t opened e → LeavesEach d old new (IsSafe e (closed_to t e)) → LeavesEach d old new (IsSafe e (all_put t e))
+closes_in_place d true opened e old new of leaves = leaves
+closes_in_place d false opened e old new of leaves = leaves_weaker d old new (IsSafe e (sealed_to e)) (IsSafe e e) (λ x safe. safe_in_place opened e x of.keeps safe) leaves

@@ -6,7 +6,7 @@ use Rattle.std.proofs.lemmas.List.{reverse-append, reverse-reverse}
 use Rattle.snd_disk.specs.declared.disk.Disk.{Ghosts}
 use Rattle.snd_disk.specs.declared.disk.Step.{Step}
 use Rattle.snd_modes.specs.Editing.{Editing}
-use Rattle.snd_modes.specs.Laws.{IsEdited}
+use Rattle.snd_modes.specs.Laws.{KeepsFile}
 use Rattle.snd_modes.specs.Safe.{IsSafe}
 use Rattle.snd_modes.proofs.LeftSafe.{left_at_rest}
 use Rattle.snd_modes.proofs.SafeImages.{from_after, same_file, wider}
@@ -70,11 +70,11 @@ two_back past e next = reverse-append (reverse past) (e ∷ next ∷ []) ∙ ap 
 
 -- ---- a handle at rest
 
-pub edited_of : {D : Type 0} (d : Ghosts D) (opened : List ℕ) (handle : Handle D d) (e : Editing) → HandleAtRest d opened handle e → IsEdited opened e
-edited_of d opened (R file) e rest = rest.edited
-edited_of d opened (W file) e rest = rest.edited
-edited_of d opened (B file) e rest = rest.edited
-edited_of d opened (U file) e rest = rest.edited
+pub kept_by : {D : Type 0} (d : Ghosts D) (opened : List ℕ) (handle : Handle D d) (e : Editing) → HandleAtRest d opened handle e → KeepsFile opened e
+kept_by d opened (R file) e rest = rest.state.keeps
+kept_by d opened (W file) e rest = rest.state.keeps
+kept_by d opened (B file) e rest = rest.state.keeps
+kept_by d opened (U file) e rest = rest.state.keeps
 
 pub handle_left : {D : Type 0} (d : Ghosts D) (opened : List ℕ) (handle : Handle D d) (e : Editing) → HandleAtRest d opened handle e → (e' : Editing) (x : List ℕ) → d.may_leave (handle_disk handle) x → IsSafe e e' x
 handle_left d opened (R file) e rest = left_at_rest d opened file e rest
@@ -188,7 +188,7 @@ module _ {D : Type 0} (d : Ghosts D) (only_now : (disk : D) (s t : ℕ) (x : Lis
       unfolding broken_off
       trail_stops_within rests = record {
         going = broken_off;
-        rests = λ whole. (after, rests, λ x safe. from_after e after x (same_file opened e after (edited_of d opened handle e so_far.rests) (edited_of d opened new after rests)).0 safe);
+        rests = λ whole. (after, rests, λ x safe. from_after e after x (same_file opened e after (kept_by d opened handle e so_far.rests) (kept_by d opened new after rests)).0 safe);
       }
 
   -- .. the sink maybe behind all of the answer

@@ -60,7 +60,7 @@ few_for_numbers channels (Ms align per_block) few form = subst (λ (n : ℕ). al
 few_for_numbers channels codec few form = absurd form
 
 -- the blocks that the frames of so many numbers fill, and one more
-pub blocks_for_numbers : (n channels align frames : ℕ) → align ≤ 4 * channels * frames → align ≤ 2048 → (n / channels / frames + 1) * align + 72 ≤ 4 * n + 72 + 2048
+pub blocks_for_numbers : (n channels align frames : ℕ) → align ≤ 4 * channels * frames → align ≤ 2048 → (n / channels / frames + 1) * align + 64 ≤ 4 * n + 72 + 2048
 blocks_for_numbers n channels align frames few small =
     let whole = n / channels / frames in
     let blocks : whole * align ≤ whole * (4 * channels * frames) = mul-le-mul_left whole few in
@@ -71,7 +71,7 @@ blocks_for_numbers n channels align frames few small =
     let one_more : (whole + 1) * align ≡ whole * align + align = grind arith in
     omega (arith, blocks, in_frames, in_numbers, turned, same, one_more, small)
 
--- .. of which the last 72 are written where updates are automatic
-pub blocks_within : (old most new : ℕ) (automatic : Bool) → AtMost old (most + (if automatic then 72 else 0)) new → AtMost old (most + 72) new
+-- .. of which the last 64 are written where updates are automatic
+pub blocks_within : (old most new : ℕ) (automatic : Bool) → AtMost old (most + (if automatic then 64 else 0)) new → AtMost old (most + 64) new
 blocks_within old most new true written = written
 blocks_within old most new false written = record { later = written.later; most = omega (arith, written.most) }

@@ -90,6 +90,11 @@ closed_as reading e = e
 closed_as encoding e = encoded_whole e
 closed_as mode e = sealed_to e
 
+-- .. and the state in which all frames that were given are put; the flag is whether they are written by blocks
+abbrev pub all_put : Bool → Editing → Editing
+all_put true e = encoded_whole e
+all_put false e = e
+
 abbrev pub closed_bytes : OpenFile → List ℕ
 closed_bytes file = (closed_as file.mode file.editing).bytes
 

@@ -18,7 +18,7 @@ use Rattle.snd_modes.specs.Rest.{IsAtRest}
 use Rattle.snd_modes.specs.Safe.{IsSafe}
 use Rattle.snd_patch.specs.Images.{LeavesEach}
 use Rattle.snd_patch.specs.Steps.{StillTells}
-use Rattle.snd_script.specs.Desk.{Mode, closed_as, encodes, encoding, frames_told, pinned, reading, updating, writes, writing}
+use Rattle.snd_script.specs.Desk.{Mode, closed_as, encodes, encoding, all_put, frames_told, pinned, reading, updating, writes, writing}
 use Rattle.snd_script.specs.Edit.{edit_file}
 use Rattle.snd_script.specs.Rules.{Rule, rule_of}
 use Rattle.snd_script.specs.Stepped.{IsAutomatic, IsSaid, IsSilent, IsStepCause, Knows, LeavesFile, LeavesTaps, Rose, changes_by}
@@ -213,6 +213,6 @@ pub record LeavesDisk {D : Type 0} {ghosts : Ghosts D} (state : D → State) (ma
   pub time : GoesOnFrom state left_between (handle_disk handle) disk
   pub reads : writes (mode_of handle) ≡ false → OnlyReadsOn state may_leave left_between (handle_disk handle) disk
 
--- .. and from rest, what closing it leaves at any moment is safe in its state
+-- .. and from rest, what closing it leaves at any moment is safe in its state; in ADPCM between that and the one with all frames
 abbrev pub FinishesSafely : {D : Type 0} (d : Ghosts D) → Handle D d → D → Type 0
-FinishesSafely d handle disk = (opened : List ℕ) (e : Editing) → HandleAtRest d opened handle e → LeavesEach d (handle_disk handle) disk (IsSafe e e)
+FinishesSafely d handle disk = (opened : List ℕ) (e : Editing) → HandleAtRest d opened handle e → LeavesEach d (handle_disk handle) disk (IsSafe e (all_put (encodes (mode_of handle)) e))

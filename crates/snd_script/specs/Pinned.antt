@@ -76,5 +76,5 @@ run_asks None lines = by_lines asked_by lines
 run_asks (Some name) lines = 16384 + by_lines (most_in true asked_by) lines
 
 abbrev pub run_puts : Option (List ℕ) → List (List ℕ) → ℕ
-run_puts None lines = by_lines written_by lines + 2120
-run_puts (Some name) lines = 144 + by_lines (written_in true) lines
+run_puts None lines = by_lines written_by lines + 2112
+run_puts (Some name) lines = 128 + by_lines (written_in true) lines

@@ -279,7 +279,7 @@ write_rule xs = changing (4 * length xs + 72) (λ g. write_refusal xs g.write_pl
 
 -- .. or behind all that were given, of which whole blocks reach the file: those that the frames of the numbers fill, and one more
 abbrev pub most_blocks : ℕ → Parameters → ℕ
-most_blocks numbers p = (numbers / p.channels / block_frames p.codec + 1) * block_align p.channels p.codec + 72
+most_blocks numbers p = (numbers / p.channels / block_frames p.codec + 1) * block_align p.channels p.codec + 64
 
 abbrev pub encode_edit : List ℤ → Editing → FileEdited
 encode_edit xs e = says_of (ok_line (length xs / e.shape.params.channels)) (encoded_to xs e)
@@ -297,11 +297,11 @@ trim_rule = record (changing 80 (λ g. trim_refusal g.shape) (λ e. says_of (ok_
 
 -- `update`: the head is brought up to the frames
 abbrev pub update_rule : Rule
-update_rule = changing 72 (λ g. None) (λ e. says_of (ok_line e.shape.frames) (sealed_to e)) known_sealed
+update_rule = changing 64 (λ g. None) (λ e. says_of (ok_line e.shape.frames) (sealed_to e)) known_sealed
 
 -- `auto on` and `auto off`: so is it now, and after each write, or after none
 abbrev pub auto_rule : Bool → Rule
-auto_rule on = changing 72 (λ g. auto_refusal on g.shape) (λ e. says_of (ok_line e.shape.frames) (automatic_to on e)) (λ k. record (known_sealed k) { automatic = on })
+auto_rule on = changing 64 (λ g. auto_refusal on g.shape) (λ e. says_of (ok_line e.shape.frames) (automatic_to on e)) (λ k. record (known_sealed k) { automatic = on })
 
 -- ---- further chunks
 

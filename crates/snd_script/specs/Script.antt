@@ -88,15 +88,15 @@ asked_by Said.get_bext = 81920
 asked_by Said.get_cues = 81920
 asked_by said = 0
 
--- bytes written, where a block of ADPCM has at most so many; a file that is made or open is closed with 72 more, and such a block
+-- bytes written, where a block of ADPCM has at most so many; a file that is made or open is closed with 64 more, and such a block
 abbrev pub written_with : ℕ → Said → ℕ
 written_with block (Said.create kind codec channels rate name) = 2048
 written_with block (Said.write xs) = 4 * length xs + 72 + block
 written_with block (Said.truncate n) = 72
 written_with block Said.trim = 80
-written_with block Said.update = 72
-written_with block (Said.auto on) = 72
-written_with block Said.close = 72 + block
+written_with block Said.update = 64
+written_with block (Said.auto on) = 64
+written_with block Said.close = 64 + block
 written_with block (Said.set_chunk id hex) = 16777216
 written_with block (Said.set_string key text) = 16777216
 written_with block (Said.set_bext key text) = 16777216

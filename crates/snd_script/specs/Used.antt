@@ -97,4 +97,4 @@ abbrev pub BoundsLines : {V : Type 0} {Z : V → Type 0} {S D R : Type 0} → Sh
 BoundsLines s r shelf run script shelf' =
     (b : List ℕ) → r.left script ≡ Some b →
     AtMost (s.state shelf).asked (use_left asked_by run.lines b) (s.state shelf').asked
-    × AtMost (s.state shelf).written (use_left written_by run.lines b + 2120) (s.state shelf').written
+    × AtMost (s.state shelf).written (use_left written_by run.lines b + 2112) (s.state shelf').written

@@ -21,7 +21,7 @@ use Rattle.snd_modes.specs.Rest.{IsAtRest}
 use Rattle.snd_modes.specs.Safe.{IsSafe}
 use Rattle.snd_patch.specs.Images.{LeavesEach}
 use Rattle.snd_patch.specs.Steps.{StillTells}
-use Rattle.snd_script.specs.Desk.{Mode, Store, closed_desk, makes, reads, writes}
+use Rattle.snd_script.specs.Desk.{Mode, Store, closed_desk, makes, reads, writes, all_put}
 use Rattle.snd_script.specs.Edit.{Edited, Opening, edit_by, edit_closed, make_edit, open_edit, refused}
 use Rattle.snd_script.specs.Rules.{Rule, auto_rule, frames_wanted, get_bext_rule, get_chunk_rule, get_chunks_rule, get_cues_rule, get_strings_rule, in_mode, is_close, read_known, read_rule, refused_rule, rule_of, seek_read_rule, seek_rule, seek_write_in, set_bext_rule, set_chunk_rule, set_cue_rule, set_string_rule, tap_rule, tell_rule, trim_in, truncate_in, unless_pinned, untap_rule, update_rule, write_in}
 use Rattle.snd_script.specs.Handled.{HasSmallBlocks, back_of}
@@ -230,6 +230,6 @@ pub record ClosesAs {D M : Type 0} {mode : ModeGhosts M} (d : Ghosts D) (writing
       ⊎ (((known_of file).broken ≡ None) × (writing ≡ true) × Rose (d.state (disk_of file)).faults (d.state e.1.now).faults))
   pub tells : StillTells (d.state (disk_of file)) (d.state (back_of result).now)
   pub time : GoesOnFrom d.state d.left_between (disk_of file) (back_of result).now
-  pub leaves : writing ≡ true → (opened : List ℕ) (e : Editing) → IsAtRest d opened file e → LeavesEach d (disk_of file) (back_of result).now (IsSafe e e)
+  pub leaves : writing ≡ true → (opened : List ℕ) (e : Editing) → IsAtRest d opened file e → LeavesEach d (disk_of file) (back_of result).now (IsSafe e (all_put mode.ENCODES e))
   pub written : WritesAtMost d.state (most_closed mode.ENCODES (known_of file).shape.params) (disk_of file) (back_of result).now
   pub asked : (d.state (back_of result).now).asked ≡ (d.state (disk_of file)).asked

@@ -43,7 +43,7 @@ fn serve_pinned_open<'d, D: Disk, R: Source, O: Sink>(
     ensures leaves { LeavesHandle D.state D.may_leave D.left_between handle.old handle.new }
     ensures trail { TrailsPinned (λ b. meter b) D.Disk R.Source O.Sink handle.old run.old script.old out.old handle.new out.new }
     ensures asked { OpenAsks D.Disk R.Source 0 handle.old run.old script.old handle.new }
-    ensures written { OpenWrites D.Disk R.Source 72 handle.old run.old script.old handle.new }
+    ensures written { OpenWrites D.Disk R.Source 64 handle.old run.old script.old handle.new }
 {
     if let Err(stop) = reply_opened(handle, out) {
         return stop;
@@ -78,7 +78,7 @@ fn serve_pinned_handle<'d, D: Disk, R: Source, O: Sink>(
     ensures leaves { LeavesDisk D.state D.may_leave D.left_between handle.entry result.1.now }
     ensures trail { TrailsClosed (λ b. meter b) D.Disk R.Source O.Sink handle.entry run.old script.old out.old result.1.now out.new }
     ensures asked { ClosedAsks D.Disk R.Source 0 handle.entry run.old script.old result.1.now }
-    ensures written { ClosedWrites D.Disk R.Source 144 handle.entry run.old script.old result.1.now }
+    ensures written { ClosedWrites D.Disk R.Source 128 handle.entry run.old script.old result.1.now }
 {
     let mut handle = handle;
     let stop = serve_pinned_open(&mut handle, script, out, run);
@@ -105,7 +105,7 @@ fn serve_pinned_disk<D: Disk, R: Source, O: Sink>(
     ensures time { GoesOnFrom D.state D.left_between disk.old disk.new }
     ensures trail { TrailsDisk (λ b. meter b) D.Disk R.Source O.Sink disk.old run.old script.old out.old disk.new out.new }
     ensures asked { PinnedAsks D.Disk R.Source 16384 disk.old run.old script.old disk.new }
-    ensures written { PinnedWrites D.Disk R.Source 144 disk.old run.old script.old disk.new }
+    ensures written { PinnedWrites D.Disk R.Source 128 disk.old run.old script.old disk.new }
 {
     match open_disk(alloc, disk, &OpenAs::Update) {
         Ok(handle) => {
@@ -142,7 +142,7 @@ pub fn serve_pinned<S: Shelf, R: Source, O: Sink>(
     ensures counted { CountsStop S.state R.faults O.faults result shelf.old script.old out.old shelf.new script.new out.new }
     ensures shelf { LeavesShelf S.state S.left_between shelf.old shelf.new }
     ensures asked { ShelfAsks S.Shelf R.Source 16384 shelf.old run.old script.old shelf.new }
-    ensures written { ShelfWrites S.Shelf R.Source 144 shelf.old run.old script.old shelf.new }
+    ensures written { ShelfWrites S.Shelf R.Source 128 shelf.old run.old script.old shelf.new }
     ensures trail { TrailsPinnedFile (λ b. meter b) S.Shelf R.Source O.Sink name.now shelf.old run.old script.old out.old shelf.new out.new }
     ensures images { KeepsUnless S.Shelf (λ n. bytes_eq n name.now) shelf.old shelf.new }
 {

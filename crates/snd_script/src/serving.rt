@@ -136,7 +136,7 @@ fn end_at(stop: Stop, refused: bool) -> ScriptEnd
 /// failed, it is left as the failing call left it, and all others are as before.
 ///
 /// The lines bound how many bytes are asked of the files, and written: a line that opens a file asks at
-/// most 16384, one that makes a file writes at most 2048, and one that closes it at most 2120, as blocks of
+/// most 16384, one that makes a file writes at most 2048, and one that closes it at most 2112, as blocks of
 /// ADPCM that a script makes have at most 2048; a file that is open at the end is closed with as many more. A
 /// write of v numbers writes at most `4 v + 2120`. Other commands ask and write as much as `Session::step` says.
 ///
@@ -144,7 +144,7 @@ fn end_at(stop: Stop, refused: bool) -> ScriptEnd
 /// like its commands. The file stays open to the end: commands that would open or close a file, or say
 /// whether it is updated automatically, are refused as `Pinned` and ask and write nothing. Where one of the
 /// two is refused, no byte of the script is taken. Beside the lines the file asks at most 16384 bytes, and
-/// writes at most 144. Where a crash leaves its bytes alone at the start, and these are fit for it, what a
+/// writes at most 128. Where a crash leaves its bytes alone at the start, and these are fit for it, what a
 /// crash leaves at any moment since then opens, with the frames of one of two states of the script that
 /// follow each other; the states come in their order, and the replies so far tell how far they came.
 pub fn serve<S: Shelf, R: Source, O: Sink>(

@@ -68,8 +68,8 @@ impl Session {
     /// not write. Unless the disk fails, the file is then at rest again.
     ///
     /// A read asks at most 1024 bytes of the disk for each frame that is wanted, and 16384 more. A write of
-    /// v numbers writes at most `4 v + 72` bytes, or in ADPCM the blocks that their frames fill, one more and 72
-    /// bytes; `trim` writes 80, and `truncate`, `update` and `auto` 72. A `get`
+    /// v numbers writes at most `4 v + 72` bytes, or in ADPCM the blocks that their frames fill, one more and 64
+    /// bytes; `trim` writes 80, `truncate` 72, and `update` and `auto` 64. A `get`
     /// asks at most 81920; a `set` writes at most 16777216 and asks at most so many. Other commands ask and
     /// write nothing.
     pub fn step<'d, D: Disk, O: Sink>(
@@ -120,7 +120,7 @@ impl Session {
     }
 
     /// Closes a file and gives its disk back, with the number of its frames, or with the step at which
-    /// the disk failed, where it did. In a mode that writes the file is sealed first, with at most 72 bytes; in
+    /// the disk failed, where it did. In a mode that writes the file is sealed first, with at most 64 bytes; in
     /// ADPCM the frames that wait are made a block before that.
     /// Where it is at rest, a crash at any moment leaves a file that opens, with all its frames. The taps
     /// that are on wait again, at their old places, and nothing is said of them.

@@ -1,11 +1,10 @@
-use Rattle.std.proofs.Common.{ap, length, refl, sym, ◌/◌, rules}
+use Rattle.std.proofs.Common.{ap, length, sym, ⊎_elim, ◌/◌, rules}
 use Rattle.snd_layout.specs.Shape.{Shape}
 use Rattle.snd_modes.specs.Handle.{known_of}
 use Rattle.snd_script.specs.Replies.{ok_line, says}
 use Rattle.snd_script.specs.Rules.{encode_rule}
 use Rattle.snd_lines.specs.declared.refusal.Refusal.TheVariants.{ContainerFull, PartFrame, SampleRange}
 use Rattle.snd_script.proofs.Followed.{carried_out, failed, refused_on}
-use Rattle.snd_script.proofs.MadeBlocks.{never_rests}
 use Rattle.snd_script.proofs.Refused.{encode_free, encode_full, encode_part, encode_range}
 use Rattle.snd_script.proofs.WrittenBytes.{blocks_within}
 use Rattle.snd_script.proofs.change.encode.Goals as goal
@@ -18,16 +17,17 @@ returns-in-Ok g c =
     c.encode_frames.ensures.loan (encode_free xs h.shape h.write_place c.in-Ok.ensures.left.1) c.say_ok.ensures.sent (search rules)
     (λ e here. ap (λ (s : Shape). says (ok_line (length xs / s.params.channels))) (sym here.shape)) c.in-Ok.ensures.stands
     c.in-Ok.ensures.left.2 (search rules) (search rules) (search rules) (search rules)
-    (λ changes on opened e rest. absurd (never_rests g.D.Disk opened c.args.file.now e refl rest)) (λ changes on opened e rest. absurd (never_rests g.D.Disk opened c.args.file.now e refl rest)) (search rules)
+    (λ changes on. c.in-Ok.ensures.leaves (⊎_elim (λ is. is) (λ is. is) on)) (λ changes on. c.in-Ok.ensures.rests (⊎_elim (λ is. is) (λ is. is) on)) (search rules)
     (blocks_within _ _ _ h.automatic c.encode_frames.ensures.written)
 
 pub returns-in-Err-DiskFault : goal.returns-in-Err-DiskFault
 returns-in-Err-DiskFault g c =
     let h = known_of c.args.file.now in
     let xs = c.args.samples.now in
+    let leaves = rw c.in-Err-DiskFault.field-0-is at c.in-Err-DiskFault.ensures.leaves in
     failed g.D.Disk g.O.Sink (encode_rule xs) c.args.file.now c.args.out.now c.encode_frames.new.self
     c.encode_frames.ensures.loan (encode_free xs h.shape h.write_place (search rules)) (search rules) (search rules) (search rules)
-    (search rules) (search rules) (λ on opened e rest. absurd (never_rests g.D.Disk opened c.args.file.now e refl rest)) (search rules)
+    (search rules) (search rules) (λ on. leaves (⊎_elim (λ is. is) (λ is. is) on)) (search rules)
     (blocks_within _ _ _ h.automatic c.encode_frames.ensures.written)
 
 pub returns-in-Err-SampleRange : goal.returns-in-Err-SampleRange

@@ -27,8 +27,8 @@ returns-in-Ok-clause-asked g c = λ s left.
 
 pub returns-in-Ok-clause-written : goal.returns-in-Ok-clause-written
 returns-in-Ok-clause-written g c = λ s left.
-    let used : AtMost (g.D.Disk.state c.args.disk.now).written (144 + use_left (written_in true) c.args.run.now.lines s) (g.D.Disk.state c.serve_pinned_handle-stop.result.1.now).written =
-    used_then 0 144 144 _ _ _ _ (omega arith) c.in-Ok.ensures.written (c.serve_pinned_handle-stop.ensures.written s left) in
+    let used : AtMost (g.D.Disk.state c.args.disk.now).written (128 + use_left (written_in true) c.args.run.now.lines s) (g.D.Disk.state c.serve_pinned_handle-stop.result.1.now).written =
+    used_then 0 128 128 _ _ _ _ (omega arith) c.in-Ok.ensures.written (c.serve_pinned_handle-stop.ensures.written s left) in
     search (rules, used)
 
 pub returns-in-Ok-not_opened-clause-served : goal.returns-in-Ok-not_opened-clause-served

@@ -4,7 +4,7 @@ use Rattle.snd_modes.specs.Editing.{Editing}
 use Rattle.snd_script.specs.Desk.{Mode, closed_as, pinned, writes}
 use Rattle.snd_script.specs.Handled.{FinishesAs, HandleStands, handle_disk, mode_of}
 use Rattle.snd_script.specs.Serving.{DiskStands, OpenStands}
-use Rattle.snd_script.proofs.MadeBlocks.{updated_finish}
+use Rattle.snd_script.proofs.MadeBlocks.{safe_updated, updated_finish}
 use Rattle.snd_script.proofs.Openings.{disk_lost, disk_stands, finished_tells, stopped_failed, stopped_stands}
 use Rattle.snd_script.proofs.TrailRuns.{trail_closed}
 use Rattle.snd_script.proofs.pinned.serve_pinned_handle.Goals as goal
@@ -52,7 +52,7 @@ returns-in-Ok-clause-trail g c = λ opened store name e s t rest left told.
       run.0,
       run.1,
       trail_closed g.D.Disk g.met.D.Disk.only_now opened (g.D.Disk.state (handle_disk c.args.handle)).clock c.serve_pinned_open-stop.new.handle c.in-Ok.disk.now _ run.2
-          (λ e' rest'. c.in-Ok.ensures.safe opened e' rest') (λ broken. absurd (broken c.in-Ok.ensures.cause.0)),
+          (λ e' rest'. safe_updated g.D.Disk opened c.serve_pinned_open-stop.new.handle _ (c.serve_pinned_open-stop.ensures.leaves.mode ∙ c.requires.updated) c.in-Ok.ensures.safe e' rest') (λ broken. absurd (broken c.in-Ok.ensures.cause.0)),
     )
 
 pub returns-in-Err-clause-trail : goal.returns-in-Err-clause-trail
@@ -61,5 +61,5 @@ returns-in-Err-clause-trail g c = λ opened store name e s t rest left told.
       run.0,
       run.1,
       trail_closed g.D.Disk g.met.D.Disk.only_now opened (g.D.Disk.state (handle_disk c.args.handle)).clock c.serve_pinned_open-stop.new.handle c.in-Err.disk.now _ run.2
-          (λ e' rest'. c.in-Err.ensures.safe opened e' rest') (λ broken. ⊎_elim (λ was. was.1) (λ now. absurd (broken now.0)) c.in-Err.ensures.cause),
+          (λ e' rest'. safe_updated g.D.Disk opened c.serve_pinned_open-stop.new.handle _ (c.serve_pinned_open-stop.ensures.leaves.mode ∙ c.requires.updated) c.in-Err.ensures.safe e' rest') (λ broken. ⊎_elim (λ was. was.1) (λ now. absurd (broken now.0)) c.in-Err.ensures.cause),
     )

@@ -95,7 +95,7 @@ pub returns-clause-written : goal.returns-clause-written
 returns-clause-written g c = λ s left.
     let uses = c.in-Err-serve_open.ensures.written s left in
     let same : use_left (written_in true) c.step.new.self.lines s ≡ use_left (written_in true) c.args.run.now.lines s = ap (λ (x : Reading). use_left (written_in true) x s) c.in_default-step.ensures.lines in
-    let first : (g.D.Disk.state (handle_disk c.step.new.handle)).written ≤ (g.D.Disk.state (handle_disk c.args.handle.now)).written + 72 = c.step.ensures.written.most in
+    let first : (g.D.Disk.state (handle_disk c.step.new.handle)).written ≤ (g.D.Disk.state (handle_disk c.args.handle.now)).written + 64 = c.step.ensures.written.most in
     record { later = omega (arith, c.step.ensures.written.later, uses.later); most = omega (arith, first, uses.within, same) }
 
 pub returns-in-Err-clause-trail : goal.returns-in-Err-clause-trail

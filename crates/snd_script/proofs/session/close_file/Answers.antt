@@ -11,7 +11,7 @@ returns-in-Ok-clause-closes g c = record {
   cause = search rules;
   tells = search rules;
   time = search rules;
-  leaves = λ writing opened e rest. closes_in_place g.D.Disk opened e _ _ rest.edited (c.in-Ok.ensures.leaves writing opened e rest);
+  leaves = λ writing opened e rest. closes_in_place g.D.Disk g.M.Mode.ENCODES opened e _ _ rest.state (c.in-Ok.ensures.leaves writing opened e rest);
   written = search rules;
   asked = search rules;
 }
@@ -25,7 +25,7 @@ returns-in-Err-clause-closes g c = record {
   cause = search rules;
   tells = search rules;
   time = search rules;
-  leaves = λ writing opened e rest. closes_in_place g.D.Disk opened e _ _ rest.edited (c.in-Err.ensures.leaves writing opened e rest);
+  leaves = λ writing opened e rest. closes_in_place g.D.Disk g.M.Mode.ENCODES opened e _ _ rest.state (c.in-Err.ensures.leaves writing opened e rest);
   written = search rules;
   asked = search rules;
 }

@@ -1,7 +1,6 @@
 use Rattle.std.proofs.Common.{refl, sym}
 use Rattle.snd_modes.specs.Safe.{IsSafe}
 use Rattle.snd_modes.proofs.LeftSafe.{leaves_same, unchanged}
-use Rattle.snd_script.proofs.MadeBlocks.{never_rests}
 use Rattle.snd_script.proofs.session.Session.finish.Goals as goal
 
 pub returns-in-R-clause-safe : goal.returns-in-R-clause-safe
@@ -12,7 +11,7 @@ pub returns-in-W-clause-safe : goal.returns-in-W-clause-safe
 returns-in-W-clause-safe g c = rw c.in-W.is (λ opened e rest. c.close_file-in-W.ensures.closes.leaves refl opened e rest)
 
 pub returns-in-B-clause-safe : goal.returns-in-B-clause-safe
-returns-in-B-clause-safe g c = rw c.in-B.is (λ opened e rest. absurd (never_rests g.D.Disk opened c.in-B.file e refl rest))
+returns-in-B-clause-safe g c = rw c.in-B.is (λ opened e rest. c.close_file-in-B.ensures.closes.leaves refl opened e rest)
 
 pub returns-in-U-clause-safe : goal.returns-in-U-clause-safe
 returns-in-U-clause-safe g c = rw c.in-U.is (λ opened e rest. c.close_file-in-U.ensures.closes.leaves refl opened e rest)
