@@ -66,7 +66,7 @@ module _ (n : ℕ) (xs : List ℤ) (count : length xs ≡ 2 * n) (m : Editing) (
   apart_is : FieldsLieApart h
   apart_is =
       let holds = making.numbers refl in
-      let lie = subst FieldsLieApart (sym holds.edited.shape ∙ holds.shape) (fields_lie_apart head holds.edited.head m.shape.frames m.shape.declared holds.edited.opened).inner in
+      let lie = subst FieldsLieApart (sym holds.edited.keeps.shape ∙ holds.shape) (fields_lie_apart head holds.edited.keeps.head m.shape.frames m.shape.declared holds.edited.keeps.opened).inner in
       record { outer = lie.outer; side = lie.side }
 
   -- its fields are those of k frames, whatever they were

@@ -5,7 +5,6 @@ use Rattle.snd_container.specs.Sound.{layout_of}
 use Rattle.snd_disk.specs.declared.disk.Disk.{Ghosts}
 use Rattle.snd_disk.specs.Shelf.{Files, ShelfState, Takes}
 use Rattle.snd_disk.specs.State.{State}
-use Rattle.snd_layout.specs.Blocks.{is_adpcm}
 use Rattle.snd_layout.specs.Shape.{Shape}
 use Rattle.snd_layout.specs.declared.refusal.OpenRefusal.{OpenRefusal}
 use Rattle.snd_lines.specs.declared.refusal.Refusal.{Refusal}
@@ -44,7 +43,7 @@ module _ (b : List ℕ) where
 
   -- its frames are counted
   pub counted : (h : Shape) (size : ℕ) → IsReadable h → LiesWithin size h → size ≡ length b → h.frames ≡ length (frames_in b h)
-  counted h size readable within long = count_any b h readable.rule readable.good (omega (arith, within.frames, long)) (is_adpcm h.params.codec) refl
+  counted h size readable within long = count_any b h h.kind readable.rule.fits readable.good (omega (arith, within.frames, long))
 
 -- ---- under a name
 

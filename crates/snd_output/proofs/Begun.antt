@@ -20,12 +20,12 @@ use Rattle.snd_layout.specs.declared.kind.Kind.TheVariants.{Wave, Rf64, W64, Au,
 use Rattle.snd_layout.specs.declared.refusal.OpenRefusal.{OpenRefusal}
 use Rattle.snd_modes.specs.Editing.{Editing, first_editing}
 use Rattle.snd_modes.specs.Edits.{coded}
-use Rattle.snd_modes.specs.Laws.{IsEdited}
+use Rattle.snd_modes.specs.Laws.{IsEdited, IsEncoded}
 use Rattle.snd_modes.specs.Making.{making_of}
 use Rattle.snd_modes.specs.Relaid.{head_with, shape_with}
 use Rattle.snd_modes.proofs.BlockBytes.{few_channels, is_held}
 use Rattle.snd_modes.proofs.FixedFrames.{is_fixed}
-use Rattle.snd_modes.proofs.MadeFiles.{made_is_edited}
+use Rattle.snd_modes.proofs.MadeFiles.{made_is_edited, made_is_encoded}
 use Rattle.snd_modes.proofs.NewFiles.{making_ok, making_refused, never_refused}
 use Rattle.snd_output.specs.declared.stop.Stop.{Stop}
 use Rattle.snd_output.specs.Ends.{IsStopCause, IsUnchanged, stop_of}
@@ -99,6 +99,7 @@ module _ (kind : Kind) (p : Parameters) (good : AreParams p) (fits : fit_refusal
       record {
         form = form;
         told = told;
+        encoded = subst (λ (b : List ℕ). IsEncoded b first) (new_head kind p) (made_is_encoded kind p first good is (making_ok kind p fits));
         given = refl;
         shape = new_says kind p ∙ ap (λ (n : ℕ). record says { frames = n }) (none ∙ sym (none_whole p form));
         bytes = new_head kind p ∙ sym (append-nil head) ∙ ap (λ (l : List ℕ). head ++ l) (sym (none_coded p form));

@@ -1,5 +1,5 @@
 -- A file into which chunks were carried is one that is being made.
-use Rattle.std.proofs.Common.{◌≡◌, ◌∙◌, ap, sym, subst, refl, inr, ℕ, ◌-◌, ◌≤◌, Bool, true, false, cond, List, [], ◌∷◌, ◌++◌, All, None, Ok, length, map, arith}
+use Rattle.std.proofs.Common.{◌≡◌, ◌∙◌, ap, sym, subst, refl, inr, ⊎_elim, ℕ, ℤ, ◌-◌, ◌≤◌, Bool, true, false, cond, List, [], ◌∷◌, ◌++◌, All, None, Ok, length, map, arith}
 use Rattle.std.proofs.lemmas.List.{append-nil, nil_from_length}
 use Rattle.std.proofs.lemmas.List.Elements.{All-append, All-cons, All-head, All-nil, All-replicate, All-tail, All-weaker}
 use Rattle.std.specs.Prelude.{codes, is_none}
@@ -7,7 +7,7 @@ use Rattle.snd_chunks.specs.Chunks.{padded_end}
 use Rattle.snd_chunks.specs.Written.{NewChunk, all_placed, chunks_bytes, head_bytes}
 use Rattle.snd_chunks.specs.declared.chunk.Chunk.{Chunk}
 use Rattle.snd_container.specs.Put.{heads_of}
-use Rattle.snd_container.specs.Sound.{Kept, fixed_of, kept_of}
+use Rattle.snd_container.specs.Sound.{Kept, fixed_of, kept_of, layout_of}
 use Rattle.snd_fields.specs.Field.{bytes_of}
 use Rattle.snd_fields.specs.Laws.{IsByte}
 use Rattle.snd_fields.specs.declared.field.Order.TheVariants.{Little}
@@ -20,21 +20,29 @@ use Rattle.snd_layout.specs.Written.{written_format}
 use Rattle.snd_layout.specs.declared.kind.Kind.{Kind}
 use Rattle.snd_layout.specs.declared.kind.Kind.TheVariants.{Wave, Rf64, W64, Au, Dns, Voc, Svx, Sphere}
 use Rattle.snd_rf64.specs.Written as rf64
-use Rattle.snd_wave.proofs.ByteValues.{both, format_bytes, from_test, number_bytes, three, two_chunks}
+use Rattle.snd_layout.proofs.StatedFormats.{format_bytes}
+use Rattle.snd_wave.proofs.ByteValues.{both, from_test, number_bytes, three, two_chunks}
 use Rattle.snd_wave.proofs.Made.{no_bytes_yet}
 use Rattle.snd_wave.specs.Layout.{piece_of}
 use Rattle.snd_wave.specs.Values.{riff_size}
 use Rattle.snd_wave.specs.Written.{MayBePiece, chunk_read, chunks_before, filler, has_fact, head_for, head_size, inner_size, junk, made_pieces, made_shape, new_fact, new_format, riff_head, start_without_filler, wave_head}
-use Rattle.snd_modes.specs.Editing.{Editing}
+use Rattle.snd_modes.specs.Editing.{Editing, first_editing}
 use Rattle.snd_modes.specs.Edits.{coded}
 use Rattle.snd_modes.specs.Heads.{holds_meta}
+use Rattle.snd_modes.specs.Laws.{IsEncoded}
+use Rattle.snd_modes.specs.Pacing.{HasPlaceFor}
 use Rattle.snd_modes.specs.Relaid.{head_with, shape_with}
 use Rattle.snd_modes.specs.Updating.{updating_of}
 use Rattle.snd_modes.proofs.BlockBytes.{few_channels, is_held}
-use Rattle.snd_modes.proofs.EditedFiles.{updated_is_edited}
+use Rattle.snd_modes.proofs.EditedFiles.{first_keeps, updated_is_edited}
+use Rattle.snd_modes.proofs.Encoded.{given_none}
+use Rattle.snd_modes.proofs.EncodedPlaces.{blocks_held, may_encode}
+use Rattle.snd_modes.proofs.FileRules.{lies_in}
+use Rattle.snd_modes.proofs.NewFiles.{begins_new}
 use Rattle.snd_modes.proofs.HeadLaws.{HeadLaws, SaysNone}
 use Rattle.snd_block_writer.proofs.Parameters.{are_blocks}
 use Rattle.snd_block_writer.proofs.Standing.{none_coded}
+use Rattle.snd_blocks.specs.Calls.{AreBlocks}
 use Rattle.snd_blocks.specs.Sound.{frames_in}
 use Rattle.snd_modes.proofs.FixedFrames.{count_opened, is_fixed}
 use Rattle.snd_modes.proofs.PutHeads.{begins_again}
@@ -109,8 +117,8 @@ unfolding chunks_bytes
 all_chunks [] are = All-nil IsByte
 all_chunks (chunk ∷ chunks) are = two_chunks chunk chunks (All-head AreBytes chunk chunks are) (all_chunks chunks (All-tail AreBytes chunk chunks are))
 
-format_is : (p : Parameters) → is_adpcm p.codec ≡ false → AreBytes (new_format p)
-format_is p plain = (from_test (codes "fmt ") refl, format_bytes p plain)
+format_is : (p : Parameters) → AreBytes (new_format p)
+format_is p = (from_test (codes "fmt ") refl, format_bytes p)
 
 filler_is : (t : Bool) → All AreBytes (cond t [] (junk ∷ []))
 filler_is true = All-nil AreBytes
@@ -123,21 +131,21 @@ fact_is : (t : Bool) → All AreBytes (cond t (fact ∷ []) [])
 fact_is true = All-cons AreBytes fact [] (from_test (codes "fact") refl, number_bytes 4 0) (All-nil AreBytes)
 fact_is false = All-nil AreBytes
 
-before_is : (p : Parameters) (pieces : List NewChunk) → is_adpcm p.codec ≡ false → All AreBytes pieces → All AreBytes (chunks_before p pieces 0)
+before_is : (p : Parameters) (pieces : List NewChunk) → All AreBytes pieces → All AreBytes (chunks_before p pieces 0)
 unfolding chunks_before
-before_is p pieces plain are =
-    All-cons AreBytes (new_format p) (pieces ++ (filler p pieces ++ new_fact p.codec 0)) (format_is p plain)
+before_is p pieces are =
+    All-cons AreBytes (new_format p) (pieces ++ (filler p pieces ++ new_fact p.codec 0)) (format_is p)
     (All-append AreBytes pieces (filler p pieces ++ new_fact p.codec 0) are
     (All-append AreBytes (filler p pieces) (new_fact p.codec 0) (filler_is (is_in_one_sector (start_without_filler p pieces - inner_size p.codec) (inner_size p.codec))) (fact_is (has_fact p.codec))))
 
-wave_is : (p : Parameters) (pieces : List NewChunk) → is_adpcm p.codec ≡ false → All AreBytes pieces → All IsByte (wave_head p pieces)
+wave_is : (p : Parameters) (pieces : List NewChunk) → All AreBytes pieces → All IsByte (wave_head p pieces)
 unfolding head_for riff_head head_bytes
-wave_is p pieces plain are =
+wave_is p pieces are =
     let size = bytes_of Little 4 (riff_size (head_size p pieces) (data_bytes p 0)) in
     let bytes = bytes_of Little 4 (data_bytes p 0) in
     three (codes "RIFF" ++ size ++ codes "WAVE") (chunks_bytes Little (chunks_before p pieces 0)) (codes "data" ++ bytes)
     (three (codes "RIFF") size (codes "WAVE") (from_test (codes "RIFF") refl) (number_bytes 4 (riff_size (head_size p pieces) (data_bytes p 0))) (from_test (codes "WAVE") refl))
-    (all_chunks (chunks_before p pieces 0) (before_is p pieces plain are))
+    (all_chunks (chunks_before p pieces 0) (before_is p pieces are))
     (both (codes "data") bytes (from_test (codes "data") refl) (number_bytes 4 (data_bytes p 0)))
 
 top_is : (size : ℕ) → All IsByte (rf64.top size)
@@ -155,25 +163,60 @@ top_is size =
     (number_bytes 8 0) (number_bytes 8 0))
     (number_bytes 4 0)
 
-rf64_is : (p : Parameters) (pieces : List NewChunk) → is_adpcm p.codec ≡ false → All AreBytes pieces → All IsByte (rf64.rf64_head p pieces)
+rf64_is : (p : Parameters) (pieces : List NewChunk) → All AreBytes pieces → All IsByte (rf64.rf64_head p pieces)
 unfolding rf64.rf64_head head_bytes
-rf64_is p pieces plain are =
+rf64_is p pieces are =
     three (rf64.top (rf64.head_size p pieces - 8)) (chunks_bytes Little (rf64.chunks_before p pieces)) (codes "data" ++ bytes_of Little 4 rf64.no_size)
-    (top_is (rf64.head_size p pieces - 8)) (all_chunks (rf64.chunks_before p pieces) (All-cons AreBytes (new_format p) pieces (format_is p plain) are))
+    (top_is (rf64.head_size p pieces - 8)) (all_chunks (rf64.chunks_before p pieces) (All-cons AreBytes (new_format p) pieces (format_is p) are))
     (both (codes "data") (bytes_of Little 4 rf64.no_size) (from_test (codes "data") refl) (number_bytes 4 rf64.no_size))
 
 bytes_each : (piece : NewChunk) → IsChunk piece → AreBytes piece
 bytes_each piece is = (is.id, is.body)
 
-head_is : (kind : Kind) (p : Parameters) (pieces : List NewChunk) → holds_meta kind ≡ true → is_adpcm p.codec ≡ false → AreChunks pieces → All IsByte (head_with kind p pieces)
-head_is Wave p pieces meta plain are = wave_is p pieces plain (All-weaker IsChunk AreBytes bytes_each pieces are.each)
-head_is Rf64 p pieces meta plain are = rf64_is p pieces plain (All-weaker IsChunk AreBytes bytes_each pieces are.each)
-head_is W64 p pieces meta plain are = absurd (cc)
-head_is Au p pieces meta plain are = absurd (cc)
-head_is Dns p pieces meta plain are = absurd (cc)
-head_is Voc p pieces meta plain are = absurd (cc)
-head_is Svx p pieces meta plain are = absurd (cc)
-head_is Sphere p pieces meta plain are = absurd (cc)
+head_is : (kind : Kind) (p : Parameters) (pieces : List NewChunk) → holds_meta kind ≡ true → AreChunks pieces → All IsByte (head_with kind p pieces)
+head_is Wave p pieces meta are = wave_is p pieces (All-weaker IsChunk AreBytes bytes_each pieces are.each)
+head_is Rf64 p pieces meta are = rf64_is p pieces (All-weaker IsChunk AreBytes bytes_each pieces are.each)
+head_is W64 p pieces meta are = absurd (cc)
+head_is Au p pieces meta are = absurd (cc)
+head_is Dns p pieces meta are = absurd (cc)
+head_is Voc p pieces meta are = absurd (cc)
+head_is Svx p pieces meta are = absurd (cc)
+head_is Sphere p pieces meta are = absurd (cc)
+
+-- ---- of ADPCM
+
+-- the count and the data size are one field
+is_joined : (kind : Kind) (p : Parameters) (pieces : List NewChunk) → holds_meta kind ≡ true → fit_refusal kind p ≡ None → is_adpcm p.codec ≡ true → 12 ≤ (shape_with kind p pieces).inner.size
+unfolding made_shape
+is_joined Wave p pieces meta fits is = rw is (omega arith)
+is_joined Rf64 p pieces meta fits is = absurd (⊎_elim (λ wave. cc) (λ w64. cc) (blocks_held Rf64 p.channels p.codec is (is_held Rf64 p fits)))
+is_joined W64 p pieces meta fits is = absurd (cc)
+is_joined Au p pieces meta fits is = absurd (cc)
+is_joined Dns p pieces meta fits is = absurd (cc)
+is_joined Voc p pieces meta fits is = absurd (cc)
+is_joined Svx p pieces meta fits is = absurd (cc)
+is_joined Sphere p pieces meta fits is = absurd (cc)
+
+-- a head whose layout has no frames is a file of ADPCM that is made
+encoded_head : (head : List ℕ) (says : Shape) → is_adpcm says.params.codec ≡ true → AreBlocks says.params → All IsByte head → layout_of head ≡ Ok says
+    → says.frames ≡ 0 → says.trailing ≡ false → says.unknown_length ≡ false → 12 ≤ says.inner.size → IsEncoded head (first_editing head says)
+encoded_head head says blocks form bytes told none free known joined =
+    let lies = lies_in head says bytes (record { goes_on = says.trailing; told = told; same = inr refl }) in
+    let place : HasPlaceFor says 0 = (begins_new says says.params None form.some_frames refl blocks none free (λ w is. absurd (cc))).place in
+    let room = may_encode says 0 says.frames form.some_frames place lies.room_ends (omega (arith, none)) in
+    record {
+      keeps = first_keeps head says bytes told room.0 (λ is. joined) known;
+      given = (given_none None head says form none (λ w is. absurd (cc))).holds;
+      place = place;
+    }
+
+-- .. and it holds none
+encoded_with : (head : List ℕ) (says : Shape) → is_adpcm says.params.codec ≡ true → AreBlocks says.params → All IsByte head → layout_of head ≡ Ok says
+    → says.frames ≡ 0 → says.trailing ≡ false → says.unknown_length ≡ false → 12 ≤ says.inner.size → IsEncoded head (record (first_editing head says) { frames = [] })
+encoded_with head says blocks form bytes told none free known joined =
+    let begun = encoded_head head says blocks form bytes told none free known joined in
+    subst (λ (l : List (List ℤ)). IsEncoded head (record (first_editing head says) { frames = l }))
+    (nil_from_length (frames_in head says) (sym begun.keeps.holds.count ∙ none)) begun
 
 -- ---- they stand before the data
 
@@ -234,7 +277,7 @@ module _ (kind : Kind) (p : Parameters) (pieces : List NewChunk) (meta : holds_m
 
     holds_numbers : HoldsNumbers kind p pieces [] state
     holds_numbers = record {
-      edited = updated_is_edited head state (head_is kind p pieces meta plain are) updated;
+      edited = updated_is_edited head state (head_is kind p pieces meta are) updated;
       shape = ap (λ (n : ℕ). record says { frames = n }) (said.frames ∙ no_frames);
       bytes = bytes_are (frame_count p []) (sym no_frames);
     }
@@ -245,6 +288,8 @@ module _ (kind : Kind) (p : Parameters) (pieces : List NewChunk) (meta : holds_m
       record {
         form = form;
         told = record { goes_on = says.trailing; told = (laws_of kind meta).opens p pieces may; same = inr refl };
+        encoded = encoded_with head says (ap (λ (q : Parameters). is_adpcm q.codec) said.params_are ∙ is) (subst AreBlocks (sym said.params_are) form)
+            (head_is kind p pieces meta are) ((laws_of kind meta).opens p pieces may) said.frames said.free said.known (is_joined kind p pieces meta fits is);
         given = refl;
         shape = ap (λ (n : ℕ). record says { frames = n }) (said.frames ∙ sym (none_whole p form));
         bytes = sym (append-nil head) ∙ ap (λ (l : List ℕ). head ++ l) (sym (none_coded p form));

@@ -1,8 +1,8 @@
 -- A file of ADPCM that is being made: numbers are given behind those before, and at last zeros fill the last block.
-use Rattle.std.proofs.Common.{◌≡◌, ◌∙◌, ap, sym, subst, inl, inr, ℕ, ◌+◌, ◌/◌, ◌%◌, ◌^◌, ◌≤◌, ℤ, Bool, true, false, cond, List, [], ◌++◌, length, refl, arith}
-use Rattle.std.proofs.lemmas.Bool.{cases_Bool}
+use Rattle.std.proofs.Common.{◌≡◌, ◌∙◌, ap, sym, subst, inl, ℕ, ◌+◌, ◌/◌, ◌%◌, ◌^◌, ◌≤◌, ℤ, Bool, true, false, cond, List, [], ◌++◌, length, refl, arith}
 use Rattle.std.proofs.lemmas.List.{append-nil, drop_all}
 use Rattle.snd_block_writer.specs.Coded.{coded, whole}
+use Rattle.snd_block_writer.proofs.Kept.{coded_size}
 use Rattle.snd_chunks.specs.Written.{NewChunk}
 use Rattle.snd_container.specs.Values.{closing}
 use Rattle.snd_disk.specs.Bytes.{over}
@@ -15,14 +15,14 @@ use Rattle.snd_modes.specs.Editing.{Editing}
 use Rattle.snd_modes.specs.Edits as fixed
 use Rattle.snd_modes.specs.Edits.{sealed_where, written_shape}
 use Rattle.snd_modes.specs.Encoding.{MayEncode, counting, encoded_to, encoded_whole, over_blocks}
-use Rattle.snd_modes.specs.Pacing.{HasPlaceFor}
 use Rattle.snd_modes.specs.Reading.{FitCodec}
 use Rattle.snd_modes.specs.Relaid.{head_with, shape_with}
+use Rattle.snd_modes.proofs.EncodedFiles.{encoded_stays}
 use Rattle.snd_modes.proofs.EncodedPlaces.{room_on_disk}
 use Rattle.snd_modes.proofs.ImageFields.{fields_lie_apart}
 use Rattle.snd_output.specs.Laws.{EncodedIsMaking, FilledIsMade}
 use Rattle.snd_output.specs.Made.{HoldsBlocks, IsMaking, frame_count, made_file}
-use Rattle.snd_output.proofs.MadeBlocks.{channels, coded_size, whole_least, whole_more}
+use Rattle.snd_output.proofs.MadeBlocks.{channels, whole_least, whole_more}
 use Rattle.snd_output.proofs.Finished.{making_params, sealed_whole}
 use Rattle.snd_output.proofs.Lengthened.{fit_joined}
 use Rattle.snd_output.proofs.Lists.{over_behind}
@@ -111,7 +111,7 @@ module _ (kind : Kind) (p : Parameters) (pieces : List NewChunk) (xs : List ℤ)
       whole = joins.1;
       in_range = fit_joined p.codec xs ys m.in_range (subst (λ (q : Parameters). FitCodec q.codec ys) same_params may.frames.in_range);
       numbers = λ plain. absurd (let no : true ≡ false = sym is ∙ plain in cc);
-      blocks = λ same. record { form = holds.form; told = holds.told; given = all_is; shape = shape_is; bytes = bytes_are };
+      blocks = λ same. record { form = holds.form; told = holds.told; encoded = encoded_stays head e ys holds.encoded may; given = all_is; shape = shape_is; bytes = bytes_are };
       write_place =
           let frames : length ys / e.shape.params.channels ≡ length ys / p.channels = ap (λ (q : Parameters). length ys / q.channels) same_params in
           (let e' : e.write_place + length ys / e.shape.params.channels ≡ frame_count p xs + length ys / p.channels = omega (arith, m.write_place, frames) in e') ∙ sym joins.0;
@@ -120,37 +120,33 @@ module _ (kind : Kind) (p : Parameters) (pieces : List NewChunk) (xs : List ℤ)
 
   -- ---- zeros fill the last block
 
-  module _ (rule : KeepsRule e.shape) (place : HasPlaceFor e.shape e.write_place) where
-    abbrev n : ℕ
-    n = frame_count p xs
+  abbrev n : ℕ
+  n = frame_count p xs
 
-    rule_then : KeepsRule (record says { frames = n })
-    rule_then =
-        let now = record says { frames = frame_count p (whole p xs) } in
-        let was : KeepsRule now = subst KeepsRule holds.shape rule in
-        let fits : data_bytes says.params n ≤ room now =
-        subst (λ (k : ℕ). data_bytes says.params k ≤ room now) m.write_place (subst (λ (s : Shape). data_bytes s.params e.write_place ≤ room s) holds.shape place.fits.in_room) in
-        let ends = room_on_disk now was (ap (λ (q : Parameters). is_adpcm q.codec) m.params ∙ is) in
-        rule_for now n was fits (omega (arith, fits, ends))
+  rule_then : KeepsRule (record says { frames = n })
+  rule_then =
+      let now = record says { frames = frame_count p (whole p xs) } in
+      let was : KeepsRule now = subst KeepsRule holds.shape holds.encoded.keeps.rule in
+      let fits : data_bytes says.params n ≤ room now =
+      subst (λ (k : ℕ). data_bytes says.params k ≤ room now) m.write_place (subst (λ (s : Shape). data_bytes s.params e.write_place ≤ room s) holds.shape holds.encoded.place.fits.in_room) in
+      let ends = room_on_disk now was (ap (λ (q : Parameters). is_adpcm q.codec) m.params ∙ is) in
+      rule_for now n was fits (omega (arith, fits, ends))
 
-    apart : FieldsLieApart (record says { frames = n })
-    apart = (fields_lie_apart head says n says.declared holds.told).inner
+  apart : FieldsLieApart (record says { frames = n })
+  apart = (fields_lie_apart head says n says.declared holds.told).inner
 
-    pub filled_bytes : (encoded_whole e).bytes ≡ made_file kind p pieces xs
-    filled_bytes =
-        ap (λ (l : List ℤ). sealed (over_blocks e.bytes (counting e.shape l) l) (counting e.shape l) (counting e.shape l).frames) holds.given
-        ∙ ap (λ (b : List ℕ). sealed b (counting e.shape xs) (counting e.shape xs).frames) (puts xs (whole_least p holds.form xs))
-        ∙ ap (λ (s : Shape). sealed (head ++ coded p xs) (record s { frames = length xs / s.params.channels }) (length xs / s.params.channels)) holds.shape
-        ∙ ap (λ (q : Parameters). sealed (head ++ coded p xs) (record says { frames = length xs / q.channels }) (length xs / q.channels)) m.params
-        ∙ ap (λ (l : List ℕ). sealed l (record says { frames = n }) n) (sym (append-nil (head ++ coded p xs)))
-        ∙ sealed_whole kind p pieces n (coded p xs) [] m.params m.start m.free rule_then apart (coded_size p holds.form xs m.whole) (inl refl)
-        ∙ ap (λ (t : Bool). with_fields head says n ++ cond t (coded p xs) (fixed.coded p xs) ++ closing says n) (sym is)
+  pub filled_bytes : (encoded_whole e).bytes ≡ made_file kind p pieces xs
+  filled_bytes =
+      ap (λ (l : List ℤ). sealed (over_blocks e.bytes (counting e.shape l) l) (counting e.shape l) (counting e.shape l).frames) holds.given
+      ∙ ap (λ (b : List ℕ). sealed b (counting e.shape xs) (counting e.shape xs).frames) (puts xs (whole_least p holds.form xs))
+      ∙ ap (λ (s : Shape). sealed (head ++ coded p xs) (record s { frames = length xs / s.params.channels }) (length xs / s.params.channels)) holds.shape
+      ∙ ap (λ (q : Parameters). sealed (head ++ coded p xs) (record says { frames = length xs / q.channels }) (length xs / q.channels)) m.params
+      ∙ ap (λ (l : List ℕ). sealed l (record says { frames = n }) n) (sym (append-nil (head ++ coded p xs)))
+      ∙ sealed_whole kind p pieces n (coded p xs) [] m.params m.start m.free rule_then apart (coded_size p holds.form xs m.whole) (inl refl)
+      ∙ ap (λ (t : Bool). with_fields head says n ++ cond t (coded p xs) (fixed.coded p xs) ++ closing says n) (sym is)
 
 pub encoded_is_making : EncodedIsMaking
 encoded_is_making kind p pieces xs ys e m is may = encoded_making kind p pieces xs e m is ys may
 
 pub filled_is_made : FilledIsMade
-filled_is_made kind p pieces xs e m rule place = elim (cases_Bool (is_adpcm p.codec)) [
-  | inl is ↦ filled_bytes kind p pieces xs e m is rule place
-  | inr plain ↦ absurd (let no : true ≡ false = sym place.blocks ∙ ap (λ (q : Parameters). is_adpcm q.codec) (making_params kind p pieces xs e m) ∙ plain in cc)
-]
+filled_is_made kind p pieces xs e m is = filled_bytes kind p pieces xs e m is

@@ -76,10 +76,10 @@ module _ (kind : Kind) (p : Parameters) (pieces : List NewChunk) (xs : List ℤ)
     linear = is_fixed p.codec plain
 
     pub channels : 1 ≤ p.channels
-    channels = subst (λ (q : Parameters). 1 ≤ q.channels) making_params (some_channel (head_with kind p pieces) e holds.edited)
+    channels = subst (λ (q : Parameters). 1 ≤ q.channels) making_params (some_channel (head_with kind p pieces) e holds.edited.keeps)
 
     pub rule : KeepsRule (record (shape_with kind p pieces) { frames = frame_count p xs })
-    rule = subst KeepsRule holds.shape holds.edited.rule
+    rule = subst KeepsRule holds.shape holds.edited.keeps.rule
 
     pub whole : length xs ≡ p.channels * frame_count p xs
     whole = whole_frames (length xs) p.channels (frame_count p xs) channels m.whole refl
@@ -95,7 +95,7 @@ module _ (kind : Kind) (p : Parameters) (pieces : List NewChunk) (xs : List ℤ)
         omega (arith, length-append (head_with kind p pieces) (coded p xs), m.start, size_is, same)
 
     apart_now : FieldsLieApart (record (shape_with kind p pieces) { frames = frame_count p xs })
-    apart_now = subst FieldsLieApart (sym holds.edited.shape ∙ holds.shape) (fields_lie_apart (head_with kind p pieces) holds.edited.head e.shape.frames e.shape.declared holds.edited.opened).inner
+    apart_now = subst FieldsLieApart (sym holds.edited.keeps.shape ∙ holds.shape) (fields_lie_apart (head_with kind p pieces) holds.edited.keeps.head e.shape.frames e.shape.declared holds.edited.keeps.opened).inner
 
     pub sealed_numbers : sealed e.bytes e.shape e.shape.frames ≡ made_file kind p pieces xs
     sealed_numbers =

@@ -1,17 +1,15 @@
 -- What is said of every file that is made.
 use Rattle.std.specs.Prelude.{◌≡◌, ℤ, true, false, List, [], ◌++◌, Ok}
 use Rattle.snd_chunks.specs.Written.{NewChunk}
-use Rattle.snd_container.specs.Sound.{sound_of}
+use Rattle.snd_blocks.specs.Sound.{sound_of}
 use Rattle.snd_layout.specs.Blocks.{is_adpcm}
 use Rattle.snd_layout.specs.Params.{AreParams, Parameters}
-use Rattle.snd_layout.specs.Shape.{KeepsRule}
 use Rattle.snd_layout.specs.declared.kind.Kind.{Kind}
 use Rattle.snd_modes.specs.Editing.{Editing}
 use Rattle.snd_modes.specs.Edits.{sealed_to, written_to}
 use Rattle.snd_modes.specs.Encoding.{MayEncode, encoded_to, encoded_whole}
 use Rattle.snd_modes.specs.Heads.{holds_meta}
 use Rattle.snd_modes.specs.Making.{making_of}
-use Rattle.snd_modes.specs.Pacing.{HasPlaceFor}
 use Rattle.snd_modes.specs.WriteCalls.{MayWrite}
 use Rattle.snd_output.specs.Made.{AreChunks, IsMaking, made_file, made_sound, made_with}
 
@@ -33,16 +31,16 @@ abbrev pub EncodedIsMaking : Type 0
 EncodedIsMaking = (kind : Kind) (p : Parameters) (pieces : List NewChunk) (xs ys : List ℤ) (e : Editing) →
     IsMaking kind p pieces xs e → is_adpcm p.codec ≡ true → MayEncode ys e.shape e.write_place → IsMaking kind p pieces (xs ++ ys) (encoded_to ys e)
 
--- It is made once it is sealed. In ADPCM zeros fill the last block before that, for which its head has room.
+-- It is made once it is sealed. In ADPCM zeros fill the last block before that.
 abbrev pub SealedIsMade : Type 0
 SealedIsMade = (kind : Kind) (p : Parameters) (pieces : List NewChunk) (xs : List ℤ) (e : Editing) →
     IsMaking kind p pieces xs e → is_adpcm p.codec ≡ false → (sealed_to e).bytes ≡ made_file kind p pieces xs
 
 abbrev pub FilledIsMade : Type 0
 FilledIsMade = (kind : Kind) (p : Parameters) (pieces : List NewChunk) (xs : List ℤ) (e : Editing) →
-    IsMaking kind p pieces xs e → KeepsRule e.shape → HasPlaceFor e.shape e.write_place → (encoded_whole e).bytes ≡ made_file kind p pieces xs
+    IsMaking kind p pieces xs e → is_adpcm p.codec ≡ true → (encoded_whole e).bytes ≡ made_file kind p pieces xs
 
--- and then has its sound, where each number has a fixed size
+-- and then has its sound
 abbrev pub MadeHasSound : Type 0
 MadeHasSound = (kind : Kind) (p : Parameters) (pieces : List NewChunk) (xs : List ℤ) (e : Editing) →
-    IsMaking kind p pieces xs e → is_adpcm p.codec ≡ false → sound_of (made_file kind p pieces xs) ≡ Ok (made_sound kind p pieces xs)
+    IsMaking kind p pieces xs e → sound_of (made_file kind p pieces xs) ≡ Ok (made_sound kind p pieces xs)

@@ -16,7 +16,7 @@ use Rattle.snd_patch.specs.Sealed.{with_fields}
 use Rattle.snd_wave.specs.Written.{MayBePiece}
 use Rattle.snd_modes.specs.Editing.{Editing}
 use Rattle.snd_modes.specs.Edits.{coded}
-use Rattle.snd_modes.specs.Laws.{IsEdited}
+use Rattle.snd_modes.specs.Laws.{IsEdited, IsEncoded}
 use Rattle.snd_modes.specs.Reading.{FitCodec}
 use Rattle.snd_modes.specs.Relaid.{head_with, shape_with}
 
@@ -35,12 +35,15 @@ made_file kind p pieces xs =
     let n = frame_count p xs in
     with_fields (head_with kind p pieces) h n ++ data_of p xs ++ closing h n
 
--- .. and its sound: the chunks, and the numbers as the codec keeps them
+-- .. and its sound: the chunks, and the numbers as the codec keeps them, in ADPCM those that its blocks stand for
+abbrev pub frames_kept : Parameters → List ℤ → List (List ℤ)
+frames_kept p xs = if is_adpcm p.codec then blocks.kept p xs else groups p.channels (kept_numbers p xs)
+
 abbrev pub kept_chunk : NewChunk → Kept
 kept_chunk piece = record { id = piece.id; body = piece.body; after = false }
 
 abbrev pub made_sound : Kind → Parameters → List NewChunk → List ℤ → Sound
-made_sound kind p pieces xs = record { kind = kind; params = p; frames = groups p.channels (kept_numbers p xs); pieces = map kept_chunk pieces }
+made_sound kind p pieces xs = record { kind = kind; params = p; frames = frames_kept p xs; pieces = map kept_chunk pieces }
 
 -- what closes the data of a file while it is made: nothing until a frame is written
 abbrev pub closing_so_far : Shape → ℕ → List ℕ
@@ -57,6 +60,7 @@ pub record HoldsNumbers (kind : Kind) (p : Parameters) (pieces : List NewChunk) 
 pub record HoldsBlocks (kind : Kind) (p : Parameters) (pieces : List NewChunk) (xs : List ℤ) (e : Editing) : Type 0 where
   pub form : AreBlocks p
   pub told : FileSays (head_with kind p pieces) (shape_with kind p pieces)
+  pub encoded : IsEncoded (head_with kind p pieces) e
   pub given : e.given ≡ xs
   pub shape : e.shape ≡ record (shape_with kind p pieces) { frames = frame_count p (blocks.whole p xs) }
   pub bytes : e.bytes ≡ head_with kind p pieces ++ blocks.coded p (blocks.whole p xs)

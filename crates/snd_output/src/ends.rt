@@ -14,7 +14,7 @@ use snd_disk::Disk;
 use snd_modes::File;
 
 /// Finishes a file: its head says how many frames it has, what closes them stands behind them, and all is
-/// stable; in ADPCM zeros fill the last block before that. It writes at most 72 bytes, and such a block, reads
+/// stable; in ADPCM zeros fill the last block before that. It writes at most 64 bytes, and such a block, reads
 /// none and takes no memory.
 ///
 /// The answer is `Fault` where a call of the disk failed: before, and then nothing is done; or now.
@@ -28,7 +28,6 @@ pub fn finish<'d, E: Disk, M: Making>(to: File<'d, E, M>) -> Result<&'d mut E, (
     ensures written { WritesAtMost E.state (most_closed M.ENCODES (known_of to.entry).shape.params) (disk_of to.entry) (disk_back result) }
     ensures asked { (E.state (disk_back result)).asked ≡ (E.state (disk_of to.entry)).asked }
 {
-    to.keeps_rule();
     match to.close() {
         Ok(disk) => Ok(disk),
         Err((_, disk)) => Err((Stop::Fault, disk)),

@@ -15,7 +15,7 @@ pub fn files_are_made()
 {}
 
 /// A file that is made has its kind, its parameters and its chunks, and for frames the numbers, as the codec
-/// keeps them.
+/// keeps them; in ADPCM those that its blocks stand for.
 pub fn made_files_have_sound()
     ensures { MadeHasSound }
 {}

@@ -3,10 +3,9 @@ use Rattle.std.proofs.lemmas.Bool.{cases_Bool}
 use Rattle.snd_disk.specs.Device.{Tells}
 use Rattle.snd_layout.specs.Blocks.{is_adpcm}
 use Rattle.snd_layout.specs.Params.{Parameters}
-use Rattle.snd_layout.specs.Shape.{KeepsRule, Shape}
+use Rattle.snd_layout.specs.Shape.{Shape}
 use Rattle.snd_modes.specs.Closing.{ClosesFile, HoldsClosed, closed_to}
 use Rattle.snd_modes.specs.Handle.{known_of}
-use Rattle.snd_modes.specs.Pacing.{HasPlaceFor}
 use Rattle.snd_modes.proofs.Rooms.{not_adpcm}
 use Rattle.snd_output.proofs.Encoding.{filled_is_made}
 use Rattle.snd_output.proofs.Finished.{making_params, sealed_is_made}
@@ -21,9 +20,8 @@ returns-in-Ok-clause-made g c = λ kind p pieces xs e stands making.
     let params = making_params kind p pieces xs e making in
     elim (cases_Bool g.M.Mode.ENCODES) [
       | inl encodes ↦
-          let rule : KeepsRule e.shape = subst KeepsRule stands.shape c.keeps_rule.ensures in
-          let place : HasPlaceFor e.shape e.write_place = subst (HasPlaceFor e.shape) stands.write_place (subst (λ (s : Shape). HasPlaceFor s (known_of file).write_place) stands.shape (file.roomy encodes)) in
-          subst (λ (t : Bool). Tells g.E.Disk.state c.in-Ok.disk.now (closed_to t e).bytes) encodes told ∙ ap (λ (b : List ℕ). Some b) (filled_is_made kind p pieces xs e making rule place)
+          let is : is_adpcm p.codec ≡ true = ap (λ (q : Parameters). is_adpcm q.codec) (sym params) ∙ ap (λ (s : Shape). is_adpcm s.params.codec) (sym stands.shape) ∙ (file.roomy encodes).blocks in
+          subst (λ (t : Bool). Tells g.E.Disk.state c.in-Ok.disk.now (closed_to t e).bytes) encodes told ∙ ap (λ (b : List ℕ). Some b) (filled_is_made kind p pieces xs e making is)
       | inr by_place ↦
           let plain : is_adpcm p.codec ≡ false =
           ap (λ (q : Parameters). is_adpcm q.codec) (sym params) ∙ ap (λ (s : Shape). is_adpcm s.params.codec) (sym stands.shape) ∙ not_adpcm (known_of file).shape.params.codec (file.linear (g.M.Mode.ways writes by_place)) in
