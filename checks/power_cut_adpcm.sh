@@ -24,10 +24,10 @@ from crash_images import moments, read_by_program, traced
 
 program = sys.argv[1]
 cases = Cases("power_cut_adpcm")
-RATES, TIMES, LINES, LEAST = (8000, 16000, 44100), 2, 24, 3000
+RATES, TIMES, LINES, LEAST = (8000, 16000, 44100), 6, 24, 5000
 SHAPES = [(kind, codec, channels, rate) for kind in ("wave", "w64") for codec in ("ima", "ms") for channels in (1, 2) for rate in RATES]
-# the field that decides the count: `fact`, the identifier and the size of the data; and the size of the whole
-FIELDS = {"wave": (12, 4, 4), "w64": (32, 16, 8)}
+# how long the field is that decides the count: `fact`, the identifier and the size of the data
+FIELD = {"wave": 12, "w64": 32}
 
 
 class Run:
@@ -40,7 +40,7 @@ class Run:
         self.size = blocks.align(self.channels, self.rate)
         self.given, self.kept = [], {}
         lines = [f"create {self.kind} {self.codec} {self.channels} {self.rate} a.snd", "auto on"]
-        self.replies, self.states = ["ok 0", "ok 0"], [0, 0, 0]
+        self.replies, self.states = [f"ok 0 {self.channels} {self.rate} {self.kind} {self.codec}", "ok 0"], [0, 0, 0]
         for _ in range(LINES):
             line, answer = self.next_line()
             lines.append(line)
@@ -115,13 +115,8 @@ class Run:
 # ---- traces that are wrong
 
 def is_count(run, event):
-    size = FIELDS[run.kind][0]
+    size = FIELD[run.kind]
     return event[0] == "put" and event[1] == run.start - size and len(event[2]) == size
-
-
-def is_whole(run, event):
-    _, at, size = FIELDS[run.kind]
-    return event[0] == "put" and event[1] == at and len(event[2]) == size
 
 
 def count_first(run, events):
@@ -138,16 +133,17 @@ def blocks_last(run, events):
             events[i], events[i + 2] = events[i + 2], events[i]
 
 
-def count_in_parts(run, events):
-    """The count and the size of the data are written one after the other."""
-    for i in reversed(range(len(events))):
-        if is_count(run, events[i]):
-            at, new = events[i][1:]
-            events[i:i + 1] = [("put", at, new[:4]), ("sync",), ("put", at + 4, new[4:])]
+def count_unsynced(run, events):
+    """Of the syncs of a command only the first is made, so none behind the count."""
+    kept, syncs = [], 0
+    for event in events:
+        syncs = 0 if event[0] == "say" else syncs + (event[0] == "sync")
+        kept += [event] if event[0] != "sync" or syncs == 1 else []
+    events[:] = kept
 
 
 images_tried = moments_tried = several = unsafe_found = 0
-WRONG = {it: 0 for it in (count_first, blocks_last, count_in_parts)}
+WRONG = {it: 0 for it in (count_first, blocks_last, count_unsynced)}
 for seed in range(len(SHAPES) * TIMES):
     name = f"run {seed}"
     try:
