@@ -1,5 +1,6 @@
 use snd_fields::Order;
 use snd_layout::{Codec, Params};
+use snd_modes::{ima_codec, ms_codec};
 use std::env;
 
 const RATE: u64 = 44100;
@@ -26,8 +27,9 @@ pub struct Job {
     pub change: Option<Change>,
 }
 
-/// The codec of a word: linear samples of so many bits, or one of the laws.
-fn codec_of(word: &str) -> Option<Codec> {
+/// The codec of a word: linear samples of so many bits, one of the laws, or ADPCM in the blocks that the
+/// library makes for so many channels.
+fn codec_of(word: &str, channels: u64) -> Option<Codec> {
     match word {
         "8" => Some(Codec::U8),
         "16" => Some(Codec::S16(Order::Little)),
@@ -35,6 +37,8 @@ fn codec_of(word: &str) -> Option<Codec> {
         "32" => Some(Codec::S32(Order::Little)),
         "ulaw" => Some(Codec::MuLaw),
         "alaw" => Some(Codec::ALaw),
+        "ima" => Some(ima_codec(channels, RATE)),
+        "ms" => Some(ms_codec(channels, RATE)),
         _ => None,
     }
 }
@@ -50,8 +54,9 @@ fn number_of(word: Option<String>) -> Option<u64> {
 }
 
 fn creation_of(words: &mut env::Args) -> Option<Job> {
-    let codec = codec_of(words.next()?.as_str())?;
+    let word = words.next()?;
     let channels = number_of(words.next())?;
+    let codec = codec_of(word.as_str(), channels)?;
     let frames = number_of(words.next())?;
     Some(Job {
         creation: Some(file_of(codec, channels, frames)?),

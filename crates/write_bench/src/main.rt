@@ -1,5 +1,6 @@
 //! Writes frames through the library, for measuring. `write_bench create NAME BITS CHANNELS FRAMES` makes
-//! a WAVE file of so many bits a sample; `ulaw` and `alaw` in place of the bits make one of G.711.
+//! a WAVE file of so many bits a sample; `ulaw` and `alaw` in place of the bits make one of G.711, `ima` and
+//! `ms` one of ADPCM.
 //! `write_bench update NAME on|off FROM FRAMES` writes so many frames over those of a file that is there,
 //! from a frame on, and past its end, with automatic updates or without. `write_bench both NAME` makes a
 //! small file and updates it. A line tells after each step how many frames there are.
@@ -7,14 +8,15 @@
 
 mod job;
 
-ghost use Rattle.std.specs.Prelude.{◌≡◌, ◌<◌, ◌≤◌, false};
+ghost use Rattle.std.specs.Prelude.{◌≡◌, ◌<◌, ◌≤◌, false, true};
+ghost use Rattle.snd_layout.specs.Blocks.{is_adpcm};
 ghost use Rattle.snd_modes.specs.Handle.{disk_of, loan_of};
 
 use job::{Change, Creation, Job, job_of};
 use snd_container::{Fixed, fixed_form};
 use snd_disk::{Disk, FolderShelf, Shelf};
 use snd_layout::Kind;
-use snd_modes::{CanWrite, File, Update, create, open_update};
+use snd_modes::{CanWrite, Encode, File, Update, create, create_blocks, open_update};
 use std::alloc::Global;
 use std::io::Write;
 use std::process::ExitCode;
@@ -75,10 +77,57 @@ fn write_blocks<D: Disk, M: CanWrite>(file: &mut File<'_, D, M>, frames: u64) ->
     file.write_frames(&block[..rest]).ok()
 }
 
+/// Gives a file of ADPCM so many frames, in slices of as many numbers as one of 16 bits is written in.
+fn encode_blocks<D: Disk>(file: &mut File<'_, D, Encode>, frames: u64) -> Option<()>
+    ensures loan { loan_of file.new ≡ loan_of file.old }
+    ensures name { (D.state (disk_of file.new)).name ≡ (D.state (disk_of file.old)).name }
+{
+    let channels = usize::from(file.params().channels).max(1);
+    let whole = (BLOCK_BYTES / 2 / channels * channels).max(1);
+    let numbers = frames.checked_mul(channels as u64)?;
+    let mut block = [0; BLOCK_BYTES];
+    fill(&mut block[..whole], 16);
+    for i in 0..numbers / whole as u64 {
+        block[0] = (i % 128) as i32;
+        file.encode_frames(&block[..whole]).ok()?;
+    }
+    let rest = (numbers % whole as u64) as usize;
+    file.encode_frames(&block[..rest]).ok()
+}
+
+/// Makes a disk a WAVE file of ADPCM of so many frames, and answers how many it has.
+fn create_encoded<D: Disk>(alloc: Global, disk: &mut D, creation: Creation) -> Option<u64>
+    requires { is_adpcm creation.params.codec ≡ true }
+    ensures { (D.state disk.new).name ≡ (D.state disk.old).name }
+{
+    let mut file = match create_blocks(alloc, disk, Kind::Wave, creation.params) {
+        Ok(file) => file,
+        Err((_, back)) => {
+            let _ = back;
+            return None;
+        }
+    };
+    let written = encode_blocks(&mut file, creation.frames);
+    let count = file.frames_given();
+    match file.close() {
+        Ok(back) => {
+            let _ = back;
+            written.map(|()| count)
+        }
+        Err((_, back)) => {
+            let _ = back;
+            None
+        }
+    }
+}
+
 /// Makes a disk a WAVE file of so many frames, and answers how many it has.
 fn create_file<D: Disk>(alloc: Global, disk: &mut D, creation: Creation) -> Option<u64>
     ensures { (D.state disk.new).name ≡ (D.state disk.old).name }
 {
+    if creation.params.codec.is_adpcm() {
+        return create_encoded(alloc, disk, creation);
+    }
     if fixed_form(creation.params.codec).is_none() {
         return None;
     }
