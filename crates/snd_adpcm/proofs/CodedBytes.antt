@@ -11,11 +11,12 @@ use Rattle.snd_fields.specs.Laws.{IsByte}
 use Rattle.snd_adpcm.specs.Blocks.{Rule, filled, bytes_of_blocks, bytes_of_list}
 use Rattle.snd_adpcm.specs.Frames.{Is16Bit, alternating, bytes_16, bytes_high_half_first, bytes_low_half_first, clamp, clamp_16, firsts, floor_div, fours, in_frames, in_turn, of_channel, seconds}
 use Rattle.snd_adpcm.specs.Ima.{Indices, ima_body, ima_bytes, ima_code, ima_codes, ima_head, ima_index, ima_index_after, ima_next_index, ima_next_indices, ima_numbers, ima_predictor}
-use Rattle.snd_adpcm.specs.Laws.{ImaDataAreBytes, MsDataAreBytes, ima_data, ima_rule, ms_data, ms_rule}
+use Rattle.snd_adpcm.specs.Laws.{ImaDataAreBytes, MsDataAreBytes, ima_rule, ms_rule}
 use Rattle.snd_adpcm.specs.Microsoft.{code_of_number, least_number, ms_bytes, ms_code, ms_codes, ms_codes_for, ms_delta, ms_delta_for, ms_error, ms_error_sum, ms_newer_of, ms_number_for, ms_numbers, ms_older_of, ms_prediction, ms_sample, ms_start_error, newer_weight, older_weight}
 use Rattle.snd_adpcm.specs.Step.{code_for, step_size}
 use Rattle.snd_adpcm.proofs.Numbers.{abs_within, clamp_least, clamp_most}
 use Rattle.snd_adpcm.proofs.Pairs.{All-firsts, All-seconds}
+use Rattle.snd_adpcm.proofs.Pushes.{alternating_all}
 
 -- ---- blocks
 
@@ -205,13 +206,6 @@ ms_codes_small newer_by older_by newer older delta (sample ∷ samples) =
 codes_for_small : (samples : List ℤ) → All IsCode (ms_codes_for samples)
 codes_for_small samples =
     ms_codes_small (newer_weight (ms_number_for samples)) (older_weight (ms_number_for samples)) (ms_newer_of samples) (ms_older_of samples) (pos (ms_delta_for samples)) (drop 2 samples)
-
-alternating_all : (P : ℕ → Type 0) (xs ys : List ℕ) → All P xs → All P ys → All P (alternating xs ys)
-alternating_all P [] ys left right = All-nil P
-alternating_all P (x ∷ xs) [] left right = All-nil P
-alternating_all P (x ∷ xs) (y ∷ ys) left right =
-    All-cons P x (y ∷ alternating xs ys) (All-head P x xs left)
-    (All-cons P y (alternating xs ys) (All-head P y ys right) (alternating_all P xs ys (All-tail P x xs left) (All-tail P y ys right)))
 
 channel_has_16 : (channels channel : ℕ) (samples : List ℤ) → All Is16Bit samples → All Is16Bit (of_channel channels channel samples)
 channel_has_16 channels channel samples all =

@@ -1,5 +1,5 @@
 -- The codes of a channel in an IMA block, byte by byte.
-use Rattle.std.proofs.Common.{◌≡◌, ℕ, ℤ, ◌%◌, ◌+◌, ◌-◌, ◌/◌, ◌<◌, ◌≤◌, List, [], ◌∷◌, length, get_or, drop, refl, ap, ◌∙◌, arith}
+use Rattle.std.proofs.Common.{◌≡◌, ℕ, ℤ, ◌%◌, ◌+◌, ◌-◌, ◌/◌, ◌<◌, ◌≤◌, List, [], ◌∷◌, length, get_or, drop, refl, ap, subst, ◌∙◌, arith}
 use Rattle.std.specs.List.{All}
 use Rattle.std.proofs.lemmas.List.Elements.{All-nil, All-cons}
 use Rattle.snd_adpcm.proofs.Numbers.{clamp_least, clamp_most}
@@ -7,7 +7,7 @@ use Rattle.std.proofs.lemmas.List.{drop_more, drop_all}
 use Rattle.std.proofs.lemmas.List.FromFn.{length-map-range_with_len, get_or-map-range_with_len}
 use Rattle.snd_adpcm.specs.Frames.{Is16Bit, low_half_first}
 use Rattle.snd_adpcm.specs.Step.{step_size, moved}
-use Rattle.snd_adpcm.specs.Ima.{ima_code_bytes, ima_place, ima_samples, ima_predictor, ima_index}
+use Rattle.snd_adpcm.specs.Ima.{ima_channel, ima_code_bytes, ima_first, ima_place, ima_samples, ima_predictor, ima_index, ima_start_index}
 
 pub length-ima_code_bytes : (channels channel : ℕ) (block : List ℕ) → length (ima_code_bytes channels channel block) ≡ length block / channels - 4
 unfolding ima_code_bytes
@@ -43,3 +43,9 @@ predictor_range p i code = record { least = clamp_least _ (moved p (step_size i)
 pub samples_range : (p : ℤ) (i : ℕ) (codes : List ℕ) → All Is16Bit (ima_samples p i codes)
 samples_range p i [] = All-nil Is16Bit
 samples_range p i (code ∷ codes) = All-cons Is16Bit (ima_predictor p i code) (ima_samples (ima_predictor p i code) (ima_index i code) codes) (predictor_range p i code) (samples_range (ima_predictor p i code) (ima_index i code) codes)
+
+-- so have those of a channel, where its head has
+pub channel_range : (channels channel : ℕ) (block : List ℕ) (first : ℤ) → Is16Bit first → first ≡ ima_first channel block → All Is16Bit (ima_channel channels channel block)
+channel_range channels channel block first good is =
+    let head : Is16Bit (ima_first channel block) = subst (λ x. Is16Bit x) is good in
+    All-cons Is16Bit (ima_first channel block) _ head (samples_range (ima_first channel block) (ima_start_index channel block) (low_half_first (ima_code_bytes channels channel block)))

@@ -5,6 +5,7 @@ use Rattle.std.proofs.lemmas.List.Elements.{All-nil, All-cons}
 use Rattle.snd_adpcm.proofs.Numbers.{clamp_least, clamp_most}
 use Rattle.snd_adpcm.specs.declared.microsoft_state.MsState.{MsState}
 use Rattle.snd_adpcm.specs.Frames.{Is16Bit, high_half_first, of_channel}
+use Rattle.snd_adpcm.specs.States.{ms_samples_from}
 use Rattle.snd_adpcm.specs.Microsoft.{ms_prediction, signed_code, ms_samples, ms_sample, ms_delta, ms_channel, ms_newer, ms_older, ms_start_delta, ms_number, newer_weight, older_weight}
 
 -- what a state makes of the codes still to come
@@ -36,3 +37,7 @@ samples_range newer_by older_by newer older delta [] = All-nil Is16Bit
 samples_range newer_by older_by newer older delta (code ∷ codes) =
     let x = ms_sample newer_by older_by newer older delta code in
     All-cons Is16Bit x (ms_samples newer_by older_by x newer (ms_delta delta code) codes) (sample_range newer_by older_by newer older delta code) (samples_range newer_by older_by x newer (ms_delta delta code) codes)
+
+pub samples_from_range : (s : MsState) (codes : List ℕ) → All Is16Bit (ms_samples_from s codes)
+samples_from_range s codes =
+    All-cons Is16Bit s.older (s.newer ∷ rest_of s codes) s.older_range (All-cons Is16Bit s.newer (rest_of s codes) s.newer_range (samples_range s.newer_by s.older_by s.newer s.older s.delta codes))

@@ -1,31 +1,21 @@
--- What a list is after a few pushes, beside what is still to come.
+-- What a list is once a few entries were put, beside what is still to come.
 use Rattle.std.proofs.Common.{◌≡◌, ℕ, ℤ, ◌+◌, ◌≤◌, List, [], ◌∷◌, ◌++◌, length, take, drop, set, refl, sym, ap, ◌∙◌, append_assoc, arith}
 use Rattle.std.specs.List.{All, refill}
-use Rattle.std.proofs.lemmas.List.Elements.{All-same, All-push}
+use Rattle.std.proofs.lemmas.List.Elements.{All-nil, All-cons, All-head, All-tail}
 use Rattle.std.proofs.lemmas.List.{length-set, take_all, take_at, append-nil}
 use Rattle.std.proofs.lemmas.Grind.{take-set_at}
 use Rattle.snd_adpcm.specs.Frames.{Is16Bit, alternating}
 
--- two frames of two channels
-pub two_frames : (items one two three four whole : List ℤ) (a b d e : ℤ) (left right lefts rights : List ℤ) →
-    one ≡ items ++ a ∷ [] → two ≡ one ++ b ∷ [] → three ≡ two ++ d ∷ [] → four ≡ three ++ e ∷ [] →
-    left ≡ a ∷ d ∷ lefts → right ≡ b ∷ e ∷ rights →
-    items ++ alternating left right ≡ whole → four ++ alternating lefts rights ≡ whole
-two_frames items one two three four whole a b d e left right lefts rights p q r s l m h =
-    rw (s, r, q, p) (simp append_assoc (rw (l, m) at h))
-
--- one frame of two channels
-pub one_frame : (items one two whole : List ℤ) (a b : ℤ) (left right lefts rights : List ℤ) → one ≡ items ++ a ∷ [] → two ≡ one ++ b ∷ [] →
-    left ≡ a ∷ lefts → right ≡ b ∷ rights → items ++ alternating left right ≡ whole → two ++ alternating lefts rights ≡ whole
-one_frame items one two whole a b left right lefts rights p q l m h = rw (q, p) (simp append_assoc (rw (l, m) at h))
-
 pub alternating-same : {X : Type 0} (xs ys us vs : List X) → xs ≡ us → ys ≡ vs → alternating xs ys ≡ alternating us vs
 alternating-same xs ys us vs p q = rw (p, q)
 
--- pushes of numbers of 16 bits
-pub range_of_two : (items one two : List ℤ) (a b : ℤ) → one ≡ items ++ a ∷ [] → two ≡ one ++ b ∷ [] → All Is16Bit items → Is16Bit a → Is16Bit b → All Is16Bit two
-range_of_two items one two a b p q all x y =
-    All-same Is16Bit two (one ++ b ∷ []) q (All-push Is16Bit one b (All-same Is16Bit one (items ++ a ∷ []) p (All-push Is16Bit items a all x)) y)
+-- what holds of all entries of two lists holds of those in turn
+pub alternating_all : {X : Type 0} (P : X → Type 0) (xs ys : List X) → All P xs → All P ys → All P (alternating xs ys)
+alternating_all P [] ys left right = All-nil P
+alternating_all P (x ∷ xs) [] left right = All-nil P
+alternating_all P (x ∷ xs) (y ∷ ys) left right =
+    All-cons P x (y ∷ alternating xs ys) (All-head P x xs left)
+    (All-cons P y (alternating xs ys) (All-head P y ys right) (alternating_all P xs ys (All-tail P x xs left) (All-tail P y ys right)))
 
 -- two samples put in their places
 pub two_put : (xs whole all rest : List ℤ) (k j m : ℕ) (a b : ℤ) → j ≡ k + 1 → m ≡ j + 1 → m ≤ length xs → all ≡ a ∷ b ∷ rest → take k xs ++ all ≡ whole → take m (set (set xs k a) j b) ++ rest ≡ whole

@@ -97,31 +97,27 @@ fn decode_mono(bytes: &[u8], into: &mut [i32])
 }
 
 /// The samples of a block of two channels.
-fn decode_stereo(bytes: &[u8], into: &mut ArrayVec<i32, 16384>)
+fn decode_stereo(bytes: &[u8], into: &mut [i32])
     requires whole { 8 ≤ length bytes.now }
     requires groups { length bytes.now % 8 ≡ 0 }
-    requires room { length bytes.now ≤ 8192 }
+    requires room { length into.old ≡ 4 * (length bytes.now / 2 - 4) + 2 }
     requires good_left { ima_start_index 0 bytes.now ≤ 88 }
     requires good_right { ima_start_index 1 bytes.now ≤ 88 }
-    requires empty { into.old.items ≡ [] }
-    ensures samples { into.new.items ≡ ima_block 2 bytes.now }
-    ensures count { length into.new.items ≡ 4 * (length bytes.now / 2 - 4) + 2 }
-    ensures range { All Is16Bit into.new.items }
+    ensures samples { into.new ≡ ima_block 2 bytes.now }
+    ensures range { All Is16Bit into.new }
 {
     let mut left = ImaState::of_head(bytes, 0);
     let mut right = ImaState::of_head(bytes, 1);
-    into.push(left.predictor);
-    into.push(right.predictor);
+    into[0] = left.predictor;
+    into[1] = right.predictor;
     for n in 0..bytes.len() / 2 - 4 {
         let place = 8 + 8 * (n / 4) + n % 4;
-        let left_byte = bytes[place];
-        let right_byte = bytes[place + 4];
-        let (left_middle, left_end) = left.after_byte(left_byte);
-        let (right_middle, right_end) = right.after_byte(right_byte);
-        into.push(left_middle);
-        into.push(right_middle);
-        into.push(left_end.predictor);
-        into.push(right_end.predictor);
+        let (left_middle, left_end) = left.after_byte(bytes[place]);
+        let (right_middle, right_end) = right.after_byte(bytes[place + 4]);
+        into[4 * n + 2] = left_middle;
+        into[4 * n + 3] = right_middle;
+        into[4 * n + 4] = left_end.predictor;
+        into[4 * n + 5] = right_end.predictor;
         left = left_end;
         right = right_end;
     }
@@ -162,12 +158,11 @@ impl ImaBlock {
             into.clear();
             return Err(BadBlock);
         }
+        make_room(2 * bytes.len() - 7 * usize::from(channels), into);
         if channels == 1 {
-            make_room(2 * bytes.len() - 7, into);
             decode_mono(bytes, into.as_mut_slice());
         } else {
-            into.clear();
-            decode_stereo(bytes, into);
+            decode_stereo(bytes, into.as_mut_slice());
         }
         Ok(())
     }

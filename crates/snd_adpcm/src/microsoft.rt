@@ -279,24 +279,22 @@ fn decode_mono(codes: &[u8], start: MsState, into: &mut [i32])
 }
 
 /// The samples of a block of two channels, whose heads give `first` and `second`.
-fn decode_stereo(codes: &[u8], first: MsState, second: MsState, into: &mut ArrayVec<i32, 16384>)
-    requires room { length codes.now ≤ 8178 }
-    requires empty { into.old.items ≡ [] }
-    ensures samples { into.new.items ≡ ms_frames_from first second (high_half_first codes.now) }
-    ensures count { length into.new.items ≡ 4 + 2 * length codes.now }
-    ensures range { All Is16Bit into.new.items }
+fn decode_stereo(codes: &[u8], first: MsState, second: MsState, into: &mut [i32])
+    requires room { length into.old ≡ 2 * length codes.now + 4 }
+    ensures samples { into.new ≡ ms_frames_from first second (high_half_first codes.now) }
+    ensures range { All Is16Bit into.new }
 {
     let mut left = first;
     let mut right = second;
-    into.push(left.older);
-    into.push(right.older);
-    into.push(left.newer);
-    into.push(right.newer);
-    for byte in codes {
-        left = left.after(high_code(*byte));
-        right = right.after(low_code(*byte));
-        into.push(left.newer);
-        into.push(right.newer);
+    into[0] = left.older;
+    into[1] = right.older;
+    into[2] = left.newer;
+    into[3] = right.newer;
+    for n in 0..codes.len() {
+        left = left.after(high_code(codes[n]));
+        right = right.after(low_code(codes[n]));
+        into[2 * n + 4] = left.newer;
+        into[2 * n + 5] = right.newer;
     }
 }
 
@@ -340,10 +338,10 @@ impl MsBlock {
             make_room(2 * codes.len() + 2, into);
             decode_mono(codes, MsState::of_head(bytes, 1, 0), into.as_mut_slice());
         } else {
+            make_room(2 * codes.len() + 4, into);
             let left = MsState::of_head(bytes, 2, 0);
             let right = MsState::of_head(bytes, 2, 1);
-            into.clear();
-            decode_stereo(codes, left, right, into);
+            decode_stereo(codes, left, right, into.as_mut_slice());
         }
         Ok(())
     }

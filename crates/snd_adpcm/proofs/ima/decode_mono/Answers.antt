@@ -1,9 +1,9 @@
-use Rattle.std.proofs.Common.{◌≡◌, ◌+◌, ◌*◌, ◌%◌, [], ◌∷◌, drop, get_or, w32, to_z, of_z, arith, rules, refl, ap, subst, ◌∙◌}
+use Rattle.std.proofs.Common.{◌≡◌, ◌+◌, ◌*◌, ◌%◌, [], ◌∷◌, drop, get_or, w32, to_z, of_z, arith, rules, refl, ap, ◌∙◌}
 use Rattle.std.proofs.lemmas.Grind.{common_steps}
-use Rattle.std.proofs.lemmas.List.Elements.{All-same, All-cons}
+use Rattle.std.proofs.lemmas.List.Elements.{All-same}
 use Rattle.snd_adpcm.specs.Frames.{Is16Bit, low_half_first}
-use Rattle.snd_adpcm.specs.Ima.{ima_samples, ima_code_bytes, ima_index, ima_first, ima_start_index}
-use Rattle.snd_adpcm.proofs.ImaCodes.{ima_code_bytes-more_at, ima_code_bytes-end, ima_samples-byte, samples_range}
+use Rattle.snd_adpcm.specs.Ima.{ima_samples, ima_code_bytes, ima_index}
+use Rattle.snd_adpcm.proofs.ImaCodes.{ima_code_bytes-more_at, ima_code_bytes-end, ima_samples-byte, channel_range}
 use Rattle.snd_adpcm.proofs.Pushes.{one_begins, two_put, all_put}
 use Rattle.snd_adpcm.proofs.ima.decode_mono.Goals as goal
 
@@ -42,6 +42,4 @@ returns-clause-samples c =
 pub returns-clause-range : goal.returns-clause-range
 returns-clause-range c =
     let s = c.of_head-state.result in
-    let first : Is16Bit (ima_first 0 c.args.bytes.now) = subst (λ x. Is16Bit x) c.of_head-state.ensures.predictor (record { least = s.low; most = s.high }) in
-    All-same Is16Bit c.loop-n.into _ (returns-clause-samples c)
-    (All-cons Is16Bit (ima_first 0 c.args.bytes.now) _ first (samples_range (ima_first 0 c.args.bytes.now) (ima_start_index 0 c.args.bytes.now) (low_half_first (ima_code_bytes 1 0 c.args.bytes.now))))
+    All-same Is16Bit c.loop-n.into _ (returns-clause-samples c) (channel_range 1 0 c.args.bytes.now s.predictor (record { least = s.low; most = s.high }) c.of_head-state.ensures.predictor)

@@ -1,9 +1,9 @@
 use Rattle.std.proofs.Common.{◌≡◌, ◌+◌, ◌*◌, ◌/◌, ◌%◌, [], ◌∷◌, drop, get_or, w32, to_z, of_z, arith, rules, refl, ap, ◌∙◌}
 use Rattle.std.proofs.lemmas.List.{drop_more, drop_all}
-use Rattle.std.proofs.lemmas.List.Elements.{All-same, All-cons}
+use Rattle.std.proofs.lemmas.List.Elements.{All-same}
 use Rattle.std.proofs.lemmas.Grind.{common_steps}
 use Rattle.snd_adpcm.specs.Frames.{Is16Bit, high_half_first}
-use Rattle.snd_adpcm.proofs.MsCodes.{rest_of, rest_of-code, samples_range}
+use Rattle.snd_adpcm.proofs.MsCodes.{rest_of, rest_of-code, samples_from_range}
 use Rattle.snd_adpcm.proofs.Pushes.{two_begin, two_put, all_put}
 use Rattle.snd_adpcm.proofs.microsoft.decode_mono.Goals as goal
 
@@ -38,8 +38,4 @@ returns-clause-samples c =
     all_put c.loop-n.into _ _ (2 * c.loop-n.n + 2) (omega arith) (ap (λ bytes. rest_of c.loop-n.state (high_half_first bytes)) past) c.loop-n.invariant.so_far
 
 pub returns-clause-range : goal.returns-clause-range
-returns-clause-range c =
-    let s = c.args.start in
-    let rest = rest_of s (high_half_first c.args.codes.now) in
-    All-same Is16Bit c.loop-n.into (s.older ∷ s.newer ∷ rest) (returns-clause-samples c)
-    (All-cons Is16Bit s.older (s.newer ∷ rest) s.older_range (All-cons Is16Bit s.newer rest s.newer_range (samples_range s.newer_by s.older_by s.newer s.older s.delta (high_half_first c.args.codes.now))))
+returns-clause-range c = All-same Is16Bit c.loop-n.into _ (returns-clause-samples c) (samples_from_range c.args.start (high_half_first c.args.codes.now))

@@ -1,43 +1,55 @@
-use Rattle.std.proofs.Common.{length, sym, ◌≡◌, ◌+◌, ◌/◌, ◌%◌, [], ◌∷◌, ◌++◌, drop, get_or, arith, rules, ap, ◌∙◌}
-use Rattle.std.proofs.lemmas.List.{drop_more, drop_all, append-nil}
-use Rattle.std.proofs.lemmas.List.Elements.{All-nil}
+use Rattle.std.proofs.Common.{◌≡◌, ◌+◌, ◌*◌, ◌/◌, ◌%◌, [], ◌∷◌, drop, get_or, w32, to_z, of_z, arith, rules, refl, ap, ◌∙◌}
+use Rattle.std.proofs.lemmas.List.{drop_more, drop_all}
+use Rattle.std.proofs.lemmas.List.Elements.{All-same, All-cons}
 use Rattle.std.proofs.lemmas.Grind.{common_steps}
 use Rattle.snd_adpcm.specs.Frames.{Is16Bit, alternating, high_half_first, firsts, seconds}
-use Rattle.snd_adpcm.proofs.MsCodes.{rest_of, rest_of-code}
-use Rattle.snd_adpcm.proofs.Pushes.{one_frame, range_of_two}
+use Rattle.snd_adpcm.specs.States.{ms_samples_from}
+use Rattle.snd_adpcm.proofs.MsCodes.{rest_of, rest_of-code, samples_from_range}
+use Rattle.snd_adpcm.proofs.Pushes.{two_begin, two_put, all_put, alternating_all}
 use Rattle.snd_adpcm.proofs.microsoft.decode_stereo.Goals as goal
 
-pub loop-byte-preserved : goal.loop-byte-preserved
-loop-byte-preserved c =
-    let n = c.loop-byte.byte-index in
+pub loop-n-init : goal.loop-n-init
+loop-n-init c =
+    let l = c.args.first in
+    let r = c.args.second in
+    let rest = alternating (rest_of l (firsts (high_half_first c.args.codes.now))) (rest_of r (seconds (high_half_first c.args.codes.now))) in
+    let one : to_z w32 (of_z w32 l.older) ≡ l.older = search rules in
+    let two : to_z w32 (of_z w32 r.older) ≡ r.older = search rules in
+    let three : to_z w32 (of_z w32 l.newer) ≡ l.newer = search rules in
+    let four : to_z w32 (of_z w32 r.newer) ≡ r.newer = search rules in
+    record {
+      so_far = two_put _ (l.older ∷ r.older ∷ l.newer ∷ r.newer ∷ rest) (l.newer ∷ r.newer ∷ rest) rest 2 3 4 _ _ refl refl (grind (arith, common_steps)) (rw (three, four) refl) (two_begin c.args.into.now _ _ _ _ _ (omega arith) one two);
+      room = grind (arith, common_steps);
+    }
+
+pub loop-n-preserved : goal.loop-n-preserved
+loop-n-preserved c =
+    let n = c.loop-n.n in
     let b = get_or c.args.codes.now n 0 in
     let after = drop (n + 1) c.args.codes.now in
-    let left : rest_of c.loop-byte.left (firsts (high_half_first (drop n c.args.codes.now))) ≡ c.after-left.result.newer ∷ rest_of c.after-left.result (firsts (high_half_first after)) =
-    ap (λ bytes. rest_of c.loop-byte.left (firsts (high_half_first bytes))) (drop_more c.args.codes.now n 0 (omega arith))
-    ∙ rest_of-code c.loop-byte.left c.after-left.result (b / 16) (firsts (high_half_first after)) (search rules) (search rules) (search rules) (search rules) (search rules) in
-    let right : rest_of c.loop-byte.right (seconds (high_half_first (drop n c.args.codes.now))) ≡ c.after-right.result.newer ∷ rest_of c.after-right.result (seconds (high_half_first after)) =
-    ap (λ bytes. rest_of c.loop-byte.right (seconds (high_half_first bytes))) (drop_more c.args.codes.now n 0 (omega arith))
-    ∙ rest_of-code c.loop-byte.right c.after-right.result (b % 16) (seconds (high_half_first after)) (search rules) (search rules) (search rules) (search rules) (search rules) in
-    let one : c.push-in-loop-byte.new.self.items ≡ c.loop-byte.into.items ++ c.after-left.result.newer ∷ [] = search rules in
-    let two : c.push-in-loop-byte-2.new.self.items ≡ c.push-in-loop-byte.new.self.items ++ c.after-right.result.newer ∷ [] = search rules in
-    record { so_far = one_frame _ _ _ _ _ _ _ _ _ _ one two left right c.loop-byte.invariant.so_far; count = grind (arith, common_steps); range = range_of_two _ _ _ _ _ one two c.loop-byte.invariant.range c.after-left.result.newer_range c.after-right.result.newer_range }
-
-pub loop-byte-init : goal.loop-byte-init
-loop-byte-init c =
-    let one : c.push.new.self.items ≡ [] ++ c.args.first.older ∷ [] = search rules in
-    let two : c.push-2.new.self.items ≡ c.push.new.self.items ++ c.args.second.older ∷ [] = search rules in
-    let three : c.push-3.new.self.items ≡ c.push-2.new.self.items ++ c.args.first.newer ∷ [] = search rules in
-    let four : c.push-4.new.self.items ≡ c.push-3.new.self.items ++ c.args.second.newer ∷ [] = search rules in
-    let items : c.push-4.new.self.items ≡ c.args.first.older ∷ c.args.second.older ∷ c.args.first.newer ∷ c.args.second.newer ∷ [] = rw (four, three, two, one) in
+    let l = c.after-left.result in
+    let r = c.after-right.result in
+    let first : to_z w32 (of_z w32 l.newer) ≡ l.newer = search rules in
+    let second : to_z w32 (of_z w32 r.newer) ≡ r.newer = search rules in
+    let left : rest_of c.loop-n.left (firsts (high_half_first (drop n c.args.codes.now))) ≡ l.newer ∷ rest_of l (firsts (high_half_first after)) =
+    ap (λ bytes. rest_of c.loop-n.left (firsts (high_half_first bytes))) (drop_more c.args.codes.now n 0 (omega arith))
+    ∙ rest_of-code c.loop-n.left l (b / 16) (firsts (high_half_first after)) (search rules) (search rules) (search rules) (search rules) (search rules) in
+    let right : rest_of c.loop-n.right (seconds (high_half_first (drop n c.args.codes.now))) ≡ r.newer ∷ rest_of r (seconds (high_half_first after)) =
+    ap (λ bytes. rest_of c.loop-n.right (seconds (high_half_first bytes))) (drop_more c.args.codes.now n 0 (omega arith))
+    ∙ rest_of-code c.loop-n.right r (b % 16) (seconds (high_half_first after)) (search rules) (search rules) (search rules) (search rules) (search rules) in
     record {
-      so_far = ap (λ xs. xs ++ alternating (rest_of c.args.first (firsts (high_half_first c.args.codes.now))) (rest_of c.args.second (seconds (high_half_first c.args.codes.now)))) items;
-      count = ap length items;
-      range = range_of_two _ _ _ _ _ three four (range_of_two [] _ _ _ _ one two (All-nil Is16Bit) c.args.first.older_range c.args.second.older_range) c.args.first.newer_range c.args.second.newer_range;
+      so_far = two_put c.loop-n.into _ _ _ (2 * n + 4) (2 * n + 5) (2 * (n + 1) + 4) _ _ (omega arith) (omega arith) (omega arith) (rw (left, right, first, second) refl) c.loop-n.invariant.so_far;
+      room = grind (arith, common_steps);
     }
 
 pub returns-clause-samples : goal.returns-clause-samples
 returns-clause-samples c =
-    let past : drop c.loop-byte.byte-index c.args.codes.now ≡ [] = drop_all c.loop-byte.byte-index c.args.codes.now (omega arith) in
-    sym (append-nil c.loop-byte.into.items)
-    ∙ sym (ap (λ xs. c.loop-byte.into.items ++ alternating (rest_of c.loop-byte.left (firsts (high_half_first xs))) (rest_of c.loop-byte.right (seconds (high_half_first xs)))) past)
-    ∙ c.loop-byte.invariant.so_far
+    let past : drop c.loop-n.n c.args.codes.now ≡ [] = drop_all c.loop-n.n c.args.codes.now (omega arith) in
+    all_put c.loop-n.into _ _ (2 * c.loop-n.n + 4) (omega arith)
+    (ap (λ bytes. alternating (rest_of c.loop-n.left (firsts (high_half_first bytes))) (rest_of c.loop-n.right (seconds (high_half_first bytes)))) past) c.loop-n.invariant.so_far
+
+pub returns-clause-range : goal.returns-clause-range
+returns-clause-range c =
+    let codes = high_half_first c.args.codes.now in
+    All-same Is16Bit c.loop-n.into _ (returns-clause-samples c)
+    (alternating_all Is16Bit (ms_samples_from c.args.first (firsts codes)) (ms_samples_from c.args.second (seconds codes)) (samples_from_range c.args.first (firsts codes)) (samples_from_range c.args.second (seconds codes)))
