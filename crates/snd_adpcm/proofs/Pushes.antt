@@ -4,7 +4,7 @@ use Rattle.std.specs.List.{All, refill}
 use Rattle.std.proofs.lemmas.List.Elements.{All-nil, All-cons, All-head, All-tail}
 use Rattle.std.proofs.lemmas.List.{length-set, take_all, take_at, append-nil}
 use Rattle.std.proofs.lemmas.Grind.{take-set_at}
-use Rattle.snd_adpcm.specs.Frames.{Is16Bit, alternating}
+use Rattle.snd_adpcm.specs.Frames.{alternating}
 
 pub alternating-same : {X : Type 0} (xs ys us vs : List X) → xs ≡ us → ys ≡ vs → alternating xs ys ≡ alternating us vs
 alternating-same xs ys us vs p q = rw (p, q)

@@ -1,5 +1,5 @@
 -- IMA ADPCM in WAVE files (format tag 0x11), as Microsoft's "New Multimedia Data Types and Data Techniques" (1994) lays out its blocks.
-use Rattle.std.specs.Prelude.{◌+◌, ◌-◌, ◌*◌, ◌/◌, ◌%◌, ℕ, ℤ, ◌-ℤ◌, List, [], ◌∷◌, ◌++◌, map, length, Bool, ◌&&◌, ◌==◌, nat_lt, nat_le, slice_index, if◌then◌else◌}
+use Rattle.std.specs.Prelude.{◌+◌, ◌-◌, ◌*◌, ◌/◌, ◌%◌, ℕ, ℤ, ◌-ℤ◌, List, [], ◌∷◌, ◌++◌, map, length, Bool, ◌==◌, nat_lt, slice_index, if◌then◌else◌}
 use Rattle.std.specs.List.{range_with_len, list_any}
 use Rattle.snd_fields.specs.Blocks.{is_ima_align, ima_samples_per_block}
 use Rattle.snd_adpcm.specs.Step.{step_size, moved, next_index, code_for}

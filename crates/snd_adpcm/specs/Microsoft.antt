@@ -1,6 +1,6 @@
 -- Microsoft ADPCM in WAVE files (format tag 2), as Microsoft's "New Multimedia Data Types and Data Techniques" (1994) gives it.
 -- That paper leaves the rounding of quotients and the greatest delta open: here quotients are rounded down, and a delta is at most 1048576.
-use Rattle.std.specs.Prelude.{◌+◌, ◌-◌, ◌*◌, ◌/◌, ◌%◌, ℕ, zero, suc, max, ℤ, pos, negsuc, ◌+ℤ◌, ◌-ℤ◌, ◌*ℤ◌, unsigned_abs, List, [], ◌∷◌, ◌++◌, take, drop, Bool, ◌&&◌, ◌==◌, nat_lt, nat_le, slice_index, slice_index_or, if◌then◌else◌}
+use Rattle.std.specs.Prelude.{◌+◌, ◌-◌, ◌*◌, ◌/◌, ℕ, zero, suc, max, ℤ, pos, negsuc, ◌+ℤ◌, ◌-ℤ◌, ◌*ℤ◌, unsigned_abs, List, [], ◌∷◌, ◌++◌, take, drop, Bool, nat_lt, slice_index, slice_index_or, if◌then◌else◌}
 use Rattle.std.specs.List.{range_with_len, list_any}
 use Rattle.snd_fields.specs.Blocks.{is_ms_align, ms_samples_per_block, newer_weights, older_weights}
 use Rattle.snd_adpcm.specs.Frames.{number_16, in_frames, in_turn, of_channel, high_half_first, floor_div, clamp, clamp_16, bytes_16, bytes_high_half_first, IsWholeBlock}

@@ -1,5 +1,5 @@
 -- What the rules of a code say of one channel's state, as the code of this crate holds it between two codes.
-use Rattle.std.specs.Prelude.{◌+◌, ℕ, ℤ, List, [], ◌∷◌, ◌++◌}
+use Rattle.std.specs.Prelude.{ℕ, ℤ, List, [], ◌∷◌, ◌++◌}
 use Rattle.snd_adpcm.specs.declared.ima.ImaState.{ImaState}
 use Rattle.snd_adpcm.specs.declared.microsoft_state.MsState.{MsState}
 use Rattle.snd_adpcm.specs.Frames.{alternating, bytes_16, bytes_high_half_first, bytes_low_half_first, firsts, fours, seconds}

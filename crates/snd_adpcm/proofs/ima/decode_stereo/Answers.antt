@@ -1,4 +1,4 @@
-use Rattle.std.proofs.Common.{◌≡◌, ℕ, ℤ, ◌+◌, ◌*◌, ◌/◌, ◌%◌, List, [], ◌∷◌, ◌++◌, take, drop, set, get_or, w32, to_z, of_z, arith, rules, refl, ap, ◌∙◌}
+use Rattle.std.proofs.Common.{◌≡◌, ℕ, ◌+◌, ◌*◌, ◌/◌, ◌%◌, List, ◌∷◌, ◌++◌, take, drop, set, get_or, w32, to_z, of_z, arith, rules, refl, ap, ◌∙◌}
 use Rattle.std.proofs.lemmas.Grind.{common_steps}
 use Rattle.std.proofs.lemmas.List.Elements.{All-same}
 use Rattle.snd_adpcm.specs.Frames.{Is16Bit, low_half_first, alternating}
@@ -15,7 +15,7 @@ loop-n-init c =
     let second : to_z w32 (of_z w32 r.predictor) ≡ r.predictor = search rules in
     record {
       so_far = two_begin c.args.into.now _ _ _ _ _ (omega arith) first second
-      ∙ rw (c.of_head-left.ensures.predictor, c.of_head-left.ensures.index, c.of_head-right.ensures.predictor, c.of_head-right.ensures.index) refl;
+          ∙ rw (c.of_head-left.ensures.predictor, c.of_head-left.ensures.index, c.of_head-right.ensures.predictor, c.of_head-right.ensures.index) refl;
       room = grind (arith, common_steps);
     }
 

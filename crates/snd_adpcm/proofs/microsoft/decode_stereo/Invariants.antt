@@ -1,4 +1,4 @@
-use Rattle.std.proofs.Common.{◌≡◌, ◌+◌, ◌*◌, ◌++◌, ◌∷◌, take, drop, length}
+use Rattle.std.proofs.Common.{◌≡◌, ◌+◌, ◌*◌, ◌++◌, take, drop, length}
 use Rattle.snd_adpcm.specs.Frames.{high_half_first, firsts, seconds, alternating}
 use Rattle.snd_adpcm.specs.States.{ms_frames_from}
 use Rattle.snd_adpcm.proofs.MsCodes.{rest_of}

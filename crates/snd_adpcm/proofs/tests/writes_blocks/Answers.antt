@@ -1,4 +1,4 @@
-use Rattle.std.proofs.Common.{◌≡◌, ◌≤◌, refl, lit≤, Bool, true, ℤ, pos, negsuc, unsigned_abs, List, [], ◌∷◌, All, arith}
+use Rattle.std.proofs.Common.{◌≡◌, ◌≤◌, refl, lit≤, true, ℤ, pos, negsuc, unsigned_abs, List, [], ◌∷◌, All, arith}
 use Rattle.std.specs.Prelude.{nat_le}
 use Rattle.std.specs.List.{list_all}
 use Rattle.std.proofs.lemmas.List.Elements.{All-weaker}
