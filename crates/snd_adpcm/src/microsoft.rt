@@ -113,7 +113,7 @@ fn nearest_16(x: i32) -> i32
 /// A number held within 16 bits. Few are outside, so that a test that the processor foresees is quicker than two choices.
 #[inline]
 #[tactic(auto, using(crate::proofs::Numbers::abs_within))]
-fn held_16(x: i32) -> i32
+pub(crate) fn held_16(x: i32) -> i32
     ensures value { result ≡ clamp_16 x }
     ensures range { Is16Bit result }
     ensures bound { unsigned_abs result ≤ 32768 }
@@ -158,7 +158,7 @@ fn held_delta(delta: i32, code: u32) -> i32
 /// The delta after a code.
 #[inline]
 #[tactic(auto, unfolding(crate::specs::Microsoft::ms_delta), using(crate::proofs::Numbers::abs_within))]
-fn delta_after(delta: i32, code: u32) -> i32
+pub(crate) fn delta_after(delta: i32, code: u32) -> i32
     requires delta { unsigned_abs delta ≤ 1048576 }
     requires code { code < 16 }
     ensures value { result ≡ ms_delta delta code }
@@ -187,37 +187,6 @@ fn number_in(bytes: &[u8], at: usize) -> i32
 }
 
 impl MsState {
-    /// The state after a code, which stands for so many deltas. Its newer sample is the code's.
-    #[inline]
-    pub(crate) fn after_deltas(self, deltas: i32, code: u32) -> MsState
-        requires code { code < 16 }
-        requires same { deltas ≡ signed_code code }
-        requires bound { unsigned_abs deltas ≤ 8 }
-        ensures newer { result.newer ≡ ms_sample_at self code }
-        ensures older { result.older ≡ self.newer }
-        ensures delta { result.delta ≡ ms_delta self.delta code }
-        ensures least_delta { pos 16 ≤ℤ result.delta }
-        ensures newer_by { result.newer_by ≡ self.newer_by }
-        ensures older_by { result.older_by ≡ self.older_by }
-    {
-        let newer = sample_of(
-            self.newer_by,
-            self.older_by,
-            self.newer,
-            self.older,
-            self.delta,
-            deltas,
-        );
-        let delta = delta_after(self.delta, code);
-        MsState {
-            newer_by: self.newer_by,
-            older_by: self.older_by,
-            newer,
-            older: self.newer,
-            delta,
-        }
-    }
-
     /// The state after a code. Its newer sample is the code's.
     #[inline]
     fn after(self, code: u8) -> MsState
@@ -228,7 +197,23 @@ impl MsState {
         ensures newer_by { result.newer_by ≡ self.newer_by }
         ensures older_by { result.older_by ≡ self.older_by }
     {
-        self.after_deltas(signed(code), u32::from(code))
+        let deltas = signed(code);
+        let newer = sample_of(
+            self.newer_by,
+            self.older_by,
+            self.newer,
+            self.older,
+            self.delta,
+            deltas,
+        );
+        let delta = delta_after(self.delta, u32::from(code));
+        MsState {
+            newer_by: self.newer_by,
+            older_by: self.older_by,
+            newer,
+            older: self.newer,
+            delta,
+        }
     }
 
     /// The state that a channel's head gives.

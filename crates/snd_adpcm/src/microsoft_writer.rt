@@ -1,14 +1,14 @@
 //! Microsoft ADPCM in WAVE files: a block from its samples.
 
-ghost use Rattle.std.specs.Prelude.{◌≡◌, ◌+◌, ◌*◌, ◌-◌, ◌/◌, ◌%◌, ◌<◌, ◌≤◌, ◌⊎◌, ◌≤ℤ◌, ◌+ℤ◌, ◌-ℤ◌, ◌*ℤ◌, pos, negsuc, unsigned_abs, length, ℕ, [], ◌∷◌, ◌++◌, take, drop, All, slice_index_or, if◌then◌else◌, nat_lt};
-ghost use Rattle.snd_adpcm.specs.Frames.{Is16Bit, firsts, seconds, clamp, floor_div};
+ghost use Rattle.std.specs.Prelude.{◌≡◌, ◌+◌, ◌*◌, ◌-◌, ◌/◌, ◌%◌, ◌<◌, ◌≤◌, ◌⊎◌, ◌≤ℤ◌, ◌<ℤ◌, ◌+ℤ◌, ◌-ℤ◌, ◌*ℤ◌, pos, negsuc, unsigned_abs, length, ℕ, [], ◌∷◌, ◌++◌, take, drop, All, slice_index_or, if◌then◌else◌, nat_lt};
+ghost use Rattle.std.specs.Int.{is_negative};
+ghost use Rattle.snd_adpcm.specs.Frames.{Is16Bit, firsts, seconds, clamp, clamp_16, floor_div};
 ghost use Rattle.snd_adpcm.specs.Microsoft.{newer_weight, older_weight, ms_error, ms_error_sum, ms_start_error, ms_newer_of, ms_older_of, ms_number_for, ms_delta_for, code_of_number, signed_code, ms_codes_for, ms_bytes, ms_delta, IsMsBlock};
 ghost use Rattle.snd_adpcm.specs.States.{ms_code_at, ms_heads, ms_run, ms_runs, ms_sample_at};
 
-use crate::microsoft::{newer_weight_of, older_weight_of, prediction};
+use crate::microsoft::{delta_after, held_16, newer_weight_of, older_weight_of, prediction};
 use crate::microsoft_state::MsState;
 use crate::number::put_number;
-use crate::step::{bit_if_within, rest_of};
 use arrayvec::ArrayVec;
 
 /// How far a sample is from what a predictor foretells from the two before.
@@ -96,76 +96,89 @@ fn choose(samples: &[i32]) -> Choice
     best
 }
 
-/// A quotient below 16, bit by bit, as a division takes longer.
+/// 1 for a number below 0, else 0: its sign bit.
 #[inline]
-#[tactic(auto, using(crate::proofs::Quotients::bits_are))]
-fn quotient_of(whole: u32, part: u32) -> u32
-    requires part { part ≤ 2097152 }
-    requires few { whole < 16 * part }
-    ensures value { result ≡ whole / part }
-    ensures bound { result < 16 }
+fn sign_of(x: i32) -> u32
+    ensures { result ≡ (if is_negative x then 1 else 0) }
 {
-    let after_8 = rest_of(8 * part, whole);
-    let after_4 = rest_of(4 * part, after_8);
-    let after_2 = rest_of(2 * part, after_4);
-    bit_if_within(8 * part, whole, 8)
-        + bit_if_within(4 * part, after_8, 4)
-        + bit_if_within(2 * part, after_4, 2)
-        + bit_if_within(part, after_2, 1)
+    x.cast_unsigned() >> 31
 }
 
-/// How many deltas a way is, rounded to the nearest, from -8 to 7: `doubled` is twice the way, and a delta more.
+/// Takes a part from a way if it fits: 1 where it does not, else 0, and what is left of the way.
 #[inline]
-fn deltas_in(doubled: i32, delta: i32) -> i32
-    requires low { negsuc 13697023 ≤ℤ doubled }
-    requires high { doubled ≤ℤ pos 13697024 }
-    requires least { pos 16 ≤ℤ delta }
-    requires bound { unsigned_abs delta ≤ 1048576 }
-    ensures value { result ≡ clamp (negsuc 7) (pos 7) (floor_div doubled (2 * unsigned_abs delta)) }
-    ensures low { negsuc 7 ≤ℤ result }
-    ensures high { result ≤ℤ pos 7 }
+fn take_part(way: i32, part: i32) -> (u32, i32)
+    requires least { negsuc 16777215 ≤ℤ way }
+    requires most { way ≤ℤ pos 16777216 }
+    requires part_least { pos 0 ≤ℤ part }
+    requires part_most { part ≤ℤ pos 8388608 }
+    ensures fits { part ≤ℤ way → result.0 ≡ 0 }
+    ensures rest { part ≤ℤ way → result.1 ≡ way -ℤ part }
+    ensures misses { way <ℤ part → result.0 ≡ 1 }
+    ensures same { way <ℤ part → result.1 ≡ way }
+    ensures bound { result.0 ≤ 1 }
+    ensures least { (way -ℤ part) ≤ℤ result.1 }
+    ensures most { result.1 ≤ℤ way }
 {
-    let above = (doubled + 16 * delta).clamp(0, 30 * delta);
-    quotient_of(above as u32, 2 * delta as u32) as i32 - 8
+    let left = way - part;
+    (sign_of(left), if left >= 0 { left } else { way })
 }
 
-/// Twice the way from a prediction to a sample, and a delta more.
+/// How many deltas lie in a way, from -8 to 7, as a code, and what is left of the way.
+// bit by bit, as a division takes longer; 8 deltas up, where the number is from 0 to 15
 #[inline]
-fn doubled_way(foretold: i32, sample: i32, delta: i32) -> i32
+fn code_in(way: i32, delta: i32) -> (u32, i32)
+    requires low { negsuc 6848511 ≤ℤ way }
+    requires high { way ≤ℤ pos 6848512 }
+    requires least_delta { pos 16 ≤ℤ delta }
+    requires delta { unsigned_abs delta ≤ 1048576 }
+    ensures code { result.0 ≡ code_of_number (clamp (negsuc 7) (pos 7) (floor_div way (unsigned_abs delta))) }
+    ensures bound { result.0 < 16 }
+    ensures rest { way -ℤ result.1 ≡ signed_code result.0 *ℤ delta }
+    ensures least { (way -ℤ pos 7 *ℤ delta) ≤ℤ result.1 }
+    ensures most { result.1 ≤ℤ (way +ℤ pos 8 *ℤ delta) }
+{
+    let (below_8, after_8) = take_part(way + 8 * delta, 8 * delta);
+    let (below_4, after_4) = take_part(after_8, 4 * delta);
+    let (below_2, after_2) = take_part(after_4, 2 * delta);
+    let (below_1, rest) = take_part(after_2, delta);
+    (
+        8 * below_8 + (7 - (4 * below_4 + 2 * below_2 + below_1)),
+        rest,
+    )
+}
+
+/// A sample, and half a delta more.
+#[inline]
+#[tactic(auto, using(crate::proofs::Quotients::half_bounds))]
+fn half_above(sample: i32, delta: i32) -> i32
+    requires sample { Is16Bit sample }
+    requires least_delta { pos 16 ≤ℤ delta }
+    requires delta { unsigned_abs delta ≤ 1048576 }
+    ensures value { result ≡ sample +ℤ floor_div delta 2 }
+    ensures least { negsuc 32767 ≤ℤ result }
+    ensures most { result ≤ℤ pos 557055 }
+{
+    sample + (delta >> 1)
+}
+
+/// The code of a sample, and the sample that it leads to, by what is foretold.
+#[inline]
+fn code_and_sample(foretold: i32, sample: i32, delta: i32) -> (u32, i32)
     requires least { negsuc 6291455 ≤ℤ foretold }
     requires most { foretold ≤ℤ pos 6291456 }
     requires sample { Is16Bit sample }
+    requires least_delta { pos 16 ≤ℤ delta }
     requires delta { unsigned_abs delta ≤ 1048576 }
-    ensures value { result ≡ pos 2 *ℤ (sample -ℤ foretold) +ℤ delta }
-    ensures low { negsuc 13697023 ≤ℤ result }
-    ensures high { result ≤ℤ pos 13697024 }
+    ensures code { result.0 ≡ code_of_number (clamp (negsuc 7) (pos 7) (floor_div (pos 2 *ℤ (sample -ℤ foretold) +ℤ delta) (2 * unsigned_abs delta))) }
+    ensures code_bound { result.0 < 16 }
+    ensures sample { result.1 ≡ clamp_16 (foretold +ℤ signed_code result.0 *ℤ delta) }
+    ensures range { Is16Bit result.1 }
+    ensures bound { unsigned_abs result.1 ≤ 32768 }
 {
-    2 * (sample - foretold) + delta
-}
-
-/// A number from -8 to 7 as a code.
-#[inline]
-fn code_of(number: i32) -> u32
-    requires low { negsuc 7 ≤ℤ number }
-    requires high { number ≤ℤ pos 7 }
-    ensures value { result ≡ code_of_number number }
-    ensures bound { result < 16 }
-    ensures back { number ≡ signed_code result }
-{
-    (number + 16) as u32 % 16
-}
-
-/// How many deltas lie between what a state foretells and a sample, from -8 to 7.
-#[inline]
-fn deltas_for(state: MsState, sample: i32) -> i32
-    requires sample { Is16Bit sample }
-    requires delta { pos 16 ≤ℤ state.delta }
-    ensures value { code_of_number result ≡ ms_code_at state sample }
-    ensures low { negsuc 7 ≤ℤ result }
-    ensures high { result ≤ℤ pos 7 }
-{
-    let foretold = prediction(state.newer_by, state.older_by, state.newer, state.older);
-    deltas_in(doubled_way(foretold, sample, state.delta), state.delta)
+    let above = half_above(sample, delta);
+    let (code, rest) = code_in(above - foretold, delta);
+    // what the code does not reach is left of the way: this takes no product
+    (code, held_16(above - rest))
 }
 
 /// The code of a sample, and the state after it.
@@ -182,9 +195,17 @@ fn encode(state: MsState, sample: i32) -> (u32, MsState)
     ensures newer_by { result.1.newer_by ≡ state.newer_by }
     ensures older_by { result.1.older_by ≡ state.older_by }
 {
-    let deltas = deltas_for(state, sample);
-    let code = code_of(deltas);
-    (code, state.after_deltas(deltas, code))
+    let foretold = prediction(state.newer_by, state.older_by, state.newer, state.older);
+    let (code, newer) = code_and_sample(foretold, sample, state.delta);
+    let delta = delta_after(state.delta, code);
+    let after = MsState {
+        newer_by: state.newer_by,
+        older_by: state.older_by,
+        newer,
+        older: state.newer,
+        delta,
+    };
+    (code, after)
 }
 
 /// Puts the bytes of one channel's samples, two codes in each.
