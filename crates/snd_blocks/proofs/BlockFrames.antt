@@ -92,7 +92,7 @@ from_block p n number bytes lt =
     (get_or-first_groups k n bytes number [] lt ∙ ap (λ (m : ℕ). take k (drop m bytes)) (let e : k * number ≡ number * k = omega arith in e))
 
 -- the bytes of a block among those of all
-bytes_of_block : (k n number start : ℕ) (b : List ℕ) → number < n → take k (drop (number * k) (take (n * k) (drop start b))) ≡ take k (drop (start + number * k) b)
+pub bytes_of_block : (k n number start : ℕ) (b : List ℕ) → number < n → take k (drop (number * k) (take (n * k) (drop start b))) ≡ take k (drop (start + number * k) b)
 bytes_of_block k n number start b lt =
     let left = n - number - 1 in
     let whole : n ≡ number + 1 + left = omega arith in

@@ -3,4 +3,5 @@ mod Places
 pub mod BlockFrames
 mod ReadSpans
 pub mod Counted
+pub mod Fetches
 mod Checked

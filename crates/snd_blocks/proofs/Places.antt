@@ -60,6 +60,21 @@ first_before_last per_block place count some wanted =
     (div-lt_iff_lt-mul {x = place} {y = (place + count - 1) / per_block + 2} positive).1 (omega (arith, end, sum)) in
     omega (arith, least)
 
+-- one of these blocks begins before the end of the frames, and ends behind the first
+pub begins_before : (per_block place count number : ℕ) → 1 ≤ count → number < (place + count - 1) / per_block + 1 → number * per_block < place + count
+begins_before per_block place count number some last =
+    omega (arith, some, mul-le-mul_right per_block (let e : number ≤ (place + count - 1) / per_block = omega (arith, last) in e), div-mul-le_self (place + count - 1) per_block)
+
+pub ends_behind : (per_block place number : ℕ) → 1 ≤ per_block → place / per_block ≤ number → place < number * per_block + per_block
+ends_behind per_block place number some first =
+    omega (arith, lt-div-mul-add {a = place} (let e : 0 < per_block = omega arith in e), mul-le-mul_right per_block first)
+
+-- the last wanted block has a counted frame
+pub last_is_counted : (per_block place count frames last : ℕ) → 1 ≤ count → last ≡ (place + count - 1) / per_block + 1 → place + count ≤ frames → (last - 1) * per_block < frames
+last_is_counted per_block place count frames last some is within =
+    let before : last - 1 ≡ (place + count - 1) / per_block = omega (arith, is) in
+    omega (arith, within, some, ap (λ (m : ℕ). m * per_block) before, div-mul-le_self (place + count - 1) per_block)
+
 pub one_more : (first number align : ℕ) → first ≤ number → (number + 1 - first) * align ≡ (number - first) * align + align
 one_more first number align le =
     ap (λ (m : ℕ). m * align) (let e : number + 1 - first ≡ (number - first) + 1 = omega arith in e)

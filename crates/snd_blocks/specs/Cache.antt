@@ -15,6 +15,10 @@ number_cached cache = cache.number
 abbrev pub samples_cached : BlockCache → List ℤ
 samples_cached cache = cache.samples.items
 
+-- where the bytes of blocks are read
+abbrev pub bytes_cached : BlockCache → List ℕ
+bytes_cached cache = cache.bytes
+
 -- what is kept of a block is that block of the file of a layout, where its disk tells the contents
 pub record Caches {D : Type 0} (state : D → State) (disk : D) (s : Shape) (cache : BlockCache) : Type 0 where
   pub right : (n : ℕ) (b : List ℕ) → number_cached cache ≡ Some n → Tells state disk b → IsBlock s.params (block_at b s n) (samples_cached cache)

@@ -1,5 +1,6 @@
 pub mod Cache
 pub mod Calls
+pub mod Fetching
 pub mod Frames
 pub mod Sound
 pub mod Spans

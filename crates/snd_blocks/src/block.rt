@@ -46,7 +46,7 @@ pub(crate) fn channels_of(layout: &Layout) -> usize
 }
 
 // The bytes of a block.
-fn align_of(layout: &Layout) -> u16
+pub(crate) fn align_of(layout: &Layout) -> u16
     ensures { result ≡ block_align layout.now.params.channels layout.now.params.codec }
 {
     layout.params.block_align()
@@ -60,7 +60,7 @@ pub(crate) fn frames_of(layout: &Layout) -> u16
 }
 
 // The place of the first byte of a block that has counted frames.
-fn place_of(layout: &Layout, number: u64) -> u64
+pub(crate) fn place_of(layout: &Layout, number: u64) -> u64
     requires blocks { is_adpcm layout.now.params.codec ≡ true }
     requires within { number * block_frames layout.now.params.codec < layout.now.frames }
     ensures place { result ≡ layout.now.start + number * block_align layout.now.params.channels layout.now.params.codec }
@@ -74,7 +74,11 @@ fn place_of(layout: &Layout, number: u64) -> u64
 
 // Puts the samples of a block in place of what `into` holds.
 #[tactic(auto, unfolding(crate::specs::Frames::is_bad_block, crate::specs::Frames::block_samples))]
-fn decode(params: Params, bytes: &[u8], into: &mut ArrayVec<i32, 16384>) -> Result<(), BadBlock>
+pub(crate) fn decode(
+    params: Params,
+    bytes: &[u8],
+    into: &mut ArrayVec<i32, 16384>,
+) -> Result<(), BadBlock>
     requires blocks { AreBlocks params }
     requires size { length bytes.now ≡ block_align params.channels params.codec }
     ensures bad { IsErr result ↔ IsTrue (is_bad_block params.channels params.codec bytes.now) }

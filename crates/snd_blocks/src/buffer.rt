@@ -4,7 +4,7 @@ ghost use Rattle.std.specs.Prelude.{◌≡◌, None};
 
 use arrayvec::ArrayVec;
 
-/// The most bytes of a block.
+/// The most bytes of a block, and of the blocks that are read at a time.
 pub(crate) const MOST_BYTES: usize = 8192;
 
 /// The samples of the block that was read last, so that it is not read and decoded again for each of its
@@ -13,6 +13,7 @@ pub(crate) const MOST_BYTES: usize = 8192;
 pub struct BlockCache {
     // the number of the block, where there is one
     pub(crate) number: Option<u64>,
+    // where the bytes of blocks are read
     pub(crate) bytes: [u8; MOST_BYTES],
     pub(crate) samples: ArrayVec<i32, 16384>,
 }

@@ -6,6 +6,7 @@ mod buffer;
 mod cache;
 mod check;
 mod error;
+mod fetch;
 pub mod laws;
 mod read;
 #[cfg(test)]

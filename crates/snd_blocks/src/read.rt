@@ -7,8 +7,8 @@ ghost use Rattle.snd_disk.specs.Device.{AsksAtMost, IfOkTold, OnlyReadsOn, Tells
 ghost use Rattle.snd_layout.specs.Blocks.{block_align, block_frames, is_adpcm};
 ghost use Rattle.snd_layout.specs.Shape.{end};
 ghost use Rattle.snd_pcm.specs.Groups.{groups};
-ghost use Rattle.snd_blocks.specs.Cache.{Caches};
-ghost use Rattle.snd_blocks.specs.Calls.{AsksForFrames, CountsFaultOn};
+ghost use Rattle.snd_blocks.specs.Cache.{Caches, samples_cached};
+ghost use Rattle.snd_blocks.specs.Calls.{AsksForFrames, CountsFaultOn, IsBlock, block_at};
 ghost use Rattle.snd_blocks.specs.Frames.{HasBadFrame, HasFrames, has_bad, wanted_frames};
 ghost use Rattle.snd_blocks.specs.Spans.{RangesSpan, ReadsSpan, count_before};
 
@@ -16,6 +16,7 @@ use crate::block::{channels_of, frames_of, keeps_blocks, keeps_rules};
 use crate::buffer::BlockCache;
 use crate::cache::load;
 use crate::error::BlockError;
+use crate::fetch::Fetched;
 use snd_disk::Disk;
 use snd_layout::Layout;
 
@@ -67,38 +68,31 @@ fn copy_span(channels: usize, span: Span, samples: &[i32], into: &mut [i32])
     into[from..to].copy_from_slice(&samples[first..last]);
 }
 
-// Reads the wanted frames of a block.
-fn read_span<D: Disk>(
-    disk: &mut D,
+// Puts the wanted frames of a block, which was read last, into their places.
+fn put_span(
     layout: &Layout,
     place: u64,
     count: usize,
     number: u64,
     into: &mut [i32],
-    cache: &mut BlockCache,
-) -> Result<(), BlockError>
+    cache: &BlockCache,
+)
     requires blocks { is_adpcm layout.now.params.codec ≡ true }
-    requires held { end layout.now layout.now.frames ≤ (D.state disk.old).size }
     requires within { place + count ≤ layout.now.frames }
     requires some { 1 ≤ count }
     requires room { length into.old ≡ layout.now.params.channels * count }
     requires begins { number * block_frames layout.now.params.codec < place + count }
     requires ends { place < number * block_frames layout.now.params.codec + block_frames layout.now.params.codec }
-    requires cached { Caches D.state disk.old layout.now cache.old }
-    ensures cached { Caches D.state disk.new layout.now cache.new }
-    ensures told { IfOkTold D.state disk.old result (λ b _. ReadsSpan b layout.now place count number into.old into.new) }
-    ensures bad { IsErrOf result BlockError.BadBlock → (b : List ℕ) → Tells D.state disk.old b → has_bad (wanted_frames b layout.now place count) ≡ true }
-    ensures range { OnOk result (RangesSpan layout.now place count number into.old into.new) }
-    ensures faults { CountsFaultOn D.state disk.old disk.new result }
-    ensures reads { OnlyReadsOn D.state D.may_leave D.left_between disk.old disk.new }
-    ensures asked { AsksAtMost D.state (block_align layout.now.params.channels layout.now.params.codec) disk.old disk.new }
+    requires size { length (samples_cached cache.now) ≡ layout.now.params.channels * block_frames layout.now.params.codec }
+    requires range { All Is16Bit (samples_cached cache.now) }
+    ensures told { (b : List ℕ) → end layout.now layout.now.frames ≤ length b →
+        IsBlock layout.now.params (block_at b layout.now number) (samples_cached cache.now) → ReadsSpan b layout.now place count number into.old into.new }
+    ensures range { RangesSpan layout.now place count number into.old into.new }
 {
     keeps_blocks(layout);
     keeps_rules(layout);
-    load(disk, layout, number, cache)?;
     let span = span_of(frames_of(layout), place, count, number);
     copy_span(channels_of(layout), span, cache.samples.as_slice(), into);
-    Ok(())
 }
 
 // The number behind that of the last block with some of `count` frames from a place on.
@@ -142,8 +136,10 @@ pub fn read_cached<D: Disk>(
     }
     let first = place / u64::from(frames_of(layout));
     let last = last_block(layout, place, count);
+    let mut fetched = Fetched { first, next: first };
     for number in first..last {
-        read_span(disk, layout, place, count, number, into, cache)?;
+        fetched = load(disk, layout, number, last, fetched, cache)?;
+        put_span(layout, place, count, number, into, cache);
     }
     Ok(())
 }

@@ -1,15 +1,17 @@
-use Rattle.std.proofs.Common.{rules, ◌≡◌, ◌∙◌, ap, sym, subst, refl, ◌+◌, ◌-◌, ◌*◌, ◌/◌, ◌≤◌, ℕ, All, length, arith}
+use Rattle.std.proofs.Common.{rules, true, ◌≡◌, ◌∙◌, ap, sym, subst, refl, ◌+◌, ◌-◌, ◌*◌, ◌/◌, ◌≤◌, ℕ, All, length, max, arith}
 use Rattle.std.proofs.Math.Nat.{mul-div-le}
 use Rattle.std.proofs.lemmas.List.{length-take, take_all}
 use Rattle.snd_adpcm.specs.Frames.{Is16Bit}
 use Rattle.snd_disk.specs.Device.{Tells}
 use Rattle.snd_disk.proofs.Chains.{only_reads_then}
 use Rattle.snd_layout.specs.Blocks.{block_align, block_frames}
+use Rattle.snd_layout.specs.Shape.{end}
 use Rattle.snd_pcm.specs.Groups.{first_groups}
-use Rattle.snd_blocks.specs.Frames.{wanted_frames}
+use Rattle.snd_blocks.specs.Frames.{has_bad, wanted_frames}
 use Rattle.snd_blocks.specs.Spans.{count_before}
-use Rattle.snd_blocks.proofs.Places.{all_before, bytes_between, first_before_last, none_before, one_more, whole_product}
-use Rattle.snd_blocks.proofs.ReadSpans.{no_bad_span, no_span, whole_span}
+use Rattle.snd_blocks.proofs.Places.{all_before, begins_before, bytes_between, ends_behind, first_before_last, last_is_counted, none_before, whole_product}
+use Rattle.snd_blocks.proofs.Fetches.{asked_then}
+use Rattle.snd_blocks.proofs.ReadSpans.{bad_span, no_bad_span, no_span, whole_span}
 use Rattle.snd_blocks.proofs.read.read_cached.Goals as goal
 
 pub loop-number-init : goal.loop-number-init
@@ -17,52 +19,104 @@ loop-number-init g c =
     let s = c.args.layout.now in
     let per = block_frames s.params.codec in
     let count = length c.args.into.now / c.channels_of.result in
-    let none : count_before per c.args.place count (c.args.place / c.from.result) ≡ 0 =
-    subst (λ (m : ℕ). count_before per c.args.place count (c.args.place / m) ≡ 0) (let e : per ≡ c.from.result = search rules in e) (none_before per c.args.place count c.keeps_blocks.ensures.some_frames) in
+    let first = c.args.place / c.from.result in
+    let size : per ≡ c.from.result = search rules in
+    let none : count_before per c.args.place count first ≡ 0 =
+    subst (λ (m : ℕ). count_before per c.args.place count (c.args.place / m) ≡ 0) size (none_before per c.args.place count c.keeps_blocks.ensures.some_frames) in
     record {
       told = λ b told. no_span b s c.args.place count (c.args.place / c.from.result) c.args.into.now none;
       range = λ k d lt. absurd (omega (arith, lt, length-take (s.params.channels * count_before per c.args.place count (c.args.place / c.from.result)) c.args.into.now, ap (λ (m : ℕ). s.params.channels * m) none));
       calm = refl;
       reads = search rules;
       asked = search rules;
+      begun = omega arith;
+      fetched = record {
+        right = λ b told n begun left. absurd (omega (arith, begun, left));
+        room = omega (arith, ap (λ (m : ℕ). m * block_align s.params.channels s.params.codec) (let e : first - first ≡ 0 = omega arith in e));
+        most = omega (arith, c.last_block-last.ensures, subst (λ (m : ℕ). c.args.place / m ≤ (c.args.place + count - 1) / per + 1) size (first_before_last per c.args.place count c.keeps_blocks.ensures.some_frames (omega (arith, c.if-count-eq0.false))));
+      };
       cached = c.requires.cached;
     }
+
+pub load-requires-clause-within : goal.load-requires-clause-within
+load-requires-clause-within g c =
+    let count = length c.args.into.now / c.channels_of.result in
+    last_is_counted (block_frames c.args.layout.now.params.codec) c.args.place count c.args.layout.now.frames c.last_block-last.result
+    (omega (arith, c.if-count-eq0.false)) c.last_block-last.ensures (search rules)
+
+pub put_span-requires-clause-begins : goal.put_span-requires-clause-begins
+put_span-requires-clause-begins g c =
+    begins_before (block_frames c.args.layout.now.params.codec) c.args.place (length c.args.into.now / c.channels_of.result) c.loop-number.number
+    (omega (arith, c.if-count-eq0.false)) (omega (arith, c.loop-number-test.true, c.last_block-last.ensures))
+
+pub put_span-requires-clause-size : goal.put_span-requires-clause-size
+put_span-requires-clause-size g c = c.load.ensures.cached.whole c.loop-number.number c.in_ok-fetched.ensures.loaded
+
+pub put_span-requires-clause-range : goal.put_span-requires-clause-range
+put_span-requires-clause-range g c = c.load.ensures.cached.range c.loop-number.number c.in_ok-fetched.ensures.loaded
 
 pub loop-number-preserved : goal.loop-number-preserved
 loop-number-preserved g c =
     let s = c.args.layout.now in
     let align = block_align s.params.channels s.params.codec in
-    let first = c.args.place / c.from.result in
-    let more : (c.loop-number.number + 1 - first) * align ≡ (c.loop-number.number - first) * align + align = one_more first c.loop-number.number align c.loop-number.auto.number in
+    let n = c.loop-number.number in
+    let before = max n c.loop-number.fetched.next in
+    let now = max (n + 1) c.in_ok-fetched.fetched.next in
+    let sum : (before - c.args.place / c.from.result) * align + (now - before) * align ≡ (now - c.args.place / c.from.result) * align =
+    asked_then (c.args.place / c.from.result) before now align (omega (arith, c.loop-number.auto.number)) (omega (arith, c.in_ok-fetched.ensures.later)) in
     record {
-      told = λ b told. c.in_ok-read_span.ensures.told b (let t : Tells g.D.Disk.state c.loop-number.disk b = c.loop-number.invariant.reads.keeps.contents ∙ told in t) (c.loop-number.invariant.told b told);
-      range = c.in_ok-read_span.ensures.range c.loop-number.invariant.range;
+      told = λ b told.
+          let fits : end s s.frames ≤ length b = omega (arith, c.requires.held, g.met.D.Disk.size_told c.args.disk.now b told) in
+          let here : Tells g.D.Disk.state c.load.new.disk b = c.load.ensures.reads.keeps.contents ∙ c.loop-number.invariant.reads.keeps.contents ∙ told in
+          c.put_span.ensures.told b fits (c.load.ensures.cached.right n b c.in_ok-fetched.ensures.loaded here) (c.loop-number.invariant.told b told);
+      range = c.put_span.ensures.range c.loop-number.invariant.range;
       calm = search rules;
-      reads = only_reads_then _ _ _ _ _ _ _ _ _ c.loop-number.invariant.reads c.read_span.ensures.reads;
+      reads = only_reads_then _ _ _ _ _ _ _ _ _ c.loop-number.invariant.reads c.load.ensures.reads;
       asked = record {
-        later = omega (arith, c.loop-number.invariant.asked.later, c.read_span.ensures.asked.later);
-        most = omega (arith, more, c.loop-number.invariant.asked.most, c.read_span.ensures.asked.most);
+        later = omega (arith, c.loop-number.invariant.asked.later, c.in_ok-fetched.ensures.asked.later);
+        most = omega (arith, sum, c.loop-number.invariant.asked.most, c.in_ok-fetched.ensures.asked.most);
       };
-      cached = c.read_span.ensures.cached;
+      begun = omega (arith, c.in_ok-fetched.ensures.begun);
+      fetched = c.in_ok-fetched.ensures.fetched;
+      cached = c.load.ensures.cached;
     }
 
-pub returns-in_err-read_span-clause-asked : goal.returns-in_err-read_span-clause-asked
-returns-in_err-read_span-clause-asked g c =
+pub returns-in_err-fetched-clause-bad : goal.returns-in_err-fetched-clause-bad
+returns-in_err-fetched-clause-bad g c = λ is b told.
+    let s = c.args.layout.now in
+    let n = c.loop-number.number in
+    let count = length c.args.into.now / c.channels_of.result in
+    let fits : end s s.frames ≤ length b = omega (arith, c.requires.held, g.met.D.Disk.size_told c.args.disk.now b told) in
+    let here : Tells g.D.Disk.state c.loop-number.disk b = c.loop-number.invariant.reads.keeps.contents ∙ told in
+    let per = block_frames s.params.codec in
+    let some : 1 ≤ count = omega (arith, c.if-count-eq0.false) in
+    let size : per ≡ c.from.result = search rules in
+    let begins = begins_before per c.args.place count n some (omega (arith, c.loop-number-test.true, c.last_block-last.ensures)) in
+    let ends = ends_behind per c.args.place n c.keeps_blocks.ensures.some_frames (subst (λ (m : ℕ). c.args.place / m ≤ n) (sym size) (omega (arith, c.loop-number.auto.number))) in
+    let bad = bad_span b s c.args.place count n c.keeps_blocks.ensures fits (search rules) begins ends some (search (rules, c.in_err-fetched.ensures.bad)) in
+    subst (λ (m : ℕ). has_bad (wanted_frames b s c.args.place (length c.args.into.now / m)) ≡ true) c.channels_of.ensures.value bad
+
+pub returns-in_err-fetched-clause-asked : goal.returns-in_err-fetched-clause-asked
+returns-in_err-fetched-clause-asked g c =
     let s = c.args.layout.now in
     let k = s.params.channels in
     let per = block_frames s.params.codec in
     let align = block_align k s.params.codec in
     let count = length c.args.into.now / c.channels_of.result in
+    let last = c.last_block-last.result in
+    let first = c.args.place / c.from.result in
+    let before = max c.loop-number.number c.loop-number.fetched.next in
     let some : 1 ≤ count = omega (arith, c.if-count-eq0.false) in
-    let more = one_more (c.args.place / c.from.result) c.loop-number.number align c.loop-number.auto.number in
+    let sum : (before - first) * align + (last - before) * align ≡ (last - first) * align =
+    asked_then first before last align (omega (arith, c.loop-number.auto.number)) (omega (arith, c.loop-number-test.true, c.loop-number.invariant.fetched.most)) in
     let size : per ≡ c.from.result = search rules in
-    let all : (c.loop-number.number + 1 - c.args.place / c.from.result) * align ≤ (count / per + 2) * align =
-    subst (λ (m : ℕ). (c.loop-number.number + 1 - c.args.place / m) * align ≤ (count / per + 2) * align) size
-    (bytes_between per c.args.place count (c.loop-number.number + 1) align c.keeps_blocks.ensures.some_frames some (omega (arith, c.loop-number-test.true, c.last_block-last.ensures))) in
+    let all : (last - first) * align ≤ (count / per + 2) * align =
+    subst (λ (m : ℕ). (last - c.args.place / m) * align ≤ (count / per + 2) * align) size
+    (bytes_between per c.args.place count last align c.keeps_blocks.ensures.some_frames some (omega (arith, c.last_block-last.ensures))) in
     let wanted : (count / per + 2) * align ≡ (length c.args.into.now / k / per + 2) * align = ap (λ (m : ℕ). (length c.args.into.now / m / per + 2) * align) c.channels_of.ensures.value in
     record {
-      later = omega (arith, c.loop-number.invariant.asked.later, c.read_span.ensures.asked.later);
-      most = omega (arith, more, all, wanted, c.loop-number.invariant.asked.most, c.read_span.ensures.asked.most);
+      later = omega (arith, c.loop-number.invariant.asked.later, c.load.ensures.most.later);
+      most = omega (arith, sum, all, wanted, c.loop-number.invariant.asked.most, c.load.ensures.most.most);
     }
 
 pub returns-clause-told : goal.returns-clause-told
@@ -109,11 +163,12 @@ returns-clause-asked g c =
     let count = length c.args.into.now / c.channels_of.result in
     let some : 1 ≤ count = omega (arith, c.if-count-eq0.false) in
     let size : per ≡ c.from.result = search rules in
-    let last : c.loop-number.number ≤ (c.args.place + count - 1) / per + 1 =
-    omega (arith, c.loop-number.auto.number-end, c.last_block-last.ensures, subst (λ (m : ℕ). c.args.place / m ≤ (c.args.place + count - 1) / per + 1) size (first_before_last per c.args.place count c.keeps_blocks.ensures.some_frames some)) in
-    let all : (c.loop-number.number - c.args.place / c.from.result) * align ≤ (count / per + 2) * align =
-    subst (λ (m : ℕ). (c.loop-number.number - c.args.place / m) * align ≤ (count / per + 2) * align) size
-    (bytes_between per c.args.place count c.loop-number.number align c.keeps_blocks.ensures.some_frames some last) in
+    let reach = max c.loop-number.number c.loop-number.fetched.next in
+    let last : reach ≤ (c.args.place + count - 1) / per + 1 =
+    omega (arith, c.loop-number.invariant.fetched.most, c.loop-number.auto.number-end, c.last_block-last.ensures, subst (λ (m : ℕ). c.args.place / m ≤ (c.args.place + count - 1) / per + 1) size (first_before_last per c.args.place count c.keeps_blocks.ensures.some_frames some)) in
+    let all : (reach - c.args.place / c.from.result) * align ≤ (count / per + 2) * align =
+    subst (λ (m : ℕ). (reach - c.args.place / m) * align ≤ (count / per + 2) * align) size
+    (bytes_between per c.args.place count reach align c.keeps_blocks.ensures.some_frames some last) in
     let wanted : (count / per + 2) * align ≡ (length c.args.into.now / k / per + 2) * align = ap (λ (m : ℕ). (length c.args.into.now / m / per + 2) * align) c.channels_of.ensures.value in
     record {
       later = c.loop-number.invariant.asked.later;

@@ -1,33 +1,23 @@
-use Rattle.std.proofs.Common.{rules, ◌≡◌, ◌∙◌, sym, subst, ◌+◌, ◌*◌, ◌≤◌, ◌++◌, All, List, drop, length, take, ℕ, ℤ, arith}
+use Rattle.std.proofs.Common.{rules, ◌≡◌, ◌∙◌, sym, subst, ◌+◌, ◌*◌, ◌++◌, All, List, drop, take, ℕ, ℤ, arith}
 use Rattle.std.proofs.lemmas.List.Elements.{All-append, All-drop, All-take}
 use Rattle.snd_adpcm.specs.Frames.{Is16Bit}
-use Rattle.snd_disk.specs.Device.{Tells}
 use Rattle.snd_layout.specs.Blocks.{block_frames}
-use Rattle.snd_layout.specs.Shape.{end}
 use Rattle.snd_pcm.specs.Groups.{first_groups}
 use Rattle.snd_blocks.specs.Calls.{block_at}
 use Rattle.snd_blocks.specs.Frames.{block_samples, wanted_frames}
 use Rattle.snd_blocks.specs.Spans.{count_before}
 use Rattle.snd_blocks.proofs.Places.{times_le}
-use Rattle.snd_blocks.proofs.ReadSpans.{IsSpan, bad_span, good_span}
-use Rattle.snd_blocks.proofs.read.read_span.Goals as goal
+use Rattle.snd_blocks.proofs.ReadSpans.{IsSpan, good_span}
+use Rattle.snd_blocks.proofs.read.put_span.Goals as goal
 
 pub span_of-span-requires-clause-fits : goal.span_of-span-requires-clause-fits
-span_of-span-requires-clause-fits g c = omega (arith, c.requires.within, c.keeps_rules.ensures.frames)
-
-pub returns-in_err-load-clause-bad : goal.returns-in_err-load-clause-bad
-returns-in_err-load-clause-bad g c = λ is b told.
-    let s = c.args.layout.now in
-    let fits : end s s.frames ≤ length b = omega (arith, c.requires.held, g.met.D.Disk.size_told c.args.disk.now b told) in
-    bad_span b s c.args.place c.args.count c.args.number c.keeps_blocks.ensures fits c.requires.within c.requires.begins c.requires.ends c.requires.some
-    (search (rules, c.in_err-load.ensures.bad))
+span_of-span-requires-clause-fits c = omega (arith, c.requires.within, c.keeps_rules.ensures.frames)
 
 pub returns-clause-told : goal.returns-clause-told
-returns-clause-told g c = λ b told so_far.
+returns-clause-told c = λ b fits block so_far.
     let s = c.args.layout.now in
     let k = s.params.channels in
     let per = block_frames s.params.codec in
-    let fits : end s s.frames ≤ length b = omega (arith, c.requires.held, g.met.D.Disk.size_told c.args.disk.now b told) in
     let span = c.span_of-span.result in
     let wanted = wanted_frames b s c.args.place c.args.count in
     let done : span.done ≡ count_before per c.args.place c.args.count c.args.number = search rules in
@@ -38,8 +28,6 @@ returns-clause-told g c = λ b told so_far.
       room = c.span_of-span.ensures.room;
       some = c.span_of-span.ensures.some;
     } in
-    let here : Tells g.D.Disk.state c.load.new.disk b = c.load.ensures.reads.keeps.contents ∙ told in
-    let block = c.load.ensures.cached.right c.args.number b c.in_ok-load.ensures.loaded here in
     let channels : c.channels_of.result ≡ k = c.channels_of.ensures.value in
     let samples : c.as_slice.result.now ≡ block_samples k s.params.codec (block_at b s c.args.number) = c.as_slice.ensures.value ∙ block.samples_of in
     let copied : take (k * (span.done + span.count)) c.copy_span.new.into
@@ -54,7 +42,7 @@ returns-clause-told g c = λ b told so_far.
     (subst (λ (m : ℕ). first_groups k m c.args.into.now ≡ take m wanted) (sym done) so_far))
 
 pub returns-clause-range : goal.returns-clause-range
-returns-clause-range g c = λ so_far.
+returns-clause-range c = λ so_far.
     let s = c.args.layout.now in
     let k = s.params.channels in
     let per = block_frames s.params.codec in
@@ -66,7 +54,7 @@ returns-clause-range g c = λ so_far.
     ≡ take (k * span.done) c.args.into.now ++ take (k * span.count) (drop (k * span.skipped) c.as_slice.result.now) =
     subst (λ (m : ℕ). take (m * (span.done + span.count)) c.copy_span.new.into ≡ take (m * span.done) c.args.into.now ++ take (m * span.count) (drop (m * span.skipped) c.as_slice.result.now))
     channels c.copy_span.ensures in
-    let fresh : All Is16Bit c.as_slice.result.now = subst (All Is16Bit) (sym c.as_slice.ensures.value) (c.load.ensures.cached.range c.args.number c.in_ok-load.ensures.loaded) in
+    let fresh : All Is16Bit c.as_slice.result.now = subst (All Is16Bit) (sym c.as_slice.ensures.value) c.requires.range in
     let part = take (k * span.count) (drop (k * span.skipped) c.as_slice.result.now) in
     let before : All Is16Bit (take (k * span.done) c.args.into.now) = subst (λ (m : ℕ). All Is16Bit (take (k * m) c.args.into.now)) (sym done) so_far in
     subst (λ (m : ℕ). All Is16Bit (take (k * m) c.copy_span.new.into)) next
