@@ -1,25 +1,25 @@
 //! Writes frames through the library, for measuring. `write_bench create NAME BITS CHANNELS FRAMES` makes
 //! a WAVE file of so many bits a sample; `ulaw` and `alaw` in place of the bits make one of G.711, `ima` and
-//! `ms` one of ADPCM.
-//! `write_bench update NAME on|off FROM FRAMES` writes so many frames over those of a file that is there,
-//! from a frame on, and past its end, with automatic updates or without. `write_bench both NAME` makes a
-//! small file and updates it. A line tells after each step how many frames there are.
+//! `ms` one of ADPCM. `write_bench update NAME on|off FROM FRAMES` writes so many frames over those of a file
+//! that is there, from a frame on, and past its end, with automatic updates or without. `write_bench both
+//! NAME` makes a small file and updates it. A line tells after each step how many frames there are.
 #![tactic(auto)]
 
 mod job;
+mod writing;
 
-ghost use Rattle.std.specs.Prelude.{◌≡◌, ◌<◌, ◌≤◌, false, true};
-ghost use Rattle.snd_layout.specs.Blocks.{is_adpcm};
+ghost use Rattle.std.specs.Prelude.{◌≡◌, ◌<◌, ◌≤◌, false};
 ghost use Rattle.snd_modes.specs.Handle.{disk_of, loan_of};
 
 use job::{Change, Creation, Job, job_of};
 use snd_container::{Fixed, fixed_form};
 use snd_disk::{Disk, FolderShelf, Shelf};
 use snd_layout::Kind;
-use snd_modes::{CanWrite, Encode, File, Update, create, create_blocks, open_update};
+use snd_modes::{File, Update, create, create_blocks, open_update};
 use std::alloc::Global;
 use std::io::Write;
 use std::process::ExitCode;
+use writing::Writing;
 
 /// How many bytes are written at a time, at most.
 const BLOCK_BYTES: usize = 16384;
@@ -31,11 +31,14 @@ enum Stop {
     Fault,
 }
 
-/// By how many bits a number of 32 bits is shortened to one of a form.
-fn shift_of(form: Fixed) -> u32
+/// By how many bits a number of 32 bits is shortened to one of a form; ADPCM, which has none, takes 16.
+fn shift_of(form: Option<Fixed>) -> u32
     ensures { result < 32 }
 {
-    32 - u32::from(form.range_form().width())
+    match form {
+        Some(form) => 32 - u32::from(form.range_form().width()),
+        None => 16,
+    }
 }
 
 /// Fills a slice with the numbers of a linear congruential generator, shortened.
@@ -49,75 +52,51 @@ fn fill(block: &mut [i32], shift: u32)
     }
 }
 
-/// How many numbers a block has: those of as many frames as there is room for.
-fn numbers_of_block(form: Fixed, channels: u16) -> usize
+/// How many numbers a slice has: those of as many frames as there is room for, in ADPCM as of 16 bits each.
+fn numbers_of_block(form: Option<Fixed>, channels: u16) -> usize
     ensures some { 1 ≤ result }
     ensures most { result ≤ 16384 }
 {
     let channels = usize::from(channels).max(1);
-    (BLOCK_BYTES / form.bytes() / channels * channels).max(1)
+    let bytes = match form {
+        Some(form) => form.bytes(),
+        None => 2,
+    };
+    (BLOCK_BYTES / bytes / channels * channels).max(1)
 }
 
-/// Writes so many frames, block by block. The numbers of a block are made once, but for the first one.
-fn write_blocks<D: Disk, M: CanWrite>(file: &mut File<'_, D, M>, frames: u64) -> Option<()>
+/// Writes so many frames, slice by slice. The numbers of a slice are made once, but for the first one.
+fn write_blocks<D: Disk, M: Writing>(file: &mut File<'_, D, M>, frames: u64) -> Option<()>
     ensures loan { loan_of file.new ≡ loan_of file.old }
     ensures name { (D.state (disk_of file.new)).name ≡ (D.state (disk_of file.old)).name }
 {
     let params = file.params();
-    let form = fixed_form(params.codec)?;
+    let form = fixed_form(params.codec);
     let whole = numbers_of_block(form, params.channels);
     let numbers = frames.checked_mul(u64::from(params.channels))?;
     let mut block = [0; BLOCK_BYTES];
     fill(&mut block[..whole], shift_of(form));
     for i in 0..numbers / whole as u64 {
         block[0] = (i % 128) as i32;
-        file.write_frames(&block[..whole]).ok()?;
+        M::put(file, &block[..whole])?;
     }
     let rest = (numbers % whole as u64) as usize;
-    file.write_frames(&block[..rest]).ok()
+    M::put(file, &block[..rest])
 }
 
-/// Gives a file of ADPCM so many frames, in slices of as many numbers as one of 16 bits is written in.
-fn encode_blocks<D: Disk>(file: &mut File<'_, D, Encode>, frames: u64) -> Option<()>
-    ensures loan { loan_of file.new ≡ loan_of file.old }
-    ensures name { (D.state (disk_of file.new)).name ≡ (D.state (disk_of file.old)).name }
+/// Writes a file so many frames and closes it, and answers how many it has, with its disk.
+fn finish_file<'d, D: Disk, M: Writing>(
+    mut file: File<'d, D, M>,
+    frames: u64,
+) -> (Option<u64>, &'d mut D)
+    ensures loan { result.1.ghost_name ≡ loan_of file.entry }
+    ensures name { (D.state result.1.now).name ≡ (D.state (disk_of file.entry)).name }
 {
-    let channels = usize::from(file.params().channels).max(1);
-    let whole = (BLOCK_BYTES / 2 / channels * channels).max(1);
-    let numbers = frames.checked_mul(channels as u64)?;
-    let mut block = [0; BLOCK_BYTES];
-    fill(&mut block[..whole], 16);
-    for i in 0..numbers / whole as u64 {
-        block[0] = (i % 128) as i32;
-        file.encode_frames(&block[..whole]).ok()?;
-    }
-    let rest = (numbers % whole as u64) as usize;
-    file.encode_frames(&block[..rest]).ok()
-}
-
-/// Makes a disk a WAVE file of ADPCM of so many frames, and answers how many it has.
-fn create_encoded<D: Disk>(alloc: Global, disk: &mut D, creation: Creation) -> Option<u64>
-    requires { is_adpcm creation.params.codec ≡ true }
-    ensures { (D.state disk.new).name ≡ (D.state disk.old).name }
-{
-    let mut file = match create_blocks(alloc, disk, Kind::Wave, creation.params) {
-        Ok(file) => file,
-        Err((_, back)) => {
-            let _ = back;
-            return None;
-        }
-    };
-    let written = encode_blocks(&mut file, creation.frames);
-    let count = file.frames_given();
+    let written = write_blocks(&mut file, frames);
+    let count = M::frames(&file);
     match file.close() {
-        Ok(back) => {
-            let _ = back;
-            written.map(|()| count)
-        }
-        Err((_, back)) => {
-            let _ = back;
-            None
-        }
+        Ok(back) => (written.map(|()| count), back),
+        Err((_, back)) => (None, back),
     }
 }
 
@@ -125,31 +104,20 @@ fn create_encoded<D: Disk>(alloc: Global, disk: &mut D, creation: Creation) -> O
 fn create_file<D: Disk>(alloc: Global, disk: &mut D, creation: Creation) -> Option<u64>
     ensures { (D.state disk.new).name ≡ (D.state disk.old).name }
 {
-    if creation.params.codec.is_adpcm() {
-        return create_encoded(alloc, disk, creation);
-    }
-    if fixed_form(creation.params.codec).is_none() {
-        return None;
-    }
-    let mut file = match create(alloc, disk, Kind::Wave, creation.params) {
-        Ok(file) => file,
-        Err((_, back)) => {
-            let _ = back;
-            return None;
+    let Creation { params, frames } = creation;
+    let (count, back) = if params.codec.is_adpcm() {
+        match create_blocks(alloc, disk, Kind::Wave, params) {
+            Ok(file) => finish_file(file, frames),
+            Err((_, back)) => (None, back),
+        }
+    } else {
+        match create(alloc, disk, Kind::Wave, params) {
+            Ok(file) => finish_file(file, frames),
+            Err((_, back)) => (None, back),
         }
     };
-    let written = write_blocks(&mut file, creation.frames);
-    let count = file.frames();
-    match file.close() {
-        Ok(back) => {
-            let _ = back;
-            written.map(|()| count)
-        }
-        Err((_, back)) => {
-            let _ = back;
-            None
-        }
-    }
+    let _ = back;
+    count
 }
 
 /// Changes an open file.
