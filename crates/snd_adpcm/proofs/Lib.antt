@@ -1,3 +1,4 @@
+pub mod BlockCounts
 pub mod BlockLaws
 pub mod CodedBytes
 pub mod ImaCodes

@@ -1,7 +1,6 @@
 -- What holds at every entry of the step table, and at the tables made of it.
 use Rattle.std.proofs.Common.{◌≡◌, ℕ, ℤ, pos, negsuc, ◌+◌, ◌-◌, ◌*◌, ◌/◌, ◌%◌, ◌<◌, ◌≤◌, ◌≤ℤ◌, ◌+ℤ◌, ◌-ℤ◌, map, get_or, unsigned_abs, Bool, true, false, leb, refl, sym, ap, ◌∙◌, subst, arith, rules, w32, to_z, of_z}
-use Rattle.std.specs.Prelude.{◌==◌, bit_and, nat_lt, max, min, if◌then◌else◌}
-use Rattle.std.specs.Int.{int_max, int_min}
+use Rattle.std.specs.Prelude.{◌==◌, bit_and, if◌then◌else◌}
 use Rattle.std.proofs.lemmas.Bool.{agree_below_at, leb-true}
 use Rattle.std.proofs.lemmas.Int.{ints}
 use Rattle.std.proofs.lemmas.List.FromFn.{get_or-map-range_with_len}
@@ -91,24 +90,6 @@ table_entry f m code n lt same least most = kept _ (f code) least most (entry_at
 pub next_step_entry : (index code n : ℕ) → index ≤ 88 → code < 16 → n ≡ code → get_or (map (λ k. step_size (next_index 0 88 (k / 16) (k % 16))) (range_with_len 0 1424)) (16 * index + n) 0 ≡ step_size (next_index 0 88 index code)
 next_step_entry index code n le lt same =
     rw same (entry_is (λ k. step_size (next_index 0 88 (k / 16) (k % 16))) 1424 (16 * index + code) 0 (omega arith) ∙ of_both (λ i b. step_size (next_index 0 88 i b)) index code lt)
-
--- two moves of the index, each held from 0 to 88, are one
-
-moves_by : (s t : Bool) (i x y : ℕ) → i ≤ 88 → x ≤ 4 → y ≤ 4 →
-    int_min (int_max (pos i +ℤ ((if s then negsuc 0 else pos (2 * x)) +ℤ (if t then negsuc 0 else pos (2 * y)))) (pos (max 0 (min 88 (if t then 0 - 1 else 0 + 2 * y))))) (pos (max 0 (min 88 (if t then 88 - 1 else 88 + 2 * y))))
-    ≡ pos (max 0 (min 88 (if t then max 0 (min 88 (if s then i - 1 else i + 2 * x)) - 1 else max 0 (min 88 (if s then i - 1 else i + 2 * x)) + 2 * y)))
-moves_by true true i x y le lx ly = grind (arith, ints)
-moves_by true false i x y le lx ly = grind (arith, ints)
-moves_by false true i x y le lx ly = grind (arith, ints)
-moves_by false false i x y le lx ly = grind (arith, ints)
-
-pub two_moves : (i a b : ℕ) (m n : ℤ) → i ≤ 88 → m ≡ (if nat_lt (a % 8) 4 then negsuc 0 else pos (2 * (a % 8 - 3))) → n ≡ (if nat_lt (b % 8) 4 then negsuc 0 else pos (2 * (b % 8 - 3))) →
-    int_min (int_max (pos i +ℤ (m +ℤ n)) (pos (next_index 0 88 0 b))) (pos (next_index 0 88 88 b)) ≡ pos (next_index 0 88 (next_index 0 88 i a) b)
-two_moves i a b m n le m_is n_is = rw (m_is, n_is) (moves_by (nat_lt (a % 8) 4) (nat_lt (b % 8) 4) i (a % 8 - 3) (b % 8 - 3) le (omega arith) (omega arith))
-
-pub held_twice : (i a b : ℕ) (m n low high x r : ℤ) → i ≤ 88 → m ≡ (if nat_lt (a % 8) 4 then negsuc 0 else pos (2 * (a % 8 - 3))) → n ≡ (if nat_lt (b % 8) 4 then negsuc 0 else pos (2 * (b % 8 - 3))) →
-    low ≡ pos (next_index 0 88 0 b) → high ≡ pos (next_index 0 88 88 b) → int_max (pos i +ℤ (m +ℤ n)) low ≡ x → int_min x high ≡ r → r ≡ pos (next_index 0 88 (next_index 0 88 i a) b)
-held_twice i a b m n low high x r le m_is n_is low_is high_is x_is r_is = rw (sym r_is, sym x_is, low_is, high_is) (two_moves i a b m n le m_is n_is)
 
 pub next_step_most : (index code step : ℕ) → step ≡ step_size (next_index 0 88 index code) → step ≤ 32767
 next_step_most index code step is = rw is (step_size_most (next_index 0 88 index code) (omega arith))

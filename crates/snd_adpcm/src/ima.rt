@@ -8,7 +8,7 @@ ghost use Rattle.snd_adpcm.specs.Ima.{ima_predictor, ima_index, ima_first, ima_s
 
 use crate::BadBlock;
 use crate::number::{high_code, low_code, make_room, number_of};
-use crate::step::{change_at, index_after_two, next_index_at};
+use crate::step::{change_at, next_index_at};
 use arrayvec::ArrayVec;
 
 /// Where one channel stands between two codes.
@@ -57,9 +57,7 @@ impl ImaState {
         ensures most { result.0 ≤ℤ pos 32767 }
     {
         let middle = self.after(low_code(byte));
-        let predictor = middle.predictor_after(high_code(byte));
-        let index = index_after_two(self.index, low_code(byte), high_code(byte));
-        (middle.predictor, ImaState { predictor, index })
+        (middle.predictor, middle.after(high_code(byte)))
     }
 
     /// The state that a channel's head gives.
@@ -97,6 +95,8 @@ fn decode_mono(bytes: &[u8], into: &mut [i32])
 }
 
 /// The samples of a block of two channels.
+// by itself it has registers enough
+#[inline(never)]
 fn decode_stereo(bytes: &[u8], into: &mut [i32])
     requires whole { 8 ≤ length bytes.now }
     requires groups { length bytes.now % 8 ≡ 0 }
@@ -123,19 +123,20 @@ fn decode_stereo(bytes: &[u8], into: &mut [i32])
     }
 }
 
-/// Whether a head has an index that the step table does not hold.
-fn has_bad_head(bytes: &[u8], channels: u16) -> bool
-    requires channels { (channels ≡ 1) ⊎ (channels ≡ 2) }
-    requires heads { 4 * channels ≤ length bytes.now }
-    ensures { result ≡ is_bad_ima_block channels bytes.now }
-{
-    bytes[2] > 88 || (channels == 2 && bytes[6] > 88)
-}
-
 /// A block of IMA ADPCM.
 pub struct ImaBlock;
 
 impl ImaBlock {
+    /// Whether a block is bad: a channel's head has a step index above 88. It is told by the heads alone, which are the first
+    /// 4 bytes of each of 1 or 2 `channels`.
+    pub fn is_bad(bytes: &[u8], channels: u16) -> bool
+        requires channels { (channels ≡ 1) ⊎ (channels ≡ 2) }
+        requires heads { 4 * channels ≤ length bytes.now }
+        ensures { result ≡ is_bad_ima_block channels bytes.now }
+    {
+        bytes[2] > 88 || (channels == 2 && bytes[6] > 88)
+    }
+
     /// Puts a block's samples in place of what `into` holds, frame by frame, channels in turn.
     ///
     /// `bytes` is one block of 1 or 2 `channels`, of at most 8192 bytes. Where a channel's head has a step index above 88
@@ -154,7 +155,7 @@ impl ImaBlock {
         ensures bad { IsErr result ↔ IsTrue (is_bad_ima_block channels bytes.now) }
         ensures empty { OnErr result (into.new.items ≡ []) }
     {
-        if has_bad_head(bytes, channels) {
+        if ImaBlock::is_bad(bytes, channels) {
             into.clear();
             return Err(BadBlock);
         }

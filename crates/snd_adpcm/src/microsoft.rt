@@ -264,6 +264,8 @@ fn decode_mono(codes: &[u8], start: MsState, into: &mut [i32])
 }
 
 /// The samples of a block of two channels, whose heads give `first` and `second`.
+// by itself it has registers enough
+#[inline(never)]
 fn decode_stereo(codes: &[u8], first: MsState, second: MsState, into: &mut [i32])
     requires room { length into.old ≡ 2 * length codes.now + 4 }
     ensures samples { into.new ≡ ms_frames_from first second (high_half_first codes.now) }
@@ -283,19 +285,20 @@ fn decode_stereo(codes: &[u8], first: MsState, second: MsState, into: &mut [i32]
     }
 }
 
-/// Whether a head has a predictor number that there are no weights for.
-fn has_bad_head(bytes: &[u8], channels: u16) -> bool
-    requires channels { (channels ≡ 1) ⊎ (channels ≡ 2) }
-    requires heads { channels ≤ length bytes.now }
-    ensures { result ≡ is_bad_ms_block channels bytes.now }
-{
-    bytes[0] > 6 || (channels == 2 && bytes[1] > 6)
-}
-
 /// A block of Microsoft ADPCM.
 pub struct MsBlock;
 
 impl MsBlock {
+    /// Whether a block is bad: a channel's head has a predictor number above 6. It is told by the first byte of each of 1 or 2
+    /// `channels`, which are the block's first.
+    pub fn is_bad(bytes: &[u8], channels: u16) -> bool
+        requires channels { (channels ≡ 1) ⊎ (channels ≡ 2) }
+        requires heads { channels ≤ length bytes.now }
+        ensures { result ≡ is_bad_ms_block channels bytes.now }
+    {
+        bytes[0] > 6 || (channels == 2 && bytes[1] > 6)
+    }
+
     /// Puts a block's samples in place of what `into` holds, frame by frame, channels in turn.
     ///
     /// `bytes` is one block of 1 or 2 `channels`, of at most 8192 bytes. Where a channel's head has a predictor number above 6
@@ -314,7 +317,7 @@ impl MsBlock {
         ensures bad { IsErr result ↔ IsTrue (is_bad_ms_block channels bytes.now) }
         ensures empty { OnErr result (into.new.items ≡ []) }
     {
-        if has_bad_head(bytes, channels) {
+        if MsBlock::is_bad(bytes, channels) {
             into.clear();
             return Err(BadBlock);
         }

@@ -228,6 +228,8 @@ fn encode_samples(samples: &[i32], start: MsState, into: &mut ArrayVec<u8, 8192>
 }
 
 /// Puts the bytes of two channels, a code of each in every byte.
+// by itself it has registers enough
+#[inline(never)]
 fn encode_frames(frames: &[i32], first: MsState, second: MsState, into: &mut ArrayVec<u8, 8192>)
     requires even { length frames.now % 2 ≡ 0 }
     requires range { All Is16Bit frames.now }

@@ -1,6 +1,6 @@
 //! One code of IMA ADPCM, by the recommended practices of the Interactive Multimedia Association (revision 3.00, 1992).
 
-ghost use Rattle.std.specs.Prelude.{◌≡◌, ◌+◌, ◌*◌, ◌-◌, ◌/◌, ◌%◌, ◌<◌, ◌≤◌, ◌≤ℤ◌, ◌<ℤ◌, ◌+ℤ◌, ◌-ℤ◌, pos, negsuc, unsigned_abs, if◌then◌else◌, nat_lt};
+ghost use Rattle.std.specs.Prelude.{◌≡◌, ◌+◌, ◌*◌, ◌-◌, ◌/◌, ◌<◌, ◌≤◌, ◌≤ℤ◌, ◌<ℤ◌, ◌+ℤ◌, ◌-ℤ◌, pos, negsuc, unsigned_abs};
 ghost use Rattle.std.specs.Int.{int_min};
 ghost use Rattle.snd_adpcm.specs.Frames.{clamp_16};
 ghost use Rattle.snd_adpcm.specs.Step.{step_size, change, distance, moved, next_index, part_if, code_for, distance_bits, bit_if_fits, rest_after, distance_rest};
@@ -250,16 +250,6 @@ static NEXT_STEPS: [u16; 1424] = [
     32767, 32767,
 ];
 
-/// How far a code moves the index.
-static MOVES: [i32; 16] = [-1, -1, -1, -1, 2, 4, 6, 8, -1, -1, -1, -1, 2, 4, 6, 8];
-
-/// The index that a code leads to from 0, and from 88: the least and the greatest that it leads to at all.
-static LEAST_AFTER: [i32; 16] = [0, 0, 0, 0, 2, 4, 6, 8, 0, 0, 0, 0, 2, 4, 6, 8];
-
-static GREATEST_AFTER: [i32; 16] = [
-    87, 87, 87, 87, 88, 88, 88, 88, 87, 87, 87, 87, 88, 88, 88, 88,
-];
-
 /// The step size of an index.
 #[inline]
 pub fn step_at(index: usize) -> u32
@@ -467,46 +457,4 @@ pub fn next_step_at(index: usize, code: u32) -> u32
     ensures most { result ≤ 32767 }
 {
     u32::from(NEXT_STEPS[16 * index + code as usize])
-}
-
-/// How far a code moves the index.
-#[inline]
-fn move_of(code: u8) -> i32
-    requires { code < 16 }
-    ensures value { result ≡ (if nat_lt (code % 8) 4 then negsuc 0 else pos (2 * (code % 8 - 3))) }
-    ensures least { negsuc 0 ≤ℤ result }
-    ensures most { result ≤ℤ pos 8 }
-{
-    MOVES[usize::from(code)]
-}
-
-/// The least index that a code leads to.
-#[inline]
-fn least_after(code: u8) -> i32
-    requires { code < 16 }
-    ensures { result ≡ pos (next_index 0 88 0 code) }
-{
-    LEAST_AFTER[usize::from(code)]
-}
-
-/// The greatest index that a code leads to.
-#[inline]
-fn greatest_after(code: u8) -> i32
-    requires { code < 16 }
-    ensures { result ≡ pos (next_index 0 88 88 code) }
-{
-    GREATEST_AFTER[usize::from(code)]
-}
-
-/// The index after two codes, from 0 to 88. One move and one pair of bounds are as good as two of each.
-#[inline]
-pub fn index_after_two(index: usize, first: u8, second: u8) -> usize
-    requires index { index ≤ 88 }
-    requires first { first < 16 }
-    requires second { second < 16 }
-    ensures { result ≡ next_index 0 88 (next_index 0 88 index first) second }
-{
-    let moved = index as i32 + (move_of(first) + move_of(second));
-    let held = moved.max(least_after(second)).min(greatest_after(second));
-    held as u32 as usize
 }
