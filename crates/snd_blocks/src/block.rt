@@ -1,13 +1,13 @@
 //! One block, read from a disk.
 
-ghost use Rattle.std.specs.Prelude.{◌≡◌, ◌+◌, ◌*◌, ◌<◌, ◌≤◌, ◌^◌, ◌↔◌, All, IsErr, IsTrue, List, OnOk, length, true, ℕ};
+ghost use Rattle.std.specs.Prelude.{◌≡◌, ◌+◌, ◌*◌, ◌<◌, ◌≤◌, ◌^◌, ◌↔◌, All, IsErr, IsTrue, List, OnOk, false, length, true, ℕ};
 ghost use Rattle.std.specs.Result.{IsErrOf};
 ghost use Rattle.snd_adpcm.specs.Frames.{Is16Bit};
 ghost use Rattle.snd_disk.specs.Device.{AsksAtMost, IfOkTold, OnlyReadsOn, Tells};
 ghost use Rattle.snd_layout.specs.Blocks.{block_align, block_frames, is_adpcm};
 ghost use Rattle.snd_layout.specs.Params.{AreParams};
 ghost use Rattle.snd_layout.specs.Shape.{KeepsRule, end};
-ghost use Rattle.snd_blocks.specs.Calls.{AreBlocks, CountsFaultOn, IsBlock, block_at};
+ghost use Rattle.snd_blocks.specs.Calls.{AreBlocks, CountsFaultOn, block_at};
 ghost use Rattle.snd_blocks.specs.Frames.{block_samples, is_bad_block};
 
 use crate::buffer::MOST_BYTES;
@@ -93,22 +93,33 @@ pub(crate) fn decode(
     }
 }
 
-// Reads the samples of a block that has counted frames.
-pub(crate) fn read_block<D: Disk>(
+// Whether a block is bad, which its head tells.
+#[tactic(auto, unfolding(crate::specs::Frames::is_bad_block))]
+fn is_bad(params: Params, bytes: &[u8]) -> bool
+    requires blocks { AreBlocks params }
+    requires size { length bytes.now ≡ block_align params.channels params.codec }
+    ensures { result ≡ is_bad_block params.channels params.codec bytes.now }
+{
+    match params.codec {
+        Codec::Ima { .. } => ImaBlock::is_bad(bytes, params.channels),
+        Codec::Ms { .. } => MsBlock::is_bad(bytes, params.channels),
+        _ => unreachable!(),
+    }
+}
+
+// Reads a block that has counted frames, to see whether it is bad. Nothing of it is decoded.
+pub(crate) fn check_block<D: Disk>(
     disk: &mut D,
     layout: &Layout,
     number: u64,
     block: &mut [u8; MOST_BYTES],
-    into: &mut ArrayVec<i32, 16384>,
 ) -> Result<(), BlockError>
     requires blocks { is_adpcm layout.now.params.codec ≡ true }
     requires held { end layout.now layout.now.frames ≤ (D.state disk.old).size }
     requires within { number * block_frames layout.now.params.codec < layout.now.frames }
-    ensures told { IfOkTold D.state disk.old result (λ b _. IsBlock layout.now.params (block_at b layout.now number) into.new.items) }
+    ensures good { IfOkTold D.state disk.old result (λ b _. is_bad_block layout.now.params.channels layout.now.params.codec (block_at b layout.now number) ≡ false) }
     ensures bad { IsErrOf result BlockError.BadBlock → (b : List ℕ) → Tells D.state disk.old b →
         is_bad_block layout.now.params.channels layout.now.params.codec (block_at b layout.now number) ≡ true }
-    ensures count { OnOk result (length into.new.items ≡ layout.now.params.channels * block_frames layout.now.params.codec) }
-    ensures range { OnOk result (All Is16Bit into.new.items) }
     ensures faults { CountsFaultOn D.state disk.old disk.new result }
     ensures reads { OnlyReadsOn D.state D.may_leave D.left_between disk.old disk.new }
     ensures asked { AsksAtMost D.state (block_align layout.now.params.channels layout.now.params.codec) disk.old disk.new }
@@ -117,6 +128,8 @@ pub(crate) fn read_block<D: Disk>(
     let at = place_of(layout, number);
     let bytes = &mut block[..usize::from(align_of(layout))];
     fill(disk, at, bytes)?;
-    decode(layout.params, bytes, into)?;
+    if is_bad(layout.params, bytes) {
+        return Err(BlockError::BadBlock);
+    }
     Ok(())
 }

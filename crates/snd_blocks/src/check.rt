@@ -9,8 +9,8 @@ ghost use Rattle.snd_layout.specs.Shape.{end};
 ghost use Rattle.snd_blocks.specs.Calls.{CountsFaultOn};
 ghost use Rattle.snd_blocks.specs.Frames.{frames_in_blocks, has_bad};
 
-use crate::block::{frames_of, keeps_blocks, read_block};
-use crate::buffer::BlockCache;
+use crate::block::{check_block, frames_of, keeps_blocks};
+use crate::buffer::MOST_BYTES;
 use crate::error::BlockError;
 use snd_disk::Disk;
 use snd_layout::Layout;
@@ -24,7 +24,7 @@ fn block_count(layout: &Layout) -> u64
     layout.frames.div_ceil(u64::from(frames_of(layout)))
 }
 
-/// Reads all blocks of an ADPCM file that have counted frames.
+/// Reads all blocks of an ADPCM file that have counted frames, to see whether one is bad. None is decoded.
 ///
 /// The answer is `BadBlock` where one of them has a bad head, and `DiskFault` where a call of the disk
 /// failed first.
@@ -38,9 +38,9 @@ pub fn check_blocks<D: Disk>(disk: &mut D, layout: &Layout) -> Result<(), BlockE
     ensures asked { AsksAtMost D.state (data_bytes layout.now.params layout.now.frames) disk.old disk.new }
 {
     keeps_blocks(layout);
-    let mut block = BlockCache::new();
+    let mut block = [0; MOST_BYTES];
     for number in 0..block_count(layout) {
-        read_block(disk, layout, number, &mut block.bytes, &mut block.samples)?;
+        check_block(disk, layout, number, &mut block)?;
     }
     Ok(())
 }
