@@ -1,11 +1,12 @@
 -- What the tools print, and which files they leave.
-use Rattle.std.specs.Prelude.{◌≡◌, ℕ, List, [], ◌++◌, Some, Result, Ok, Err, IfOk, codes, decimal}
+use Rattle.std.specs.Prelude.{◌≡◌, ℕ, List, [], ◌∷◌, ◌++◌, Some, Result, Ok, Err, IfOk, codes, decimal}
 use Rattle.snd_concat.specs.Concat.{concatenated}
 use Rattle.snd_convert.specs.Convert.{converted}
 use Rattle.snd_disk.specs.Shelf.{Files, ShelfState, put}
 use Rattle.snd_disk.specs.Shelves.{TellsFiles}
 use Rattle.snd_generate.specs.Edited.{file_of, generated, summary_of}
 use Rattle.snd_generate.specs.declared.generating.Summary.{Summary}
+use Rattle.snd_inputs.specs.Asking.{AsksForEach, AsksForFiles}
 use Rattle.snd_interleave.specs.Interleave.{interleaved}
 use Rattle.snd_lines.specs.Lines.{line}
 use Rattle.snd_metadata.specs.Retagged.{retagged}
@@ -47,6 +48,14 @@ made_by (Work.concat inputs output) = output
 made_by (Work.interleave inputs output) = output
 made_by (Work.gen seed frames name) = name
 made_by (Work.set_metadata settings input output) = output
+
+-- how many bytes it asks of the files that it reads; `gen` reads none
+abbrev pub AsksForWork : {S : Type 0} → (S → ShelfState) → Work → S → S → Type 0
+AsksForWork state (Work.convert c) old new = AsksForFiles state (c.input ∷ []) old new
+AsksForWork state (Work.concat inputs output) old new = AsksForFiles state inputs old new
+AsksForWork state (Work.interleave inputs output) old new = AsksForEach 1 16384 state inputs old new
+AsksForWork state (Work.gen seed frames name) old new = Unit {0}
+AsksForWork state (Work.set_metadata settings input output) old new = AsksForEach 2 164864 state (input ∷ []) old new
 
 -- ---- as the code says it
 

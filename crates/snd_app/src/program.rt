@@ -6,7 +6,8 @@ ghost use Rattle.snd_script.specs.Served.{BoundsScript, KeepsUnnamed, LeavesScri
 ghost use Rattle.snd_script.specs.PinnedRun.{named};
 ghost use Rattle.snd_script.specs.Trail.{TrailsScript};
 ghost use Rattle.snd_app.specs.Look.{OnlyLooks};
-ghost use Rattle.snd_words.specs.Asked.{Asked};
+ghost use Rattle.snd_app.specs.Tools.{AsksForWork};
+ghost use Rattle.snd_words.specs.Asked.{Asked, Work};
 ghost use Rattle.snd_words.specs.Grammar.{asked};
 ghost use Rattle.snd_tools.specs.Shelves.{ChangesOne, IsAllIn};
 ghost use Rattle.snd_app.specs.Outcome.{files_after, looks_for, names_for, outcome, outcome_of_info, outcome_of_infos, output_for, pinned_for, runs_script, text_of};
@@ -198,11 +199,12 @@ pub fn run<S: Shelf, R: Source, O: Sink, E: Sink>(
     ensures looks { looks_for words.now ≡ true →
         OnlyLooks (length (names_for words.now)) (S.state shelf.old) (S.state shelf.new) }
 
-    // With a tool, so does each file but the one that it makes; and where a stream failed and no file did,
-    // that is made, or was refused, as the outcome says.
+    // With a tool, so does each file but the one that it makes; where a stream failed and no file did, that
+    // is made, or was refused, as the outcome says; and no more bytes are asked than it takes to read its inputs.
     ensures others { (name : List ℕ) → output_for words.now ≡ Some name → ChangesOne S.Shelf name shelf.old shelf.new }
     ensures done { (name : List ℕ) → output_for words.now ≡ Some name →
         DoneAtStream S.state (λ files. files_after words.now (map (λ b. (meter b).kind) taps.items) files []) shelf.old shelf.new result }
+    ensures asks { (work : Work) → asked words.now ≡ Asked.tool work → AsksForWork S.state work shelf.old shelf.new }
 
     // With a script, so does a file that no line opens to be written, and that is not pinned; and no more bytes
     // are asked of the files and written than the lines may.

@@ -8,7 +8,7 @@ ghost use Rattle.snd_words.specs.Asked.{IsWork};
 ghost use Rattle.snd_words.specs.Request.{work_of};
 ghost use Rattle.snd_app.specs.Printed.{outcome_said};
 ghost use Rattle.snd_app.specs.Run.{DescribingFaultRises, DoneAtStream, ToolsAs};
-ghost use Rattle.snd_app.specs.Tools.{CarriesOut, RepliesOf, RepliesTo, after_work, made_by, outcome_by, summary_text};
+ghost use Rattle.snd_app.specs.Tools.{AsksForWork, CarriesOut, RepliesOf, RepliesTo, after_work, made_by, outcome_by, summary_text};
 
 use crate::info::refuse;
 use crate::put::{FAULT, NO_MEMORY, put_text};
@@ -103,6 +103,7 @@ fn carry_out<S: Shelf>(alloc: Global, tool: &Tool<'_>, shelf: &mut S) -> Result<
     ensures done { CarriesOut S.state (work_of tool.now) shelf.old shelf.new result }
     ensures changes { ChangesOne S.Shelf (made_by (work_of tool.now)) shelf.old shelf.new }
     ensures faults { CountsStop (S.state shelf.old).faults (S.state shelf.new).faults result }
+    ensures asked { AsksForWork S.state (work_of tool.now) shelf.old shelf.new }
 {
     match tool {
         Tool::Convert(it) => reply_to(alloc, convert(alloc, it, shelf)),
@@ -129,6 +130,7 @@ pub(crate) fn run_tool<S: Shelf, O: Sink, E: Sink>(
         DescribingFaultRises S.Shelf O.Sink E.Sink shelf.old out.old err.old shelf.new out.new err.new }
     ensures done { DoneAtStream S.state (after_work (work_of tool.now)) shelf.old shelf.new result }
     ensures changes { ChangesOne S.Shelf (made_by (work_of tool.now)) shelf.old shelf.new }
+    ensures asked { AsksForWork S.state (work_of tool.now) shelf.old shelf.new }
 {
     match carry_out(alloc, tool, shelf) {
         Ok(Reply::Done(text)) => put_text(out, &text, 0),

@@ -1,11 +1,11 @@
 use Rattle.std.proofs.Common.{◌≡◌, ◌∙◌, ℕ, List, [], None, Some, ap, refl, rules, subst}
 use Rattle.snd_tools.specs.Shelves.{ChangesOne}
-use Rattle.snd_words.specs.Asked.{Asked}
+use Rattle.snd_words.specs.Asked.{Asked, Work}
 use Rattle.snd_words.specs.Grammar.{asked}
 use Rattle.snd_words.specs.Request.{work_of}
 use Rattle.snd_app.specs.Outcome.{files_of, outcome_of, output_by, pinned_by}
 use Rattle.snd_app.specs.Run.{DoneAtStream, StopsAs}
-use Rattle.snd_app.specs.Tools.{made_by}
+use Rattle.snd_app.specs.Tools.{AsksForWork, made_by}
 use Rattle.snd_app.proofs.Left.{changed_leaves, kept_leaves}
 use Rattle.snd_app.proofs.Outcomes.{done_by, is_put_err, is_put_out, run_as, stops_by, trails_by, with_files}
 use Rattle.snd_script.proofs.ShelfLeft.{some_of}
@@ -89,6 +89,13 @@ pub returns-in-Some-Tool-clause-done : goal.returns-in-Some-Tool-clause-done
 returns-in-Some-Tool-clause-done g c = λ name named.
     let is : Asked.tool (work_of c.in-Some-Tool.tool) ≡ asked c.args.words.now = search rules in
     done_by g.S.Shelf.state c.args.shelf.now c.run_tool.new.shelf c.run_tool.result _ (Asked.tool (work_of c.in-Some-Tool.tool)) (asked c.args.words.now) is c.run_tool.ensures.done
+
+pub returns-in-Some-Tool-clause-asks : goal.returns-in-Some-Tool-clause-asks
+returns-in-Some-Tool-clause-asks g c = λ work named.
+    let is : Asked.tool (work_of c.in-Some-Tool.tool) ≡ asked c.args.words.now = search rules in
+    let both : Asked.tool (work_of c.in-Some-Tool.tool) ≡ Asked.tool work = is ∙ named in
+    let same : work_of c.in-Some-Tool.tool ≡ work = cc in
+    subst (λ (w : Work). AsksForWork g.S.Shelf.state w c.args.shelf.now c.run_tool.new.shelf) same c.run_tool.ensures.asked
 
 pub returns-in-Some-Tool-clause-unnamed : goal.returns-in-Some-Tool-clause-unnamed
 returns-in-Some-Tool-clause-unnamed g c = λ none.
