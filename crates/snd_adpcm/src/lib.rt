@@ -21,6 +21,3 @@ pub use vox::{VoxReader, VoxWriter};
 /// A block whose head no sample can be read from.
 #[derive(Debug, Clone, Copy, PartialEq, Eq)]
 pub struct BadBlock;
-
-#[cfg(test)]
-mod tests;

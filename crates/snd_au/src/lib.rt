@@ -7,8 +7,6 @@ mod laws;
 mod layout;
 mod numbers;
 mod put;
-#[cfg(test)]
-mod tests;
 mod values;
 
 pub use head::lay_head;

@@ -6,6 +6,3 @@ pub mod laws;
 mod writer;
 
 pub use writer::{BlockWriter, are_blocks};
-
-#[cfg(test)]
-mod tests;

@@ -107,8 +107,8 @@ impl BlockWriter {
         self.block_numbers() - self.waiting.len()
     }
 
-    // The place of the next block, in a file whose data begin at a place.
-    pub(crate) fn next_place(&self, start: u64) -> u64
+    /// The place of the next block, in a file whose data begin at a place.
+    pub fn next_place(&self, start: u64) -> u64
         requires { next_place start self.now < 2 ^ 63 }
         ensures { result ≡ next_place start self.now }
     {

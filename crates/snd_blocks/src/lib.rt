@@ -9,8 +9,6 @@ mod error;
 mod fetch;
 pub mod laws;
 mod read;
-#[cfg(test)]
-mod tests;
 
 pub use buffer::BlockCache;
 pub use check::check_blocks;

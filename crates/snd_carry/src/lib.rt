@@ -5,8 +5,6 @@ mod bodies;
 mod carry;
 mod choice;
 mod laws;
-#[cfg(test)]
-mod tests;
 
 pub use bodies::{carry_chunk, put_chunk};
 pub use carry::carry_pieces;

@@ -11,8 +11,6 @@ mod opens;
 mod refusal;
 mod sets;
 mod tables;
-#[cfg(test)]
-mod tests;
 mod words;
 
 pub use command::{Command, MOST_CUES, MOST_SAMPLES};

@@ -34,6 +34,3 @@ pub use std_streams::{ReaderSource, WriterSink};
 pub use steady::SteadyDisk;
 pub use streams::{Sink, Source};
 pub use two_fields::patch_two;
-
-#[cfg(test)]
-mod tests;

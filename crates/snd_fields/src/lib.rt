@@ -6,8 +6,6 @@ mod digits;
 mod field;
 mod ident;
 mod laws;
-#[cfg(test)]
-mod tests;
 mod words;
 
 pub use digits::decimal;

@@ -104,6 +104,3 @@ pub fn alaw_encode_all(from: &[i32], bytes: &mut [u8])
 pub fn alaw_round_trip()
     ensures { AlawRoundTrip }
 {}
-
-#[cfg(test)]
-mod tests;

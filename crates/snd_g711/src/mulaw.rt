@@ -80,6 +80,3 @@ pub fn mulaw_round_trip()
     ensures bytes { MulawRoundTrip }
     ensures values { MulawKeepsDecoded }
 {}
-
-#[cfg(test)]
-mod tests;

@@ -15,8 +15,6 @@ mod layout;
 mod params;
 mod piece;
 mod refusal;
-#[cfg(test)]
-mod tests;
 mod written;
 
 pub use codec::Codec;

@@ -3,8 +3,6 @@
 
 mod chunks;
 mod refusal;
-#[cfg(test)]
-mod tests;
 mod texts;
 mod words;
 

@@ -7,8 +7,6 @@ mod cue;
 mod error;
 mod field;
 mod info;
-#[cfg(test)]
-mod tests;
 mod text;
 
 pub use bext::{Bext, BextKey};

@@ -4,8 +4,6 @@
 mod laws;
 mod meters;
 mod slot;
-#[cfg(test)]
-mod tests;
 
 pub use laws::at_most_one_is_on;
 pub use meters::Meters;

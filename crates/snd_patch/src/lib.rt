@@ -5,8 +5,6 @@
 mod fields;
 pub mod laws;
 mod steps;
-#[cfg(test)]
-mod tests;
 mod update;
 
 pub use fields::put_closing;

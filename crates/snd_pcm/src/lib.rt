@@ -8,8 +8,6 @@ mod linear;
 mod puts;
 mod reads;
 mod sample;
-#[cfg(test)]
-mod tests;
 mod width;
 
 pub use blocks::{in_range, put_samples, read_samples};

@@ -7,8 +7,6 @@ mod head;
 mod laws;
 mod layout;
 mod sizes;
-#[cfg(test)]
-mod tests;
 mod values;
 
 pub use changing::put_piece;

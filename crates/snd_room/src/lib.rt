@@ -4,8 +4,6 @@
 mod room;
 mod size;
 mod start;
-#[cfg(test)]
-mod tests;
 
 pub use room::room_with;
 pub use size::chunk_size;

@@ -1,5 +1,5 @@
 //! One file for each condition that refuses one, written out by hand from the formats' specifications.
-use crate::tests::printed;
+use crate::run_words;
 use std::alloc::{AllocError, Global};
 use std::process::Abort;
 use std::test::Fail;
@@ -68,7 +68,7 @@ static KINDS: [(&[u8], &[u8]); 5] = [
 
 /// That `info` refuses a file of these bytes, with this message and nothing else.
 fn refuses(rt: &impl Abort, alloc: Global, bytes: &[u8], message: &[u8]) -> Result<(), Fail> {
-    let found = printed(alloc, &["info", "a.wav"], bytes, b"")?;
+    let found = run_words(alloc, &["info", "a.wav"], bytes, b"")?;
     assert_eq!(rt; found.err.as_slice(), message);
     assert!(rt; found.out.is_empty());
     assert_eq!(rt; found.status, 1);

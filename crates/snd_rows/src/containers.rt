@@ -2,7 +2,7 @@
 //! made them: what is said of them, and what a script reads. The samples are those that these programs find
 //! in them. The A-law files of SPHERE, and those of both laws with one channel of VOC, have a head written by
 //! hand after the standard.
-use crate::tests::printed;
+use crate::run_words;
 use std::alloc::{AllocError, Global};
 use std::test::Fail;
 
@@ -687,12 +687,12 @@ fn file_of(alloc: Global, row: &Row) -> Result<Vec<u8>, AllocError> {
 // Whether a file is described and read as it should be, and nothing is said beside that.
 fn is_right(alloc: Global, row: &Row) -> Result<bool, AllocError> {
     let file = file_of(alloc, row)?;
-    let told = printed(alloc, &["info", "a.wav"], &file, b"")?;
+    let told = run_words(alloc, &["info", "a.wav"], &file, b"")?;
     let script = b"open r a.wav
 read 1024
 close
 ";
-    let read = printed(alloc, &["script"], &file, script)?;
+    let read = run_words(alloc, &["script"], &file, script)?;
     let described = told.out.as_slice() == row.described.as_bytes();
     let answered = read.out.as_slice() == row.read.as_bytes();
     let silent = told.err.is_empty() && read.err.is_empty();

@@ -1,6 +1,6 @@
 //! WAVE files of each codec and count of channels: what is said of them, and what a script reads. The
 //! frames and the samples are those that SoX finds in these files.
-use crate::tests::printed;
+use crate::run_words;
 use std::alloc::{AllocError, Global};
 use std::test::Fail;
 
@@ -256,12 +256,12 @@ fn every_codec_is_described_and_read(rt: HostRuntime) -> Result<(), Fail> {
     let alloc = rt.alloc();
     for row in ROWS.iter() {
         let file = file_of(alloc, row)?;
-        let found = printed(alloc, &["info", "a.wav"], &file, b"")?;
+        let found = run_words(alloc, &["info", "a.wav"], &file, b"")?;
         assert_eq!(rt; found.out.as_slice(), row.described.as_bytes());
         assert_eq!(rt; found.err.as_slice(), b"".as_slice());
         assert_eq!(rt; found.status, 0);
         let script = b"open r a.wav\nread 1024\nclose\n";
-        let found = printed(alloc, &["script"], &file, script)?;
+        let found = run_words(alloc, &["script"], &file, script)?;
         assert_eq!(rt; found.out.as_slice(), row.read.as_bytes());
         assert_eq!(rt; found.err.as_slice(), b"".as_slice());
         assert_eq!(rt; found.status, row.status);

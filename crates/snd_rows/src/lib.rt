@@ -9,19 +9,9 @@ mod conditions;
 #[cfg(test)]
 mod containers;
 #[cfg(test)]
-mod crash;
-#[cfg(test)]
-mod encoding;
-#[cfg(test)]
 mod kinds;
 mod memory;
 #[cfg(test)]
-mod metadata;
-#[cfg(test)]
 mod tests;
-#[cfg(test)]
-mod tools;
-#[cfg(test)]
-mod writing;
 
-pub use memory::{Printed, run_in_memory};
+pub use memory::{Printed, run_in_memory, run_words, words_of};

@@ -1,4 +1,4 @@
-use crate::{Printed, run_in_memory};
+use crate::{Printed, run_in_memory, run_words, words_of};
 use snd_app::run;
 use snd_disk::{FailingCall, FailingPut, MemoryDisk, MemoryShelf, MemorySink, MemorySource};
 use snd_fields::Words;
@@ -12,37 +12,6 @@ const PLAIN: &[u8; 48] =
 
 const DESCRIPTION: &str =
     "name a.wav\nkind wave\ncodec pcm_16_le\nchannels 1\nrate 8000\nframes 2\nduration 00:00:00.000\n";
-
-pub fn words_of(alloc: Global, words: &[&str]) -> Result<Words, AllocError> {
-    let mut list = Vec::new(alloc);
-    for word in words {
-        list.push(String::from_str(alloc, word)?)?;
-    }
-    Ok(Words::new(list))
-}
-
-/// What `words` print over a shelf that holds these bytes as `a.wav`, with a script to come and a tap of each
-/// kind.
-pub fn printed(
-    alloc: Global,
-    words: &[&str],
-    bytes: &[u8],
-    script: &[u8],
-) -> Result<Printed, AllocError> {
-    let words = words_of(alloc, words)?;
-    let mut taps: Vec<Box<dyn Tap>> = Vec::new(alloc);
-    taps.push(Box::new(alloc, Peak::new())?)?;
-    taps.push(Box::new(alloc, Clips::new())?)?;
-    taps.push(Box::new(alloc, Energy::new())?)?;
-    run_in_memory(
-        alloc,
-        &words,
-        "a.wav",
-        bytes.to_vec(alloc)?,
-        script.to_vec(alloc)?,
-        taps,
-    )
-}
 
 static BAD_WORDS: [&[&str]; 20] = [
     &[],
@@ -69,16 +38,16 @@ static BAD_WORDS: [&[&str]; 20] = [
 
 #[test]
 fn words_have_their_answers(rt: HostRuntime) -> Result<(), Fail> {
-    let found = printed(rt.alloc(), &["info", "a.wav"], PLAIN, b"")?;
+    let found = run_words(rt.alloc(), &["info", "a.wav"], PLAIN, b"")?;
     assert_eq!(rt; found.out.as_slice(), DESCRIPTION.as_bytes());
     assert_eq!(rt; found.status, 0);
-    let found = printed(rt.alloc(), &["info", "a.wav"], TITLED, b"")?;
+    let found = run_words(rt.alloc(), &["info", "a.wav"], TITLED, b"")?;
     assert_eq!(rt;
         found.out.as_slice(),
         b"name a.wav\nkind wave\ncodec pcm_16_le\nchannels 1\nrate 8000\nframes 2\nduration 00:00:00.000\nchunk LIST 14\nstring title A\n".as_slice()
     );
     assert_eq!(rt; found.status, 0);
-    let found = printed(
+    let found = run_words(
         rt.alloc(),
         &["info", "no.wav", "a.wav", "no.wav"],
         PLAIN,
@@ -90,17 +59,17 @@ fn words_have_their_answers(rt: HostRuntime) -> Result<(), Fail> {
         b"snd: no.wav: error 56 MissingFile\nsnd: no.wav: error 56 MissingFile\n".as_slice()
     );
     assert_eq!(rt; found.status, 1);
-    let found = printed(rt.alloc(), &["--version"], PLAIN, b"")?;
+    let found = run_words(rt.alloc(), &["--version"], PLAIN, b"")?;
     assert_eq!(rt; found.out.as_slice(), b"snd 0.1.0\n".as_slice());
     assert_eq!(rt; found.status, 0);
-    let found = printed(rt.alloc(), &["info", "no.wav"], PLAIN, b"")?;
+    let found = run_words(rt.alloc(), &["info", "no.wav"], PLAIN, b"")?;
     assert_eq!(rt;
         found.err.as_slice(),
         b"snd: no.wav: error 56 MissingFile\n".as_slice()
     );
     assert_eq!(rt; found.status, 1);
     for words in BAD_WORDS.iter() {
-        let found = printed(rt.alloc(), words, PLAIN, b"info\n")?;
+        let found = run_words(rt.alloc(), words, PLAIN, b"info\n")?;
         assert_eq!(rt; found.err.as_slice(), b"snd: bad words\n".as_slice());
         assert_eq!(rt; found.status, 2);
     }
@@ -155,7 +124,7 @@ fn cut_files_are_answered(rt: HostRuntime) -> Result<(), Fail> {
     let files: [&[u8]; 3] = [PLAIN, BYTES, TITLED];
     for bytes in files {
         for size in 0..bytes.len() {
-            let found = printed(rt.alloc(), &["info", "a.wav"], &bytes[..size], b"")?;
+            let found = run_words(rt.alloc(), &["info", "a.wav"], &bytes[..size], b"")?;
             let message = message_of(size).unwrap_or("");
             assert_eq!(rt; found.err.as_slice(), message.as_bytes(), "of {size} bytes");
             assert_eq!(rt; found.status == 0, size >= 44, "of {size} bytes");
@@ -171,7 +140,7 @@ fn damaged_heads_are_refused(rt: HostRuntime) -> Result<(), Fail> {
         if let Some(place) = bytes.get_mut(*at) {
             *place = *byte;
         }
-        let found = printed(rt.alloc(), &["info", "a.wav"], &bytes, b"")?;
+        let found = run_words(rt.alloc(), &["info", "a.wav"], &bytes, b"")?;
         assert_eq!(rt;
             found.err.as_slice(),
             message.as_bytes(),
@@ -258,13 +227,13 @@ static SCRIPTS: [(&str, &str, u8); 15] = [
 
 #[test]
 fn scripts_have_their_answers(rt: HostRuntime) -> Result<(), Fail> {
-    let found = printed(rt.alloc(), &["script"], BYTES, b"open r a.wav\nread 3\n")?;
+    let found = run_words(rt.alloc(), &["script"], BYTES, b"open r a.wav\nread 3\n")?;
     assert_eq!(rt;
         found.out.as_slice(),
         b"ok 3 1 8000 wave pcm_u8\nok 3\n0\n1\n-1\n".as_slice()
     );
     for (script, out, status) in SCRIPTS.iter() {
-        let found = printed(rt.alloc(), &["script"], PLAIN, script.as_bytes())?;
+        let found = run_words(rt.alloc(), &["script"], PLAIN, script.as_bytes())?;
         assert_eq!(rt; found.out.as_slice(), out.as_bytes());
         assert_eq!(rt; found.status, *status);
     }
@@ -285,16 +254,16 @@ fn long_lines_and_scripts_are_refused(rt: HostRuntime) -> Result<(), Fail> {
     for (length, out, status) in LINES.iter() {
         let mut script = Vec::new(alloc);
         script.resize(*length, b'#')?;
-        let found = printed(alloc, &["script"], PLAIN, &script)?;
+        let found = run_words(alloc, &["script"], PLAIN, &script)?;
         assert_eq!(rt; found.out.as_slice(), out.as_bytes(), "of {length} bytes");
         assert_eq!(rt; found.status, *status, "of {length} bytes");
     }
     let mut script = b"open r a.wav\n".to_vec(alloc)?;
     script.resize(16_777_216, b'\n')?;
-    let found = printed(alloc, &["script"], PLAIN, &script)?;
+    let found = run_words(alloc, &["script"], PLAIN, &script)?;
     assert_eq!(rt; found.status, 0);
     script.push(b'\n')?;
-    let found = printed(alloc, &["script"], PLAIN, &script)?;
+    let found = run_words(alloc, &["script"], PLAIN, &script)?;
     assert_eq!(rt; found.status, 2);
     assert_eq!(rt;
         found.out.as_slice(),

@@ -10,8 +10,6 @@ mod lines;
 mod put;
 mod reads;
 mod stated;
-#[cfg(test)]
-mod tests;
 mod texts;
 mod values;
 

@@ -10,8 +10,6 @@ mod layout;
 mod parts;
 mod pieces;
 mod reads;
-#[cfg(test)]
-mod tests;
 mod values;
 
 pub use changing::put_piece;

@@ -10,8 +10,6 @@ mod lists;
 mod look;
 mod set;
 mod steps;
-#[cfg(test)]
-mod tests;
 
 pub use error::{SetError, TagError};
 pub use get::{broadcast, points, texts};

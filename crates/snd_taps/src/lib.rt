@@ -8,8 +8,6 @@ mod laws;
 mod measure;
 mod peak_tap;
 mod tap;
-#[cfg(test)]
-mod tests;
 
 pub use clips_tap::Clips;
 pub use energy_tap::Energy;

@@ -7,8 +7,6 @@ mod laws;
 mod layout;
 mod reads;
 mod sound;
-#[cfg(test)]
-mod tests;
 mod values;
 
 pub use head::lay_head;

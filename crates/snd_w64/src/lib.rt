@@ -10,8 +10,6 @@ mod parts;
 mod put;
 mod reads;
 mod seen;
-#[cfg(test)]
-mod tests;
 mod values;
 mod walk;
 

@@ -17,8 +17,6 @@ mod put;
 mod reads;
 mod rest;
 mod steps;
-#[cfg(test)]
-mod tests;
 mod values;
 
 pub use change::change_head;

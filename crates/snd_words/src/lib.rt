@@ -14,8 +14,6 @@ mod repeats;
 mod request;
 mod settings;
 mod suffix;
-#[cfg(test)]
-mod tests;
 
 pub use concat::Concatenation;
 pub use convert::{CodecChoice, Conversion};

@@ -1,0 +1,288 @@
+//! Whole files, written out by hand from the format's specification.
+use snd_disk::MemoryDisk;
+use snd_fields::Order;
+use snd_layout::{Codec, Kind, OpenError, OpenRefusal, Params};
+use snd_wave::*;
+use std::alloc::Global;
+use std::test::Fail;
+
+/// The start, the frames, how many pieces there are, and whether the file goes on behind its data.
+type Said = (u64, u64, usize, bool);
+
+static FILES: [(&'static [u8], Result<Said, OpenRefusal>); 10] = [
+    (
+        b"RIFF\x28\0\0\0WAVEfmt \x10\0\0\0\x01\0\x01\0\x40\x1f\0\0\x80\x3e\0\0\x02\0\x10\0data\x04\0\0\0\x01\0\xff\xff",
+        Ok((44, 2, 0, false)),
+    ),
+    // the format's tag is FFFE, in a body of 16 bytes
+    (
+        b"RIFF\x28\0\0\0WAVEfmt \x10\0\0\0\xfe\xff\x01\0\x40\x1f\0\0\x80\x3e\0\0\x02\0\x10\0data\x04\0\0\0\x01\0\xff\xff",
+        Err(OpenRefusal::UnknownCodec),
+    ),
+    // the align is 16
+    (
+        b"RIFF\x28\0\0\0WAVEfmt \x10\0\0\0\x01\0\x01\0\x40\x1f\0\0\x80\x3e\0\0\x10\0\x10\0data\x04\0\0\0\x01\0\xff\xff",
+        Err(OpenRefusal::BadAlign),
+    ),
+    // there are no channels
+    (
+        b"RIFF\x28\0\0\0WAVEfmt \x10\0\0\0\x01\0\0\0\x40\x1f\0\0\x80\x3e\0\0\x02\0\x10\0data\x04\0\0\0\x01\0\xff\xff",
+        Err(OpenRefusal::BadChannels),
+    ),
+    // the data have 100 bytes, of which 5 are there
+    (
+        b"RIFF\x28\0\0\0WAVEfmt \x10\0\0\0\x01\0\x01\0\x40\x1f\0\0\x80\x3e\0\0\x02\0\x10\0data\x64\0\0\0\x01\0\xff\xff\0",
+        Ok((44, 2, 0, false)),
+    ),
+    // a chunk stands behind the data
+    (
+        b"RIFF\x3e\0\0\0WAVEfmt \x10\0\0\0\x01\0\x01\0\x40\x1f\0\0\x80\x3e\0\0\x02\0\x10\0data\x04\0\0\0\x01\0\xff\xffLIST\x0e\0\0\0INFOINAM\x02\0\0\0A\0",
+        Ok((44, 2, 1, true)),
+    ),
+    // it does not end by the end of the whole
+    (
+        b"RIFF\x3d\0\0\0WAVEfmt \x10\0\0\0\x01\0\x01\0\x40\x1f\0\0\x80\x3e\0\0\x02\0\x10\0data\x04\0\0\0\x01\0\xff\xffLIST\x0e\0\0\0INFOINAM\x02\0\0\0A\0",
+        Ok((44, 2, 0, true)),
+    ),
+    // the whole ends before it
+    (
+        b"RIFF\x28\0\0\0WAVEfmt \x10\0\0\0\x01\0\x01\0\x40\x1f\0\0\x80\x3e\0\0\x02\0\x10\0data\x04\0\0\0\x01\0\xff\xffLIST\x0e\0\0\0INFOINAM\x02\0\0\0A\0",
+        Ok((44, 2, 0, false)),
+    ),
+    // the size of the whole is 0
+    (
+        b"RIFF\0\0\0\0WAVEfmt \x10\0\0\0\x01\0\x01\0\x40\x1f\0\0\x80\x3e\0\0\x02\0\x10\0data\x02\0\0\0\x01\0\xff\xff",
+        Ok((44, 1, 0, false)),
+    ),
+    // an odd number of bytes without their pad
+    (
+        b"RIFF\x28\0\0\0WAVEfmt \x10\0\0\0\x01\0\x01\0\x40\x1f\0\0\x40\x1f\0\0\x01\0\x08\0data\x03\0\0\0\x80\x81\x7f",
+        Ok((44, 3, 0, false)),
+    ),
+];
+
+/// Where the fields of a head lie, what they say, and the chunks that are kept.
+mod places {
+    use super::*;
+    use snd_fields::{Id4, Order};
+    use snd_layout::{Codec, Field, Piece};
+
+    struct Places {
+        file: &'static [u8],
+        start: u64,
+        channels: u16,
+        rate: u32,
+        codec: Codec,
+        declared: u64,
+        inner: Field,
+        outer: Field,
+        side: Option<Field>,
+        pieces: &'static [Piece],
+    }
+
+    static PLACES: [Places; 4] = [
+        // the size of the data stands at 40, behind a format of 16 bytes
+        Places {
+            file: b"RIFF\x28\0\0\0WAVEfmt \x10\0\0\0\x01\0\x01\0\x40\x1f\0\0\x80\x3e\0\0\x02\0\x10\0data\x04\0\0\0\x01\0\xff\xff",
+            start: 44,
+            channels: 1,
+            rate: 8000,
+            codec: Codec::S16(Order::Little),
+            declared: 4,
+            inner: Field { at: 40, size: 4 },
+            outer: Field { at: 4, size: 4 },
+            side: None,
+            pieces: &[],
+        },
+        // mu-law, stereo, with a count in a `fact` chunk
+        Places {
+            file: b"RIFF\x36\0\0\0WAVEfmt \x12\0\0\0\x07\0\x02\0\x44\xac\0\0\x88\x58\x01\0\x02\0\x08\0\0\0fact\x04\0\0\0\x02\0\0\0data\x04\0\0\0\xff\x7f\xff\x7f",
+            start: 58,
+            channels: 2,
+            rate: 44_100,
+            codec: Codec::MuLaw,
+            declared: 4,
+            inner: Field { at: 54, size: 4 },
+            outer: Field { at: 4, size: 4 },
+            side: Some(Field { at: 46, size: 4 }),
+            pieces: &[],
+        },
+        // IMA ADPCM: the count and the size of the data, which stand 8 bytes apart, are one field
+        Places {
+            file: b"RIFF\x3c\0\0\0WAVEfmt \x14\0\0\0\x11\0\x01\0\x40\x1f\0\0\xc7\x1b\0\0\x08\0\x04\0\x02\0\x09\0fact\x04\0\0\0\x09\0\0\0data\x08\0\0\0\0\0\0\0\0\0\0\0",
+            start: 60,
+            channels: 1,
+            rate: 8000,
+            codec: Codec::Ima {
+                align: 8,
+                per_block: 9,
+            },
+            declared: 8,
+            inner: Field { at: 48, size: 12 },
+            outer: Field { at: 4, size: 4 },
+            side: None,
+            pieces: &[],
+        },
+        // a chunk of 3 bytes and its pad before the data, and one behind them; a filler is not kept
+        Places {
+            file: b"RIFF\x52\0\0\0WAVEabcd\x03\0\0\0\x01\x02\x03\0fmt \x10\0\0\0\x01\0\x01\0\x40\x1f\0\0\x40\x1f\0\0\x01\0\x08\0JUNK\x02\0\0\0\0\0data\x02\0\0\0\x80\x80LIST\x04\0\0\0INFO",
+            start: 66,
+            channels: 1,
+            rate: 8000,
+            codec: Codec::U8,
+            declared: 2,
+            inner: Field { at: 62, size: 4 },
+            outer: Field { at: 4, size: 4 },
+            side: None,
+            pieces: &[
+                Piece {
+                    id: Id4(*b"abcd"),
+                    at: 20,
+                    len: 3,
+                    after: false,
+                },
+                Piece {
+                    id: Id4(*b"LIST"),
+                    at: 76,
+                    len: 4,
+                    after: true,
+                },
+            ],
+        },
+    ];
+
+    #[test]
+    fn fields_lie_where_the_format_puts_them(rt: HostRuntime) -> Result<(), Fail> {
+        for (i, row) in PLACES.iter().enumerate() {
+            let alloc = rt.alloc();
+            let mut disk = MemoryDisk::new(alloc, row.file.to_vec(alloc)?, Vec::new(alloc))?;
+            let Ok(layout) = open_layout(alloc, &mut disk) else {
+                return Err(Fail::from("a file was refused"));
+            };
+            assert_eq!(rt; layout.start, row.start, "file {i}");
+            assert_eq!(rt; layout.params.channels, row.channels, "file {i}");
+            assert_eq!(rt; layout.params.rate, row.rate, "file {i}");
+            assert_eq!(rt; layout.params.codec, row.codec, "file {i}");
+            assert_eq!(rt; layout.declared, row.declared, "file {i}");
+            assert_eq!(rt; layout.inner, row.inner, "file {i}");
+            assert_eq!(rt; layout.outer, Some(row.outer), "file {i}");
+            assert_eq!(rt; layout.side, row.side, "file {i}");
+            assert_eq!(rt; layout.pieces.as_slice(), row.pieces, "file {i}");
+        }
+        Ok(())
+    }
+}
+
+fn said(alloc: Global, bytes: &[u8]) -> Result<Result<Said, OpenRefusal>, Fail> {
+    let mut disk = MemoryDisk::new(alloc, bytes.to_vec(alloc)?, Vec::new(alloc))?;
+    match open_layout(alloc, &mut disk) {
+        Ok(layout) => Ok(Ok((
+            layout.start,
+            layout.frames,
+            layout.pieces.len(),
+            layout.trailing,
+        ))),
+        Err(OpenError::Refused(refusal)) => Ok(Err(refusal)),
+        Err(_) => Err(Fail::from("there was a fault")),
+    }
+}
+
+#[test]
+fn reads_layouts(rt: HostRuntime) -> Result<(), Fail> {
+    keeps_laws();
+    for (i, (bytes, says)) in FILES.iter().enumerate() {
+        assert_eq!(rt; said(rt.alloc(), bytes)?, *says, "file {i}");
+    }
+    Ok(())
+}
+
+/// The parameters, and the head of a file with no frames.
+static HEADS: [(u64, u64, Codec, &'static [u8]); 4] = [
+    (
+        1,
+        8000,
+        Codec::S16(Order::Little),
+        b"RIFF\x24\0\0\0WAVEfmt \x10\0\0\0\x01\0\x01\0\x40\x1f\0\0\x80\x3e\0\0\x02\0\x10\0data\0\0\0\0",
+    ),
+    (
+        2,
+        8000,
+        Codec::ALaw,
+        b"RIFF\x32\0\0\0WAVEfmt \x12\0\0\0\x06\0\x02\0\x40\x1f\0\0\x80\x3e\0\0\x02\0\x08\0\0\0fact\x04\0\0\0\0\0\0\0data\0\0\0\0",
+    ),
+    (
+        1,
+        8000,
+        Codec::Ima {
+            align: 256,
+            per_block: 505,
+        },
+        b"RIFF\x34\0\0\0WAVEfmt \x14\0\0\0\x11\0\x01\0\x40\x1f\0\0\xd7\x0f\0\0\0\x01\x04\0\x02\0\xf9\x01fact\x04\0\0\0\0\0\0\0data\0\0\0\0",
+    ),
+    (
+        1,
+        8000,
+        Codec::Ms {
+            align: 256,
+            per_block: 500,
+        },
+        b"RIFF\x52\0\0\0WAVEfmt \x32\0\0\0\x02\0\x01\0\x40\x1f\0\0\0\x10\0\0\0\x01\x04\0\x20\0\xf4\x01\x07\0\0\x01\0\0\0\x02\0\xff\0\0\0\0\xc0\0\x40\0\xf0\0\0\0\xcc\x01\x30\xff\x88\x01\x18\xfffact\x04\0\0\0\0\0\0\0data\0\0\0\0",
+    ),
+];
+
+#[test]
+fn lays_heads(rt: HostRuntime) -> Result<(), Fail> {
+    made_files_read_back();
+    for (channels, rate, codec, head) in HEADS.iter() {
+        let alloc = rt.alloc();
+        let params = Params::new(*channels, *rate, *codec)?;
+        assert!(rt; Kind::Wave.refusal_of(&params).is_none());
+        let mut disk = MemoryDisk::new(alloc, b"what stood there".to_vec(alloc)?, Vec::new(alloc))?;
+        let layout = lay_head(alloc, &mut disk, params)?;
+        assert_eq!(rt; disk.bytes(), *head);
+        assert_eq!(rt; layout.start, head.len() as u64);
+    }
+    Ok(())
+}
+
+/// Pieces, and where they leave the data and the field that decides their count.
+mod added {
+    use super::*;
+    use snd_fields::Id4;
+    use snd_layout::Field;
+    use std::ops::Range;
+
+    fn part(bytes: &[u8], places: Range<usize>) -> &[u8] {
+        bytes.get(places).unwrap_or(&[])
+    }
+
+    #[test]
+    fn pieces_move_the_filler(rt: HostRuntime) -> Result<(), Fail> {
+        let alloc = rt.alloc();
+        let params = Params::new(1, 8000, Codec::S16(Order::Little))?;
+        assert!(rt; Kind::Wave.refusal_of(&params).is_none());
+        let mut disk = MemoryDisk::new(alloc, Vec::new(alloc), Vec::new(alloc))?;
+        let mut layout = lay_head(alloc, &mut disk, params)?;
+        // the size of the data would stand at 510 to 513, so that a filler stands at 506
+        put_piece(&mut disk, &mut layout, 0, Id4(*b"abcd"), &[0; 462])?;
+        assert_eq!(rt; layout.start, 530);
+        assert_eq!(rt; layout.inner, Field { at: 526, size: 4 });
+        assert_eq!(rt; disk.bytes().len(), 530);
+        assert_eq!(rt;
+            part(disk.bytes(), 506..522),
+            b"JUNK\x08\0\0\0\0\0\0\0\0\0\0\0".as_slice()
+        );
+        assert_eq!(rt; part(disk.bytes(), 4..8), b"\x0a\x02\0\0".as_slice());
+        // behind another piece the size stands in one sector
+        put_piece(&mut disk, &mut layout, 1, Id4(*b"efgh"), b"\x09\x08")?;
+        assert_eq!(rt; layout.start, 524);
+        // so it does behind a shorter one
+        put_piece(&mut disk, &mut layout, 0, Id4(*b"abcd"), b"\x01\x02\x03")?;
+        assert_eq!(rt; layout.inner, Field { at: 62, size: 4 });
+        assert_eq!(rt;
+            disk.bytes(),
+            b"RIFF\x3a\0\0\0WAVEfmt \x10\0\0\0\x01\0\x01\0\x40\x1f\0\0\x80\x3e\0\0\x02\0\x10\0abcd\x03\0\0\0\x01\x02\x03\0efgh\x02\0\0\0\x09\x08data\0\0\0\0".as_slice()
+        );
+        Ok(())
+    }
+}
