@@ -1,5 +1,6 @@
 pub mod Segments
 pub mod Below
+pub mod Digits
 pub mod Floats
 pub mod Widths
 mod Tables

@@ -1,33 +1,6 @@
-//! What both laws do alike with a magnitude, by steps that the compiler turns into vector code.
+//! What both laws do alike with a magnitude, in a form that the compiler turns into vector code.
 ghost use Rattle.std.specs.Prelude.{◌≡◌, ◌+◌, ◌/◌, ◌^◌, ◌≤◌, ◌<◌};
 ghost use Rattle.snd_g711.specs.Segment.{segment_and_step};
-
-/// A magnitude of the upper four segments four segments down, and the steps of these four; else the
-/// magnitude itself, and 0.
-#[inline]
-fn four_down(magnitude: u32) -> (u32, u32)
-    ensures low { magnitude < 2048 → (result.0 ≡ magnitude) × (result.1 ≡ 0) }
-    ensures high { 2048 ≤ magnitude → (result.0 ≡ magnitude / 16) × (result.1 ≡ 64) }
-{
-    if magnitude < 2048 {
-        (magnitude, 0)
-    } else {
-        (magnitude / 16, 64)
-    }
-}
-
-/// The same, two segments down, for a magnitude of the lower four.
-#[inline]
-fn two_down(magnitude: u32) -> (u32, u32)
-    ensures low { magnitude < 512 → (result.0 ≡ magnitude) × (result.1 ≡ 0) }
-    ensures high { 512 ≤ magnitude → (result.0 ≡ magnitude / 4) × (result.1 ≡ 32) }
-{
-    if magnitude < 512 {
-        (magnitude, 0)
-    } else {
-        (magnitude / 4, 32)
-    }
-}
 
 /// How many steps lie below a magnitude, the sixteen steps of 8 below 128 included.
 #[inline]
@@ -37,7 +10,8 @@ pub fn steps_below(magnitude: u32) -> u32
     ensures high { 128 ≤ magnitude → result ≡ 16 + segment_and_step magnitude }
     ensures bound { result < 144 }
 {
-    let (lower, passed) = four_down(magnitude);
-    let (lowest, passed_too) = two_down(lower);
-    passed + passed_too + (lowest / 8).min(lowest / 16 + 16)
+    // From 128 on the exponent of a float and the first digits of its fraction are the segment and the step.
+    // Below, they say less than the count of steps of 8, which is cut to 16 above.
+    let digits = (magnitude as i32 as f32).to_bits() >> 19;
+    digits.max((magnitude / 8).min(16) + 2128) - 2128
 }
