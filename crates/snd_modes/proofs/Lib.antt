@@ -4,6 +4,7 @@ pub mod BareHeads
 pub mod BlockBytes
 pub mod Blanks
 pub mod BlocksUnderWay
+pub mod BytesRead
 pub mod CarriedOut
 pub mod Closed
 pub mod CutFrames
@@ -18,6 +19,7 @@ pub mod EncodedRest
 pub mod EncodedSafe
 pub mod EncodedState
 pub mod FileRules
+pub mod GivenBytes
 pub mod Giving
 pub mod FixedFrames
 pub mod FramesPut

@@ -9,7 +9,7 @@ use Rattle.snd_container.specs.Values.{closed_end, inner_value, outer_reach, out
 use Rattle.snd_fields.specs.Laws.{IsByte}
 use Rattle.snd_layout.specs.Blocks.{is_adpcm}
 use Rattle.snd_layout.specs.Params.{data_bytes}
-use Rattle.snd_layout.specs.Shape.{KeepsRule, Shape, end, room}
+use Rattle.snd_layout.specs.Shape.{KeepsRule, Shape, end}
 use Rattle.snd_patch.proofs.Images.{shrinks_from_to}
 use Rattle.snd_patch.proofs.Lists.{order_is_free}
 use Rattle.snd_patch.specs.Images.{AllLieApart, HasNew, IsShrinking}

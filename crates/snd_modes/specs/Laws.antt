@@ -8,7 +8,7 @@ use Rattle.snd_blocks.specs.Sound.{frames_in, sound_of}
 use Rattle.snd_container.specs.Sound.{Sound, layout_of, fixed_of}
 use Rattle.snd_fields.specs.Laws.{IsByte}
 use Rattle.snd_layout.specs.Params.{AreParams, Parameters}
-use Rattle.snd_layout.specs.Shape.{KeepsRule, Shape, end, room}
+use Rattle.snd_layout.specs.Shape.{KeepsRule, Shape, end}
 use Rattle.snd_layout.specs.declared.kind.Kind.{Kind}
 use Rattle.snd_layout.specs.declared.kind.Kind.TheVariants.{Voc}
 use Rattle.snd_layout.specs.Blocks.{is_adpcm}

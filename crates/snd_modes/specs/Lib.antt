@@ -1,4 +1,5 @@
 pub mod Blocks
+pub mod Bytes
 pub mod Caching
 pub mod Calls
 pub mod Chunks
@@ -6,6 +7,7 @@ pub mod Closing
 pub mod Editing
 pub mod Encoding
 pub mod Edits
+pub mod Given
 pub mod Handle
 pub mod Heads
 pub mod Laws

@@ -3,9 +3,11 @@
 ghost use Rattle.std.specs.Prelude.{◌≡◌, true, false, IfOk, OnOk, length};
 ghost use Rattle.snd_disk.specs.Device.{AsksAtMost, GoesOnFrom, IsStable, OnlyReadsOn, WritesAtMost};
 ghost use Rattle.snd_blocks.specs.Frames.{has_bad};
+ghost use Rattle.snd_layout.specs.Blocks.{is_adpcm};
 ghost use Rattle.snd_layout.specs.Params.{data_bytes};
 ghost use Rattle.snd_layout.specs.Shape.{KeepsRule};
 ghost use Rattle.snd_patch.specs.Steps.{KeepsBeside, StillTells};
+ghost use Rattle.snd_modes.specs.Bytes.{AreWhole, bytes_behind, numbers_of};
 ghost use Rattle.snd_modes.specs.Calls.{AsksForFrames, CheckLeaves, CountsReading, ReadLeaves, SeekLeaves, count_read};
 ghost use Rattle.snd_modes.specs.Chunks.{GivesChunksBack};
 ghost use Rattle.snd_modes.specs.Closing.{ClosesFile, IsCloseCause, most_closed};
@@ -17,7 +19,7 @@ ghost use Rattle.snd_modes.specs.Rest.{ClosesSafely};
 
 use crate::encoding::seal_writer;
 use crate::error::{DiskFault, ReadError, SeekError};
-use crate::frames::{channels_of, check_any, frames_ahead, read_any};
+use crate::frames::{align_of, channels_of, check_any, frames_ahead, read_any, read_raw};
 use crate::handle::File;
 use crate::mode::{CanRead, Mode};
 use snd_blocks::BlockError;
@@ -156,6 +158,42 @@ impl<'d, D: Disk, M: CanRead> File<'d, D, M> {
             }
             Err(BlockError::BadBlock) => Err(ReadError::BadBlock),
             Err(BlockError::DiskFault(step)) => {
+                self.broken = Some(step);
+                Err(ReadError::DiskFault(step))
+            }
+        }
+    }
+
+    /// Reads frames as `read_frames` does, as the bytes of their samples, where each sample of the codec has
+    /// bytes of its own. The slice has places for whole frames, and is full but for the end of the file: what
+    /// stands behind the frames that were read stays.
+    ///
+    /// `Broken` where a call of the disk failed before, which leaves all as it was. `DiskFault` where a call of
+    /// the disk failed now: the place stays, and from then on the file is broken. There is no other error.
+    pub fn read_bytes(&mut self, into: &mut [u8]) -> Result<usize, ReadError>
+        requires fixed { is_adpcm (codec_of self.old) ≡ false }
+        requires whole { AreWhole (known_of self.old).shape.params (length into.old) }
+        ensures loan { loan_of self.new ≡ loan_of self.old }
+        ensures left { ReadLeaves (length (numbers_of self.old into.old)) (known_of self.old) (known_of self.new) result }
+        ensures read { IfOkStanding D.state self.old result (GivesFrames (channels_of self.old) (numbers_of self.old into.new)) }
+        ensures rest { IfOk result (λ k. bytes_behind self.old k into.new ≡ bytes_behind self.old k into.old) }
+        ensures stands { StandsAfter D.state self.old self.new (state_read result) }
+        ensures faults { CountsReading D.state (disk_of self.old) (disk_of self.new) result }
+        ensures reads { OnlyReadsOn D.state D.may_leave D.left_between (disk_of self.old) (disk_of self.new) }
+        ensures asked { AsksForFrames D.state (length (numbers_of self.old into.old)) self.old self.new }
+    {
+        if let Some(step) = self.broken {
+            return Err(ReadError::Broken(step));
+        }
+        let align = align_of(&self.layout);
+        let count = frames_ahead(&self.layout, self.read_place, into.len() / align);
+        let wanted = &mut into[..count * align];
+        match read_raw(self.disk, &self.layout, self.read_place, count, wanted) {
+            Ok(()) => {
+                self.read_place += count as u64;
+                Ok(count)
+            }
+            Err(step) => {
                 self.broken = Some(step);
                 Err(ReadError::DiskFault(step))
             }

@@ -8,10 +8,11 @@ ghost use Rattle.snd_blocks.specs.Frames.{has_bad};
 ghost use Rattle.snd_blocks.specs.Sound.{frames_in};
 ghost use Rattle.snd_disk.specs.Device.{AsksAtMost, CountsOn, IfOkTold, OnlyReadsOn, Tells};
 ghost use Rattle.snd_container.specs.Fixed.{byte_count};
-ghost use Rattle.snd_layout.specs.Blocks.{is_adpcm};
+ghost use Rattle.snd_layout.specs.Blocks.{block_align, is_adpcm};
 ghost use Rattle.snd_layout.specs.Shape.{KeepsRule, end};
 ghost use Rattle.snd_layout.specs.Params.{AreParams, data_bytes};
 ghost use Rattle.snd_container.specs.Sound.{fixed_of};
+ghost use Rattle.snd_modes.specs.Bytes.{numbers_in};
 ghost use Rattle.snd_modes.specs.Caching.{CachesIn};
 ghost use Rattle.snd_modes.specs.Reading.{FitCodec, HasFrames, bytes_of_frames, bytes_to_read};
 
@@ -20,7 +21,7 @@ use crate::reads::read_run;
 use crate::writes::BLOCK_BYTES;
 use snd_blocks::{BlockCache, BlockError, check_blocks, read_cached};
 use snd_container::Fixed;
-use snd_disk::{Disk, Step};
+use snd_disk::{Disk, Step, fill};
 use snd_layout::Layout;
 
 // What holds of every layout, and of its parameters.
@@ -39,6 +40,17 @@ pub(crate) fn channels_of(layout: &Layout) -> usize
 {
     layout.params.are_good();
     usize::from(layout.params.channels)
+}
+
+// The bytes of a frame, where each sample has bytes of its own.
+pub(crate) fn align_of(layout: &Layout) -> usize
+    requires { is_adpcm layout.now.params.codec ≡ false }
+    ensures value { result ≡ block_align layout.now.params.channels layout.now.params.codec }
+    ensures params { AreParams layout.now.params }
+    ensures some { 1 ≤ result }
+{
+    layout.params.are_good();
+    usize::from(layout.params.block_align())
 }
 
 // How many of the wanted frames there are from a place on.
@@ -83,6 +95,30 @@ pub(crate) fn read_from<D: Disk>(
         unreachable!()
     };
     read_run(disk, form, place_of(layout, form, place), into, block)?;
+    Ok(())
+}
+
+// Reads the bytes of frames that the layout counts, from a place on, as they stand on the disk.
+pub(crate) fn read_raw<D: Disk>(
+    disk: &mut D,
+    layout: &Layout,
+    place: u64,
+    count: usize,
+    into: &mut [u8],
+) -> Result<(), Step>
+    requires linear { is_none (fixed_of layout.now.params.codec) ≡ false }
+    requires held { end layout.now layout.now.frames ≤ (D.state disk.old).size }
+    requires within { place + count ≤ layout.now.frames }
+    requires room { length into.old ≡ bytes_of_frames layout.now.params count }
+    ensures told { IfOkTold D.state disk.old result (λ b _. HasFrames b layout.now place count (numbers_in layout.now.params.codec into.new)) }
+    ensures faults { CountsOn D.state disk.old disk.new result }
+    ensures reads { OnlyReadsOn D.state D.may_leave D.left_between disk.old disk.new }
+    ensures asked { AsksAtMost D.state (bytes_of_frames layout.now.params count) disk.old disk.new }
+{
+    let Some(form) = form_of(layout) else {
+        unreachable!()
+    };
+    fill(disk, place_of(layout, form, place), into)?;
     Ok(())
 }
 

@@ -1,17 +1,19 @@
 //! Which frames may be written.
 
-ghost use Rattle.std.specs.Prelude.{◌≡◌, ◌+◌, ◌/◌, ◌<◌, ◌≤◌, ◌↔◌, false, IfErr, IfOk, IsTrue, OnOk, is_none, length};
+ghost use Rattle.std.specs.Prelude.{◌^◌, ◌≡◌, ◌+◌, ◌/◌, ◌<◌, ◌≤◌, ◌↔◌, false, IfErr, IfOk, IsTrue, OnOk, is_none, length};
 ghost use Rattle.snd_layout.specs.Params.{data_bytes};
 ghost use Rattle.snd_layout.specs.Shape.{KeepsRule, room as shape_room};
 ghost use Rattle.snd_container.specs.Sound.{fixed_of};
 ghost use Rattle.snd_modes.specs.Reading.{FitCodec};
 ghost use Rattle.snd_modes.specs.WriteCalls.{IsGrowthRefusal, IsWriteRefusal, MayWrite, is_whole_field};
+ghost use Rattle.snd_modes.specs.Given.{HoldsGiven, MayBeGiven, given};
 ghost use Rattle.snd_modes.specs.Writing.{HoldsCoded};
 
 use crate::codec::form_of;
 use crate::coding::put_in_range;
 use crate::error::WriteError;
 use crate::frames::channels_of;
+use crate::given::Given;
 use snd_container::room;
 use snd_layout::{Layout, one_sector};
 
@@ -26,6 +28,35 @@ fn fits_codec(layout: &Layout, from: &[i32], block: &mut [u8]) -> bool
         unreachable!()
     };
     put_in_range(form, from, block)
+}
+
+// .. of what is given. Those of samples are.
+fn fits_given(layout: &Layout, from: Given<'_>, block: &mut [u8]) -> bool
+    requires linear { is_none (fixed_of layout.now.params.codec) ≡ false }
+    requires given { MayBeGiven layout.now from }
+    ensures fit { IsTrue result ↔ FitCodec layout.now.params.codec (given layout.now from.entry) }
+    ensures coded { IsTrue result → HoldsGiven layout.now from.entry block.new }
+{
+    match from {
+        Given::Numbers(numbers) => fits_codec(layout, numbers, block),
+        Given::Bytes(_) => true,
+    }
+}
+
+// How many numbers are given.
+fn count_given(layout: &Layout, from: Given<'_>) -> usize
+    requires linear { is_none (fixed_of layout.now.params.codec) ≡ false }
+    requires given { MayBeGiven layout.now from }
+    ensures value { result ≡ length (given layout.now from.entry) }
+    ensures few { result < 2 ^ 63 }
+{
+    let Some(form) = form_of(layout) else {
+        unreachable!()
+    };
+    match from {
+        Given::Numbers(numbers) => numbers.len(),
+        Given::Bytes(bytes) => bytes.len() / form.bytes(),
+    }
 }
 
 // Whether the head has room for the data of so many frames.
@@ -56,32 +87,34 @@ fn may_grow(layout: &Layout, to: u64) -> Result<(), WriteError>
     Ok(())
 }
 
-// The frame behind those that the numbers are, where these may be written from a frame on, which is at
-// most the end. The samples that are made early then stand at the front of the block.
+// The frame behind those that are given, where these may be written from a frame on, which is at most the
+// end. The samples that are made early then stand at the front of the block.
 pub(crate) fn end_of_write(
     layout: &Layout,
     place: u64,
-    from: &[i32],
+    from: Given<'_>,
     block: &mut [u8],
 ) -> Result<u64, WriteError>
     requires linear { is_none (fixed_of layout.now.params.codec) ≡ false }
+    requires given { MayBeGiven layout.now from }
     requires placed { place ≤ layout.now.frames }
-    ensures value { IfOk result (λ end. end ≡ place + length from.now / layout.now.params.channels) }
+    ensures value { IfOk result (λ end. end ≡ place + length (given layout.now from.entry) / layout.now.params.channels) }
     ensures some { 1 ≤ layout.now.params.channels }
     ensures rule { KeepsRule layout.now }
-    ensures ready { OnOk result (MayWrite from.now layout.now place) }
-    ensures coded { OnOk result (HoldsCoded layout.now.params.codec from.now block.new) }
-    ensures refused { IfErr result (IsWriteRefusal from.now layout.now place) }
+    ensures ready { OnOk result (MayWrite (given layout.now from.entry) layout.now place) }
+    ensures coded { OnOk result (HoldsGiven layout.now from.entry block.new) }
+    ensures refused { IfErr result (IsWriteRefusal (given layout.now from.entry) layout.now place) }
 {
     layout.keeps_rule();
     let channels = channels_of(layout);
-    if !from.len().is_multiple_of(channels) {
+    let numbers = count_given(layout, from);
+    if !numbers.is_multiple_of(channels) {
         return Err(WriteError::PartFrame);
     }
-    if !fits_codec(layout, from, block) {
+    if !fits_given(layout, from, block) {
         return Err(WriteError::SampleRange);
     }
-    let count = (from.len() / channels) as u64;
+    let count = (numbers / channels) as u64;
     let end = place + count;
     if end > layout.frames {
         may_grow(layout, end)?;

@@ -11,6 +11,7 @@ mod encoding;
 mod error;
 mod file;
 mod frames;
+mod given;
 mod growth;
 mod handle;
 pub mod laws;

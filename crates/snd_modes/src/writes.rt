@@ -27,6 +27,22 @@ fn write_bytes<D: Disk>(disk: &mut D, at: u64, bytes: &[u8]) -> Result<(), Step>
     }
 }
 
+// Writes bytes that are samples at a place, which is at most the disk's end.
+pub(crate) fn write_whole<D: Disk>(disk: &mut D, at: u64, bytes: &[u8]) -> Result<(), Step>
+    requires there { at ≤ (D.state disk.old).size }
+    requires fits { at + length bytes.now < 2 ^ 63 }
+    ensures done { OnOk result (IsWritten at bytes.now (D.state disk.old) (D.state disk.new)) }
+    ensures puts { PutsAt D.state D.left_between at (length bytes.now) disk.old disk.new }
+    ensures partly { LeavesPartly D.Disk at bytes.now disk.old disk.new }
+    ensures faults { CountsOn D.state disk.old disk.new result }
+{
+    // for no samples the disk is not called
+    if bytes.is_empty() {
+        return Ok(());
+    }
+    write_bytes(disk, at, bytes)
+}
+
 // Writes samples at a place, at most one block, in which their bytes are made.
 fn write_block<D: Disk>(
     disk: &mut D,

@@ -4,6 +4,7 @@ use Rattle.std.proofs.lemmas.Bool.{ltb-false, or_parts}
 use Rattle.std.proofs.lemmas.List.{nil_from_length}
 use Rattle.snd_layout.specs.Shape.{Shape, end, room}
 use Rattle.snd_modes.specs.Edits.{coded, count_written, written_bytes, written_shape, written_to}
+use Rattle.snd_modes.specs.Given.{given}
 use Rattle.snd_modes.specs.Pacing.{HasPlaceFor}
 use Rattle.snd_container.specs.Sound.{fixed_of}
 use Rattle.snd_layout.specs.Blocks.{is_adpcm}
@@ -15,7 +16,7 @@ use Rattle.snd_modes.proofs.AtRest.{stays_refused_as, still_safe, written_at_res
 use Rattle.snd_modes.proofs.BareHeads.{written_head}
 use Rattle.snd_modes.proofs.EditedFrames.{CanPut, coded_size, known_is, still_closed, whole_frames, written_count, written_sound}
 use Rattle.snd_modes.proofs.KeptChunks.{stay_written}
-use Rattle.snd_modes.proofs.handle.File.write_frames.Goals as goal
+use Rattle.snd_modes.proofs.handle.File.write_given.Goals as goal
 
 pub invariant_of-self-in-Ok-clause-closed : goal.invariant_of-self-in-Ok-clause-closed
 invariant_of-self-in-Ok-clause-closed g c = λ auto working free.
@@ -24,7 +25,7 @@ invariant_of-self-in-Ok-clause-closed g c = λ auto working free.
 
 pub returns-in-Ok-clause-stands : goal.returns-in-Ok-clause-stands
 returns-in-Ok-clause-stands g c = λ e stands.
-    let xs = c.args.from.now in
+    let xs = (given c.args.self.now.layout c.args.from) in
     let h = c.args.self.now.layout in
     let place = c.args.self.now.write_place in
     let auto = c.args.self.now.automatic in
@@ -77,16 +78,16 @@ returns-in-Ok-clause-stands g c = λ e stands.
 pub returns-in-Ok-clause-left : goal.returns-in-Ok-clause-left
 returns-in-Ok-clause-left g c =
     let working : c.args.self.now.broken ≡ None = search rules in
-    (working, c.in_ok-next.ensures.ready, known_is c.args.from.now (known_of c.args.self.now) c.write_over.new.layout c.in_ok-next.next c.in_ok-next.ensures.value c.in-Ok.ensures.layout)
+    (working, c.in_ok-next.ensures.ready, known_is (given c.args.self.now.layout c.args.from) (known_of c.args.self.now) c.write_over.new.layout c.in_ok-next.next c.in_ok-next.ensures.value c.in-Ok.ensures.layout)
 
 pub returns-in-Ok-clause-leaves : goal.returns-in-Ok-clause-leaves
 returns-in-Ok-clause-leaves g c = λ auto opened e rest.
-    written_leaves g.D.Disk c.args.self.now g.met.M.CanWrite.by_place opened e c.args.from.now rest auto c.in_ok-next.ensures.ready
+    written_leaves g.D.Disk c.args.self.now g.met.M.CanWrite.by_place opened e (given c.args.self.now.layout c.args.from) rest auto c.in_ok-next.ensures.ready
     (c.in_ok-next.next - c.args.self.now.write_place) c.write_over.new.disk (omega (arith, c.in_ok-next.ensures.value)) c.write_over.ensures.leaves
 
 pub returns-in-Err-clause-leaves : goal.returns-in-Err-clause-leaves
 returns-in-Err-clause-leaves g c = λ auto opened e rest.
-    written_leaves g.D.Disk c.args.self.now g.met.M.CanWrite.by_place opened e c.args.from.now rest auto c.in_ok-next.ensures.ready
+    written_leaves g.D.Disk c.args.self.now g.met.M.CanWrite.by_place opened e (given c.args.self.now.layout c.args.from) rest auto c.in_ok-next.ensures.ready
     (c.in_ok-next.next - c.args.self.now.write_place) c.write_over.new.disk (omega (arith, c.in_ok-next.ensures.value)) c.write_over.ensures.leaves
 
 pub returns-in-Some-clause-leaves : goal.returns-in-Some-clause-leaves
@@ -97,14 +98,14 @@ returns-in_err-next-clause-leaves g c = λ auto opened e rest. still_safe g.D.Di
 
 pub returns-in-Ok-clause-rests : goal.returns-in-Ok-clause-rests
 returns-in-Ok-clause-rests g c = λ auto opened e rest.
-    written_at_rest g.D.Disk c.args.self.now g.met.M.CanWrite.by_place opened e c.args.from.now rest auto c.in_ok-next.ensures.ready _ (returns-in-Ok-clause-stands g c e rest.stands) (c.in-Ok.ensures.stable auto)
+    written_at_rest g.D.Disk c.args.self.now g.met.M.CanWrite.by_place opened e (given c.args.self.now.layout c.args.from) rest auto c.in_ok-next.ensures.ready _ (returns-in-Ok-clause-stands g c e rest.stands) (c.in-Ok.ensures.stable auto)
 
 pub invariant_of-self-in-Ok-clause-headed : goal.invariant_of-self-in-Ok-clause-headed
 invariant_of-self-in-Ok-clause-headed g c = λ makes empty working.
     let state = g.D.Disk.state in
     let file = c.args.self.now in
     let h = file.layout in
-    let xs = c.args.from.now in
+    let xs = (given c.args.self.now.layout c.args.from) in
     let before : file.broken ≡ None = search rules in
     let count = c.in_ok-next.next - file.write_place in
     let unwritten = or_parts file.written (nat_lt 0 count) empty in
@@ -117,11 +118,11 @@ invariant_of-self-in-Ok-clause-headed g c = λ makes empty working.
     c.in-Ok.ensures.layout c.in-Ok.ensures.grows c.in-Ok.ensures.contents
 
 pub returns-in-Ok-clause-chunks : goal.returns-in-Ok-clause-chunks
-returns-in-Ok-clause-chunks g c = stay_written g.D.Disk c.args.self.now _ c.args.from.now c.in_ok-next.ensures.ready (returns-in-Ok-clause-stands g c)
+returns-in-Ok-clause-chunks g c = stay_written g.D.Disk c.args.self.now _ (given c.args.self.now.layout c.args.from) c.in_ok-next.ensures.ready (returns-in-Ok-clause-stands g c)
 
 pub returns-in_err-next-clause-rests : goal.returns-in_err-next-clause-rests
 returns-in_err-next-clause-rests g c = λ auto.
-    stays_refused_as g.D.Disk c.args.self.now _ (written_to c.args.from.now) c.args.from.now c.args.self.now.layout c.args.self.now.write_place c.in_err-next.field-0.0 c.in_err-next.ensures.refused (λ opened e rest.
+    stays_refused_as g.D.Disk c.args.self.now _ (written_to (given c.args.self.now.layout c.args.from)) (given c.args.self.now.layout c.args.from) c.args.self.now.layout c.args.self.now.write_place c.in_err-next.field-0.0 c.in_err-next.ensures.refused (λ opened e rest.
     record { state = rest.state; stands = stands_again g.D.Disk.state c.args.self.now _ e refl refl refl rest.stands; stable = rest.stable; fit = rest.fit; sized = rest.sized }) c.from_residual.result (search rules)
 
 pub invariant_of-self-in-Err : goal.invariant_of-self-in-Err

@@ -1,0 +1,36 @@
+-- What is given to be written over the data: the numbers of frames, or the bytes of their samples.
+use Rattle.std.specs.Prelude.{◌≡◌, ℕ, ℤ, true, List, All, length}
+use Rattle.snd_disk.specs.declared.disk.Disk.{Ghosts}
+use Rattle.snd_fields.specs.Laws.{IsByte}
+use Rattle.snd_layout.specs.Shape.{Shape}
+use Rattle.snd_modes.specs.declared.given.Given.{Given}
+use Rattle.snd_modes.specs.declared.given.Given.TheVariants.{Numbers, Bytes}
+use Rattle.snd_modes.specs.declared.handle.File.{File}
+use Rattle.snd_modes.specs.declared.mode.Mode.{Ghosts as ModeGhosts}
+use Rattle.snd_modes.specs.Handle.{known_of}
+use Rattle.snd_modes.specs.Bytes.{AreWhole, is_linear, numbers_in}
+use Rattle.snd_modes.specs.Edits.{coded}
+use Rattle.snd_modes.specs.Writing.{HoldsCoded}
+
+-- the numbers of either
+abbrev pub given : Shape → Given → List ℤ
+given h (Numbers xs) = xs.now
+given h (Bytes bytes) = numbers_in h.params.codec bytes.now
+
+-- and their bytes
+abbrev pub coded_given : Shape → Given → List ℕ
+coded_given h from = coded h.params (given h from)
+
+-- bytes are given of whole frames of linear samples alone
+abbrev pub MayBeGiven : Shape → Given → Type 0
+MayBeGiven h (Numbers xs) = Unit {0}
+MayBeGiven h (Bytes bytes) = (is_linear h.params.codec ≡ true) × AreWhole h.params (length bytes.now) × All IsByte bytes.now
+
+-- where samples are made early of numbers, they stand at the front of a block
+abbrev pub HoldsGiven : Shape → Given → List ℕ → Type 0
+HoldsGiven h (Numbers xs) block = HoldsCoded h.params.codec xs.now block
+HoldsGiven h (Bytes bytes) block = Unit {0}
+
+-- to a file
+abbrev pub given_to : {D M : Type 0} {ghosts : Ghosts D} {mode : ModeGhosts M} → File D M ghosts mode → Given → List ℤ
+given_to file from = given (known_of file).shape from
