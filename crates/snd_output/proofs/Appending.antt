@@ -80,7 +80,7 @@ count_fits from places k some whole is =
     left_of : (q l : ℕ) → k ≡ min q l → k ≤ l
     left_of q l e = omega (arith, e)
 
-length_changed : (old new : Codec) (xs ys : List ℤ) (m : ℕ) → ys ≡ change_numbers old new (take m xs) → m ≤ length xs → length ys ≡ m
+pub length_changed : (old new : Codec) (xs ys : List ℤ) (m : ℕ) → ys ≡ change_numbers old new (take m xs) → m ≤ length xs → length ys ≡ m
 length_changed old new xs ys m is fits = ap length is ∙ length-map (take m xs) (changed (width_of old) (width_of new)) ∙ length-take-le m xs fits
 
 module _ (from to : Known) (k m : ℕ) (block ys : List ℤ) (old new : Codec) (may : MayAppend from to) (whole_block : length block % from.shape.params.channels ≡ 0) (is : k ≡ count_read (length block) from)
@@ -388,6 +388,16 @@ asked_all p each n j left count old new within asked =
   where
     most_by : (x z : ℕ) → x ≤ z → AtMost old x new → AtMost old z new
     most_by x z le was = record { later = was.later; most = omega (arith, le, was.most) }
+
+-- which does not hang on the calls where there are no blocks
+pub asked_each : (p : Parameters) (each other n : ℕ) → (is_adpcm p.codec ≡ true → each ≡ other) → bytes_by_calls p each n ≡ bytes_by_calls p other n
+asked_each p each other n same = go (is_adpcm p.codec) refl
+  where
+    go : (b : Bool) → is_adpcm p.codec ≡ b → bytes_by_calls p each n ≡ bytes_by_calls p other n
+    go true is = ap (λ (m : ℕ). bytes_by_calls p m n) (same is)
+    go false is =
+        let plain : Bool → ℕ → ℕ = λ b m. cond b ((n / block_frames p.codec + 2 * (n / m + 2)) * block_align p.channels p.codec) (n * block_align p.channels p.codec) in
+        ap (λ (b : Bool). plain b each) is ∙ sym (ap (λ (b : Bool). plain b other) is)
 
 -- how many frames a block has places for, whose places are for whole ones
 pub each_whole : (n c : ℕ) → 1 ≤ c → (n - n % c) / c ≡ n / c

@@ -12,4 +12,5 @@ pub mod Lists
 pub mod MadeBlocks
 pub mod MadeSounds
 pub mod Numbers
+pub mod Passing
 pub mod Ranges

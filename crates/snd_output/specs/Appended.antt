@@ -3,18 +3,21 @@ use Rattle.std.specs.Prelude.{◌≡◌, ◌⊎◌, ℕ, ◌+◌, ◌-◌, ◌*�
 use Rattle.snd_blocks.specs.Frames.{has_bad}
 use Rattle.snd_chunks.specs.Written.{NewChunk}
 use Rattle.snd_disk.specs.declared.disk.Disk.{Ghosts}
-use Rattle.snd_disk.specs.Device.{AsksAtMost}
+use Rattle.snd_disk.specs.Device.{AsksAtMost, OnlyReadsOn}
 use Rattle.snd_disk.specs.State.{Rises, State}
 use Rattle.snd_layout.specs.Blocks.{block_align, block_frames, is_adpcm}
 use Rattle.snd_layout.specs.Params.{Parameters, data_bytes}
 use Rattle.snd_layout.specs.Shape.{room}
+use Rattle.snd_layout.specs.declared.codec.Codec.{Codec}
 use Rattle.snd_layout.specs.declared.kind.Kind.{Kind}
 use Rattle.snd_layout.specs.declared.kind.Kind.TheVariants.{Wave}
 use Rattle.snd_modes.specs.declared.handle.File.{File}
 use Rattle.snd_modes.specs.declared.mode.Mode.{Ghosts as ModeGhosts}
-use Rattle.snd_modes.specs.Editing.{Editing}
-use Rattle.snd_modes.specs.Handle.{Known, Stands, codec_of, disk_of, known_of}
-use Rattle.snd_modes.specs.Reading.{FitCodec, bytes_of_frames}
+use Rattle.snd_modes.specs.Bytes.{AreWhole, is_linear, numbers_in, numbers_of}
+use Rattle.snd_modes.specs.Calls.{count_read}
+use Rattle.snd_modes.specs.Editing.{Editing, frames_read}
+use Rattle.snd_modes.specs.Handle.{Known, Stands, channels_of, codec_of, disk_of, known_of}
+use Rattle.snd_modes.specs.Reading.{FitCodec, GivesFrames, bytes_of_frames}
 use Rattle.snd_output.specs.declared.stop.Stop.{Stop}
 use Rattle.snd_output.specs.declared.stop.Stop.TheVariants.{Changed, Fault, Memory}
 use Rattle.snd_output.specs.Ends.{IfChanged}
@@ -62,6 +65,13 @@ pub record MayGive (xs : List ℤ) (k : Known) : Type 0 where
   pub whole : length xs % k.shape.params.channels ≡ 0
   pub in_range : FitCodec k.shape.params.codec xs
   pub roomy : HasRoom (length xs / k.shape.params.channels) k
+
+-- Bytes may: whole frames of linear samples, whatever they stand for. In ADPCM bytes alone stand for no numbers, and none are given.
+pub record MayPass (bytes : List ℕ) (k : Known) : Type 0 where
+  pub at_end : IsAtEnd k
+  pub linear : is_adpcm k.shape.params.codec ≡ false → is_linear k.shape.params.codec ≡ true
+  pub whole : AreWhole k.shape.params (length bytes)
+  pub roomy : HasRoom (length (numbers_in k.shape.params.codec bytes) / k.shape.params.channels) k
 
 -- and they were; or a call of the disk failed, and the file is broken
 abbrev pub GiveLeaves : {T : Type 0} → ℕ → Known → Known → Result T Stop → Type 0
@@ -121,6 +131,58 @@ AsksForLeft state places old new =
     let known = known_of old in
     let p = known.shape.params in
     AsksAtMost state (bytes_by_calls p (places / p.channels) (left_in known)) (disk_of old) (disk_of new)
+
+-- ---- the same of two files
+
+-- a file that is made, and one that is read into it, are left so
+abbrev pub LeavesFile : {E N T : Type 0} {t : Ghosts E} {n : ModeGhosts N} → ℕ → File E N t n → File E N t n → Result T Stop → Type 0
+LeavesFile count old new result = GiveLeaves count (known_of old) (known_of new) result
+
+abbrev pub LeavesFiles : {D E M N T : Type 0} {d : Ghosts D} {m : ModeGhosts M} {t : Ghosts E} {n : ModeGhosts N} → ℕ → File D M d m → File D M d m → File E N t n → File E N t n → Result T Stop → Type 0
+LeavesFiles count from from' to to' result = AppendLeaves count (known_of from) (known_of from') (known_of to) (known_of to') result
+
+-- the faults of their disks are counted so
+abbrev pub CountsFile : {E N T : Type 0} {t : Ghosts E} {n : ModeGhosts N} → (E → State) → File E N t n → File E N t n → Result T Stop → Type 0
+CountsFile state old new result = CountsFault (state (disk_of old)).faults (state (disk_of new)).faults result
+
+abbrev pub CountsReadOf : {D M T : Type 0} {d : Ghosts D} {m : ModeGhosts M} → (D → State) → File D M d m → File D M d m → Result T Stop → Type 0
+CountsReadOf state old new result = CountsRead (state (disk_of old)).faults (state (disk_of new)).faults result
+
+abbrev pub CountsFiles : {D E M N T : Type 0} {d : Ghosts D} {m : ModeGhosts M} {t : Ghosts E} {n : ModeGhosts N}
+    → (D → State) → (E → State) → File D M d m → File D M d m → File E N t n → File E N t n → Result T Stop → Type 0
+CountsFiles state state' from from' to to' result =
+    CountsEither (state (disk_of from)).faults (state (disk_of from')).faults (state' (disk_of to)).faults (state' (disk_of to')).faults result
+
+-- the disk of the one that is read is only read
+abbrev pub OnlyReadsIn : {D M : Type 0} {m : ModeGhosts M} (d : Ghosts D) → File D M d m → File D M d m → Type 0
+OnlyReadsIn d old new = OnlyReadsOn d.state d.may_leave d.left_between (disk_of old) (disk_of new)
+
+-- how many frames are read of a file into so many places, and which
+abbrev pub next_count : {D M : Type 0} {d : Ghosts D} {m : ModeGhosts M} → ℕ → File D M d m → ℕ
+next_count places file = count_read places (known_of file)
+
+abbrev pub next_frames : {D M : Type 0} {d : Ghosts D} {m : ModeGhosts M} → ℕ → File D M d m → Editing → List (List ℤ)
+next_frames places file e = frames_read e (next_count places file)
+
+-- linear samples of one codec: the bytes of the one file's frames are those of the other's
+abbrev pub AreAlike : Codec → Codec → Type 0
+AreAlike from to = (from ≡ to) × (is_linear from ≡ true)
+
+-- how many numbers bytes are in a file's codec
+abbrev pub count_in : {D M : Type 0} {ghosts : Ghosts D} {mode : ModeGhosts M} → File D M ghosts mode → List ℕ → ℕ
+count_in file bytes = length (numbers_of file bytes)
+
+-- the bytes of as many of its frames as so many places are for
+abbrev pub bytes_for : {D M : Type 0} {ghosts : Ghosts D} {mode : ModeGhosts M} → File D M ghosts mode → ℕ → ℕ
+bytes_for file places = bytes_of_frames (known_of file).shape.params (places / channels_of file)
+
+-- the frames that are read into them
+abbrev pub frames_for : {D M : Type 0} {d : Ghosts D} {m : ModeGhosts M} → File D M d m → List ℕ → Editing → List (List ℤ)
+frames_for file bytes e = next_frames (count_in file bytes) file e
+
+-- bytes have so many of the frames that are next
+abbrev pub GivesBytes : {D M : Type 0} {ghosts : Ghosts D} {mode : ModeGhosts M} → File D M ghosts mode → List ℕ → Editing → ℕ → Type 0
+GivesBytes file bytes e count = GivesFrames (channels_of file) (numbers_of file bytes) e count
 
 -- ---- what files hold
 

@@ -1,4 +1,4 @@
-use Rattle.std.proofs.Common.{rules, ◌≡◌, ◌∙◌, ap, sym, subst, refl, ℕ, ◌+◌, ◌-◌, ◌/◌, ◌%◌, ◌≤◌, ℤ, List, ◌++◌, length, min, take, arith}
+use Rattle.std.proofs.Common.{rules, ◌≡◌, ◌∙◌, ap, sym, subst, refl, ℕ, ◌+◌, ◌-◌, ◌*◌, ◌/◌, ◌%◌, ◌≤◌, ℤ, List, ◌++◌, length, min, take, true, false, arith}
 use Rattle.std.proofs.lemmas.List.{length-take-le}
 use Rattle.snd_disk.proofs.Chains.{goes_on_then, only_reads_then}
 use Rattle.snd_disk.specs.State.{AtMost}
@@ -7,11 +7,14 @@ use Rattle.snd_layout.specs.declared.codec.Codec.{Codec}
 use Rattle.snd_modes.specs.Calls.{count_read}
 use Rattle.snd_modes.specs.Editing.{Editing, moved_by}
 use Rattle.snd_modes.specs.Handle.{Known, Stands, channels_of, codec_of, disk_of, known_of}
-use Rattle.snd_modes.specs.Reading.{bytes_to_read}
-use Rattle.snd_output.specs.Appended.{MayAppend, left_in, next_numbers, read_on}
+use Rattle.snd_modes.specs.Reading.{bytes_of_frames, bytes_to_read}
+use Rattle.snd_output.specs.Appended.{MayAppend, bytes_for, left_in, next_numbers, read_on}
 use Rattle.snd_output.specs.Made.{IsMaking}
 use Rattle.snd_output.specs.Widths.{change_numbers}
-use Rattle.snd_output.proofs.Appending.{all_numbers, asked_all, asked_before, asked_by, asked_none, asked_on, bad_ahead, count_fits, each_whole, left_later, longer_as, longer_none, longer_then, may_go_on, moved_none, moved_twice, none_left, numbers_none, one_fits, numbers_twice, read_none, read_twice, whole_places}
+use Rattle.snd_output.proofs.Appending.{all_numbers, asked_all, asked_before, asked_by, asked_each, asked_none, asked_on, bad_ahead, count_fits, each_whole, left_later, longer_as, longer_none, longer_then, may_go_on, moved_none, moved_twice, none_left, numbers_none, one_fits, numbers_twice, read_none, read_twice}
+use Rattle.snd_layout.specs.Blocks.{block_align}
+use Rattle.snd_modes.specs.Bytes.{is_linear}
+use Rattle.snd_output.proofs.Passing.{is_fixed, not_alike}
 use Rattle.snd_output.proofs.Changing.{changed_as}
 use Rattle.snd_output.proofs.blocks.append.Goals as goal
 
@@ -23,8 +26,9 @@ loop-count-init g c =
     let n = length c.args.block.now in
     let q = c.numbers_of-channels.result.0 in
     let is : q ≡ channels_of c.args.from.now = c.numbers_of-channels.ensures.channels in
-    let places = whole_places n q c.numbers_of-channels.ensures.some (omega (arith, is, c.requires.places)) in
-    let size : length (take (n - n % q) c.args.block.now) ≡ n - n % q = length-take-le (n - n % q) c.args.block.now (omega arith) in
+    let m = c.places_of-places.result in
+    let places = c.places_of-places.ensures in
+    let size : length (take m c.args.block.now) ≡ m = length-take-le m c.args.block.now places.fits in
     record {
       loan = refl;
       to_loan = refl;
@@ -41,11 +45,20 @@ loop-count-init g c =
       tells = search rules;
       time = search rules;
       to_asked = refl;
-      some = omega (arith, size, places.0, is);
-      whole = ap (λ (m : ℕ). m % channels_of c.args.from.now) size ∙ ap (λ (m : ℕ). (n - n % q) % m) (sym is) ∙ places.1;
-      each = ap (λ (m : ℕ). m / channels_of c.args.from.now) size ∙ ap (λ (m : ℕ). (n - n % m) / channels_of c.args.from.now) is
+      some = omega (arith, size, places.one, is);
+      whole = ap (λ (i : ℕ). i % channels_of c.args.from.now) size ∙ ap (λ (i : ℕ). m % i) (sym is) ∙ places.whole;
+      each = λ blocks.
+          let all : m ≡ n - n % q = places.all (not_alike c.are_alike-pass.result _ _ c.are_alike-pass.ensures (λ linear. let e : true ≡ false = sym blocks ∙ is_fixed _ (subst (λ (x : Codec). is_linear x ≡ true) c.numbers_of-channels.ensures.codec linear) in cc)) in
+          ap (λ (i : ℕ). i / channels_of c.args.from.now) (size ∙ all) ∙ ap (λ (i : ℕ). (n - n % i) / channels_of c.args.from.now) is
           ∙ each_whole n (channels_of c.args.from.now) (omega (arith, is, c.numbers_of-channels.ensures.some));
-      asked = asked_none from.shape.params (n / channels_of c.args.from.now) from.place (left_in from) 1 _;
+      room = λ pass.
+          let align : c.from-align.result ≡ block_align from.shape.params.channels from.shape.params.codec = search rules in
+          let held : length (take c.held_of-held.result _) ≡ c.held_of-held.result = length-take-le c.held_of-held.result _ (omega (arith, c.held_of-held.ensures.most)) in
+          held ∙ c.held_of-held.ensures.value pass
+          ∙ ap (λ (i : ℕ). m / i * c.from-align.result) is
+          ∙ ap (λ (i : ℕ). i / channels_of c.args.from.now * c.from-align.result) (sym size)
+          ∙ ap (λ (a : ℕ). length (take m c.args.block.now) / channels_of c.args.from.now * a) align;
+      asked = asked_none from.shape.params _ from.place (left_in from) 1 _;
     }
 
 pub loop-count-preserved : goal.loop-count-preserved
@@ -99,11 +112,12 @@ loop-count-preserved g c =
       to_asked = one.to_asked ∙ inv.to_asked;
       some = omega (arith, c.append_block.auto.block, inv.some);
       whole = ap (λ (n : ℕ). n % channels_of c.args.from.now) c.append_block.auto.block ∙ inv.whole;
-      each = ap (λ (n : ℕ). n / channels_of c.args.from.now) c.append_block.auto.block ∙ inv.each;
+      each = λ blocks. ap (λ (n : ℕ). n / channels_of c.args.from.now) c.append_block.auto.block ∙ inv.each blocks;
+      room = λ pass. c.append_block.auto.bytes ∙ inv.room pass ∙ ap (λ (n : ℕ). bytes_for c.args.from.now n) (sym c.append_block.auto.block);
       asked =
-          let each = length c.args.block.now / channels_of c.args.from.now in
-          let many : 1 ≤ each = one_fits (length c.args.block.now) (channels_of c.args.from.now) (omega (arith, c.numbers_of-channels.ensures.channels, c.numbers_of-channels.ensures.some)) c.requires.places in
-          let is : count ≡ min each (left_in now) = one.count ∙ ap (λ (n : ℕ). min n (left_in now)) (ap (λ (n : ℕ). places / n) channels ∙ inv.each) in
+          let each = places / channels_of c.args.from.now in
+          let many : 1 ≤ each = one_fits places (channels_of c.args.from.now) (omega (arith, c.numbers_of-channels.ensures.channels, c.numbers_of-channels.ensures.some)) inv.some in
+          let is : count ≡ min each (left_in now) = one.count ∙ ap (λ (n : ℕ). min (places / n) (left_in now)) channels in
           let params : now.shape.params ≡ first.shape.params = ap (λ (k : Known). k.shape.params) inv.read in
           let begun = (g.D.Disk.state (disk_of c.args.from.now)).asked in
           let mid = (g.D.Disk.state (disk_of c.loop-count.from)).asked in
@@ -111,8 +125,9 @@ loop-count-preserved g c =
           let before = asked_before first.shape.params each j (left_in now) c.loop-count.count begun mid (omega (arith, c.loop-count-test.true)) inv.asked in
           let more = subst (λ (n : ℕ). AtMost mid (bytes_to_read now.shape.params n) end) (sym one.count) one.asked in
           let rest : left_in now - count ≡ left_in (known_of c.append_block.new.from) = (let e : left_in now - count ≡ now.shape.frames - (now.place + count_read places now) = omega (arith, one.count) in e) ∙ sym (ap left_in one.left.0) in
-          subst (λ (n : ℕ). AtMost begun (asked_by first.shape.params each i n count) end) rest
-          (asked_on now first.shape.params each j (left_in now) count i begun mid end params many is sum before more);
+          subst (λ (n : ℕ). AtMost begun (asked_by first.shape.params (n / channels_of c.args.from.now) i (left_in (known_of c.append_block.new.from)) count) end) (sym c.append_block.auto.block)
+          (subst (λ (n : ℕ). AtMost begun (asked_by first.shape.params each i n count) end) rest
+          (asked_on now first.shape.params each j (left_in now) count i begun mid end params many is sum before more));
     }
 
 pub append_block-requires-clause-may : goal.append_block-requires-clause-may
@@ -145,8 +160,10 @@ pub returns-clause-asked : goal.returns-clause-asked
 returns-clause-asked g c =
     let inv = c.loop-count.invariant in
     let first = known_of c.args.from.now in
-    asked_all first.shape.params (length c.args.block.now / channels_of c.args.from.now) (left_in first) ((known_of c.loop-count.from).place - first.place) (left_in (known_of c.loop-count.from)) c.loop-count.count _ _
-    inv.within inv.asked
+    let each = length c.loop-count.whole / channels_of c.args.from.now in
+    subst (λ (n : ℕ). AtMost (g.D.Disk.state (disk_of c.args.from.now)).asked n (g.D.Disk.state (disk_of c.loop-count.from)).asked)
+    (asked_each first.shape.params each (length c.args.block.now / channels_of c.args.from.now) (left_in first) inv.each)
+    (asked_all first.shape.params each (left_in first) ((known_of c.loop-count.from).place - first.place) (left_in (known_of c.loop-count.from)) c.loop-count.count _ _ inv.within inv.asked)
 
 pub returns-in_err-count-clause-left : goal.returns-in_err-count-clause-left
 returns-in_err-count-clause-left g c =
@@ -169,14 +186,30 @@ returns-in_err-count-clause-asked g c =
     let j = now.place - first.place in
     let places = length c.loop-count.whole in
     let k = count_read places now in
-    let each = length c.args.block.now / channels_of c.args.from.now in
+    let each = places / channels_of c.args.from.now in
     let here : now.place ≡ first.place + j = ap (λ (k : Known). k.place) inv.read in
     let frames : now.shape.frames ≡ first.shape.frames = ap (λ (k : Known). k.shape.frames) inv.read in
     let channels : now.shape.params.channels ≡ first.shape.params.channels = ap (λ (k : Known). k.shape.params.channels) inv.read in
     let params : now.shape.params ≡ first.shape.params = ap (λ (k : Known). k.shape.params) inv.read in
-    let many : 1 ≤ each = one_fits (length c.args.block.now) (channels_of c.args.from.now) (omega (arith, c.numbers_of-channels.ensures.channels, c.numbers_of-channels.ensures.some)) c.requires.places in
-    let is : k ≡ min each (left_in now) = ap (λ (n : ℕ). min n (left_in now)) (ap (λ (n : ℕ). places / n) channels ∙ inv.each) in
+    let many : 1 ≤ each = one_fits places (channels_of c.args.from.now) (omega (arith, c.numbers_of-channels.ensures.channels, c.numbers_of-channels.ensures.some)) inv.some in
+    let is : k ≡ min each (left_in now) = ap (λ (n : ℕ). min (places / n) (left_in now)) channels in
     let few : k ≤ left_in now = omega (arith, is) in
     let before = asked_before first.shape.params each j (left_in now) c.loop-count.count _ _ (omega (arith, c.loop-count-test.true)) inv.asked in
     let asked = asked_on now first.shape.params each j (left_in now) k (j + k) _ _ _ params many is refl before c.in_err-count.ensures.asked in
-    asked_all first.shape.params each (left_in first) (j + k) (left_in now - k) k _ _ (omega (arith, few, here, frames, inv.within)) asked
+    subst (λ (n : ℕ). AtMost (g.D.Disk.state (disk_of c.args.from.now)).asked n (g.D.Disk.state (disk_of c.append_block.new.from)).asked)
+    (asked_each first.shape.params each (length c.args.block.now / channels_of c.args.from.now) (left_in first) inv.each)
+    (asked_all first.shape.params each (left_in first) (j + k) (left_in now - k) k _ _ (omega (arith, few, here, frames, inv.within)) asked)
+
+pub returns-in_err-count-clause-reads : goal.returns-in_err-count-clause-reads
+returns-in_err-count-clause-reads g c = only_reads_then _ _ _ _ _ _ _ _ _ c.loop-count.invariant.reads c.in_err-count.ensures.reads
+
+pub slice_bounds-whole-end : goal.slice_bounds-whole-end
+slice_bounds-whole-end g c = c.places_of-places.ensures.fits
+
+pub slice_bounds-whole-end-2 : goal.slice_bounds-whole-end-2
+slice_bounds-whole-end-2 g c = sym (length-take-le c.places_of-places.result c.args.block.now c.places_of-places.ensures.fits)
+
+pub append_block-requires-clause-room : goal.append_block-requires-clause-room
+append_block-requires-clause-room g c = λ pass.
+    let places = length c.loop-count.whole in
+    c.loop-count.invariant.room pass ∙ sym (ap (λ (k : Known). bytes_of_frames k.shape.params (places / k.shape.params.channels)) c.loop-count.invariant.read)
