@@ -49,7 +49,8 @@ made_by (Work.interleave inputs output) = output
 made_by (Work.gen seed frames name) = name
 made_by (Work.set_metadata settings input output) = output
 
--- how many bytes it asks of the files that it reads; `gen` reads none
+-- how many bytes it may ask of its inputs; of `gen`, which has none and reads the file that it made,
+-- nothing is said
 abbrev pub AsksForWork : {S : Type 0} → (S → ShelfState) → Work → S → S → Type 0
 AsksForWork state (Work.convert c) old new = AsksForFiles state (c.input ∷ []) old new
 AsksForWork state (Work.concat inputs output) old new = AsksForFiles state inputs old new

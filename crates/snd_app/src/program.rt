@@ -200,7 +200,8 @@ pub fn run<S: Shelf, R: Source, O: Sink, E: Sink>(
         OnlyLooks (length (names_for words.now)) (S.state shelf.old) (S.state shelf.new) }
 
     // With a tool, so does each file but the one that it makes; where a stream failed and no file did, that
-    // is made, or was refused, as the outcome says; and no more bytes are asked than it takes to read its inputs.
+    // is made, or was refused, as the outcome says; and where it has inputs, no more bytes are asked than it
+    // takes to read them twice, and a fixed number for each.
     ensures others { (name : List ℕ) → output_for words.now ≡ Some name → ChangesOne S.Shelf name shelf.old shelf.new }
     ensures done { (name : List ℕ) → output_for words.now ≡ Some name →
         DoneAtStream S.state (λ files. files_after words.now (map (λ b. (meter b).kind) taps.items) files []) shelf.old shelf.new result }
