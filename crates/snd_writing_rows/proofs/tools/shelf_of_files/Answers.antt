@@ -1,6 +1,6 @@
 use Rattle.std.proofs.Common.{ap, ◌∙◌}
 use Rattle.snd_disk.specs.Shelf.{ShelfState}
-use Rattle.snd_rows.proofs.Runs.{none_out}
+use Rattle.snd_writing_rows.proofs.Shelves.{none_out}
 use Rattle.snd_writing_rows.proofs.tools.shelf_of_files.Goals as goal
 
 pub loop-name-preserved : goal.loop-name-preserved

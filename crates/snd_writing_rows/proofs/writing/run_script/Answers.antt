@@ -1,6 +1,6 @@
 use Rattle.std.proofs.Common.{ap, ◌∙◌}
 use Rattle.snd_disk.specs.Shelf.{ShelfState}
-use Rattle.snd_rows.proofs.Runs.{none_out}
+use Rattle.snd_writing_rows.proofs.Shelves.{none_out}
 use Rattle.snd_writing_rows.proofs.writing.run_script.Goals as goal
 
 pub run_over-requires : goal.run_over-requires
