@@ -1,4 +1,4 @@
-//! What both laws do alike with a magnitude, in a form that the compiler turns into vector code.
+//! What both laws do alike with a magnitude: the steps that lie below it, from the digits of a float.
 ghost use Rattle.std.specs.Prelude.{◌≡◌, ◌+◌, ◌/◌, ◌^◌, ◌≤◌, ◌<◌};
 ghost use Rattle.snd_g711.specs.Segment.{segment_and_step};
 
