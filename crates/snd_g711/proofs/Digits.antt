@@ -4,19 +4,15 @@ use Rattle.std.specs.Prelude.{not}
 use Rattle.std.proofs.lemmas.Bool.{cases_lt}
 use lib.Dec.{T, leb, leb→le}
 use lib.Pow.{pow_mono}
-use lib.Ieee.{Float, nan, inf, fin, binary32, down, is_nan, of_int, size, to_bits, up}
-use lib.Ieee.Back.{round_whole}
+use lib.Ieee.{Float, nan, inf, fin, binary32, down, is_nan, of_bits, size, sub, to_bits, up}
 use lib.Ieee.Digits.{size-le, size-lt}
 use lib.Ieee.Exact.{HasValue}
 use lib.Ieee.Fits.{down_pos}
 use native.Mathlib.Nat.{mul-div_cancel, mul-one, mul_right_comm}
 use Rattle.snd_g711.specs.Segment.{segment_and_step}
 use Rattle.snd_g711.proofs.Below.{every_below}
+use Rattle.snd_g711.proofs.Wholes.{moved, moved_value}
 use Rattle.snd_g711.proofs.Segments.{code_at, segment_0, segment_1, segment_2, segment_3, segment_4, segment_5, segment_6, segment_7}
-
-pub has_value : (n : ℕ) → n < 32768 → HasValue (of_int binary32 (pos n)) false n 1
-unfolding of_int
-has_value n small = round_whole binary32 false n (omega arith)
 
 number_is : (x : Float) (n : ℕ) → HasValue x false n 1 → T (not (is_nan x))
 unfolding is_nan
@@ -24,8 +20,8 @@ number_is nan n h = absurd h
 number_is (inf s) n h = absurd h
 number_is (fin s m e) n h = tt
 
-pub is_number : (n : ℕ) → n < 32768 → T (not (is_nan (of_int binary32 (pos n))))
-is_number n small = number_is _ n (has_value n small)
+pub is_number : (n : ℕ) → n < 32768 → T (not (is_nan (moved n)))
+is_number n small = number_is _ n (moved_value n small)
 
 -- in units of the smallest float
 units_of : (m d n : ℕ) → 0 < d → m * 1 ≡ n * d → m * 2 ^ 149 / d ≡ n * 2 ^ 149
@@ -69,10 +65,10 @@ digits_are n low high = go (cases_lt n 256) (cases_lt n 512) (cases_lt n 1024) (
     go (inr a) (inr b) (inr c) (inr d) (inr e) (inr l) (inl h) = omega (arith, bits_at n 162 (omega arith) (omega arith), code_at n 6 (segment_6 n l h))
     go (inr a) (inr b) (inr c) (inr d) (inr e) (inr f) (inr l) = omega (arith, bits_at n 163 (omega arith) (omega arith), code_at n 7 (segment_7 n l))
 
-pub digits_of : (n : ℕ) → 128 ≤ n → n < 32768 → to_bits binary32 (of_int binary32 (pos n)) / 524288 ≡ 2144 + segment_and_step n
-digits_of n low high = ap (λ (b : ℕ). b / 524288) (bits_are _ n (has_value n high)) ∙ digits_are n low high
+pub digits_of : (n : ℕ) → 128 ≤ n → n < 32768 → to_bits binary32 (moved n) / 524288 ≡ 2144 + segment_and_step n
+digits_of n low high = ap (λ (b : ℕ). b / 524288) (bits_are _ n (moved_value n high)) ∙ digits_are n low high
 
 -- below 128 there are no more of them than steps
-pub few_digits : (n : ℕ) → n < 128 → to_bits binary32 (of_int binary32 (pos n)) / 524288 ≤ 2128 + n / 8
-unfolding to_bits of_int
-few_digits n low = leb→le _ _ (every_below (λ k. leb (to_bits binary32 (of_int binary32 (pos k)) / 524288) (2128 + k / 8)) 128 tt n low)
+pub few_digits : (n : ℕ) → n < 128 → to_bits binary32 (moved n) / 524288 ≤ 2128 + n / 8
+unfolding to_bits sub of_bits
+few_digits n low = leb→le _ _ (every_below (λ k. leb (to_bits binary32 (moved k) / 524288) (2128 + k / 8)) 128 tt n low)

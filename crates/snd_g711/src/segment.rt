@@ -2,6 +2,9 @@
 ghost use Rattle.std.specs.Prelude.{◌≡◌, ◌+◌, ◌/◌, ◌^◌, ◌≤◌, ◌<◌};
 ghost use Rattle.snd_g711.specs.Segment.{segment_and_step};
 
+/// Where floats stand one apart, so that a whole number lies in the last digits of what is this and the number.
+const ONES: f32 = 8_388_608.0;
+
 /// How many steps lie below a magnitude, the sixteen steps of 8 below 128 included.
 #[inline]
 pub fn steps_below(magnitude: u32) -> u32
@@ -12,6 +15,6 @@ pub fn steps_below(magnitude: u32) -> u32
 {
     // From 128 on the exponent of a float and the first digits of its fraction are the segment and the step.
     // Below, they say less than the count of steps of 8, which is cut to 16 above.
-    let digits = (magnitude as i32 as f32).to_bits() >> 19;
+    let digits = (f32::from_bits(0x4b00_0000 + magnitude) - ONES).to_bits() >> 19;
     digits.max((magnitude / 8).min(16) + 2128) - 2128
 }
