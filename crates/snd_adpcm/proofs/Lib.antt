@@ -1,6 +1,7 @@
 pub mod BlockCounts
 pub mod BlockLaws
 pub mod CodedBytes
+pub mod Four
 pub mod ImaCodes
 pub mod ImaWritten
 pub mod MsCodes

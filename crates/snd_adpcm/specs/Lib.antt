@@ -1,4 +1,5 @@
 pub mod Blocks
+pub mod Four
 pub mod Frames
 pub mod Ima
 pub mod Laws

@@ -5,6 +5,7 @@ mod ima;
 mod ima_writer;
 mod laws;
 mod microsoft;
+mod microsoft_four;
 mod microsoft_state;
 mod microsoft_writer;
 mod number;

@@ -45,7 +45,7 @@ pub(crate) fn older_weight_of(number: usize) -> i32
 /// What a code multiplies the delta by, in parts of 256.
 #[inline]
 #[tactic(auto, unfolding(crate::specs::Microsoft::adaptation, crate::specs::Microsoft::adaptations))]
-fn adaptation_of(code: u32) -> i32
+pub(crate) fn adaptation_of(code: u32) -> i32
     requires { code < 16 }
     ensures value { result ≡ adaptation code }
     ensures bound { unsigned_abs result ≤ 768 }
@@ -55,7 +55,7 @@ fn adaptation_of(code: u32) -> i32
 
 /// A code as a number from -8 to 7.
 #[inline]
-fn signed(code: u8) -> i32
+pub(crate) fn signed(code: u8) -> i32
     requires { code < 16 }
     ensures value { result ≡ signed_code code }
     ensures bound { unsigned_abs result ≤ 8 }
@@ -65,7 +65,7 @@ fn signed(code: u8) -> i32
 
 /// The product of two numbers.
 #[inline]
-fn product(a: i32, b: i32) -> i32
+pub(crate) fn product(a: i32, b: i32) -> i32
     requires { unsigned_abs a * unsigned_abs b ≤ 805306368 }
     ensures value { result ≡ a *ℤ b }
     ensures least { negsuc 805306367 ≤ℤ result }
@@ -77,7 +77,7 @@ fn product(a: i32, b: i32) -> i32
 /// A 256th of a number, rounded toward minus infinity.
 #[inline]
 #[tactic(auto, using(crate::proofs::Numbers::floor_bounds))]
-fn floor_256(x: i32) -> i32
+pub(crate) fn floor_256(x: i32) -> i32
     requires low { negsuc 1610612735 ≤ℤ x }
     requires high { x ≤ℤ pos 1610612736 }
     ensures value { result ≡ floor_div x 256 }
@@ -217,7 +217,7 @@ impl MsState {
     }
 
     /// The state that a channel's head gives.
-    fn of_head(bytes: &[u8], channels: usize, channel: usize) -> MsState
+    pub(crate) fn of_head(bytes: &[u8], channels: usize, channel: usize) -> MsState
         requires channel { channel < channels }
         requires whole { 7 * channels ≤ length bytes.now }
         requires good { ms_number channel bytes.now ≤ 6 }

@@ -7,6 +7,7 @@ mod cache;
 mod check;
 mod error;
 mod fetch;
+mod four;
 pub mod laws;
 mod read;
 

@@ -14,9 +14,10 @@ ghost use Rattle.snd_blocks.specs.Spans.{RangesSpan, ReadsSpan, count_before};
 
 use crate::block::{channels_of, frames_of, keeps_blocks, keeps_rules};
 use crate::buffer::BlockCache;
-use crate::cache::load;
+use crate::cache::{load, reach};
 use crate::error::BlockError;
 use crate::fetch::Fetched;
+use crate::four::put_four;
 use snd_disk::Disk;
 use snd_layout::Layout;
 
@@ -137,9 +138,16 @@ pub fn read_cached<D: Disk>(
     let first = place / u64::from(frames_of(layout));
     let last = last_block(layout, place, count);
     let mut fetched = Fetched { first, next: first };
-    for number in first..last {
-        fetched = load(disk, layout, number, last, fetched, cache)?;
-        put_span(layout, place, count, number, into, cache);
+    let mut number = first;
+    while number < last {
+        fetched = reach(disk, layout, number, last, fetched, cache)?;
+        if put_four(layout, place, count, number, fetched, &cache.bytes, into) {
+            number += 4;
+        } else {
+            fetched = load(disk, layout, number, last, fetched, cache)?;
+            put_span(layout, place, count, number, into, cache);
+            number += 1;
+        }
     }
     Ok(())
 }

@@ -10,6 +10,8 @@ use Rattle.snd_blocks.proofs.read.read_cached.Given as goal
 abbrev pub invariant-loop-number : goal.invariant-loop-number
 invariant-loop-number g l =
     record {
+      from : l.first ≤ l.number;
+      until : l.number ≤ l.last;
       told : (b : List ℕ) → Tells g.D.Disk.state l.fn.disk b → HasSpan b l.layout l.place l.count l.number l.into;
       range : All Is16Bit (take (l.layout.params.channels * count_before (block_frames l.layout.params.codec) l.place l.count l.number) l.into);
       calm : (g.D.Disk.state l.disk).faults ≡ (g.D.Disk.state l.fn.disk).faults;
@@ -19,3 +21,6 @@ invariant-loop-number g l =
       fetched : Fetches g.D.Disk.state l.disk l.layout l.last l.fetched (bytes_cached l.cache);
       cached : Caches g.D.Disk.state l.disk l.layout l.cache;
     }
+
+abbrev pub decreases-loop-number : goal.decreases-loop-number
+decreases-loop-number g l = l.last - l.number
