@@ -1,4 +1,5 @@
--- What the code that reads four blocks at once keeps. It is said for the proofs alone.
+-- Four blocks of Microsoft ADPCM of two channels at once: what the call says that decodes them, and then what its code keeps, for
+-- the proofs alone.
 use Rattle.std.specs.Prelude.{◌≡◌, ℕ, ℤ, ◌*◌, ◌/◌, ◌%◌, ◌<◌, ◌≤◌, List, All, Bool, false, get_or, length, take, drop, unsigned_abs}
 use Rattle.std.specs.List.{list_any, range_with_len}
 use Rattle.snd_adpcm.specs.declared.microsoft_four.Row.{Row}
@@ -7,6 +8,22 @@ use Rattle.snd_adpcm.specs.declared.microsoft_state.MsState.{MsState}
 use Rattle.snd_adpcm.specs.Frames.{Is16Bit}
 use Rattle.snd_adpcm.specs.Microsoft.{adaptation, is_bad_ms_block, ms_block, ms_delta, signed_code}
 use Rattle.snd_adpcm.specs.States.{ms_sample_at}
+
+-- numbers are the samples of a good block
+pub record AreSamples (block : List ℕ) (numbers : List ℤ) : Type 0 where
+  pub good : is_bad_ms_block 2 block ≡ false
+  pub samples : numbers ≡ ms_block 2 block
+  pub range : All Is16Bit numbers
+
+-- a part of a list: of so many entries, behind so many such parts
+abbrev pub part : {X : Type 0} → ℕ → ℕ → List X → List X
+part size k xs = take size (drop (k * size) xs)
+
+-- one of four blocks is bad
+abbrev pub any_bad : ℕ → List ℕ → Bool
+any_bad align bytes = list_any (λ k. is_bad_ms_block 2 (part align k bytes)) (range_with_len 0 4)
+
+-- ---- for the proofs alone
 
 -- a row is what a byte says of two channels, whose codes are its high and its low half
 pub record IsRow (byte : ℕ) (row : Row) : Type 0 where
@@ -30,23 +47,7 @@ pub record FollowsFrom (old : MsState) (code : ℕ) (new : MsState) : Type 0 whe
   pub newer_by : new.newer_by ≡ old.newer_by
   pub older_by : new.older_by ≡ old.older_by
 
--- ---- four blocks
-
--- numbers are the samples of a good block
-pub record AreSamples (block : List ℕ) (numbers : List ℤ) : Type 0 where
-  pub good : is_bad_ms_block 2 block ≡ false
-  pub samples : numbers ≡ ms_block 2 block
-  pub range : All Is16Bit numbers
-
--- a part of a list: of so many entries, behind so many such parts
-abbrev pub part : {X : Type 0} → ℕ → ℕ → List X → List X
-part size k xs = take size (drop (k * size) xs)
-
--- one of four blocks is bad
-abbrev pub any_bad : ℕ → List ℕ → Bool
-any_bad align bytes = list_any (λ k. is_bad_ms_block 2 (part align k bytes)) (range_with_len 0 4)
-
--- none of them is
+-- none of four blocks is bad
 pub record AreGood (blocks : FourBlocks) : Type 0 where
   pub first : is_bad_ms_block 2 blocks.first.now ≡ false
   pub second : is_bad_ms_block 2 blocks.second.now ≡ false
