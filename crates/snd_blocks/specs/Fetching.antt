@@ -15,8 +15,8 @@ block_among bytes s first number = take (block_align s.params.channels s.params.
 abbrev pub HoldBlocks : List ℕ → Shape → ℕ → ℕ → List ℕ → Type 0
 HoldBlocks b s first next bytes = (number : ℕ) → first ≤ number → number < next → block_among bytes s first number ≡ block_at b s number
 
--- what was read holds blocks of the file of a layout, all before the last wanted one, where its disk tells the contents
-pub record Fetches {D : Type 0} (state : D → State) (disk : D) (s : Shape) (last : ℕ) (fetched : Fetched) (bytes : List ℕ) : Type 0 where
+-- what was read holds blocks of the file of a layout, all before a limit, where its disk tells the contents
+pub record Fetches {D : Type 0} (state : D → State) (disk : D) (s : Shape) (limit : ℕ) (fetched : Fetched) (bytes : List ℕ) : Type 0 where
   pub right : (b : List ℕ) → Tells state disk b → HoldBlocks b s fetched.first fetched.next bytes
   pub room : (fetched.next - fetched.first) * block_align s.params.channels s.params.codec ≤ 8192
-  pub most : fetched.next ≤ last
+  pub most : fetched.next ≤ limit

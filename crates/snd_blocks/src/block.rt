@@ -1,13 +1,12 @@
 //! One block, read from a disk.
 
-ghost use Rattle.std.specs.Prelude.{◌≡◌, ◌+◌, ◌*◌, ◌<◌, ◌≤◌, ◌^◌, ◌↔◌, All, IsErr, IsTrue, List, OnOk, false, length, true, ℕ};
-ghost use Rattle.std.specs.Result.{IsErrOf};
+ghost use Rattle.std.specs.Prelude.{◌≡◌, ◌+◌, ◌*◌, ◌<◌, ◌≤◌, ◌^◌, ◌↔◌, All, IsErr, IsTrue, OnOk, false, length, true};
 ghost use Rattle.snd_adpcm.specs.Frames.{Is16Bit};
-ghost use Rattle.snd_disk.specs.Device.{AsksAtMost, IfOkTold, OnlyReadsOn, Tells};
+ghost use Rattle.snd_disk.specs.Device.{AsksAtMost, IfOkTold, OnlyReadsOn};
 ghost use Rattle.snd_layout.specs.Blocks.{block_align, block_frames, is_adpcm};
 ghost use Rattle.snd_layout.specs.Params.{AreParams};
 ghost use Rattle.snd_layout.specs.Shape.{KeepsRule, end};
-ghost use Rattle.snd_blocks.specs.Calls.{AreBlocks, CountsFaultOn, block_at};
+ghost use Rattle.snd_blocks.specs.Calls.{AreBlocks, CountsFaultOn, RefusesBad, block_at, is_bad_in};
 ghost use Rattle.snd_blocks.specs.Frames.{block_samples, is_bad_block};
 
 use crate::buffer::MOST_BYTES;
@@ -117,9 +116,8 @@ pub(crate) fn check_block<D: Disk>(
     requires blocks { is_adpcm layout.now.params.codec ≡ true }
     requires held { end layout.now layout.now.frames ≤ (D.state disk.old).size }
     requires within { number * block_frames layout.now.params.codec < layout.now.frames }
-    ensures good { IfOkTold D.state disk.old result (λ b _. is_bad_block layout.now.params.channels layout.now.params.codec (block_at b layout.now number) ≡ false) }
-    ensures bad { IsErrOf result BlockError.BadBlock → (b : List ℕ) → Tells D.state disk.old b →
-        is_bad_block layout.now.params.channels layout.now.params.codec (block_at b layout.now number) ≡ true }
+    ensures good { IfOkTold D.state disk.old result (λ b _. is_bad_in layout.now (block_at b layout.now number) ≡ false) }
+    ensures bad { RefusesBad D.state disk.old layout.now number result }
     ensures faults { CountsFaultOn D.state disk.old disk.new result }
     ensures reads { OnlyReadsOn D.state D.may_leave D.left_between disk.old disk.new }
     ensures asked { AsksAtMost D.state (block_align layout.now.params.channels layout.now.params.codec) disk.old disk.new }

@@ -1,88 +1,110 @@
-//! The block that was read last.
+//! The blocks that were read last.
 
-ghost use Rattle.std.specs.Prelude.{◌≡◌, ◌+◌, ◌-◌, ◌*◌, ◌<◌, ◌≤◌, IfOk, None, Some, List, OnOk, max, true, ℕ};
-ghost use Rattle.std.specs.Result.{IsErrOf};
-ghost use Rattle.snd_disk.specs.Device.{AsksAtMost, CountsOn, OnlyReadsOn, Tells};
-ghost use Rattle.snd_layout.specs.Blocks.{block_align, block_frames, is_adpcm};
+ghost use Rattle.std.specs.Prelude.{◌≡◌, ◌+◌, ◌-◌, ◌*◌, ◌<◌, ◌≤◌, All, IfOk, IsErr, IsTrue, OnOk, length, max, true, ℕ};
+ghost use Rattle.snd_adpcm.specs.Frames.{Is16Bit};
+ghost use Rattle.snd_disk.specs.Device.{OnlyReadsOn};
+ghost use Rattle.snd_layout.specs.Blocks.{block_frames, is_adpcm};
 ghost use Rattle.snd_layout.specs.Shape.{end};
-ghost use Rattle.snd_blocks.specs.Cache.{Caches, bytes_cached, number_cached};
-ghost use Rattle.snd_blocks.specs.Calls.{CountsFaultOn, block_at};
-ghost use Rattle.snd_blocks.specs.Fetching.{Fetches};
-ghost use Rattle.snd_blocks.specs.Frames.{is_bad_block};
+ghost use Rattle.snd_blocks.specs.Cache.{Caches, HasBlocksOf, IsCached, block_cached, block_numbers, bytes_cached, count_cached, samples_cached};
+ghost use Rattle.snd_blocks.specs.Calls.{AsksForBlocks, CountsFaultOn, HasRoomFor, RefusesBad, is_bad_in};
+ghost use Rattle.snd_blocks.specs.Fetching.{Fetches, block_among};
 
+use crate::block::{channels_of, frames_of, keeps_blocks};
 use crate::buffer::BlockCache;
 use crate::error::BlockError;
 use crate::fetch::{Fetched, decode_fetched, fetch_with};
-use snd_disk::{Disk, Step};
+use crate::four::decode_four;
+use snd_adpcm::BadBlock;
+use snd_disk::Disk;
 use snd_layout::Layout;
 
-// Reads the bytes of a block that has counted frames, and of wanted ones behind it, unless they were read before, or the
-// block is the one that was read last.
-pub(crate) fn reach<D: Disk>(
-    disk: &mut D,
-    layout: &Layout,
-    number: u64,
-    last: u64,
-    fetched: Fetched,
-    cache: &mut BlockCache,
-) -> Result<Fetched, Step>
-    requires blocks { is_adpcm layout.now.params.codec ≡ true }
-    requires held { end layout.now layout.now.frames ≤ (D.state disk.old).size }
-    requires some { number < last }
-    requires within { (last - 1) * block_frames layout.now.params.codec < layout.now.frames }
-    requires begun { fetched.first ≤ number }
-    requires fetched { Fetches D.state disk.old layout.now last fetched (bytes_cached cache.old) }
-    requires cached { Caches D.state disk.old layout.now cache.old }
-    ensures cached { Caches D.state disk.new layout.now cache.new }
-    ensures fetched { IfOk result (λ f. Fetches D.state disk.new layout.now last f (bytes_cached cache.new)) }
-    ensures begun { IfOk result (λ f. f.first ≤ number) }
-    ensures later { IfOk result (λ f. fetched.next ≤ f.next) }
-    ensures asked { IfOk result (λ f. AsksAtMost D.state ((max number f.next - max number fetched.next) * block_align layout.now.params.channels layout.now.params.codec) disk.old disk.new) }
-    ensures most { AsksAtMost D.state ((last - max number fetched.next) * block_align layout.now.params.channels layout.now.params.codec) disk.old disk.new }
-    ensures faults { CountsOn D.state disk.old disk.new result }
-    ensures reads { OnlyReadsOn D.state D.may_leave D.left_between disk.old disk.new }
-{
-    if cache.number == Some(number) {
-        return Ok(fetched);
+impl BlockCache {
+    // Whether a block is kept.
+    fn has(&self, number: u64) -> bool
+        ensures { result ≡ true → IsCached self.now number }
+    {
+        self.first <= number && number - self.first < self.count
     }
-    fetch_with(disk, layout, number, last, fetched, &mut cache.bytes)
+
+    // The samples of a block that is kept.
+    pub(crate) fn block(&self, layout: &Layout, number: u64) -> &[i32]
+        requires blocks { is_adpcm layout.now.params.codec ≡ true }
+        requires kept { IsCached self.now number }
+        requires whole { count_cached self.now * block_numbers layout.now ≤ length (samples_cached self.now) }
+        ensures value { result.now ≡ block_cached layout.now self.now number }
+        ensures size { length result.now ≡ block_numbers layout.now }
+    {
+        keeps_blocks(layout);
+        let samples = self.samples.as_slice();
+        let size = channels_of(layout) * usize::from(frames_of(layout));
+        let at = (number - self.first) as usize * size;
+        &samples[at..at + size]
+    }
 }
 
-// Makes a block that has counted frames the one that was read last. Its bytes are read with those of blocks
-// behind it, before `last`, unless they were read before.
+// Keeps a block, whose bytes were read, in place of what was kept, and the three behind it where they are decoded together.
+fn keep_fetched(
+    layout: &Layout,
+    fetched: Fetched,
+    number: u64,
+    cache: &mut BlockCache,
+) -> Result<(), BadBlock>
+    requires blocks { is_adpcm layout.now.params.codec ≡ true }
+    requires begun { fetched.first ≤ number }
+    requires some { number < fetched.next }
+    requires room { HasRoomFor layout.now (fetched.next - fetched.first) }
+    ensures bad { IsErr result → IsTrue (is_bad_in layout.now (block_among (bytes_cached cache.old) layout.now fetched.first number)) }
+    ensures kept { OnOk result (IsCached cache.new number) }
+    ensures has { HasBlocksOf layout.now fetched.first fetched.next cache.new }
+    ensures whole { count_cached cache.new * block_numbers layout.now ≤ length (samples_cached cache.new) }
+    ensures range { (n : ℕ) → IsCached cache.new n → All Is16Bit (samples_cached cache.new) }
+    ensures bytes { bytes_cached cache.new ≡ bytes_cached cache.old }
+{
+    cache.count = 0;
+    let count = if decode_four(layout, fetched, number, &cache.bytes, &mut cache.samples) {
+        4
+    } else {
+        decode_fetched(layout, fetched, number, &cache.bytes, &mut cache.samples)?;
+        1
+    };
+    cache.first = number;
+    cache.count = count;
+    Ok(())
+}
+
+// Makes a block that has counted frames one of those that are kept. Its bytes are read with those of blocks
+// behind it, before `limit`, unless they were read before.
 pub(crate) fn load<D: Disk>(
     disk: &mut D,
     layout: &Layout,
     number: u64,
-    last: u64,
+    limit: u64,
     fetched: Fetched,
     cache: &mut BlockCache,
 ) -> Result<Fetched, BlockError>
     requires blocks { is_adpcm layout.now.params.codec ≡ true }
     requires held { end layout.now layout.now.frames ≤ (D.state disk.old).size }
-    requires some { number < last }
-    requires within { (last - 1) * block_frames layout.now.params.codec < layout.now.frames }
+    requires some { number < limit }
+    requires within { (limit - 1) * block_frames layout.now.params.codec < layout.now.frames }
     requires begun { fetched.first ≤ number }
-    requires fetched { Fetches D.state disk.old layout.now last fetched (bytes_cached cache.old) }
+    requires fetched { Fetches D.state disk.old layout.now limit fetched (bytes_cached cache.old) }
     requires cached { Caches D.state disk.old layout.now cache.old }
-    ensures loaded { OnOk result (number_cached cache.new ≡ Some number) }
+    ensures loaded { OnOk result (IsCached cache.new number) }
     ensures cached { Caches D.state disk.new layout.now cache.new }
-    ensures fetched { IfOk result (λ f. Fetches D.state disk.new layout.now last f (bytes_cached cache.new)) }
+    ensures fetched { IfOk result (λ f. Fetches D.state disk.new layout.now limit f (bytes_cached cache.new)) }
     ensures begun { IfOk result (λ f. f.first ≤ number) }
     ensures later { IfOk result (λ f. fetched.next ≤ f.next) }
-    ensures asked { IfOk result (λ f. AsksAtMost D.state ((max (number + 1) f.next - max number fetched.next) * block_align layout.now.params.channels layout.now.params.codec) disk.old disk.new) }
-    ensures most { AsksAtMost D.state ((last - max number fetched.next) * block_align layout.now.params.channels layout.now.params.codec) disk.old disk.new }
-    ensures bad { IsErrOf result BlockError.BadBlock → (b : List ℕ) → Tells D.state disk.old b →
-        is_bad_block layout.now.params.channels layout.now.params.codec (block_at b layout.now number) ≡ true }
+    ensures asked { IfOk result (λ f. AsksForBlocks D.state layout.now (max (number + 1) f.next - max number fetched.next) disk.old disk.new) }
+    ensures most { AsksForBlocks D.state layout.now (limit - max number fetched.next) disk.old disk.new }
+    ensures bad { RefusesBad D.state disk.old layout.now number result }
     ensures faults { CountsFaultOn D.state disk.old disk.new result }
     ensures reads { OnlyReadsOn D.state D.may_leave D.left_between disk.old disk.new }
 {
-    if cache.number == Some(number) {
+    if cache.has(number) {
         return Ok(fetched);
     }
-    cache.number = None;
-    let fetched = fetch_with(disk, layout, number, last, fetched, &mut cache.bytes)?;
-    decode_fetched(layout, fetched, number, &cache.bytes, &mut cache.samples)?;
-    cache.number = Some(number);
+    cache.count = 0;
+    let fetched = fetch_with(disk, layout, number, limit, fetched, &mut cache.bytes)?;
+    keep_fetched(layout, fetched, number, cache)?;
     Ok(fetched)
 }

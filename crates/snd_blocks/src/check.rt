@@ -16,7 +16,7 @@ use snd_disk::Disk;
 use snd_layout::Layout;
 
 // How many blocks have counted frames.
-fn block_count(layout: &Layout) -> u64
+pub(crate) fn block_count(layout: &Layout) -> u64
     requires { is_adpcm layout.now.params.codec ≡ true }
     ensures { result ≡ (layout.now.frames + block_frames layout.now.params.codec - 1) / block_frames layout.now.params.codec }
 {

@@ -7,17 +7,18 @@ ghost use Rattle.snd_disk.specs.Device.{AsksAtMost, IfOkTold, OnlyReadsOn, Tells
 ghost use Rattle.snd_layout.specs.Blocks.{block_align, block_frames, is_adpcm};
 ghost use Rattle.snd_layout.specs.Shape.{end};
 ghost use Rattle.snd_pcm.specs.Groups.{groups};
-ghost use Rattle.snd_blocks.specs.Cache.{Caches, samples_cached};
+ghost use Rattle.snd_blocks.specs.Cache.{Caches, block_numbers};
 ghost use Rattle.snd_blocks.specs.Calls.{AsksForFrames, CountsFaultOn, IsBlock, block_at};
 ghost use Rattle.snd_blocks.specs.Frames.{HasBadFrame, HasFrames, has_bad, wanted_frames};
 ghost use Rattle.snd_blocks.specs.Spans.{RangesSpan, ReadsSpan, count_before};
 
 use crate::block::{channels_of, frames_of, keeps_blocks, keeps_rules};
 use crate::buffer::BlockCache;
-use crate::cache::{load, reach};
+use crate::cache::load;
+use crate::check::block_count;
 use crate::error::BlockError;
 use crate::fetch::Fetched;
-use crate::four::put_four;
+use crate::four::is_fourfold;
 use snd_disk::Disk;
 use snd_layout::Layout;
 
@@ -69,14 +70,14 @@ fn copy_span(channels: usize, span: Span, samples: &[i32], into: &mut [i32])
     into[from..to].copy_from_slice(&samples[first..last]);
 }
 
-// Puts the wanted frames of a block, which was read last, into their places.
+// Puts the wanted frames of a block into their places.
 fn put_span(
     layout: &Layout,
     place: u64,
     count: usize,
     number: u64,
+    samples: &[i32],
     into: &mut [i32],
-    cache: &BlockCache,
 )
     requires blocks { is_adpcm layout.now.params.codec ≡ true }
     requires within { place + count ≤ layout.now.frames }
@@ -84,16 +85,16 @@ fn put_span(
     requires room { length into.old ≡ layout.now.params.channels * count }
     requires begins { number * block_frames layout.now.params.codec < place + count }
     requires ends { place < number * block_frames layout.now.params.codec + block_frames layout.now.params.codec }
-    requires size { length (samples_cached cache.now) ≡ layout.now.params.channels * block_frames layout.now.params.codec }
-    requires range { All Is16Bit (samples_cached cache.now) }
+    requires size { length samples.now ≡ block_numbers layout.now }
+    requires range { All Is16Bit samples.now }
     ensures told { (b : List ℕ) → end layout.now layout.now.frames ≤ length b →
-        IsBlock layout.now.params (block_at b layout.now number) (samples_cached cache.now) → ReadsSpan b layout.now place count number into.old into.new }
+        IsBlock layout.now.params (block_at b layout.now number) samples.now → ReadsSpan b layout.now place count number into.old into.new }
     ensures range { RangesSpan layout.now place count number into.old into.new }
 {
     keeps_blocks(layout);
     keeps_rules(layout);
     let span = span_of(frames_of(layout), place, count, number);
-    copy_span(channels_of(layout), span, cache.samples.as_slice(), into);
+    copy_span(channels_of(layout), span, samples, into);
 }
 
 // The number behind that of the last block with some of `count` frames from a place on.
@@ -106,6 +107,28 @@ fn last_block(layout: &Layout, place: u64, count: usize) -> u64
     keeps_blocks(layout);
     keeps_rules(layout);
     (place + count as u64 - 1) / u64::from(frames_of(layout)) + 1
+}
+
+// The number behind that of the last block that may be read for `count` frames from a place on: that of the last one
+// with some of them or, where blocks are decoded four at a time, of one behind it that such a call may ask for.
+fn read_limit(layout: &Layout, place: u64, count: usize) -> u64
+    requires blocks { is_adpcm layout.now.params.codec ≡ true }
+    requires within { place + count ≤ layout.now.frames }
+    requires some { 1 ≤ count }
+    ensures wanted { (place + count - 1) / block_frames layout.now.params.codec < result }
+    ensures counted { (result - 1) * block_frames layout.now.params.codec < layout.now.frames }
+    ensures most { result - place / block_frames layout.now.params.codec ≤ count / block_frames layout.now.params.codec + 2 }
+{
+    keeps_blocks(layout);
+    if !is_fourfold(layout) {
+        return last_block(layout, place, count);
+    }
+    let per_block = u64::from(frames_of(layout));
+    let first = place / per_block;
+    first
+        + (count as u64 / per_block)
+            .saturating_add(2)
+            .min(block_count(layout) - first)
 }
 
 /// Reads frames of an ADPCM file, as `read_frames` does, by a cache that stands for this file: a block that
@@ -137,17 +160,18 @@ pub fn read_cached<D: Disk>(
     }
     let first = place / u64::from(frames_of(layout));
     let last = last_block(layout, place, count);
+    let limit = read_limit(layout, place, count);
     let mut fetched = Fetched { first, next: first };
-    let mut number = first;
-    while number < last {
-        fetched = reach(disk, layout, number, last, fetched, cache)?;
-        if put_four(layout, place, count, number, fetched, &cache.bytes, into) {
-            number += 4;
-        } else {
-            fetched = load(disk, layout, number, last, fetched, cache)?;
-            put_span(layout, place, count, number, into, cache);
-            number += 1;
-        }
+    for number in first..last {
+        fetched = load(disk, layout, number, limit, fetched, cache)?;
+        put_span(
+            layout,
+            place,
+            count,
+            number,
+            cache.block(layout, number),
+            into,
+        );
     }
     Ok(())
 }

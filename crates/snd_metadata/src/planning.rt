@@ -21,7 +21,7 @@ use crate::places::chunks_of;
 use crate::settings::summary_of;
 use snd_container::fit;
 use snd_disk::Disk;
-use snd_layout::{Codec, Kind};
+use snd_layout::Kind;
 use snd_lines::Refusal;
 use snd_modes::{File, Read};
 use snd_room::room_with;
@@ -32,13 +32,6 @@ fn holds_meta(kind: Kind) -> bool
     ensures { result ≡ holds_meta kind }
 {
     matches!(kind, Kind::Wave | Kind::Rf64)
-}
-
-// Whether the samples of a codec stand in blocks.
-fn is_adpcm(codec: Codec) -> bool
-    ensures { result ≡ is_adpcm codec }
-{
-    matches!(codec, Codec::Ima { .. } | Codec::Ms { .. })
 }
 
 // Whether the head of a file with these chunks has no room for the data of an open file.
@@ -93,7 +86,7 @@ pub(crate) fn plan_of<D: Disk>(
     if !holds_meta(file.kind()) {
         return Err(Halt::Input(Refusal::NoChunks));
     }
-    if is_adpcm(file.params().codec) {
+    if file.params().codec.is_adpcm() {
         return Err(Halt::Input(Refusal::AdpcmUpdate));
     }
     let summary = summary_of(settings);

@@ -1,7 +1,7 @@
 -- The block that a handle has read last.
 use Rattle.std.specs.Prelude.{◌≡◌, Option, None, Some}
 use Rattle.std.specs.Global.{Box}
-use Rattle.snd_blocks.specs.Cache.{Caches, number_cached}
+use Rattle.snd_blocks.specs.Cache.{Caches, count_cached}
 use Rattle.snd_blocks.specs.declared.buffer.BlockCache.{BlockCache}
 use Rattle.snd_disk.specs.State.{State}
 use Rattle.snd_layout.specs.Shape.{Shape}
@@ -12,4 +12,4 @@ CachesIn state disk s cache = (c : Box BlockCache) → cache ≡ Some c → Cach
 
 -- .. as it begins, none
 abbrev pub IsEmpty : Option (Box BlockCache) → Type 0
-IsEmpty cache = (c : Box BlockCache) → cache ≡ Some c → number_cached c.value ≡ None
+IsEmpty cache = (c : Box BlockCache) → cache ≡ Some c → count_cached c.value ≡ 0

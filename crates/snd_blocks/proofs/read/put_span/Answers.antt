@@ -1,4 +1,4 @@
-use Rattle.std.proofs.Common.{rules, ◌≡◌, ◌∙◌, sym, subst, ◌+◌, ◌*◌, ◌++◌, All, List, drop, take, ℕ, ℤ, arith}
+use Rattle.std.proofs.Common.{rules, ◌≡◌, sym, subst, ◌+◌, ◌*◌, ◌++◌, All, List, drop, take, ℕ, ℤ, arith}
 use Rattle.std.proofs.lemmas.List.Elements.{All-append, All-drop, All-take}
 use Rattle.snd_adpcm.specs.Frames.{Is16Bit}
 use Rattle.snd_layout.specs.Blocks.{block_frames}
@@ -29,10 +29,10 @@ returns-clause-told c = λ b fits block so_far.
       some = c.span_of-span.ensures.some;
     } in
     let channels : c.channels_of.result ≡ k = c.channels_of.ensures.value in
-    let samples : c.as_slice.result.now ≡ block_samples k s.params.codec (block_at b s c.args.number) = c.as_slice.ensures.value ∙ block.samples_of in
+    let samples : c.args.samples.now ≡ block_samples k s.params.codec (block_at b s c.args.number) = block.samples_of in
     let copied : take (k * (span.done + span.count)) c.copy_span.new.into
-    ≡ take (k * span.done) c.args.into.now ++ take (k * span.count) (drop (k * span.skipped) c.as_slice.result.now) =
-    subst (λ (m : ℕ). take (m * (span.done + span.count)) c.copy_span.new.into ≡ take (m * span.done) c.args.into.now ++ take (m * span.count) (drop (m * span.skipped) c.as_slice.result.now))
+    ≡ take (k * span.done) c.args.into.now ++ take (k * span.count) (drop (k * span.skipped) c.args.samples.now) =
+    subst (λ (m : ℕ). take (m * (span.done + span.count)) c.copy_span.new.into ≡ take (m * span.done) c.args.into.now ++ take (m * span.count) (drop (m * span.skipped) c.args.samples.now))
     channels c.copy_span.ensures in
     subst (λ (m : ℕ). first_groups k m c.copy_span.new.into ≡ take m wanted) next
     (good_span b s c.args.place c.args.count c.args.number c.keeps_blocks.ensures fits c.requires.within span.skipped span.done span.count c.args.into.now c.copy_span.new.into is
@@ -51,12 +51,11 @@ returns-clause-range c = λ so_far.
     let next : span.done + span.count ≡ count_before per c.args.place c.args.count (c.args.number + 1) = search rules in
     let channels : c.channels_of.result ≡ k = c.channels_of.ensures.value in
     let copied : take (k * (span.done + span.count)) c.copy_span.new.into
-    ≡ take (k * span.done) c.args.into.now ++ take (k * span.count) (drop (k * span.skipped) c.as_slice.result.now) =
-    subst (λ (m : ℕ). take (m * (span.done + span.count)) c.copy_span.new.into ≡ take (m * span.done) c.args.into.now ++ take (m * span.count) (drop (m * span.skipped) c.as_slice.result.now))
+    ≡ take (k * span.done) c.args.into.now ++ take (k * span.count) (drop (k * span.skipped) c.args.samples.now) =
+    subst (λ (m : ℕ). take (m * (span.done + span.count)) c.copy_span.new.into ≡ take (m * span.done) c.args.into.now ++ take (m * span.count) (drop (m * span.skipped) c.args.samples.now))
     channels c.copy_span.ensures in
-    let fresh : All Is16Bit c.as_slice.result.now = subst (All Is16Bit) (sym c.as_slice.ensures.value) c.requires.range in
-    let part = take (k * span.count) (drop (k * span.skipped) c.as_slice.result.now) in
+    let part = take (k * span.count) (drop (k * span.skipped) c.args.samples.now) in
     let before : All Is16Bit (take (k * span.done) c.args.into.now) = subst (λ (m : ℕ). All Is16Bit (take (k * m) c.args.into.now)) (sym done) so_far in
     subst (λ (m : ℕ). All Is16Bit (take (k * m) c.copy_span.new.into)) next
     (subst (All Is16Bit) (sym copied)
-    (All-append Is16Bit (take (k * span.done) c.args.into.now) part before (All-take Is16Bit (k * span.count) (drop (k * span.skipped) c.as_slice.result.now) (All-drop Is16Bit (k * span.skipped) c.as_slice.result.now fresh))))
+    (All-append Is16Bit (take (k * span.done) c.args.into.now) part before (All-take Is16Bit (k * span.count) (drop (k * span.skipped) c.args.samples.now) (All-drop Is16Bit (k * span.skipped) c.args.samples.now c.requires.range))))

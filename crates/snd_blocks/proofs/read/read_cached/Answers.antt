@@ -1,5 +1,6 @@
-use Rattle.std.proofs.Common.{rules, true, ◌≡◌, ◌∙◌, ap, sym, subst, refl, ◌+◌, ◌-◌, ◌*◌, ◌/◌, ◌≤◌, ℕ, ℤ, All, List, length, max, take, arith}
-use Rattle.std.proofs.Math.Nat.{mul-div-le}
+use Rattle.std.proofs.Common.{rules, true, ◌≡◌, ◌∙◌, ap, sym, subst, refl, ◌+◌, ◌-◌, ◌*◌, ◌/◌, ◌≤◌, ℕ, All, drop, length, max, arith}
+use Rattle.std.proofs.Math.Nat.{mul-div-le, mul-le-mul_right}
+use Rattle.std.proofs.lemmas.List.Elements.{All-drop, All-take}
 use Rattle.std.proofs.lemmas.List.{length-take, take_all}
 use Rattle.snd_adpcm.specs.Frames.{Is16Bit}
 use Rattle.snd_disk.specs.Device.{Tells}
@@ -7,9 +8,11 @@ use Rattle.snd_disk.proofs.Chains.{only_reads_then}
 use Rattle.snd_layout.specs.Blocks.{block_align, block_frames}
 use Rattle.snd_layout.specs.Shape.{end}
 use Rattle.snd_pcm.specs.Groups.{first_groups}
+use Rattle.snd_blocks.specs.Cache.{block_numbers, samples_cached}
+use Rattle.snd_blocks.specs.Calls.{IsBlock, block_at}
 use Rattle.snd_blocks.specs.Frames.{has_bad, wanted_frames}
-use Rattle.snd_blocks.specs.Spans.{HasSpan, count_before}
-use Rattle.snd_blocks.proofs.Places.{all_before, begins_before, bytes_between, ends_behind, first_before_last, none_before, whole_product}
+use Rattle.snd_blocks.specs.Spans.{count_before}
+use Rattle.snd_blocks.proofs.Places.{all_before, begins_before, ends_behind, first_before_last, none_before, whole_product}
 use Rattle.snd_blocks.proofs.Fetches.{asked_then}
 use Rattle.snd_blocks.proofs.ReadSpans.{bad_span, no_bad_span, no_span, whole_span}
 use Rattle.snd_blocks.proofs.read.read_cached.Goals as goal
@@ -23,11 +26,7 @@ loop-number-init g c =
     let size : per ≡ c.from.result = search rules in
     let none : count_before per c.args.place count first ≡ 0 =
     subst (λ (m : ℕ). count_before per c.args.place count (c.args.place / m) ≡ 0) size (none_before per c.args.place count c.keeps_blocks.ensures.some_frames) in
-    let until : c.args.place / c.from.result ≤ c.last_block-last.result =
-    omega (arith, c.last_block-last.ensures, subst (λ (m : ℕ). c.args.place / m ≤ (c.args.place + count - 1) / per + 1) size (first_before_last per c.args.place count c.keeps_blocks.ensures.some_frames (omega (arith, c.if-count-eq0.false)))) in
     record {
-      from = omega arith;
-      until = until;
       told = λ b told. no_span b s c.args.place count (c.args.place / c.from.result) c.args.into.now none;
       range = λ k d lt. absurd (omega (arith, lt, length-take (s.params.channels * count_before per c.args.place count (c.args.place / c.from.result)) c.args.into.now, ap (λ (m : ℕ). s.params.channels * m) none));
       calm = refl;
@@ -37,45 +36,9 @@ loop-number-init g c =
       fetched = record {
         right = λ b told n begun left. absurd (omega (arith, begun, left));
         room = omega (arith, ap (λ (m : ℕ). m * block_align s.params.channels s.params.codec) (let e : first - first ≡ 0 = omega arith in e));
-        most = until;
+        most = omega (arith, c.read_limit-limit.ensures.wanted, subst (λ (m : ℕ). c.args.place / m ≤ (c.args.place + count - 1) / per + 1) size (first_before_last per c.args.place count c.keeps_blocks.ensures.some_frames (omega (arith, c.if-count-eq0.false))));
       };
       cached = c.requires.cached;
-    }
-
-pub put_four-requires-clause-begins : goal.put_four-requires-clause-begins
-put_four-requires-clause-begins g c =
-    begins_before (block_frames c.args.layout.now.params.codec) c.args.place (length c.args.into.now / c.channels_of.result) c.loop-number.number
-    (omega (arith, c.if-count-eq0.false)) (omega (arith, c.loop-number-test.true, c.last_block-last.ensures))
-
-pub loop-number-preserved-then-put_four : goal.loop-number-preserved-then-put_four
-loop-number-preserved-then-put_four g c =
-    let s = c.args.layout.now in
-    let align = block_align s.params.channels s.params.codec in
-    let inv = c.loop-number.invariant in
-    let n = c.loop-number.number in
-    let first = c.args.place / c.from.result in
-    let before = max n c.loop-number.fetched.next in
-    let now = max n c.in_ok-fetched.fetched.next in
-    let read : n + 4 ≤ c.in_ok-fetched.fetched.next = c.put_four.ensures.read c.if-put_four.true in
-    let sum : (before - first) * align + (now - before) * align ≡ (now - first) * align = asked_then first before now align (omega (arith, inv.from)) (omega (arith, c.in_ok-fetched.ensures.later)) in
-    let on : (max (n + 4) c.in_ok-fetched.fetched.next - first) * align ≡ (now - first) * align = ap (λ (m : ℕ). (m - first) * align) (omega (arith, read)) in
-    record {
-      from = omega (arith, inv.from);
-      until = omega (arith, read, c.in_ok-fetched.ensures.fetched.most);
-      told = λ b told.
-          let fits : end s s.frames ≤ length b = omega (arith, c.requires.held, g.met.D.Disk.size_told c.args.disk.now b told) in
-          let here : Tells g.D.Disk.state c.reach.new.disk b = c.reach.ensures.reads.keeps.contents ∙ inv.reads.keeps.contents ∙ told in
-          c.put_four.ensures.told c.if-put_four.true b fits (c.in_ok-fetched.ensures.fetched.right b here) (inv.told b told);
-      range = c.put_four.ensures.range c.if-put_four.true inv.range;
-      calm = search rules;
-      reads = only_reads_then _ _ _ _ _ _ _ _ _ inv.reads c.reach.ensures.reads;
-      asked = record {
-        later = omega (arith, inv.asked.later, c.in_ok-fetched.ensures.asked.later);
-        most = omega (arith, sum, on, inv.asked.most, c.in_ok-fetched.ensures.asked.most);
-      };
-      begun = omega (arith, c.in_ok-fetched.ensures.begun);
-      fetched = c.in_ok-fetched.ensures.fetched;
-      cached = c.reach.ensures.cached;
     }
 
 pub put_span-requires-clause-begins : goal.put_span-requires-clause-begins
@@ -87,57 +50,56 @@ pub put_span-requires-clause-ends : goal.put_span-requires-clause-ends
 put_span-requires-clause-ends g c =
     let per = block_frames c.args.layout.now.params.codec in
     let size : per ≡ c.from.result = search rules in
-    ends_behind per c.args.place c.loop-number.number c.keeps_blocks.ensures.some_frames (subst (λ (m : ℕ). c.args.place / m ≤ c.loop-number.number) (sym size) c.loop-number.invariant.from)
+    let from : c.args.place / c.from.result ≤ c.loop-number.number = omega (arith, c.loop-number.auto.number) in
+    ends_behind per c.args.place c.loop-number.number c.keeps_blocks.ensures.some_frames (subst (λ (m : ℕ). c.args.place / m ≤ c.loop-number.number) (sym size) from)
 
 pub put_span-requires-clause-range : goal.put_span-requires-clause-range
-put_span-requires-clause-range g c = c.load.ensures.cached.range c.loop-number.number c.in_ok-fetched-2.ensures.loaded
+put_span-requires-clause-range g c =
+    let s = c.args.layout.now in
+    let samples = samples_cached c.load.new.cache in
+    let at = (c.loop-number.number - c.load.new.cache.first) * block_numbers s in
+    subst (All Is16Bit) (sym c.block.ensures.value)
+    (All-take Is16Bit (block_numbers s) (drop at samples) (All-drop Is16Bit at samples (c.load.ensures.cached.range c.loop-number.number c.in_ok-fetched.ensures.loaded)))
 
 pub loop-number-preserved : goal.loop-number-preserved
 loop-number-preserved g c =
     let s = c.args.layout.now in
     let align = block_align s.params.channels s.params.codec in
-    let count = length c.args.into.now / c.channels_of.result in
-    let inv = c.loop-number.invariant in
     let n = c.loop-number.number in
-    let first = c.args.place / c.from.result in
     let before = max n c.loop-number.fetched.next in
-    let mid = max n c.in_ok-fetched.fetched.next in
-    let now = max (n + 1) c.in_ok-fetched-2.fetched.next in
-    let same : c.put_four.new.into ≡ c.loop-number.into = c.put_four.ensures.same c.if-put_four.false in
-    let sum : (before - first) * align + (mid - before) * align ≡ (mid - first) * align = asked_then first before mid align (omega (arith, inv.from)) (omega (arith, c.in_ok-fetched.ensures.later)) in
-    let all : (mid - first) * align + (now - mid) * align ≡ (now - first) * align = asked_then first mid now align (omega (arith, inv.from)) (omega (arith, c.in_ok-fetched-2.ensures.later)) in
+    let now = max (n + 1) c.in_ok-fetched.fetched.next in
+    let sum : (before - c.args.place / c.from.result) * align + (now - before) * align ≡ (now - c.args.place / c.from.result) * align =
+    asked_then (c.args.place / c.from.result) before now align (omega (arith, c.loop-number.auto.number)) (omega (arith, c.in_ok-fetched.ensures.later)) in
     record {
-      from = omega (arith, inv.from);
-      until = omega (arith, c.loop-number-test.true);
       told = λ b told.
           let fits : end s s.frames ≤ length b = omega (arith, c.requires.held, g.met.D.Disk.size_told c.args.disk.now b told) in
-          let here : Tells g.D.Disk.state c.load.new.disk b = c.load.ensures.reads.keeps.contents ∙ c.reach.ensures.reads.keeps.contents ∙ inv.reads.keeps.contents ∙ told in
-          c.put_span.ensures.told b fits (c.load.ensures.cached.right n b c.in_ok-fetched-2.ensures.loaded here) (subst (λ (l : List ℤ). HasSpan b s c.args.place count n l) (sym same) (inv.told b told));
-      range = c.put_span.ensures.range (subst (λ (l : List ℤ). All Is16Bit (take (s.params.channels * count_before (block_frames s.params.codec) c.args.place count n) l)) (sym same) inv.range);
+          let here : Tells g.D.Disk.state c.load.new.disk b = c.load.ensures.reads.keeps.contents ∙ c.loop-number.invariant.reads.keeps.contents ∙ told in
+          c.put_span.ensures.told b fits (subst (IsBlock s.params (block_at b s n)) (sym c.block.ensures.value) (c.load.ensures.cached.right n b c.in_ok-fetched.ensures.loaded here)) (c.loop-number.invariant.told b told);
+      range = c.put_span.ensures.range c.loop-number.invariant.range;
       calm = search rules;
-      reads = only_reads_then _ _ _ _ _ _ _ _ _ (only_reads_then _ _ _ _ _ _ _ _ _ inv.reads c.reach.ensures.reads) c.load.ensures.reads;
+      reads = only_reads_then _ _ _ _ _ _ _ _ _ c.loop-number.invariant.reads c.load.ensures.reads;
       asked = record {
-        later = omega (arith, inv.asked.later, c.in_ok-fetched.ensures.asked.later, c.in_ok-fetched-2.ensures.asked.later);
-        most = omega (arith, sum, all, inv.asked.most, c.in_ok-fetched.ensures.asked.most, c.in_ok-fetched-2.ensures.asked.most);
+        later = omega (arith, c.loop-number.invariant.asked.later, c.in_ok-fetched.ensures.asked.later);
+        most = omega (arith, sum, c.loop-number.invariant.asked.most, c.in_ok-fetched.ensures.asked.most);
       };
-      begun = omega (arith, c.in_ok-fetched-2.ensures.begun);
-      fetched = c.in_ok-fetched-2.ensures.fetched;
+      begun = omega (arith, c.in_ok-fetched.ensures.begun);
+      fetched = c.in_ok-fetched.ensures.fetched;
       cached = c.load.ensures.cached;
     }
 
-pub returns-in_err-fetched-2-clause-bad : goal.returns-in_err-fetched-2-clause-bad
-returns-in_err-fetched-2-clause-bad g c = λ is b told.
+pub returns-in_err-fetched-clause-bad : goal.returns-in_err-fetched-clause-bad
+returns-in_err-fetched-clause-bad g c = λ is b told.
     let s = c.args.layout.now in
     let n = c.loop-number.number in
     let count = length c.args.into.now / c.channels_of.result in
     let fits : end s s.frames ≤ length b = omega (arith, c.requires.held, g.met.D.Disk.size_told c.args.disk.now b told) in
-    let here : Tells g.D.Disk.state c.reach.new.disk b = c.reach.ensures.reads.keeps.contents ∙ c.loop-number.invariant.reads.keeps.contents ∙ told in
+    let here : Tells g.D.Disk.state c.loop-number.disk b = c.loop-number.invariant.reads.keeps.contents ∙ told in
     let per = block_frames s.params.codec in
     let some : 1 ≤ count = omega (arith, c.if-count-eq0.false) in
     let size : per ≡ c.from.result = search rules in
     let begins = begins_before per c.args.place count n some (omega (arith, c.loop-number-test.true, c.last_block-last.ensures)) in
-    let ends = ends_behind per c.args.place n c.keeps_blocks.ensures.some_frames (subst (λ (m : ℕ). c.args.place / m ≤ n) (sym size) c.loop-number.invariant.from) in
-    let bad = bad_span b s c.args.place count n c.keeps_blocks.ensures fits (search rules) begins ends some (search (rules, c.in_err-fetched-2.ensures.bad)) in
+    let ends = ends_behind per c.args.place n c.keeps_blocks.ensures.some_frames (subst (λ (m : ℕ). c.args.place / m ≤ n) (sym size) (omega (arith, c.loop-number.auto.number))) in
+    let bad = bad_span b s c.args.place count n c.keeps_blocks.ensures fits (search rules) begins ends some (search (rules, c.in_err-fetched.ensures.bad)) in
     subst (λ (m : ℕ). has_bad (wanted_frames b s c.args.place (length c.args.into.now / m)) ≡ true) c.channels_of.ensures.value bad
 
 pub returns-in_err-fetched-clause-asked : goal.returns-in_err-fetched-clause-asked
@@ -147,46 +109,19 @@ returns-in_err-fetched-clause-asked g c =
     let per = block_frames s.params.codec in
     let align = block_align k s.params.codec in
     let count = length c.args.into.now / c.channels_of.result in
-    let last = c.last_block-last.result in
+    let limit = c.read_limit-limit.result in
     let first = c.args.place / c.from.result in
     let before = max c.loop-number.number c.loop-number.fetched.next in
-    let some : 1 ≤ count = omega (arith, c.if-count-eq0.false) in
-    let sum : (before - first) * align + (last - before) * align ≡ (last - first) * align =
-    asked_then first before last align (omega (arith, c.loop-number.invariant.from)) (omega (arith, c.loop-number-test.true, c.loop-number.invariant.fetched.most)) in
+    let sum : (before - first) * align + (limit - before) * align ≡ (limit - first) * align =
+    asked_then first before limit align (omega (arith, c.loop-number.auto.number))
+    (omega (arith, c.loop-number-test.true, c.last_block-last.ensures, c.read_limit-limit.ensures.wanted, c.loop-number.invariant.fetched.most)) in
     let size : per ≡ c.from.result = search rules in
-    let all : (last - first) * align ≤ (count / per + 2) * align =
-    subst (λ (m : ℕ). (last - c.args.place / m) * align ≤ (count / per + 2) * align) size
-    (bytes_between per c.args.place count last align c.keeps_blocks.ensures.some_frames some (omega (arith, c.last_block-last.ensures))) in
+    let all : (limit - first) * align ≤ (count / per + 2) * align =
+    subst (λ (m : ℕ). (limit - c.args.place / m) * align ≤ (count / per + 2) * align) size (mul-le-mul_right align c.read_limit-limit.ensures.most) in
     let wanted : (count / per + 2) * align ≡ (length c.args.into.now / k / per + 2) * align = ap (λ (m : ℕ). (length c.args.into.now / m / per + 2) * align) c.channels_of.ensures.value in
     record {
-      later = omega (arith, c.loop-number.invariant.asked.later, c.reach.ensures.most.later);
-      most = omega (arith, sum, all, wanted, c.loop-number.invariant.asked.most, c.reach.ensures.most.most);
-    }
-
-pub returns-in_err-fetched-2-clause-asked : goal.returns-in_err-fetched-2-clause-asked
-returns-in_err-fetched-2-clause-asked g c =
-    let s = c.args.layout.now in
-    let k = s.params.channels in
-    let per = block_frames s.params.codec in
-    let align = block_align k s.params.codec in
-    let count = length c.args.into.now / c.channels_of.result in
-    let last = c.last_block-last.result in
-    let first = c.args.place / c.from.result in
-    let before = max c.loop-number.number c.loop-number.fetched.next in
-    let mid = max c.loop-number.number c.in_ok-fetched.fetched.next in
-    let some : 1 ≤ count = omega (arith, c.if-count-eq0.false) in
-    let sum : (before - first) * align + (mid - before) * align ≡ (mid - first) * align =
-    asked_then first before mid align (omega (arith, c.loop-number.invariant.from)) (omega (arith, c.in_ok-fetched.ensures.later)) in
-    let rest : (mid - first) * align + (last - mid) * align ≡ (last - first) * align =
-    asked_then first mid last align (omega (arith, c.loop-number.invariant.from)) (omega (arith, c.loop-number-test.true, c.in_ok-fetched.ensures.fetched.most)) in
-    let size : per ≡ c.from.result = search rules in
-    let all : (last - first) * align ≤ (count / per + 2) * align =
-    subst (λ (m : ℕ). (last - c.args.place / m) * align ≤ (count / per + 2) * align) size
-    (bytes_between per c.args.place count last align c.keeps_blocks.ensures.some_frames some (omega (arith, c.last_block-last.ensures))) in
-    let wanted : (count / per + 2) * align ≡ (length c.args.into.now / k / per + 2) * align = ap (λ (m : ℕ). (length c.args.into.now / m / per + 2) * align) c.channels_of.ensures.value in
-    record {
-      later = omega (arith, c.loop-number.invariant.asked.later, c.in_ok-fetched.ensures.asked.later, c.load.ensures.most.later);
-      most = omega (arith, sum, rest, all, wanted, c.loop-number.invariant.asked.most, c.in_ok-fetched.ensures.asked.most, c.load.ensures.most.most);
+      later = omega (arith, c.loop-number.invariant.asked.later, c.load.ensures.most.later);
+      most = omega (arith, sum, all, wanted, c.loop-number.invariant.asked.most, c.load.ensures.most.most);
     }
 
 pub returns-clause-told : goal.returns-clause-told
@@ -234,11 +169,18 @@ returns-clause-asked g c =
     let some : 1 ≤ count = omega (arith, c.if-count-eq0.false) in
     let size : per ≡ c.from.result = search rules in
     let reach = max c.loop-number.number c.loop-number.fetched.next in
-    let last : reach ≤ (c.args.place + count - 1) / per + 1 =
-    omega (arith, c.loop-number.invariant.fetched.most, c.loop-number.invariant.until, c.last_block-last.ensures, subst (λ (m : ℕ). c.args.place / m ≤ (c.args.place + count - 1) / per + 1) size (first_before_last per c.args.place count c.keeps_blocks.ensures.some_frames some)) in
+    let within : reach ≤ c.read_limit-limit.result =
+    omega (
+      arith,
+      c.loop-number.invariant.fetched.most,
+      c.loop-number.auto.number-end,
+      c.last_block-last.ensures,
+      c.read_limit-limit.ensures.wanted,
+      subst (λ (m : ℕ). c.args.place / m ≤ (c.args.place + count - 1) / per + 1) size (first_before_last per c.args.place count c.keeps_blocks.ensures.some_frames some),
+    ) in
     let all : (reach - c.args.place / c.from.result) * align ≤ (count / per + 2) * align =
     subst (λ (m : ℕ). (reach - c.args.place / m) * align ≤ (count / per + 2) * align) size
-    (bytes_between per c.args.place count reach align c.keeps_blocks.ensures.some_frames some last) in
+    (mul-le-mul_right align (omega (arith, within, c.read_limit-limit.ensures.most))) in
     let wanted : (count / per + 2) * align ≡ (length c.args.into.now / k / per + 2) * align = ap (λ (m : ℕ). (length c.args.into.now / m / per + 2) * align) c.channels_of.ensures.value in
     record {
       later = c.loop-number.invariant.asked.later;

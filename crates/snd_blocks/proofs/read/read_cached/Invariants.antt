@@ -10,17 +10,12 @@ use Rattle.snd_blocks.proofs.read.read_cached.Given as goal
 abbrev pub invariant-loop-number : goal.invariant-loop-number
 invariant-loop-number g l =
     record {
-      from : l.first ≤ l.number;
-      until : l.number ≤ l.last;
       told : (b : List ℕ) → Tells g.D.Disk.state l.fn.disk b → HasSpan b l.layout l.place l.count l.number l.into;
       range : All Is16Bit (take (l.layout.params.channels * count_before (block_frames l.layout.params.codec) l.place l.count l.number) l.into);
       calm : (g.D.Disk.state l.disk).faults ≡ (g.D.Disk.state l.fn.disk).faults;
       reads : OnlyReadsOn g.D.Disk.state g.D.Disk.may_leave g.D.Disk.left_between l.fn.disk l.disk;
       asked : AsksAtMost g.D.Disk.state ((max l.number l.fetched.next - l.first) * block_align l.layout.params.channels l.layout.params.codec) l.fn.disk l.disk;
       begun : l.fetched.first ≤ l.number;
-      fetched : Fetches g.D.Disk.state l.disk l.layout l.last l.fetched (bytes_cached l.cache);
+      fetched : Fetches g.D.Disk.state l.disk l.layout l.limit l.fetched (bytes_cached l.cache);
       cached : Caches g.D.Disk.state l.disk l.layout l.cache;
     }
-
-abbrev pub decreases-loop-number : goal.decreases-loop-number
-decreases-loop-number g l = l.last - l.number
