@@ -55,8 +55,9 @@ def first_difference(what, got, want):
     return [f"{what}: {len(got)} bytes for {len(want)}, other from byte {at} on: {got[begin:at + 60]!r} for {want[begin:at + 60]!r}"]
 
 
-def run(program, words, script, out, err, status):
-    """Runs the program once. The faults: its streams, its status, and what became of the files of the current folder."""
+def run(program, words, script, out, err, status, changes=()):
+    """Runs the program once. The faults: its streams, its status, and what became of the files of the current folder, but for those
+    whose paths are in `changes`."""
     before = sums()
     try:
         done = subprocess.run([program, *words], input=script, capture_output=True, timeout=SECONDS)
@@ -66,5 +67,5 @@ def run(program, words, script, out, err, status):
     if done.returncode != status:
         wrong.append(f"status {done.returncode} for {status}")
     after = sums()
-    wrong += [f"{name} was changed, made or removed" for name in sorted({*before, *after}) if before.get(name) != after.get(name)]
-    return wrong
+    others = sorted({*before, *after} - {*changes})
+    return wrong + [f"{name} was changed, made or removed" for name in others if before.get(name) != after.get(name)]
