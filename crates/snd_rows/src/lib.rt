@@ -4,12 +4,6 @@
 
 #[cfg(test)]
 mod calls;
-#[cfg(test)]
-mod conditions;
-#[cfg(test)]
-mod containers;
-#[cfg(test)]
-mod kinds;
 mod memory;
 #[cfg(test)]
 mod tests;
