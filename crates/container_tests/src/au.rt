@@ -2,7 +2,7 @@
 use snd_au::*;
 use snd_disk::MemoryDisk;
 use snd_fields::Order;
-use snd_layout::{Codec, Kind, OpenError, OpenRefusal, Params};
+use snd_layout::{OpenError, OpenRefusal};
 use std::alloc::Global;
 use std::test::Fail;
 
@@ -67,49 +67,6 @@ fn reads_layouts(rt: HostRuntime) -> Result<(), Fail> {
     keeps_laws();
     for (i, (order, bytes, says)) in FILES.iter().enumerate() {
         assert_eq!(rt; said(rt.alloc(), *order, bytes)?, *says, "file {i}");
-    }
-    Ok(())
-}
-
-/// Files of libsndfile without frames: 8000 frames a second in stereo.
-static HEADS: [(Order, Codec, &'static [u8]); 4] = [
-    (
-        Order::Big,
-        Codec::S16(Order::Big),
-        b".snd\0\0\0\x18\0\0\0\0\0\0\0\x03\0\0\x1f\x40\0\0\0\x02",
-    ),
-    (
-        Order::Big,
-        Codec::S8,
-        b".snd\0\0\0\x18\0\0\0\0\0\0\0\x02\0\0\x1f\x40\0\0\0\x02",
-    ),
-    (
-        Order::Little,
-        Codec::ALaw,
-        b"dns.\x18\0\0\0\0\0\0\0\x1b\0\0\0\x40\x1f\0\0\x02\0\0\0",
-    ),
-    (
-        Order::Little,
-        Codec::S32(Order::Little),
-        b"dns.\x18\0\0\0\0\0\0\0\x05\0\0\0\x40\x1f\0\0\x02\0\0\0",
-    ),
-];
-
-#[test]
-fn lays_heads(rt: HostRuntime) -> Result<(), Fail> {
-    for (order, codec, head) in HEADS.iter() {
-        let alloc = rt.alloc();
-        let params = Params::new(2, 8000, *codec)?;
-        let kind = match order {
-            Order::Big => Kind::Au,
-            Order::Little => Kind::Dns,
-        };
-        assert!(rt; kind.refusal_of(&params).is_none());
-        let mut disk = MemoryDisk::new(alloc, b"what stood there".to_vec(alloc)?, Vec::new(alloc))?;
-        let layout = lay_head(alloc, &mut disk, *order, params)?;
-        assert_eq!(rt; disk.bytes(), *head);
-        assert_eq!(rt; layout.start, head.len() as u64);
-        assert_eq!(rt; room(&layout), 4_294_967_294);
     }
     Ok(())
 }

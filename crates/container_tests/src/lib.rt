@@ -4,6 +4,8 @@
 #[cfg(test)]
 mod au;
 #[cfg(test)]
+mod heads;
+#[cfg(test)]
 mod layout;
 #[cfg(test)]
 mod rf64;
@@ -13,8 +15,6 @@ mod room;
 mod sphere;
 #[cfg(test)]
 mod svx;
-#[cfg(test)]
-mod voc;
 #[cfg(test)]
 mod w64;
 #[cfg(test)]

@@ -1,40 +1,9 @@
-//! Heads that are laid, written out by hand from the format's specification.
+//! Chunks that are put into a head, written out by hand from the format's specification.
 use snd_disk::MemoryDisk;
 use snd_fields::{Id4, Order};
 use snd_layout::{Codec, Kind, Params};
 use snd_rf64::*;
 use std::test::Fail;
-
-/// The parameters, and the head of a file with no frames.
-static HEADS: [(u64, u64, Codec, &'static [u8]); 2] = [
-    (
-        1,
-        8000,
-        Codec::S16(Order::Little),
-        b"RF64\xff\xff\xff\xffWAVEds64\x1c\0\0\0\x48\0\0\0\0\0\0\0\0\0\0\0\0\0\0\0\0\0\0\0\0\0\0\0\0\0\0\0fmt \x10\0\0\0\x01\0\x01\0\x40\x1f\0\0\x80\x3e\0\0\x02\0\x10\0data\xff\xff\xff\xff",
-    ),
-    (
-        2,
-        8000,
-        Codec::ALaw,
-        b"RF64\xff\xff\xff\xffWAVEds64\x1c\0\0\0\x4a\0\0\0\0\0\0\0\0\0\0\0\0\0\0\0\0\0\0\0\0\0\0\0\0\0\0\0fmt \x12\0\0\0\x06\0\x02\0\x40\x1f\0\0\x80\x3e\0\0\x02\0\x08\0\0\0data\xff\xff\xff\xff",
-    ),
-];
-
-#[test]
-fn lays_heads(rt: HostRuntime) -> Result<(), Fail> {
-    keeps_laws();
-    for (channels, rate, codec, head) in HEADS.iter() {
-        let alloc = rt.alloc();
-        let params = Params::new(*channels, *rate, *codec)?;
-        assert!(rt; Kind::Rf64.refusal_of(&params).is_none());
-        let mut disk = MemoryDisk::new(alloc, b"what stood there".to_vec(alloc)?, Vec::new(alloc))?;
-        let layout = lay_head(alloc, &mut disk, params)?;
-        assert_eq!(rt; disk.bytes(), *head);
-        assert_eq!(rt; layout.start, head.len() as u64);
-    }
-    Ok(())
-}
 
 #[test]
 fn puts_pieces(rt: HostRuntime) -> Result<(), Fail> {

@@ -1,25 +1,9 @@
-//! The head that is made.
+//! Chunks that are put into a head, written out by hand from the format's specification.
 use snd_disk::MemoryDisk;
 use snd_fields::Id4;
 use snd_layout::{Codec, Field, Kind, Params};
 use snd_svx::*;
 use std::test::Fail;
-
-#[test]
-fn lays_a_head(rt: HostRuntime) -> Result<(), Fail> {
-    keeps_laws();
-    let alloc = rt.alloc();
-    let params = Params::new(1, 8000, Codec::S8)?;
-    assert!(rt; Kind::Svx.refusal_of(&params).is_none());
-    let mut disk = MemoryDisk::new(alloc, b"what stood there".to_vec(alloc)?, Vec::new(alloc))?;
-    let layout = lay_head(alloc, &mut disk, params)?;
-    assert_eq!(rt;
-        disk.bytes(),
-        b"FORM\0\0\0\x288SVXVHDR\0\0\0\x14\0\0\0\0\0\0\0\0\0\0\0\0\x1f\x40\x01\0\0\x01\0\0BODY\0\0\0\0".as_slice()
-    );
-    assert_eq!(rt; layout.start, 48);
-    Ok(())
-}
 
 #[test]
 fn puts_pieces(rt: HostRuntime) -> Result<(), Fail> {

@@ -1,7 +1,6 @@
 //! Files that libsndfile and FFmpeg wrote, and some by hand after the format's specification.
 use snd_disk::MemoryDisk;
-use snd_fields::Order;
-use snd_layout::{Codec, Field, Kind, OpenError, OpenRefusal, Params};
+use snd_layout::{OpenError, OpenRefusal};
 use snd_w64::*;
 use std::alloc::Global;
 use std::test::Fail;
@@ -66,59 +65,6 @@ fn reads_layouts(rt: HostRuntime) -> Result<(), Fail> {
     keeps_laws();
     for (i, (bytes, says)) in FILES.iter().enumerate() {
         assert_eq!(rt; said(rt.alloc(), bytes)?, *says, "file {i}");
-    }
-    Ok(())
-}
-
-/// The parameters, and the head of a file with no frames; libsndfile writes the first of these too.
-static HEADS: [(u64, u64, Codec, Field, &'static [u8]); 4] = [
-    (
-        1,
-        8000,
-        Codec::S16(Order::Little),
-        Field { at: 96, size: 8 },
-        b"riff.\x91\xcf\x11\xa5\xd6(\xdb\x04\xc1\0\0h\0\0\0\0\0\0\0wave\xf3\xac\xd3\x11\x8c\xd1\0\xc0O\x8e\xdb\x8afmt \xf3\xac\xd3\x11\x8c\xd1\0\xc0O\x8e\xdb\x8a(\0\0\0\0\0\0\0\x01\0\x01\0@\x1f\0\0\x80>\0\0\x02\0\x10\0data\xf3\xac\xd3\x11\x8c\xd1\0\xc0O\x8e\xdb\x8a\x18\0\0\0\0\0\0\0",
-    ),
-    (
-        2,
-        8000,
-        Codec::ALaw,
-        Field { at: 136, size: 8 },
-        b"riff.\x91\xcf\x11\xa5\xd6(\xdb\x04\xc1\0\0\x90\0\0\0\0\0\0\0wave\xf3\xac\xd3\x11\x8c\xd1\0\xc0O\x8e\xdb\x8afmt \xf3\xac\xd3\x11\x8c\xd1\0\xc0O\x8e\xdb\x8a*\0\0\0\0\0\0\0\x06\0\x02\0@\x1f\0\0\x80>\0\0\x02\0\x08\0\0\0\0\0\0\0\0\0fact\xf3\xac\xd3\x11\x8c\xd1\0\xc0O\x8e\xdb\x8a \0\0\0\0\0\0\0\0\0\0\0\0\0\0\0data\xf3\xac\xd3\x11\x8c\xd1\0\xc0O\x8e\xdb\x8a\x18\0\0\0\0\0\0\0",
-    ),
-    (
-        1,
-        8000,
-        Codec::Ima {
-            align: 256,
-            per_block: 505,
-        },
-        Field { at: 112, size: 32 },
-        b"riff.\x91\xcf\x11\xa5\xd6(\xdb\x04\xc1\0\0\x90\0\0\0\0\0\0\0wave\xf3\xac\xd3\x11\x8c\xd1\0\xc0O\x8e\xdb\x8afmt \xf3\xac\xd3\x11\x8c\xd1\0\xc0O\x8e\xdb\x8a,\0\0\0\0\0\0\0\x11\0\x01\0@\x1f\0\0\xd7\x0f\0\0\0\x01\x04\0\x02\0\xf9\x01\0\0\0\0fact\xf3\xac\xd3\x11\x8c\xd1\0\xc0O\x8e\xdb\x8a \0\0\0\0\0\0\0\0\0\0\0\0\0\0\0data\xf3\xac\xd3\x11\x8c\xd1\0\xc0O\x8e\xdb\x8a\x18\0\0\0\0\0\0\0",
-    ),
-    (
-        1,
-        8000,
-        Codec::Ms {
-            align: 256,
-            per_block: 500,
-        },
-        Field { at: 144, size: 32 },
-        b"riff.\x91\xcf\x11\xa5\xd6(\xdb\x04\xc1\0\0\xb0\0\0\0\0\0\0\0wave\xf3\xac\xd3\x11\x8c\xd1\0\xc0O\x8e\xdb\x8afmt \xf3\xac\xd3\x11\x8c\xd1\0\xc0O\x8e\xdb\x8aJ\0\0\0\0\0\0\0\x02\0\x01\0@\x1f\0\0\0\x10\0\0\0\x01\x04\0 \0\xf4\x01\x07\0\0\x01\0\0\0\x02\0\xff\0\0\0\0\xc0\0@\0\xf0\0\0\0\xcc\x010\xff\x88\x01\x18\xff\0\0\0\0\0\0fact\xf3\xac\xd3\x11\x8c\xd1\0\xc0O\x8e\xdb\x8a \0\0\0\0\0\0\0\0\0\0\0\0\0\0\0data\xf3\xac\xd3\x11\x8c\xd1\0\xc0O\x8e\xdb\x8a\x18\0\0\0\0\0\0\0",
-    ),
-];
-
-#[test]
-fn lays_heads(rt: HostRuntime) -> Result<(), Fail> {
-    for (channels, rate, codec, inner, head) in HEADS.iter() {
-        let alloc = rt.alloc();
-        let params = Params::new(*channels, *rate, *codec)?;
-        assert!(rt; Kind::W64.refusal_of(&params).is_none());
-        let mut disk = MemoryDisk::new(alloc, b"what stood there".to_vec(alloc)?, Vec::new(alloc))?;
-        let layout = lay_head(alloc, &mut disk, params)?;
-        assert_eq!(rt; disk.bytes(), *head);
-        assert_eq!(rt; layout.start, head.len() as u64);
-        assert_eq!(rt; layout.inner, *inner);
     }
     Ok(())
 }

@@ -1,4 +1,4 @@
-//! Whole files, written out by hand from the format's specification.
+//! Where the fields of whole files lie, written out by hand from the format's specification, and chunks that are put into a head.
 use snd_disk::MemoryDisk;
 use snd_fields::Order;
 use snd_layout::{Codec, Kind, Params};
@@ -115,56 +115,6 @@ mod places {
         }
         Ok(())
     }
-}
-
-/// The parameters, and the head of a file with no frames.
-static HEADS: [(u64, u64, Codec, &'static [u8]); 4] = [
-    (
-        1,
-        8000,
-        Codec::S16(Order::Little),
-        b"RIFF\x24\0\0\0WAVEfmt \x10\0\0\0\x01\0\x01\0\x40\x1f\0\0\x80\x3e\0\0\x02\0\x10\0data\0\0\0\0",
-    ),
-    (
-        2,
-        8000,
-        Codec::ALaw,
-        b"RIFF\x32\0\0\0WAVEfmt \x12\0\0\0\x06\0\x02\0\x40\x1f\0\0\x80\x3e\0\0\x02\0\x08\0\0\0fact\x04\0\0\0\0\0\0\0data\0\0\0\0",
-    ),
-    (
-        1,
-        8000,
-        Codec::Ima {
-            align: 256,
-            per_block: 505,
-        },
-        b"RIFF\x34\0\0\0WAVEfmt \x14\0\0\0\x11\0\x01\0\x40\x1f\0\0\xd7\x0f\0\0\0\x01\x04\0\x02\0\xf9\x01fact\x04\0\0\0\0\0\0\0data\0\0\0\0",
-    ),
-    (
-        1,
-        8000,
-        Codec::Ms {
-            align: 256,
-            per_block: 500,
-        },
-        b"RIFF\x52\0\0\0WAVEfmt \x32\0\0\0\x02\0\x01\0\x40\x1f\0\0\0\x10\0\0\0\x01\x04\0\x20\0\xf4\x01\x07\0\0\x01\0\0\0\x02\0\xff\0\0\0\0\xc0\0\x40\0\xf0\0\0\0\xcc\x01\x30\xff\x88\x01\x18\xfffact\x04\0\0\0\0\0\0\0data\0\0\0\0",
-    ),
-];
-
-#[test]
-fn lays_heads(rt: HostRuntime) -> Result<(), Fail> {
-    keeps_laws();
-    made_files_read_back();
-    for (channels, rate, codec, head) in HEADS.iter() {
-        let alloc = rt.alloc();
-        let params = Params::new(*channels, *rate, *codec)?;
-        assert!(rt; Kind::Wave.refusal_of(&params).is_none());
-        let mut disk = MemoryDisk::new(alloc, b"what stood there".to_vec(alloc)?, Vec::new(alloc))?;
-        let layout = lay_head(alloc, &mut disk, params)?;
-        assert_eq!(rt; disk.bytes(), *head);
-        assert_eq!(rt; layout.start, head.len() as u64);
-    }
-    Ok(())
 }
 
 /// Pieces, and where they leave the data and the field that decides their count.
