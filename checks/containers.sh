@@ -2,8 +2,8 @@
 # Tables of small files, words and scripts, and what the built program answers them. Files of every kind, by each of its codecs and by
 # one, two and three channels as far as the kind holds them, most of which libsndfile and SoX made, are described and read. So are heads
 # that sox, libsndfile and ffmpeg wrote or that were written by hand, which are updated, too, or are refused by their number. Then come
-# words, scripts, lines that are too long, and heads that are cut or damaged. What is wanted stands in containers_rows.py,
-# containers_heads.py and containers_words.py. Needs Python 3.
+# words, scripts, lines that are too long, heads that are cut or damaged, and files that scripts change or make. What is wanted stands in
+# containers_rows.py, containers_heads.py, containers_words.py and containers_made.py. Needs Python 3.
 set -u
 source "$(dirname "$(readlink -f "${BASH_SOURCE[0]}")")/built_program.bash"
 PYTHONDONTWRITEBYTECODE=1 PYTHONPATH=$top/checks python3 - "$program" <<'PY'
@@ -12,6 +12,7 @@ import struct
 import sys
 
 import containers_heads as heads
+import containers_made as made
 import containers_rows as rows
 import containers_words as words
 import kinds
@@ -128,5 +129,18 @@ for length, out, status in words.LINES:
 script, out = "open r a.wav\n".ljust(LONGEST, "\n"), "ok 2 1 8000 wave pcm_16_le\n"
 cases.case("the longest script", ran(["script"], script, out, "", 0))
 cases.case("a script with a byte more", ran(["script"], script + "\n", out, "snd: script too long\n", 2))
-cases.end(71 + 23 + 30 + 19 + 13 + 13 + 5 + 20 + 3 + 14 + 15 + 1 + 4 + 2)
+
+# ---- files that are changed or made
+for name, before, script, out, end in made.MADE:
+    if os.path.exists("a.wav"):
+        os.remove("a.wav")
+    if before is not None:
+        put(before)
+    wrong = ran(["script"], script, out, "", int("error " in out), () if end is None else {"./a.wav"})
+    if end is not None and os.path.exists("a.wav"):
+        with open("a.wav", "rb") as file:
+            data = file.read()
+        wrong += first_difference("a.wav", data if end[:4] == b"RIFF" else data[-len(end):], end)
+    cases.case(name, wrong)
+cases.end(71 + 23 + 30 + 19 + 13 + 13 + 5 + 20 + 3 + 14 + 15 + 1 + 4 + 2 + 12)
 PY

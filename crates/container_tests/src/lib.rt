@@ -12,6 +12,8 @@ mod rf64;
 #[cfg(test)]
 mod room;
 #[cfg(test)]
+mod seen;
+#[cfg(test)]
 mod sphere;
 #[cfg(test)]
 mod svx;

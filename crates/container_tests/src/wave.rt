@@ -9,7 +9,7 @@ use std::test::Fail;
 mod places {
     use super::*;
     use snd_fields::{Id4, Order};
-    use snd_layout::{Codec, Field, Piece};
+    use snd_layout::{Codec, Field, Layout, Piece};
 
     struct Places {
         file: &'static [u8],
@@ -95,6 +95,17 @@ mod places {
         },
     ];
 
+    fn is_as(layout: &Layout, row: &Places) -> bool {
+        let params = &layout.params;
+        let are_places = layout.start == row.start && layout.inner == row.inner;
+        let are_others = layout.outer == Some(row.outer) && layout.side == row.side;
+        let are_params = params.channels == row.channels
+            && params.rate == row.rate
+            && params.codec == row.codec;
+        let are_data = layout.declared == row.declared && layout.pieces.as_slice() == row.pieces;
+        are_places && are_others && are_params && are_data
+    }
+
     #[test]
     fn fields_lie_where_the_format_puts_them(rt: HostRuntime) -> Result<(), Fail> {
         for (i, row) in PLACES.iter().enumerate() {
@@ -103,15 +114,7 @@ mod places {
             let Ok(layout) = open_layout(alloc, &mut disk) else {
                 return Err(Fail::from("a file was refused"));
             };
-            assert_eq!(rt; layout.start, row.start, "file {i}");
-            assert_eq!(rt; layout.params.channels, row.channels, "file {i}");
-            assert_eq!(rt; layout.params.rate, row.rate, "file {i}");
-            assert_eq!(rt; layout.params.codec, row.codec, "file {i}");
-            assert_eq!(rt; layout.declared, row.declared, "file {i}");
-            assert_eq!(rt; layout.inner, row.inner, "file {i}");
-            assert_eq!(rt; layout.outer, Some(row.outer), "file {i}");
-            assert_eq!(rt; layout.side, row.side, "file {i}");
-            assert_eq!(rt; layout.pieces.as_slice(), row.pieces, "file {i}");
+            assert!(rt; is_as(&layout, row), "file {i}");
         }
         Ok(())
     }
@@ -120,13 +123,9 @@ mod places {
 /// Pieces, and where they leave the data and the field that decides their count.
 mod added {
     use super::*;
+    use crate::seen::shows;
     use snd_fields::Id4;
     use snd_layout::Field;
-    use std::ops::Range;
-
-    fn part(bytes: &[u8], places: Range<usize>) -> &[u8] {
-        bytes.get(places).unwrap_or(&[])
-    }
 
     #[test]
     fn pieces_move_the_filler(rt: HostRuntime) -> Result<(), Fail> {
@@ -137,24 +136,19 @@ mod added {
         let mut layout = lay_head(alloc, &mut disk, params)?;
         // the size of the data would stand at 510 to 513, so that a filler stands at 506
         put_piece(&mut disk, &mut layout, 0, Id4(*b"abcd"), &[0; 462])?;
-        assert_eq!(rt; layout.start, 530);
-        assert_eq!(rt; layout.inner, Field { at: 526, size: 4 });
-        assert_eq!(rt; disk.bytes().len(), 530);
-        assert_eq!(rt;
-            part(disk.bytes(), 506..522),
-            b"JUNK\x08\0\0\0\0\0\0\0\0\0\0\0".as_slice()
-        );
-        assert_eq!(rt; part(disk.bytes(), 4..8), b"\x0a\x02\0\0".as_slice());
+        let inner = Field { at: 526, size: 4 };
+        let filler = b"JUNK\x08\0\0\0\0\0\0\0\0\0\0\0data\0\0\0\0";
+        assert!(rt; shows(&disk, &layout, 530, inner, 506, filler));
         // behind another piece the size stands in one sector
         put_piece(&mut disk, &mut layout, 1, Id4(*b"efgh"), b"\x09\x08")?;
-        assert_eq!(rt; layout.start, 524);
+        let inner = Field { at: 520, size: 4 };
+        assert!(rt; shows(&disk, &layout, 524, inner, 4, b"\x04\x02\0\0WAVE"));
         // so it does behind a shorter one
         put_piece(&mut disk, &mut layout, 0, Id4(*b"abcd"), b"\x01\x02\x03")?;
-        assert_eq!(rt; layout.inner, Field { at: 62, size: 4 });
-        assert_eq!(rt;
-            disk.bytes(),
-            b"RIFF\x3a\0\0\0WAVEfmt \x10\0\0\0\x01\0\x01\0\x40\x1f\0\0\x80\x3e\0\0\x02\0\x10\0abcd\x03\0\0\0\x01\x02\x03\0efgh\x02\0\0\0\x09\x08data\0\0\0\0".as_slice()
-        );
+        let inner = Field { at: 62, size: 4 };
+        let whole =
+            b"RIFF\x3a\0\0\0WAVEfmt \x10\0\0\0\x01\0\x01\0\x40\x1f\0\0\x80\x3e\0\0\x02\0\x10\0abcd\x03\0\0\0\x01\x02\x03\0efgh\x02\0\0\0\x09\x08data\0\0\0\0";
+        assert!(rt; shows(&disk, &layout, 66, inner, 0, whole));
         Ok(())
     }
 }
