@@ -1,5 +1,4 @@
-//! Scripts that make and change files, over a shelf in memory: worked rows with every byte afterwards, and each call of a disk, of
-//! the script and of the output that fails.
+//! Scripts that change a file, over a shelf in memory, where each call of the disk, of the script and of the output fails in turn.
 ghost use Rattle.std.specs.Prelude.{◌≡◌, List, ℕ, false};
 
 use snd_app::run;
@@ -9,111 +8,9 @@ use std::alloc::{AllocError, Global};
 use std::process::Abort;
 use std::test::Fail;
 
-/// A script over one file, or none: what it is answered, its status, and the file's bytes afterwards.
-struct Row {
-    name: &'static str,
-    before: Option<&'static [u8]>,
-    script: &'static str,
-    answers: &'static str,
-    status: u8,
-    after: &'static [u8],
-}
-
 /// A file of two frames, 1 and -1, whose count lies in two sectors.
 const STRADDLING: &[u8] =
     b"RIFF\xfe\x01\0\0WAVEfmt \x10\0\0\0\x01\0\x01\0@\x1f\0\0\x80>\0\0\x02\0\x10\0abcd\xce\x01\0\0\0\0\0\0\0\0\0\0\0\0\0\0\0\0\0\0\0\0\0\0\0\0\0\0\0\0\0\0\0\0\0\0\0\0\0\0\0\0\0\0\0\0\0\0\0\0\0\0\0\0\0\0\0\0\0\0\0\0\0\0\0\0\0\0\0\0\0\0\0\0\0\0\0\0\0\0\0\0\0\0\0\0\0\0\0\0\0\0\0\0\0\0\0\0\0\0\0\0\0\0\0\0\0\0\0\0\0\0\0\0\0\0\0\0\0\0\0\0\0\0\0\0\0\0\0\0\0\0\0\0\0\0\0\0\0\0\0\0\0\0\0\0\0\0\0\0\0\0\0\0\0\0\0\0\0\0\0\0\0\0\0\0\0\0\0\0\0\0\0\0\0\0\0\0\0\0\0\0\0\0\0\0\0\0\0\0\0\0\0\0\0\0\0\0\0\0\0\0\0\0\0\0\0\0\0\0\0\0\0\0\0\0\0\0\0\0\0\0\0\0\0\0\0\0\0\0\0\0\0\0\0\0\0\0\0\0\0\0\0\0\0\0\0\0\0\0\0\0\0\0\0\0\0\0\0\0\0\0\0\0\0\0\0\0\0\0\0\0\0\0\0\0\0\0\0\0\0\0\0\0\0\0\0\0\0\0\0\0\0\0\0\0\0\0\0\0\0\0\0\0\0\0\0\0\0\0\0\0\0\0\0\0\0\0\0\0\0\0\0\0\0\0\0\0\0\0\0\0\0\0\0\0\0\0\0\0\0\0\0\0\0\0\0\0\0\0\0\0\0\0\0\0\0\0\0\0\0\0\0\0\0\0\0\0\0\0\0\0\0\0\0\0\0\0\0\0\0\0\0\0\0\0\0\0\0\0\0\0\0\0\0\0\0\0\0\0\0\0\0\0\0\0\0\0\0\0\0\0\0\0\0\0\0\0\0\0\0\0\0\0\0\0\0\0\0\0\0\0\0\0\0\0\0\0\0\0\0\0\0\0\0\0\0\0\0\0\0\0\0\0\0\0\0\0\0\0\0\0\0\0\0\0data\x04\0\0\0\x01\0\xff\xff";
-
-static ROWS: [Row; 6] = [
-    // trailing chunks forbid growth and allow overwriting
-    Row {
-        name: "t.wav",
-        before: Some(
-            b"RIFF>\0\0\0WAVEfmt \x10\0\0\0\x01\0\x01\0@\x1f\0\0\x80>\0\0\x02\0\x10\0data\x04\0\0\0\x01\0\xff\xffLIST\x0e\0\0\0INFOINAM\x02\0\0\0A\0",
-        ),
-        script: "open u t.wav\nseek w 2\nwrite 5\nseek w 0\nwrite 7\nseek r 0\nread 2\nclose\n",
-        answers: "ok 2 1 8000 wave pcm_16_le\nok 2\nerror 25 TrailingData\nok 0\nok 1\nok 0\nok 2\n7\n-1\nok 2\n",
-        status: 1,
-        after: b"RIFF>\0\0\0WAVEfmt \x10\0\0\0\x01\0\x01\0@\x1f\0\0\x80>\0\0\x02\0\x10\0data\x04\0\0\0\x07\0\xff\xffLIST\x0e\0\0\0INFOINAM\x02\0\0\0A\0",
-    },
-    // a zero outer size is healed by growth
-    Row {
-        name: "x.wav",
-        before: Some(
-            b"RIFF\0\0\0\0WAVEfmt \x10\0\0\0\x01\0\x01\0@\x1f\0\0\x80>\0\0\x02\0\x10\0data\x02\0\0\0\x01\0\xff\xff",
-        ),
-        script: "open u x.wav\nseek w 1\nwrite 9\nclose\n",
-        answers: "ok 1 1 8000 wave pcm_16_le\nok 1\nok 1\nok 2\n",
-        status: 0,
-        after: b"RIFF(\0\0\0WAVEfmt \x10\0\0\0\x01\0\x01\0@\x1f\0\0\x80>\0\0\x02\0\x10\0data\x04\0\0\0\x01\0\x09\0",
-    },
-    // a sample out of range is refused whole
-    Row {
-        name: "d.wav",
-        before: None,
-        script: "create wave pcm_16_le 1 8000 d.wav\nwrite 32768\nwrite 32767\nclose\n",
-        answers: "ok 0 1 8000 wave pcm_16_le\nerror 23 SampleRange\nok 1\nok 1\n",
-        status: 1,
-        after: b"RIFF&\0\0\0WAVEfmt \x10\0\0\0\x01\0\x01\0@\x1f\0\0\x80>\0\0\x02\0\x10\0data\x02\0\0\0\xff\x7f",
-    },
-    // a law keeps of each number the one that its byte stands for, and its file states the frames in a `fact`
-    Row {
-        name: "m.wav",
-        before: None,
-        script: "create wave ulaw 1 8000 m.wav\nwrite 0 -1 1000\nwrite 32768\nclose\nopen u m.wav\nread 3\nseek w 2\nwrite -1000\nclose\n",
-        answers: "ok 0 1 8000 wave ulaw\nok 3\nerror 23 SampleRange\nok 3\nok 3 1 8000 wave ulaw\nok 3\n0\n0\n988\nok 2\nok 1\nok 3\n",
-        status: 1,
-        after: b"RIFF6\0\0\0WAVEfmt \x12\0\0\0\x07\0\x01\0@\x1f\0\0@\x1f\0\0\x01\0\x08\0\0\0fact\x04\0\0\0\x03\0\0\0data\x03\0\0\0\xff\x7f\x4e\0",
-    },
-    // a count field across a sector edge forbids automatic update
-    Row {
-        name: "g.wav",
-        before: Some(STRADDLING),
-        script: "open u g.wav\nauto on\nupdate\nclose\n",
-        answers: "ok 2 1 8000 wave pcm_16_le\nerror 27 Straddle\nok 2\nok 2\n",
-        status: 1,
-        after: STRADDLING,
-    },
-    // automatic growth and truncation leave a padded file
-    Row {
-        name: "o.wav",
-        before: None,
-        script: "create wave pcm_u8 1 8000 o.wav\nwrite 0\nauto on\nwrite 1 2\ntruncate 1\nclose\n",
-        answers: "ok 0 1 8000 wave pcm_u8\nok 1\nok 1\nok 2\nok 1\nok 1\n",
-        status: 0,
-        after: b"RIFF&\0\0\0WAVEfmt \x10\0\0\0\x01\0\x01\0@\x1f\0\0@\x1f\0\0\x01\0\x08\0data\x01\0\0\0\x80\0",
-    },
-];
-
-/// Scripts over a file that is pinned.
-static PINNED: [Row; 3] = [
-    // a pinned script may not close
-    Row {
-        name: "a.wav",
-        before: Some(PLAIN),
-        script: "write 5\nclose\n",
-        answers: "ok 2 1 8000 wave pcm_16_le\nok 2\nok 1\nerror 65 Pinned\n",
-        status: 1,
-        after: CHANGED,
-    },
-    // what is refused in it, and in which order
-    Row {
-        name: "a.wav",
-        before: Some(PLAIN),
-        script: "create wave ima 1 8000 b.wav\ncreate wave pcm_u8 1 8000 b.wav\nopen r b.wav\nopen u a.wav\nauto off\nauto on\nclosed\nseek w 2\nwrite 7\nseek w 0\nwrite 5\nread 1\n",
-        answers: "ok 2 1 8000 wave pcm_16_le\nok 2\nerror 65 Pinned\nerror 65 Pinned\nerror 65 Pinned\nerror 65 Pinned\nerror 65 Pinned\nerror 65 Pinned\nerror 40 BadCommand\nok 2\nok 1\nok 0\nok 1\nok 1\n5\n",
-        status: 1,
-        after: GROWN,
-    },
-    // a pinned file with a straddling field ends the run
-    Row {
-        name: "g.wav",
-        before: Some(STRADDLING),
-        script: "write 5\ninfo\n",
-        answers: "ok 2 1 8000 wave pcm_16_le\nerror 27 Straddle\n",
-        status: 1,
-        after: STRADDLING,
-    },
-];
 
 /// What stands afterwards: the status, what was printed, and the file's disk.
 #[derive(Drop)]
@@ -197,42 +94,11 @@ pub fn run_script(
     Ok(Left { status, out, disk })
 }
 
-pub fn has(rt: &impl Abort, left: &Left, bytes: &[u8]) {
+fn has(rt: &impl Abort, left: &Left, bytes: &[u8]) {
     match &left.disk {
         Some(disk) => assert_eq!(rt; disk.bytes(), bytes),
         None => assert!(rt; false),
     }
-}
-
-#[test]
-fn worked_scripts_leave_their_files(rt: HostRuntime) -> Result<(), Fail> {
-    for row in ROWS.iter() {
-        let left = run_script(
-            rt.alloc(),
-            &["script"],
-            row.name,
-            row.before,
-            row.script.as_bytes(),
-            NONE,
-        )?;
-        assert_eq!(rt; left.out.as_slice(), row.answers.as_bytes());
-        assert_eq!(rt; left.status, row.status);
-        has(&rt, &left, row.after);
-    }
-    Ok(())
-}
-
-#[test]
-fn pinned_scripts_leave_their_files(rt: HostRuntime) -> Result<(), Fail> {
-    for row in PINNED.iter() {
-        let words = ["script", "--auto", row.name];
-        let script = row.script.as_bytes();
-        let left = run_script(rt.alloc(), &words, row.name, row.before, script, NONE)?;
-        assert_eq!(rt; left.out.as_slice(), row.answers.as_bytes());
-        assert_eq!(rt; left.status, row.status);
-        has(&rt, &left, row.after);
-    }
-    Ok(())
 }
 
 #[test]
