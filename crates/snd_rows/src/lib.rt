@@ -8,4 +8,4 @@ mod memory;
 #[cfg(test)]
 mod tests;
 
-pub use memory::{Printed, run_in_memory, run_words, words_of};
+pub use memory::{Printed, run_in_memory, words_of};

@@ -5,7 +5,7 @@ ghost use Rattle.snd_rows.specs.Memory.{one_file, IsPrinted};
 use snd_app::run;
 use snd_disk::{MemoryDisk, MemoryShelf, MemorySink, MemorySource};
 use snd_fields::Words;
-use snd_taps::{Clips, Energy, Peak, Tap};
+use snd_taps::Tap;
 use std::alloc::{AllocError, Global};
 
 /// What a run printed, and the status that it answered.
@@ -60,27 +60,4 @@ pub fn words_of(alloc: Global, words: &[&str]) -> Result<Words, AllocError> {
         list.push(String::from_str(alloc, word)?)?;
     }
     Ok(Words::new(list))
-}
-
-/// What `words` print over a shelf that holds these bytes as `a.wav`, with a script to come and a tap of each
-/// kind.
-pub fn run_words(
-    alloc: Global,
-    words: &[&str],
-    bytes: &[u8],
-    script: &[u8],
-) -> Result<Printed, AllocError> {
-    let words = words_of(alloc, words)?;
-    let mut taps: Vec<Box<dyn Tap>> = Vec::new(alloc);
-    taps.push(Box::new(alloc, Peak::new())?)?;
-    taps.push(Box::new(alloc, Clips::new())?)?;
-    taps.push(Box::new(alloc, Energy::new())?)?;
-    run_in_memory(
-        alloc,
-        &words,
-        "a.wav",
-        bytes.to_vec(alloc)?,
-        script.to_vec(alloc)?,
-        taps,
-    )
 }
