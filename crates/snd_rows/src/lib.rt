@@ -4,8 +4,10 @@
 
 #[cfg(test)]
 mod calls;
-mod memory;
 #[cfg(test)]
-mod tests;
+mod crash;
+#[cfg(test)]
+mod failing;
+mod memory;
 
 pub use memory::{Printed, run_in_memory, words_of};

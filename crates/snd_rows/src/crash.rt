@@ -1,6 +1,6 @@
 //! What a crash may leave of a file that is updated automatically, against images written out by hand: after
 //! each call of the disk, and where each call of it fails. Every image is opened and read.
-use crate::writing::{Failing, NONE, run_script};
+use crate::failing::{Failing, NONE, run_script};
 use snd_disk::{MemoryDisk, images_between};
 use snd_layout::{Codec, Kind, Params};
 use snd_modes::{open_read, open_update};

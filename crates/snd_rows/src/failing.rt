@@ -1,9 +1,9 @@
 //! Scripts that change a file, over a shelf in memory, where each call of the disk, of the script and of the output fails in turn.
 ghost use Rattle.std.specs.Prelude.{◌≡◌, List, ℕ, false};
 
+use crate::memory::words_of;
 use snd_app::run;
 use snd_disk::{FailingCall, FailingPut, MemoryDisk, MemoryShelf, MemorySink, MemorySource, Shelf};
-use snd_rows::words_of;
 use std::alloc::{AllocError, Global};
 use std::process::Abort;
 use std::test::Fail;
@@ -14,21 +14,21 @@ const STRADDLING: &[u8] =
 
 /// What stands afterwards: the status, what was printed, and the file's disk.
 #[derive(Drop)]
-pub struct Left {
-    pub status: u8,
-    pub out: Vec<u8>,
-    pub disk: Option<MemoryDisk>,
+pub(crate) struct Left {
+    pub(crate) status: u8,
+    pub(crate) out: Vec<u8>,
+    pub(crate) disk: Option<MemoryDisk>,
 }
 
 /// Where a device fails: at a call of the disk, of the script, or of the output, counted from 1; 0 for none.
 #[derive(Clone, Copy)]
-pub struct Failing {
-    pub disk: u64,
-    pub script: u64,
-    pub put: u64,
+pub(crate) struct Failing {
+    pub(crate) disk: u64,
+    pub(crate) script: u64,
+    pub(crate) put: u64,
 }
 
-pub const NONE: Failing = Failing {
+pub(crate) const NONE: Failing = Failing {
     disk: 0,
     script: 0,
     put: 0,
@@ -72,7 +72,7 @@ fn run_over<S: Shelf>(
 }
 
 /// Runs a script over one file, or over another one alone, where a call fails.
-pub fn run_script(
+pub(crate) fn run_script(
     alloc: Global,
     words: &[&str],
     name: &str,
@@ -219,5 +219,25 @@ fn a_disk_that_fails_ends_the_run(rt: HostRuntime) -> Result<(), Fail> {
         assert!(rt; left.disk.is_some());
     }
     assert!(rt; false);
+    Ok(())
+}
+
+/// A script that reads, and its answers: the disk is called for the head, and then for the frames.
+const READING: &[u8] = b"open r a.wav\nread 2\nclose\n";
+
+const READ: &str = "ok 2 1 8000 wave pcm_16_le\nok 2\n1\n-1\nok 2\n";
+
+#[test]
+fn a_disk_that_fails_ends_a_run_that_reads(rt: HostRuntime) -> Result<(), Fail> {
+    let alloc = rt.alloc();
+    let left = run_script(alloc, &["script"], "a.wav", Some(PLAIN), READING, NONE)?;
+    assert_eq!(rt; left.status, 0);
+    assert_eq!(rt; left.out.as_slice(), READ.as_bytes());
+    for call in 1..6u64 {
+        let failing = Failing { disk: call, ..NONE };
+        let left = run_script(alloc, &["script"], "a.wav", Some(PLAIN), READING, failing)?;
+        assert_eq!(rt; left.status, 3, "where call {call} fails");
+        assert!(rt; READ.as_bytes().starts_with(left.out.as_slice()));
+    }
     Ok(())
 }
