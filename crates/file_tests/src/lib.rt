@@ -4,10 +4,6 @@
 #[cfg(test)]
 mod block_writer;
 #[cfg(test)]
-mod blocks;
-#[cfg(test)]
-mod carry;
-#[cfg(test)]
 mod disk;
 #[cfg(test)]
 mod patch;
