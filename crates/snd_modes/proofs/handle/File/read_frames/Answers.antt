@@ -1,4 +1,5 @@
-use Rattle.std.proofs.Common.{rules, ◌≡◌, ◌++◌, ◌∙◌, ap, sym, subst, ℕ, ◌*◌, ◌-◌, ◌≤◌, All, length, take, drop, arith}
+use Rattle.std.proofs.Common.{rules, ◌≡◌, ◌++◌, ◌∙◌, ap, sym, subst, inl, inr, true, false, is_some, ℕ, ◌*◌, ◌-◌, ◌≤◌, All, length, take, drop, arith}
+use Rattle.std.proofs.lemmas.Bool.{cases_Bool}
 use Rattle.std.proofs.lemmas.List.{length-take-le, take-append-le, take_all}
 use Rattle.snd_blocks.specs.Frames.{has_bad}
 use Rattle.snd_layout.specs.Opened.{EndsIn}
@@ -8,6 +9,7 @@ use Rattle.snd_modes.specs.Handle.{channels_of, codec_of}
 use Rattle.snd_modes.specs.Reading.{FitCodec, front_of}
 use Rattle.snd_modes.proofs.KindHeads.{head_same}
 use Rattle.snd_modes.proofs.Opening.{frames_of_bytes}
+use Rattle.snd_modes.proofs.Rooms.{not_adpcm}
 use Rattle.snd_modes.proofs.SoundFrames.{groups_of_piece}
 use Rattle.snd_modes.proofs.handle.File.read_frames.Goals as goal
 
@@ -87,3 +89,15 @@ returns-in-Ok-clause-in_range g c =
     let front : front_of c.args.self.now k (piece ++ rest) ≡ piece =
     ap (λ (m : ℕ). take m (piece ++ rest)) turn ∙ take-append-le n piece rest (omega (arith, size)) ∙ take_all n piece (omega (arith, size)) in
     subst (FitCodec (codec_of c.args.self.now)) (sym front) c.in-Ok.ensures.in_range
+
+pub read_any-requires-clause-cached : goal.read_any-requires-clause-cached
+read_any-requires-clause-cached g c =
+    let file = c.args.self.now in
+    elim (cases_Bool g.M.Mode.WRITES) [
+      | inl writes ↦ λ cache is. absurd
+          (let places : g.M.Mode.PLACES ≡ true = g.M.Mode.ways writes g.met.M.CanRead.reads in
+          let none : is_some file.cache ≡ false = file.blocks g.met.M.CanRead.reads ∙ not_adpcm file.layout.params.codec (file.linear places) in
+          let some : is_some file.cache ≡ true = ap is_some is in
+          cc)
+      | inr only_reads ↦ file.cached only_reads
+    ]
