@@ -143,12 +143,17 @@ def format_body(codec, channels, rate, size):
     return body + (b"" if codec == "ima" else struct.pack("<H14h", 7, *(c for pair in PAIRS for c in pair)))
 
 
-def whole_file(kind, codec, channels, rate, numbers):
-    """The file that is made with these numbers."""
-    size = align(channels, rate)
-    body, data, frames = format_body(codec, channels, rate, size), coded(codec, channels, size, numbers), len(numbers) // channels
+def file_of_blocks(kind, codec, channels, rate, size, data, frames):
+    """A file of these blocks, each of so many bytes, that holds so many frames."""
+    body = format_body(codec, channels, rate, size)
     if kind == "w64":
         rest = w64_id(b"wave") + w64_chunk(b"fmt ", body) + w64_chunk(b"fact", struct.pack("<Q", frames)) + w64_chunk(b"data", data)
         return w64_id(b"riff") + struct.pack("<Q", 24 + len(rest)) + rest
     rest = b"WAVE" + chunk(b"fmt ", body) + chunk(b"fact", struct.pack("<I", frames)) + chunk(b"data", data)
     return b"RIFF" + struct.pack("<I", len(rest)) + rest
+
+
+def whole_file(kind, codec, channels, rate, numbers):
+    """The file that is made with these numbers."""
+    size = align(channels, rate)
+    return file_of_blocks(kind, codec, channels, rate, size, coded(codec, channels, size, numbers), len(numbers) // channels)
