@@ -1,14 +1,10 @@
-//! Tests of the codecs and of what they stand on, through public calls: values that other programs made,
-//! and worked examples.
+//! Tests of calls of the codecs, and of what they stand on, that no command makes: worked examples, and values that
+//! other programs made. What commands show of the codecs, `checks/codecs.sh` tries.
 #![tactic(auto)]
 
 #[cfg(test)]
 mod adpcm;
 #[cfg(test)]
 mod fields;
-#[cfg(test)]
-mod g711;
-#[cfg(test)]
-mod pcm;
 #[cfg(test)]
 mod taps;
