@@ -1,15 +1,12 @@
-//! Tests of words, lines and the bodies of chunks, through public calls.
+//! Tests of calls on lines, bodies of chunks and taps that no command makes, or whose answers no command tells. What
+//! commands show of lines, words and chunks, `checks/lines.sh` tries.
 #![tactic(auto)]
 
 #[cfg(test)]
 mod command;
-#[cfg(test)]
-mod lines;
 #[cfg(test)]
 mod meta;
 #[cfg(test)]
 mod meters;
 #[cfg(test)]
 mod tags;
-#[cfg(test)]
-mod words;
