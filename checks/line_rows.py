@@ -48,7 +48,7 @@ INFO_OF_A = b"INFOINAM\2\0\0\0A\0"
 
 # The line, what stands before it, its reply (none where it says nothing), and lines behind it that show what it did.
 LINES = (
-    # files
+    # files; that each kind takes the words of its codecs, edits.sh shows
     ("open r a.wav", NOTHING, OPENED, (("write 1", "error 44 WrongMode"), ("read 2", "ok 2\n0\n1"))),
     ("  open   u  -a#  ", NOTHING, "ok 2 1 8000 wave pcm_u8", (("seek w 2", "ok 2"), ("read 2", "ok 2\n5\n6"))),
     ("create wave pcm_u8 1 8000 a", NOTHING, CREATED, ()),
@@ -130,7 +130,7 @@ REFUSED = (
 DESCRIBED = "name {}\nkind wave\ncodec pcm_u8\nchannels 1\nrate 8000\nframes {}\nduration 00:00:00.00{}\n"
 BAD_WORDS = "snd: bad words\n"
 # The words, the status, standard output and standard error, and what a script says of the file that is made, which the last word names.
-# The last frames of `gen` are in joins.sh: a name in a folder that is not there shows that the words are taken, and makes no file.
+# What `gen` makes stands in joins.sh; here a name in a folder that is not there shows that its largest numbers are taken.
 WORDS = (
     (("info", "a.wav", "b.wav"), 0, DESCRIBED.format("a.wav", 9, 1) + DESCRIBED.format("b.wav", 2, 0), "", ()),
     (("--help", "--version"), 2, "", BAD_WORDS, ()),

@@ -1,8 +1,8 @@
 #!/usr/bin/env bash
-# Lines of scripts, words of command lines and chunks of files, as the built program takes them: the rows of line_rows.py. Each line that
-# has the form of no command is refused with a file open and with none; others are tried in each spelling, at their longest and with
-# the largest numbers, and further lines show what they did; texts, broadcast extensions and cue points that libsndfile and ffmpeg wrote are
-# read, and written as they were. No file changes but the one that a row makes. Needs Python 3.
+# Lines of scripts, words of command lines and chunks of files, as the built program takes them: the rows of line_rows.py. Lines that
+# have the form of no command are refused with a file open and with none; others are tried in odd spellings, at their longest and with
+# the largest numbers, and further lines show what they did; texts, broadcast extensions and cue points that libsndfile and ffmpeg wrote
+# are read, and written as they were. No file changes but the one that a row makes. Needs Python 3.
 set -u
 source "$(dirname "$(readlink -f "${BASH_SOURCE[0]}")")/built_program.bash"
 PYTHONDONTWRITEBYTECODE=1 PYTHONPATH=$top/checks python3 - "$program" <<'PY'
