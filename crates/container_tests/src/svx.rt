@@ -19,6 +19,7 @@ fn puts_pieces(rt: HostRuntime) -> Result<(), Fail> {
     let inner = Field { at: 526, size: 4 };
     let filler = b"JUNK\0\0\0\x08\0\0\0\0\0\0\0\0BODY\0\0\0\0";
     assert!(rt; shows(&disk, &layout, 530, inner, 506, filler));
+    assert_eq!(rt; layout.pieces.len(), 1);
     // behind another piece it stands in one sector
     put_piece(&mut disk, &mut layout, 1, Id4(*b"ANNO"), b"\x09\x08")?;
     let inner = Field { at: 520, size: 4 };
