@@ -27,6 +27,10 @@ bytes_cached cache = cache.bytes
 abbrev pub IsCached : BlockCache → ℕ → Type 0
 IsCached cache number = (first_cached cache ≤ number) × (number < first_cached cache + count_cached cache)
 
+-- all from one up to another are kept
+abbrev pub AreKept : BlockCache → ℕ → ℕ → Type 0
+AreKept cache from until = (n : ℕ) → from ≤ n → n < until → IsCached cache n
+
 -- the numbers of a block
 abbrev pub block_numbers : Shape → ℕ
 block_numbers s = s.params.channels * block_frames s.params.codec

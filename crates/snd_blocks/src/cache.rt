@@ -5,7 +5,7 @@ ghost use Rattle.snd_adpcm.specs.Frames.{Is16Bit};
 ghost use Rattle.snd_disk.specs.Device.{OnlyReadsOn};
 ghost use Rattle.snd_layout.specs.Blocks.{block_frames, is_adpcm};
 ghost use Rattle.snd_layout.specs.Shape.{end};
-ghost use Rattle.snd_blocks.specs.Cache.{Caches, HasBlocksOf, IsCached, block_cached, block_numbers, bytes_cached, count_cached, samples_cached};
+ghost use Rattle.snd_blocks.specs.Cache.{AreKept, Caches, HasBlocksOf, IsCached, block_cached, block_numbers, bytes_cached, count_cached, samples_cached};
 ghost use Rattle.snd_blocks.specs.Calls.{AsksForBlocks, CountsFaultOn, HasRoomFor, RefusesBad, is_bad_in};
 ghost use Rattle.snd_blocks.specs.Fetching.{Fetches, block_among};
 
@@ -21,9 +21,22 @@ use snd_layout::Layout;
 impl BlockCache {
     // Whether a block is kept.
     fn has(&self, number: u64) -> bool
-        ensures { result ≡ true → IsCached self.now number }
+        ensures kept { result ≡ true → IsCached self.now number }
+        ensures missing { IsCached self.now number → result ≡ true }
     {
         self.first <= number && number - self.first < self.count
+    }
+
+    // The first block from one on that is not kept.
+    pub(crate) fn next_missing(&self, number: u64) -> u64
+        ensures from { number ≤ result }
+        ensures kept { AreKept self.now number result }
+    {
+        if self.has(number) {
+            self.first.saturating_add(self.count)
+        } else {
+            number
+        }
     }
 
     // The samples of a block that is kept.
@@ -73,7 +86,7 @@ fn keep_fetched(
 }
 
 // Makes a block that has counted frames one of those that are kept. Its bytes are read with those of blocks
-// behind it, before `limit`, unless they were read before.
+// behind it, before `limit`, unless they were read before. Blocks before those that were read are kept.
 pub(crate) fn load<D: Disk>(
     disk: &mut D,
     layout: &Layout,
@@ -86,13 +99,13 @@ pub(crate) fn load<D: Disk>(
     requires held { end layout.now layout.now.frames ≤ (D.state disk.old).size }
     requires some { number < limit }
     requires within { (limit - 1) * block_frames layout.now.params.codec < layout.now.frames }
-    requires begun { fetched.first ≤ number }
+    requires begun { AreKept cache.old number fetched.first }
     requires fetched { Fetches D.state disk.old layout.now limit fetched (bytes_cached cache.old) }
     requires cached { Caches D.state disk.old layout.now cache.old }
     ensures loaded { OnOk result (IsCached cache.new number) }
     ensures cached { Caches D.state disk.new layout.now cache.new }
     ensures fetched { IfOk result (λ f. Fetches D.state disk.new layout.now limit f (bytes_cached cache.new)) }
-    ensures begun { IfOk result (λ f. f.first ≤ number) }
+    ensures begun { IfOk result (λ f. AreKept cache.new (number + 1) f.first) }
     ensures later { IfOk result (λ f. fetched.next ≤ f.next) }
     ensures asked { IfOk result (λ f. AsksForBlocks D.state layout.now (max (number + 1) f.next - max number fetched.next) disk.old disk.new) }
     ensures most { AsksForBlocks D.state layout.now (limit - max number fetched.next) disk.old disk.new }

@@ -109,26 +109,25 @@ fn last_block(layout: &Layout, place: u64, count: usize) -> u64
     (place + count as u64 - 1) / u64::from(frames_of(layout)) + 1
 }
 
-// The number behind that of the last block that may be read for `count` frames from a place on: that of the last one
-// with some of them or, where blocks are decoded four at a time, of one behind it that such a call may ask for.
-fn read_limit(layout: &Layout, place: u64, count: usize) -> u64
+// The number behind that of the last block that may be read for `count` frames from a place on, of which those before a
+// block are kept: that of the last one with some of them or, where blocks are decoded four at a time, of one behind it,
+// as many as such a call may ask for.
+fn read_limit(layout: &Layout, place: u64, count: usize, start: u64) -> u64
     requires blocks { is_adpcm layout.now.params.codec ≡ true }
     requires within { place + count ≤ layout.now.frames }
     requires some { 1 ≤ count }
+    requires from { place / block_frames layout.now.params.codec ≤ start }
+    requires until { start ≤ (place + count - 1) / block_frames layout.now.params.codec + 1 }
     ensures wanted { (place + count - 1) / block_frames layout.now.params.codec < result }
     ensures counted { (result - 1) * block_frames layout.now.params.codec < layout.now.frames }
-    ensures most { result - place / block_frames layout.now.params.codec ≤ count / block_frames layout.now.params.codec + 2 }
+    ensures most { result - start ≤ count / block_frames layout.now.params.codec + 2 }
 {
     keeps_blocks(layout);
     if !is_fourfold(layout) {
         return last_block(layout, place, count);
     }
-    let per_block = u64::from(frames_of(layout));
-    let first = place / per_block;
-    first
-        + (count as u64 / per_block)
-            .saturating_add(2)
-            .min(block_count(layout) - first)
+    let most = (count as u64 / u64::from(frames_of(layout))).saturating_add(2);
+    start + most.min(block_count(layout) - start)
 }
 
 /// Reads frames of an ADPCM file, as `read_frames` does, by a cache that stands for this file: a block that
@@ -160,8 +159,12 @@ pub fn read_cached<D: Disk>(
     }
     let first = place / u64::from(frames_of(layout));
     let last = last_block(layout, place, count);
-    let limit = read_limit(layout, place, count);
-    let mut fetched = Fetched { first, next: first };
+    let start = cache.next_missing(first).min(last);
+    let limit = read_limit(layout, place, count, start);
+    let mut fetched = Fetched {
+        first: start,
+        next: start,
+    };
     for number in first..last {
         fetched = load(disk, layout, number, limit, fetched, cache)?;
         put_span(

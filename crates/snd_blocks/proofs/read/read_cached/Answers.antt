@@ -31,12 +31,13 @@ loop-number-init g c =
       range = λ k d lt. absurd (omega (arith, lt, length-take (s.params.channels * count_before per c.args.place count (c.args.place / c.from.result)) c.args.into.now, ap (λ (m : ℕ). s.params.channels * m) none));
       calm = refl;
       reads = search rules;
-      asked = search rules;
-      begun = omega arith;
+      asked = record { later = omega arith; most = omega arith };
+      begun = λ n from until. c.next_missing.ensures.kept n from (omega (arith, until, c.min-start.ensures));
+      past = omega arith;
       fetched = record {
         right = λ b told n begun left. absurd (omega (arith, begun, left));
-        room = omega (arith, ap (λ (m : ℕ). m * block_align s.params.channels s.params.codec) (let e : first - first ≡ 0 = omega arith in e));
-        most = omega (arith, c.read_limit-limit.ensures.wanted, subst (λ (m : ℕ). c.args.place / m ≤ (c.args.place + count - 1) / per + 1) size (first_before_last per c.args.place count c.keeps_blocks.ensures.some_frames (omega (arith, c.if-count-eq0.false))));
+        room = omega (arith, ap (λ (m : ℕ). m * block_align s.params.channels s.params.codec) (let e : c.min-start.result - c.min-start.result ≡ 0 = omega arith in e));
+        most = omega (arith, c.min-start.ensures, c.last_block-last.ensures, c.read_limit-limit.ensures.wanted);
       };
       cached = c.requires.cached;
     }
@@ -68,8 +69,9 @@ loop-number-preserved g c =
     let n = c.loop-number.number in
     let before = max n c.loop-number.fetched.next in
     let now = max (n + 1) c.in_ok-fetched.fetched.next in
-    let sum : (before - c.args.place / c.from.result) * align + (now - before) * align ≡ (now - c.args.place / c.from.result) * align =
-    asked_then (c.args.place / c.from.result) before now align (omega (arith, c.loop-number.auto.number)) (omega (arith, c.in_ok-fetched.ensures.later)) in
+    let start = c.min-start.result in
+    let sum : (before - start) * align + (now - before) * align ≡ (now - start) * align =
+    asked_then start before now align (omega (arith, c.loop-number.invariant.past)) (omega (arith, c.in_ok-fetched.ensures.later)) in
     record {
       told = λ b told.
           let fits : end s s.frames ≤ length b = omega (arith, c.requires.held, g.met.D.Disk.size_told c.args.disk.now b told) in
@@ -82,7 +84,8 @@ loop-number-preserved g c =
         later = omega (arith, c.loop-number.invariant.asked.later, c.in_ok-fetched.ensures.asked.later);
         most = omega (arith, sum, c.loop-number.invariant.asked.most, c.in_ok-fetched.ensures.asked.most);
       };
-      begun = omega (arith, c.in_ok-fetched.ensures.begun);
+      begun = c.in_ok-fetched.ensures.begun;
+      past = omega (arith, c.loop-number.invariant.past, c.in_ok-fetched.ensures.later);
       fetched = c.in_ok-fetched.ensures.fetched;
       cached = c.load.ensures.cached;
     }
@@ -110,14 +113,12 @@ returns-in_err-fetched-clause-asked g c =
     let align = block_align k s.params.codec in
     let count = length c.args.into.now / c.channels_of.result in
     let limit = c.read_limit-limit.result in
-    let first = c.args.place / c.from.result in
+    let start = c.min-start.result in
     let before = max c.loop-number.number c.loop-number.fetched.next in
-    let sum : (before - first) * align + (limit - before) * align ≡ (limit - first) * align =
-    asked_then first before limit align (omega (arith, c.loop-number.auto.number))
+    let sum : (before - start) * align + (limit - before) * align ≡ (limit - start) * align =
+    asked_then start before limit align (omega (arith, c.loop-number.invariant.past))
     (omega (arith, c.loop-number-test.true, c.last_block-last.ensures, c.read_limit-limit.ensures.wanted, c.loop-number.invariant.fetched.most)) in
-    let size : per ≡ c.from.result = search rules in
-    let all : (limit - first) * align ≤ (count / per + 2) * align =
-    subst (λ (m : ℕ). (limit - c.args.place / m) * align ≤ (count / per + 2) * align) size (mul-le-mul_right align c.read_limit-limit.ensures.most) in
+    let all : (limit - start) * align ≤ (count / per + 2) * align = mul-le-mul_right align c.read_limit-limit.ensures.most in
     let wanted : (count / per + 2) * align ≡ (length c.args.into.now / k / per + 2) * align = ap (λ (m : ℕ). (length c.args.into.now / m / per + 2) * align) c.channels_of.ensures.value in
     record {
       later = omega (arith, c.loop-number.invariant.asked.later, c.load.ensures.most.later);
@@ -178,9 +179,8 @@ returns-clause-asked g c =
       c.read_limit-limit.ensures.wanted,
       subst (λ (m : ℕ). c.args.place / m ≤ (c.args.place + count - 1) / per + 1) size (first_before_last per c.args.place count c.keeps_blocks.ensures.some_frames some),
     ) in
-    let all : (reach - c.args.place / c.from.result) * align ≤ (count / per + 2) * align =
-    subst (λ (m : ℕ). (reach - c.args.place / m) * align ≤ (count / per + 2) * align) size
-    (mul-le-mul_right align (omega (arith, within, c.read_limit-limit.ensures.most))) in
+    let all : (reach - c.min-start.result) * align ≤ (count / per + 2) * align =
+    mul-le-mul_right align (omega (arith, within, c.read_limit-limit.ensures.most)) in
     let wanted : (count / per + 2) * align ≡ (length c.args.into.now / k / per + 2) * align = ap (λ (m : ℕ). (length c.args.into.now / m / per + 2) * align) c.channels_of.ensures.value in
     record {
       later = c.loop-number.invariant.asked.later;
