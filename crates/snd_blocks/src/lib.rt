@@ -1,4 +1,4 @@
-//! The frames of ADPCM files, which are read from a disk a block at a time. No memory is taken.
+//! The frames of ADPCM files, which are read from a disk some blocks at a time. No memory is taken.
 #![tactic(auto)]
 
 mod block;

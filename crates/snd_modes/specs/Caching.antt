@@ -1,4 +1,4 @@
--- The block that a handle has read last.
+-- The blocks that a handle has read last.
 use Rattle.std.specs.Prelude.{◌≡◌, Option, None, Some}
 use Rattle.std.specs.Global.{Box}
 use Rattle.snd_blocks.specs.Cache.{Caches, count_cached}
@@ -6,7 +6,7 @@ use Rattle.snd_blocks.specs.declared.buffer.BlockCache.{BlockCache}
 use Rattle.snd_disk.specs.State.{State}
 use Rattle.snd_layout.specs.Shape.{Shape}
 
--- where there is a cache, what it holds is a block of the file
+-- where there is a cache, what it holds are blocks of the file
 abbrev pub CachesIn : {D : Type 0} → (D → State) → D → Shape → Option (Box BlockCache) → Type 0
 CachesIn state disk s cache = (c : Box BlockCache) → cache ≡ Some c → Caches state disk s c.value
 

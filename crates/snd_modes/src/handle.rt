@@ -36,7 +36,7 @@ pub struct File<'d, D: Disk, M: Mode> {
     pub(crate) broken: Option<Step>,
     // where samples are made as they are tested, and read: here, since it is cleared where it is made
     pub(crate) block: [u8; BLOCK_BYTES],
-    // of a file of ADPCM, which is read by blocks, the one that was read last
+    // of a file of ADPCM, which is read by blocks, those that were read last
     pub(crate) cache: Option<Box<BlockCache>>,
     // of a file of ADPCM that is made, what makes its blocks
     pub(crate) writer: Option<Box<BlockWriter>>,
