@@ -36,7 +36,7 @@ MADE = [
      PLAIN,
      "create voc pcm_u8 1 8000 a.wav\nset chunk abcd 7879\nclose\n",
      "ok 0 1 8000 voc pcm_u8\nerror 30 NoChunks\nok 0\n",
-     b"\x01\x0c\0\0\x40\x1f\0\0\x08\x01\0\0\0\0\0\0\0"),
+     b"\x09\x0c\0\0\x40\x1f\0\0\x08\x01\0\0\0\0\0\0\0"),
     ("frames across blocks of IMA ADPCM",
      b"RIFF\x44\0\0\0WAVEfmt \x14\0\0\0\x11\0\x01\0\x40\x1f\0\0\xc7\x1b\0\0\x08\0\x04\0\x02\0\x09\0fact\x04\0\0\0\x12\0\0\0data\x10\0\0\0\0\0\0\0\x77\x0f\0\0\0\0\0\0\x77\x0f\0\0",
      "open r a.wav\nread 7\nread 11\nclose\n",
