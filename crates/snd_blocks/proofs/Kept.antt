@@ -3,7 +3,6 @@ use Rattle.std.proofs.Common.{◌≡◌, ◌∙◌, refl, ap, sym, subst, ℕ, �
 use Rattle.std.proofs.Math.Nat.{add-mul, mul-le-mul_right}
 use Rattle.std.proofs.lemmas.List.{take_all}
 use Rattle.std.specs.Prelude.{OnOk, is_ok}
-use Rattle.snd_disk.specs.State.{State}
 use Rattle.snd_fields.specs.Blocks.{is_ms_align, ms_samples_per_block}
 use Rattle.snd_adpcm.specs.Four.{AreSamples, part}
 use Rattle.snd_adpcm.specs.Microsoft.{is_bad_ms_block, ms_block}
@@ -13,10 +12,10 @@ use Rattle.snd_layout.specs.Blocks.{block_align, block_frames}
 use Rattle.snd_layout.specs.Shape.{Shape}
 use Rattle.snd_blocks.specs.declared.buffer.BlockCache.{BlockCache}
 use Rattle.snd_blocks.specs.declared.fetch.Fetched.{Fetched}
-use Rattle.snd_blocks.specs.Cache.{Caches, HasBlocks, block_cached, block_numbers, count_cached, first_cached, samples_cached}
+use Rattle.snd_blocks.specs.Cache.{HasBlocks, block_cached, block_numbers, count_cached, first_cached, samples_cached}
 use Rattle.snd_blocks.specs.Calls.{HasForm, block_at}
 use Rattle.snd_blocks.specs.Fetching.{HoldBlocks, block_among}
-use Rattle.snd_blocks.specs.Four.{AreFourOf, IsFourfold, IsMs}
+use Rattle.snd_blocks.specs.Four.{AreFourOf, IsMs}
 use Rattle.snd_blocks.specs.Frames.{block_samples, is_bad_block}
 use Rattle.snd_blocks.proofs.BlockFrames.{bytes_of_block}
 
@@ -72,24 +71,7 @@ four_fit first n next align width is begun read held =
     let within : (n - first + 4) * align ≤ (next - first) * align = mul-le-mul_right align (let e : n - first + 4 ≤ next - first = omega (arith, read, begun) in e) in
     omega (arith, product, within, held, ap (λ (m : ℕ). (n - first) * m + 4 * m) is)
 
--- there are places for the samples of four
-pub four_have_places : (s : Shape) → IsFourfold s → HasForm s.params.channels s.params.codec → 8 * block_frames s.params.codec ≤ 16384
-four_have_places s four form =
-    let codec = s.params.codec in
-    let align = block_align s.params.channels codec in
-    let frames : block_frames codec ≡ ms_samples_per_block 2 align = (ms_form s.params.channels codec four.ms form).1 ∙ ap (λ (m : ℕ). ms_samples_per_block m align) four.two in
-    omega (arith, frames, four.small)
-
 -- ---- what is kept
-
--- at first, none
-pub empty_caches : {D : Type 0} (state : D → State) (disk : D) (s : Shape) (cache : BlockCache) → count_cached cache ≡ 0 → Caches state disk s cache
-empty_caches state disk s cache none =
-    record {
-      right = λ n b is told. absurd (omega (arith, none, is.0, is.1));
-      whole = omega (arith, ap (λ (m : ℕ). m * block_numbers s) none);
-      range = λ n is. absurd (omega (arith, none, is.0, is.1));
-    }
 
 -- a part of so many that were counted
 pub part_fits : (count number first size : ℕ) → first ≤ number → number < first + count → (number - first) * size + size ≤ count * size

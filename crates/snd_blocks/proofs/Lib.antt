@@ -1,7 +1,7 @@
 mod Parameters
 mod Places
 pub mod BlockFrames
-pub mod Kept
+mod Kept
 mod ReadSpans
 pub mod Counted
 pub mod Fetches

@@ -46,11 +46,6 @@ blocks_between per_block place count number some wanted last =
     (div-lt_iff_lt-mul {x = place + count - 1} {y = place / per_block + count / per_block + 2} positive).1 (omega (arith, first, more, sum)) in
     omega (arith, least)
 
--- and the bytes that they are read for
-pub bytes_between : (per_block place count number align : ℕ) → 1 ≤ per_block → 1 ≤ count → number ≤ (place + count - 1) / per_block + 1
-    → (number - place / per_block) * align ≤ (count / per_block + 2) * align
-bytes_between per_block place count number align some wanted last = mul-le-mul_right align (blocks_between per_block place count number some wanted last)
-
 pub first_before_last : (per_block place count : ℕ) → 1 ≤ per_block → 1 ≤ count → place / per_block ≤ (place + count - 1) / per_block + 1
 first_before_last per_block place count some wanted =
     let positive : 0 < per_block = omega arith in
@@ -68,12 +63,6 @@ begins_before per_block place count number some last =
 pub ends_behind : (per_block place number : ℕ) → 1 ≤ per_block → place / per_block ≤ number → place < number * per_block + per_block
 ends_behind per_block place number some first =
     omega (arith, lt-div-mul-add {a = place} (let e : 0 < per_block = omega arith in e), mul-le-mul_right per_block first)
-
--- the last wanted block has a counted frame
-pub last_is_counted : (per_block place count frames last : ℕ) → 1 ≤ count → last ≡ (place + count - 1) / per_block + 1 → place + count ≤ frames → (last - 1) * per_block < frames
-last_is_counted per_block place count frames last some is within =
-    let before : last - 1 ≡ (place + count - 1) / per_block = omega (arith, is) in
-    omega (arith, within, some, ap (λ (m : ℕ). m * per_block) before, div-mul-le_self (place + count - 1) per_block)
 
 pub one_more : (first number align : ℕ) → first ≤ number → (number + 1 - first) * align ≡ (number - first) * align + align
 one_more first number align le =
