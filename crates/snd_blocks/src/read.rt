@@ -111,7 +111,7 @@ fn last_block(layout: &Layout, place: u64, count: usize) -> u64
 
 // The number behind that of the last block that may be read for `count` frames from a place on, of which those before a
 // block are kept: that of the last one with some of them or, where blocks are decoded four at a time, of one behind it,
-// as many as such a call may ask for.
+// as many as such a call may ask for, unless these are fewer than four, which would be read in vain.
 fn read_limit(layout: &Layout, place: u64, count: usize, start: u64) -> u64
     requires blocks { is_adpcm layout.now.params.codec ≡ true }
     requires within { place + count ≤ layout.now.frames }
@@ -123,10 +123,10 @@ fn read_limit(layout: &Layout, place: u64, count: usize, start: u64) -> u64
     ensures most { result - start ≤ count / block_frames layout.now.params.codec + 2 }
 {
     keeps_blocks(layout);
-    if !is_fourfold(layout) {
+    let most = (count as u64 / u64::from(frames_of(layout))).saturating_add(2);
+    if !is_fourfold(layout) || most < 4 {
         return last_block(layout, place, count);
     }
-    let most = (count as u64 / u64::from(frames_of(layout))).saturating_add(2);
     start + most.min(block_count(layout) - start)
 }
 
