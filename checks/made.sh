@@ -41,7 +41,9 @@ def ran(asked, script, out, err, status, name=None, data=None):
 # ---- tools
 for asked, out, data in tools.MADE:
     lay(tools.FILES)
-    cases.case(" ".join(asked), ran(asked, "", out, "", 0, asked[-1], data))
+    # a program that makes nothing must not pass
+    wrong = ["what is to be made stands there already"] if (asked[-1], data) in tools.FILES else []
+    cases.case(" ".join(asked), wrong + ran(asked, "", out, "", 0, asked[-1], data))
 for asked, err in tools.REFUSED:
     lay(tools.FILES)
     cases.case(" ".join(asked), ran(asked, "", "", err, 1))

@@ -43,7 +43,7 @@ MADE = [
      b"RIFF*\0\0\0WAVEfmt \x10\0\0\0\x01\0\x01\0@\x1f\0\0\xc0]\0\0\x03\0\x18\0data\x06\0\0\0\0\x01\0\0\xff\xff"),
     (["convert", "-pcmu8", "a.wav", "v.wav"], "ok 2\n",
      b"RIFF&\0\0\0WAVEfmt \x10\0\0\0\x01\0\x01\0@\x1f\0\0@\x1f\0\0\x01\0\x08\0data\x02\0\0\0\x80\x7f"),
-    (["convert", "-pcms8", "a.wav", "v.au"], "ok 2\n",
+    (["convert", "-pcms8", "a.wav", "x.au"], "ok 2\n",
      b".snd\0\0\0\x18\0\0\0\x02\0\0\0\x02\0\0\x1f@\0\0\0\x01\0\xff"),
     # the suffix says the kind, the input the class of the codec, and the kind the order of bytes
     (["convert", "a.wav", "x.au"], "ok 2\n",
