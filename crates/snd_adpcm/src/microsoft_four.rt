@@ -222,7 +222,7 @@ impl FourBlocks<'_> {
 
 impl MsBlock {
     /// Puts the samples of four blocks of two channels, one behind the other, each frame by frame, channels in turn. They
-    /// are read side by side, which takes less than half of the time of one after the other.
+    /// are read side by side, which takes less time than one after the other.
     ///
     /// `bytes` is four blocks of one size, and `into` has places for their samples. Where one of them is bad the answer is
     /// [`BadBlock`], and `into` stays.
