@@ -1,0 +1,4 @@
+mod Codes
+mod Loops
+pub mod Numbers
+pub mod Ranges

@@ -1,0 +1,69 @@
+-- Loops that put the bytes of samples, each made of one byte or of one sample.
+use Rattle.std.proofs.Common.{◌≡◌, ◌∙◌, ap, sym, ℕ, ◌+◌, ◌*◌, ◌/◌, ◌%◌, ◌<◌, ◌≤◌, ℤ, pos, List, [], ◌∷◌, ◌++◌, length, get_or, set, take, drop, map, append_assoc, arith}
+use Rattle.std.proofs.lemmas.List.{append-nil, drop_all, drop_more, get_or-map, length-map, take_all, take_more_set}
+use Rattle.snd_fields.specs.Field.{number}
+use Rattle.snd_fields.specs.declared.field.Order.TheVariants.{Little}
+use Rattle.snd_pcm.specs.Pcm.{sample_bytes, samples, samples_bytes, value}
+use Rattle.snd_pcm.specs.declared.linear.Linear.TheVariants.{S16, S32}
+use Rattle.snd_pcm.proofs.Series.{get_or-samples, length-samples, write_all, write_step2, write_step4}
+
+-- ---- of bytes that stand for a number each
+
+pub law_step : (f : ℕ → ℤ) (bytes into : List ℕ) (i a b : ℕ) → length into ≡ 2 * length bytes → i < length bytes
+    → a ∷ b ∷ [] ≡ sample_bytes (S16 Little) (f (get_or bytes i 0))
+    → take (2 * i) into ++ samples_bytes (S16 Little) (drop i (map f bytes)) ≡ samples_bytes (S16 Little) (map f bytes)
+    → take (2 * (i + 1)) (set (set into (2 * i) a) (2 * i + 1) b) ++ samples_bytes (S16 Little) (drop (i + 1) (map f bytes)) ≡ samples_bytes (S16 Little) (map f bytes)
+law_step f bytes into i a b room lt is so_far =
+    write_step2 (S16 Little) (map f bytes) into i a b (omega (arith, room, length-map bytes f)) (omega (arith, lt, length-map bytes f))
+    (is ∙ ap (sample_bytes (S16 Little)) (sym (get_or-map f bytes i 0 (pos 0) lt))) so_far
+
+pub law_all : (f : ℕ → ℤ) (bytes into : List ℕ) (i : ℕ) → length into ≡ 2 * length bytes → length bytes ≤ i
+    → take (2 * i) into ++ samples_bytes (S16 Little) (drop i (map f bytes)) ≡ into
+law_all f bytes into i room all = write_all (S16 Little) (map f bytes) into i (2 * i) (omega (arith, room, all)) (omega (arith, all, length-map bytes f))
+
+-- ---- a loop that makes numbers of samples in another width
+
+pub number_step : (f : ℤ → ℤ) (bytes : List ℕ) (into : List ℤ) (i : ℕ) (x : ℤ) → length bytes ≡ 2 * length into → i < length into
+    → x ≡ f (value (S16 Little) (number Little bytes (2 * i) 2))
+    → take i into ++ drop i (map f (samples (S16 Little) bytes)) ≡ map f (samples (S16 Little) bytes)
+    → take (i + 1) (set into i x) ++ drop (i + 1) (map f (samples (S16 Little) bytes)) ≡ map f (samples (S16 Little) bytes)
+number_step f bytes into i x room lt is so_far =
+    let xs = samples (S16 Little) bytes in
+    let ys = map f xs in
+    let half : i < length bytes / 2 = omega (arith, room, lt) in
+    let within : i < length xs = omega (arith, half, length-samples (S16 Little) bytes) in
+    let same : x ≡ get_or ys i (pos 0) = is ∙ ap f (sym (get_or-samples (S16 Little) bytes i (pos 0) half)) ∙ sym (get_or-map f xs i (pos 0) (pos 0) within) in
+    ap (λ (l : List ℤ). l ++ drop (i + 1) ys) (take_more_set into i x lt)
+    ∙ append_assoc (take i into) (x ∷ []) (drop (i + 1) ys)
+    ∙ ap (λ (y : ℤ). take i into ++ y ∷ drop (i + 1) ys) same
+    ∙ ap (λ (l : List ℤ). take i into ++ l) (sym (drop_more ys i (pos 0) (omega (arith, within, length-map xs f))))
+    ∙ so_far
+
+pub number_all : (f : ℤ → ℤ) (bytes : List ℕ) (into : List ℤ) (i : ℕ) → length bytes ≡ 2 * length into → length into ≤ i
+    → take i into ++ drop i (map f (samples (S16 Little) bytes)) ≡ into
+number_all f bytes into i room all =
+    let xs = samples (S16 Little) bytes in
+    let half : length bytes / 2 ≤ i = omega (arith, room, all) in
+    ap (λ (l : List ℤ). take i into ++ l) (drop_all i (map f xs) (omega (arith, half, length-map xs f, length-samples (S16 Little) bytes)))
+    ∙ append-nil (take i into) ∙ take_all i into all
+
+-- ---- of samples that become wider
+
+pub wide_step : (f : ℤ → ℤ) (bytes into : List ℕ) (i a b c d : ℕ) → length bytes % 2 ≡ 0 → length into ≡ 2 * length bytes → i < length bytes / 2
+    → a ∷ b ∷ c ∷ d ∷ [] ≡ sample_bytes (S32 Little) (f (value (S16 Little) (number Little bytes (2 * i) 2)))
+    → take (4 * i) into ++ samples_bytes (S32 Little) (drop i (map f (samples (S16 Little) bytes))) ≡ samples_bytes (S32 Little) (map f (samples (S16 Little) bytes))
+    → take (4 * (i + 1)) (set (set (set (set into (4 * i) a) (4 * i + 1) b) (4 * i + 2) c) (4 * i + 3) d) ++ samples_bytes (S32 Little) (drop (i + 1) (map f (samples (S16 Little) bytes)))
+    ≡ samples_bytes (S32 Little) (map f (samples (S16 Little) bytes))
+wide_step f bytes into i a b c d whole room lt is so_far =
+    let xs = samples (S16 Little) bytes in
+    let count : length (map f xs) ≡ length bytes / 2 = length-map xs f ∙ length-samples (S16 Little) bytes in
+    let within : i < length xs = omega (arith, lt, length-samples (S16 Little) bytes) in
+    write_step4 (S32 Little) (map f xs) into i a b c d (omega (arith, whole, room, count)) (omega (arith, lt, count))
+    (is ∙ ap (λ (x : ℤ). sample_bytes (S32 Little) (f x)) (sym (get_or-samples (S16 Little) bytes i (pos 0) lt)) ∙ ap (sample_bytes (S32 Little)) (sym (get_or-map f xs i (pos 0) (pos 0) within))) so_far
+
+pub wide_all : (f : ℤ → ℤ) (bytes into : List ℕ) (i : ℕ) → length bytes % 2 ≡ 0 → length into ≡ 2 * length bytes → length bytes / 2 ≤ i
+    → take (4 * i) into ++ samples_bytes (S32 Little) (drop i (map f (samples (S16 Little) bytes))) ≡ into
+wide_all f bytes into i whole room all =
+    let xs = samples (S16 Little) bytes in
+    let count : length (map f xs) ≡ length bytes / 2 = length-map xs f ∙ length-samples (S16 Little) bytes in
+    write_all (S32 Little) (map f xs) into i (4 * i) (omega (arith, whole, room, all)) (omega (arith, all, count))

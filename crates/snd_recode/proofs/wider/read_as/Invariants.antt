@@ -1,0 +1,10 @@
+use Rattle.std.proofs.Common.{◌≡◌, ◌++◌, take, drop, map}
+use Rattle.snd_fields.specs.declared.field.Order.TheVariants.{Little}
+use Rattle.snd_pcm.specs.Pcm.{samples}
+use Rattle.snd_pcm.specs.Width.{changed}
+use Rattle.snd_pcm.specs.declared.linear.Linear.TheVariants.{S16}
+use Rattle.snd_recode.proofs.wider.read_as.Given as goal
+
+abbrev pub invariant-loop-i : goal.invariant-loop-i
+invariant-loop-i l =
+    take l.i l.into ++ drop l.i (map (changed 16 l.fn.width) (samples (S16 Little) l.bytes)) ≡ map (changed 16 l.fn.width) (samples (S16 Little) l.bytes)
