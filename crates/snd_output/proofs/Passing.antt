@@ -1,19 +1,20 @@
--- Linear samples that pass from one file to another as the bytes that they are.
-use Rattle.std.proofs.Common.{◌≡◌, ◌∙◌, ap, sym, subst, refl, ℕ, ◌+◌, ◌*◌, ◌/◌, ◌%◌, ◌<◌, ◌≤◌, ℤ, Bool, List, [], All, Option, Some, length, take, min, true, false, arith}
-use Rattle.std.proofs.Math.Nat.{mul-div_cancel, mul-le-mul_left, mul-mod_left}
+-- Samples that pass from one file to another by their bytes.
+use Rattle.std.proofs.Common.{◌≡◌, ◌∙◌, ap, sym, subst, refl, ℕ, ◌+◌, ◌*◌, ◌/◌, ◌%◌, ◌<◌, ◌≤◌, Bool, List, [], ◌++◌, All, Option, Some, length, take, min, true, false, arith}
+use Rattle.std.proofs.Math.Nat.{mul-div_cancel, mul-le-mul_left, mul-le-mul_right, mul-mod_left}
 use Rattle.std.proofs.lemmas.Nat.{div-add-mod'}
-use Rattle.std.proofs.lemmas.List.{length-take-le}
+use Rattle.std.proofs.lemmas.List.{length-take-le, take_at}
 use Rattle.std.specs.Prelude.{Err, IsTrue, Result}
 use Rattle.snd_fields.specs.Laws.{IsByte}
 use Rattle.snd_layout.specs.Blocks.{block_align, block_frames, is_adpcm}
 use Rattle.snd_layout.specs.Params.{Parameters}
 use Rattle.snd_layout.specs.declared.codec.Codec.{Codec}
 use Rattle.snd_layout.specs.declared.codec.Codec.TheVariants.{U8, S8, S16, S24, S32, MuLaw, ALaw, Ima, Ms}
-use Rattle.snd_container.specs.Fixed.{byte_count}
+use Rattle.snd_container.specs.Fixed.{byte_count, range_form, samples}
 use Rattle.snd_container.specs.Sound.{fixed_of}
+use Rattle.snd_container.specs.declared.fixed.Fixed as fixed
 use Rattle.snd_container.specs.declared.fixed.Fixed.{Fixed}
 use Rattle.snd_container.specs.declared.fixed.Fixed.TheVariants.{Linear}
-use Rattle.snd_container.proofs.FixedSamples.{samples_of_parts}
+use Rattle.snd_container.proofs.FixedSamples.{byte_count_pos, samples_of_parts}
 use Rattle.snd_modes.specs.Bytes.{AreWhole, is_linear, numbers_as, numbers_in}
 use Rattle.snd_modes.specs.Calls.{ReadLeaves, count_read}
 use Rattle.snd_modes.specs.Editing.{Editing, frames_read}
@@ -21,25 +22,45 @@ use Rattle.snd_modes.specs.Handle.{Known}
 use Rattle.snd_modes.specs.Reading.{bytes_of_frames}
 use Rattle.snd_modes.specs.declared.error.ReadError.{ReadError}
 use Rattle.snd_modes.specs.declared.error.ReadError.TheVariants.{BadBlock}
-use Rattle.snd_modes.proofs.BytesRead.{bytes_counted, count_numbers, numbers_are_whole}
-use Rattle.snd_modes.proofs.GivenBytes.{count_of_given, fits_given, linear_form}
-use Rattle.snd_modes.proofs.SoundFrames.{linear_frames}
+use Rattle.snd_modes.proofs.BytesRead.{count_numbers, numbers_are_whole}
+use Rattle.snd_modes.proofs.GivenBytes.{fits_given}
+use Rattle.snd_modes.proofs.SoundFrames.{frame_bytes, linear_align, linear_frames}
+use Rattle.snd_pcm.proofs.RoundTrips.{samples_read_back}
 use Rattle.snd_pcm.specs.Groups.{first_groups}
-use Rattle.snd_output.specs.Appended.{AreAlike, HasRoom, IsLonger, MayAppend, MayGive, MayPass, left_in, next_numbers}
+use Rattle.snd_pcm.specs.Pcm.{bit_count, samples_bytes}
+use Rattle.snd_pcm.specs.declared.linear.Linear as linear
+use Rattle.snd_recode.specs.Recoded.{changed_all, recoded}
+use Rattle.snd_recode.proofs.Numbers.{all_same_width}
+use Rattle.snd_recode.proofs.Ranges.{recoded_fit, samples_fit}
+use Rattle.snd_output.specs.Appended.{HasRoom, IsAtEnd, MayAppend, MayGive, MayPass, Pass, bytes_in, left_in, next_numbers}
 use Rattle.snd_output.specs.Widths.{change_numbers, width_of}
-use Rattle.snd_output.proofs.Appending.{block_numbers, count_fits, frames_are, given_longer, length_changed, room_fewer}
-use Rattle.snd_output.proofs.Numbers.{all_same_width}
+use Rattle.snd_output.proofs.Appending.{block_numbers, count_fits, room_fewer}
 
-pub is_fixed : (codec : Codec) → is_linear codec ≡ true → is_adpcm codec ≡ false
-is_fixed U8 is = refl
-is_fixed S8 is = refl
-is_fixed (S16 order) is = refl
-is_fixed (S24 order) is = refl
-is_fixed (S32 order) is = refl
-is_fixed MuLaw is = refl
-is_fixed ALaw is = refl
-is_fixed (Ima align per_block) is = absurd cc
-is_fixed (Ms align per_block) is = absurd cc
+-- what has no blocks has a form, and what is linear has none
+pub some_form : (codec : Codec) → is_adpcm codec ≡ false → (form : Fixed) × (fixed_of codec ≡ Some form)
+some_form U8 is = (Linear linear.TheVariants.U8, refl)
+some_form S8 is = (Linear linear.TheVariants.S8, refl)
+some_form (S16 order) is = (Linear (linear.TheVariants.S16 order), refl)
+some_form (S24 order) is = (Linear (linear.TheVariants.S24 order), refl)
+some_form (S32 order) is = (Linear (linear.TheVariants.S32 order), refl)
+some_form MuLaw is = (fixed.TheVariants.MuLaw, refl)
+some_form ALaw is = (fixed.TheVariants.ALaw, refl)
+some_form (Ima align per_block) is = absurd cc
+some_form (Ms align per_block) is = absurd cc
+
+pub linear_is_fixed : (codec : Codec) → is_linear codec ≡ true → is_adpcm codec ≡ false
+linear_is_fixed U8 is = refl
+linear_is_fixed S8 is = refl
+linear_is_fixed (S16 order) is = refl
+linear_is_fixed (S24 order) is = refl
+linear_is_fixed (S32 order) is = refl
+linear_is_fixed MuLaw is = refl
+linear_is_fixed ALaw is = refl
+linear_is_fixed (Ima align per_block) is = absurd cc
+linear_is_fixed (Ms align per_block) is = absurd cc
+
+pub linear_frames_are : (codec : Codec) → is_linear codec ≡ true → 1 ≤ block_frames codec
+linear_frames_are codec linear = let form = some_form codec (linear_is_fixed codec linear) in omega (arith, linear_frames codec form.0 form.1)
 
 -- no block is bad where there are none
 pub no_bad_block : (places : ℕ) (old new : Known) (result : Result ℕ ReadError) (error : ReadError) → is_adpcm old.shape.params.codec ≡ false → ReadLeaves places old new result → result ≡ Err error
@@ -49,136 +70,205 @@ no_bad_block places old new result error fixed left is bad =
     let e : true ≡ false = sym leaves.1 ∙ fixed in
     cc
 
--- the numbers of the first frames
-pub front_numbers : (p : Parameters) (b : List ℕ) (k : ℕ) → is_linear p.codec ≡ true → bytes_of_frames p k ≤ length b
-    → numbers_in p.codec (take (bytes_of_frames p k) b) ≡ take (k * p.channels) (numbers_in p.codec b)
-front_numbers p b k linear fits =
-    let form : Fixed = Linear (linear_form p.codec linear).0 in
-    let is : fixed_of p.codec ≡ Some form = (linear_form p.codec linear).1 in
-    let size : bytes_of_frames p k ≡ byte_count form * (p.channels * k) = bytes_counted p.codec form p.channels k (bytes_of_frames p k) is refl in
-    let turn : p.channels * k ≡ k * p.channels = omega arith in
-    ap (λ (o : Option Fixed). numbers_as o (take (bytes_of_frames p k) b)) is
-    ∙ ap (λ (n : ℕ). numbers_as (Some form) (take n b)) size
-    ∙ (samples_of_parts form b (p.channels * k) (omega (arith, size, fits))).0
-    ∙ ap (λ (o : Option Fixed). take (p.channels * k) (numbers_as o b)) (sym is)
-    ∙ ap (λ (n : ℕ). take n (numbers_in p.codec b)) turn
+-- ---- the bytes of so many samples
 
--- they are those that the other file is given
-pub passed : (p : Parameters) (to : Codec) (b : List ℕ) (k : ℕ) → AreAlike p.codec to → bytes_of_frames p k ≤ length b
-    → numbers_in to (take (bytes_of_frames p k) b) ≡ change_numbers p.codec to (take (k * p.channels) (numbers_in p.codec b))
-passed p to b k alike fits =
-    let front = take (k * p.channels) (numbers_in p.codec b) in
-    ap (λ (q : Codec). numbers_in q (take (bytes_of_frames p k) b)) (sym alike.0)
-    ∙ front_numbers p b k alike.1 fits
-    ∙ sym (all_same_width (width_of p.codec) front)
-    ∙ ap (λ (q : Codec). change_numbers p.codec q front) alike.0
+pub size_of : (codec : Codec) (form : Fixed) (n : ℕ) → fixed_of codec ≡ Some form → bytes_in codec n ≡ byte_count form * n
+size_of codec form n is = sym (frame_bytes codec form 1 n n is (omega arith))
 
--- so many frames as are read into bytes have no more bytes than these
-pub count_fits_bytes : (p : Parameters) (b : List ℕ) (k left : ℕ) → is_linear p.codec ≡ true → 1 ≤ p.channels → AreWhole p (length b) → k ≡ min (length (numbers_in p.codec b) / p.channels) left
-    → bytes_of_frames p k ≤ length b
-count_fits_bytes p b k left linear some whole is =
-    let align = block_align p.channels p.codec in
-    let all : length b / align * align + length b % align ≡ length b = div-add-mod' (length b) align in
-    let count : length (numbers_in p.codec b) ≡ length b / align * p.channels = count_numbers p.codec p.channels (length b / align) b (is_fixed p.codec linear) (omega (arith, all, whole)) in
-    let frames : length (numbers_in p.codec b) / p.channels ≡ length b / align = ap (λ (n : ℕ). n / p.channels) count ∙ mul-div_cancel (length b / align) (let e : 0 < p.channels = omega (arith, some) in e) in
-    let few : k ≤ length b / align = omega (arith, is, frames) in
-    let times : align * k ≤ align * (length b / align) = mul-le-mul_left align few in
-    let turn : align * k ≡ k * align = omega arith in
-    let turned : align * (length b / align) ≡ length b / align * align = omega arith in
-    omega (arith, times, turn, turned, all)
+pub numbers_counted : (codec : Codec) (b : List ℕ) (n : ℕ) → is_adpcm codec ≡ false → length b ≡ bytes_in codec n → length (numbers_in codec b) ≡ n
+numbers_counted codec b n fixed size = count_numbers codec 1 n b fixed size ∙ (let e : n * 1 ≡ n = omega arith in e)
+
+-- of frames
+pub frames_size : (codec : Codec) (channels k : ℕ) → is_adpcm codec ≡ false → k * block_align channels codec ≡ bytes_in codec (k * channels)
+frames_size codec channels k fixed =
+    let form = (some_form codec fixed).0 in
+    let is = (some_form codec fixed).1 in
+    sym (frame_bytes codec form channels k (k * channels) is refl) ∙ sym (size_of codec form (k * channels) is)
+
+frames_whole : (p : Parameters) (n : ℕ) → is_adpcm p.codec ≡ false → n % p.channels ≡ 0 → AreWhole p (bytes_in p.codec n)
+frames_whole p n fixed whole =
+    let q = n / p.channels in
+    let parts : q * p.channels + n % p.channels ≡ n = div-add-mod' n p.channels in
+    let all : n ≡ q * p.channels = omega (arith, parts, whole) in
+    ap (λ (m : ℕ). m % block_align p.channels p.codec) (ap (bytes_in p.codec) all ∙ sym (frames_size p.codec p.channels q fixed)) ∙ mul-mod_left q (block_align p.channels p.codec)
+
+-- bytes of whole frames may pass
+pub may_pass : (k : Known) (b : List ℕ) (n : ℕ) → is_linear k.shape.params.codec ≡ true → length b ≡ bytes_in k.shape.params.codec n → n % k.shape.params.channels ≡ 0
+    → IsAtEnd k → HasRoom (n / k.shape.params.channels) k → MayPass b k
+may_pass k b n linear size whole at_end roomy =
+    let p = k.shape.params in
+    let fixed = linear_is_fixed p.codec linear in
+    record {
+      at_end = at_end;
+      linear = λ plain. linear;
+      whole = ap (λ (m : ℕ). m % block_align p.channels p.codec) size ∙ frames_whole p n fixed whole;
+      roomy = subst (λ (m : ℕ). HasRoom (m / p.channels) k) (sym (numbers_counted p.codec b n fixed size)) roomy;
+    }
 
 -- bytes that may be given are numbers that may
 pub may_give_bytes : (b : List ℕ) (k : Known) → MayPass b k → is_linear k.shape.params.codec ≡ true → All IsByte b → MayGive (numbers_in k.shape.params.codec b) k
 may_give_bytes b k may linear bytes = record {
   at_end = may.at_end;
-  whole = numbers_are_whole k.shape.params b (is_fixed k.shape.params.codec linear) may.whole;
+  whole = numbers_are_whole k.shape.params b (linear_is_fixed k.shape.params.codec linear) may.whole;
   in_range = fits_given k.shape.params.codec b linear bytes;
   roomy = may.roomy;
 }
 
--- how many numbers bytes are is told by their count
-same_count : (codec : Codec) (a b : List ℕ) → is_linear codec ≡ true → length a ≡ length b → length (numbers_in codec a) ≡ length (numbers_in codec b)
-same_count codec a b linear same =
-    let form : Fixed = Linear (linear_form codec linear).0 in
-    let is : fixed_of codec ≡ Some form = (linear_form codec linear).1 in
-    count_of_given codec a form is ∙ ap (λ (n : ℕ). n / byte_count form) same ∙ sym (count_of_given codec b form is)
+-- bytes of as many frames as a block has places for have as many numbers
+pub same_places : (p : Parameters) (b : List ℕ) (n : ℕ) → is_adpcm p.codec ≡ false → n % p.channels ≡ 0 → length b ≡ bytes_of_frames p (n / p.channels) → length (numbers_in p.codec b) ≡ n
+same_places p b n fixed whole size =
+    let all : n / p.channels * p.channels + n % p.channels ≡ n = div-add-mod' n p.channels in
+    omega (arith, count_numbers p.codec p.channels (n / p.channels) b fixed size, all, whole)
 
--- frames that were read into bytes, of which there are as many as before
-module _ (from to : Known) (k align : ℕ) (old bytes : List ℕ) (may : MayAppend from to) (alike : AreAlike from.shape.params.codec to.shape.params.codec) (some : 1 ≤ from.shape.params.channels)
-    (whole : AreWhole from.shape.params (length old)) (same : length bytes ≡ length old) (size : align ≡ block_align from.shape.params.channels from.shape.params.codec)
-    (is : k ≡ count_read (length (numbers_in from.shape.params.codec old)) from) where
+-- a frame has a byte for each channel at least
+align_least : (codec : Codec) (channels : ℕ) → is_adpcm codec ≡ false → channels ≤ block_align channels codec
+align_least codec channels fixed =
+    let form = (some_form codec fixed).0 in
+    let times : 1 * channels ≤ byte_count form * channels = mul-le-mul_right channels (let e : 1 ≤ byte_count form = omega (arith, byte_count_pos form) in e) in
+    omega (arith, times, linear_align codec form channels (some_form codec fixed).1)
+
+-- frames that have no more bytes than are held, in either of two codecs, are no more samples, and have no more bytes in each
+pub places_fit : (p : Parameters) (to : Codec) (m q align to_align most : ℕ) → Pass p.codec to → q ≡ p.channels → 1 ≤ q → m % q ≡ 0 → m / q * most ≤ 16384 → align ≤ most → to_align ≤ most
+    → align ≡ block_align p.channels p.codec → to_align ≡ block_align p.channels to → (m ≤ 16384) × (bytes_in to m ≤ 16384) × (m / q * align ≤ 16384)
+places_fit p to m q align to_align most pass channels some whole fits le to_le is to_is =
+    let f = m / q in
+    let parts : f * q + m % q ≡ m = div-add-mod' m q in
+    let all : m ≡ f * q = omega (arith, parts, whole) in
+    let old : f * align ≤ f * most = mul-le-mul_left f le in
+    let new : f * to_align ≤ f * most = mul-le-mul_left f to_le in
+    let least : q ≤ align = omega (arith, channels, is, align_least p.codec p.channels pass.0) in
+    let few : f * q ≤ f * align = mul-le-mul_left f least in
+    let size : bytes_in to m ≡ f * to_align =
+    ap (bytes_in to) (all ∙ ap (λ (n : ℕ). f * n) channels) ∙ sym (frames_size to p.channels f (linear_is_fixed to pass.1)) ∙ ap (λ (n : ℕ). f * n) (sym to_is) in
+    (omega (arith, all, few, old, fits), omega (arith, size, new, fits), omega (arith, old, fits))
+
+pub held_places : (from to : Known) (m q align to_align most : ℕ) → MayAppend from to → Pass from.shape.params.codec to.shape.params.codec → q ≡ from.shape.params.channels → 1 ≤ q → m % q ≡ 0
+    → m / q * most ≤ 16384 → align ≤ most → to_align ≤ most → align ≡ block_align from.shape.params.channels from.shape.params.codec → to_align ≡ block_align to.shape.params.channels to.shape.params.codec
+    → (m ≤ 16384) × (bytes_in to.shape.params.codec m ≤ 16384) × (m / q * align ≤ 16384)
+held_places from to m q align to_align most may pass channels some whole fits le to_le is to_is =
+    places_fit from.shape.params to.shape.params.codec m q align to_align most pass channels some whole fits le to_le is (to_is ∙ ap (λ (n : ℕ). block_align n to.shape.params.codec) (sym may.alike))
+
+-- samples in blocks do not pass
+pub no_pass : (pass : Bool) (from to : Codec) → (IsTrue pass → Pass from to) → is_adpcm from ≡ true → pass ≡ false
+no_pass true from to may blocks = absurd (let e : true ≡ false = sym blocks ∙ (may refl).0 in cc)
+no_pass false from to may blocks = refl
+
+-- ---- samples of another codec
+
+-- the width of a codec is that of its form
+width_is : (codec : Codec) (form : Fixed) → fixed_of codec ≡ Some form → width_of codec ≡ bit_count (range_form form)
+width_is U8 form is = let same : Linear linear.TheVariants.U8 ≡ form = cc in ap (λ (f : Fixed). bit_count (range_form f)) same
+width_is S8 form is = let same : Linear linear.TheVariants.S8 ≡ form = cc in ap (λ (f : Fixed). bit_count (range_form f)) same
+width_is (S16 order) form is = let same : Linear (linear.TheVariants.S16 order) ≡ form = cc in ap (λ (f : Fixed). bit_count (range_form f)) same
+width_is (S24 order) form is = let same : Linear (linear.TheVariants.S24 order) ≡ form = cc in ap (λ (f : Fixed). bit_count (range_form f)) same
+width_is (S32 order) form is = let same : Linear (linear.TheVariants.S32 order) ≡ form = cc in ap (λ (f : Fixed). bit_count (range_form f)) same
+width_is MuLaw form is = let same : fixed.TheVariants.MuLaw ≡ form = cc in ap (λ (f : Fixed). bit_count (range_form f)) same
+width_is ALaw form is = let same : fixed.TheVariants.ALaw ≡ form = cc in ap (λ (f : Fixed). bit_count (range_form f)) same
+width_is (Ima align per_block) form is = absurd cc
+width_is (Ms align per_block) form is = absurd cc
+
+-- a buffer of which they are the front has their numbers there, in its own width
+pub recoded_numbers : (from to : Codec) (old : Fixed) (new : linear.Linear) (bytes front rest : List ℕ) (n : ℕ) → fixed_of from ≡ Some old → fixed_of to ≡ Some (Linear new) → All IsByte bytes
+    → front ≡ samples_bytes new (recoded old new (samples old bytes)) → n ≡ length front → numbers_in to (take n (front ++ rest)) ≡ change_numbers from to (numbers_in from bytes)
+recoded_numbers from to old new bytes front rest n from_is to_is all is size =
+    let ys = recoded old new (samples old bytes) in
+    let back : samples (Linear new) (samples_bytes new ys) ≡ ys = samples_read_back new ys (recoded_fit old new (samples old bytes) (samples_fit old bytes all)) in
+    ap (numbers_in to) (take_at front rest n (sym size) ∙ is)
+    ∙ ap (λ (o : Option Fixed). numbers_as o (samples_bytes new ys)) to_is
+    ∙ back
+    ∙ ap (λ (w : ℕ). changed_all w (bit_count new) (samples old bytes)) (sym (width_is from old from_is))
+    ∙ ap (λ (w : ℕ). changed_all (width_of from) w (samples old bytes)) (sym (width_is to (Linear new) to_is))
+    ∙ ap (λ (o : Option Fixed). changed_all (width_of from) (width_of to) (numbers_as o bytes)) (sym from_is)
+
+-- of one codec they are the same
+pub same_numbers : (from to : Codec) (b : List ℕ) → from ≡ to → numbers_in to b ≡ change_numbers from to (numbers_in from b)
+same_numbers from to b same =
+    ap (λ (q : Codec). numbers_in q b) (sym same)
+    ∙ sym (all_same_width (width_of from) (numbers_in from b))
+    ∙ ap (λ (q : Codec). change_numbers from q (numbers_in from b)) same
+
+-- ---- the first frames
+
+-- so many frames as are read into bytes have no more bytes than these
+pub front_fits : (p : Parameters) (n k left : ℕ) → is_adpcm p.codec ≡ false → 1 ≤ p.channels → n % p.channels ≡ 0 → k ≡ min (n / p.channels) left
+    → (k * p.channels ≤ n) × (k * block_align p.channels p.codec ≤ bytes_of_frames p (n / p.channels))
+front_fits p n k left fixed some whole is =
+    let q = n / p.channels in
+    let parts : q * p.channels + n % p.channels ≡ n = div-add-mod' n p.channels in
+    let few : k ≤ q = omega (arith, is) in
+    let times : p.channels * k ≤ p.channels * q = mul-le-mul_left p.channels few in
+    let align = block_align p.channels p.codec in
+    let aligned : align * k ≤ align * q = mul-le-mul_left align few in
+    let turn : p.channels * k ≡ k * p.channels = omega arith in
+    let turned : p.channels * q ≡ q * p.channels = omega arith in
+    let turn_align : align * k ≡ k * align = omega arith in
+    let turned_align : align * q ≡ q * align = omega arith in
+    (omega (arith, parts, whole, times, turn, turned), omega (arith, aligned, turn_align, turned_align))
+
+-- their numbers are the first ones
+pub front_numbers : (p : Parameters) (b : List ℕ) (k : ℕ) → is_adpcm p.codec ≡ false → k * block_align p.channels p.codec ≤ length b
+    → numbers_in p.codec (take (k * block_align p.channels p.codec) b) ≡ take (k * p.channels) (numbers_in p.codec b)
+front_numbers p b k fixed fits =
+    let form = (some_form p.codec fixed).0 in
+    let is = (some_form p.codec fixed).1 in
+    let size : k * block_align p.channels p.codec ≡ byte_count form * (k * p.channels) = frames_size p.codec p.channels k fixed ∙ size_of p.codec form (k * p.channels) is in
+    ap (λ (o : Option Fixed). numbers_as o (take (k * block_align p.channels p.codec) b)) is
+    ∙ ap (λ (n : ℕ). samples form (take n b)) size
+    ∙ (samples_of_parts form b (k * p.channels) (omega (arith, size, fits))).0
+    ∙ ap (λ (o : Option Fixed). take (k * p.channels) (numbers_as o b)) (sym is)
+
+-- frames that were read into bytes, of as many as a block has places for
+module _ (from to : Known) (n k m align : ℕ) (old bytes : List ℕ) (may : MayAppend from to) (pass : Pass from.shape.params.codec to.shape.params.codec) (channels : m ≡ from.shape.params.channels) (some : 1 ≤ m)
+    (whole : n % from.shape.params.channels ≡ 0) (held : length old ≡ bytes_of_frames from.shape.params (n / from.shape.params.channels)) (same : length bytes ≡ length old)
+    (size : align ≡ block_align from.shape.params.channels from.shape.params.codec) (is : k ≡ count_read (length (numbers_in from.shape.params.codec old)) from) where
   abbrev p : Parameters
   p = from.shape.params
 
-  still_whole : AreWhole p (length bytes)
-  still_whole = ap (λ (n : ℕ). n % block_align p.channels p.codec) same ∙ whole
+  pub count_is : k ≡ count_read n from
+  count_is = is ∙ ap (λ (i : ℕ). count_read i from) (same_places p old n pass.0 whole held)
 
-  pub block_whole : length (numbers_in p.codec bytes) % p.channels ≡ 0
-  block_whole = numbers_are_whole p bytes (is_fixed p.codec alike.1) still_whole
+  some_channel : 1 ≤ p.channels
+  some_channel = omega (arith, channels, some)
 
-  pub count_is : k ≡ count_read (length (numbers_in p.codec bytes)) from
-  count_is = is ∙ ap (λ (n : ℕ). count_read n from) (same_count p.codec old bytes alike.1 (sym same))
+  fits : (k * p.channels ≤ n) × (k * block_align p.channels p.codec ≤ bytes_of_frames p (n / p.channels))
+  fits = front_fits p n k (left_in from) pass.0 some_channel whole count_is
 
-  taken : k * align ≡ bytes_of_frames p k
-  taken = ap (λ (n : ℕ). k * n) size
+  left : k ≤ left_in from
+  left = (count_fits from n k some_channel whole count_is).0
 
-  pub within : k * align ≤ length bytes
-  within = omega (arith, taken, count_fits_bytes p bytes k _ alike.1 some still_whole count_is)
+  numbers : k * m ≡ k * p.channels
+  numbers = ap (λ (i : ℕ). k * i) channels
 
-  size_taken : length (take (k * align) bytes) ≡ k * align
-  size_taken = length-take-le (k * align) bytes within
+  pub numbers_within : k * m ≤ n
+  numbers_within = omega (arith, numbers, fits.0)
 
-  -- they pass into the other file
-  pub passed_on : numbers_in to.shape.params.codec (take (k * align) bytes) ≡ change_numbers p.codec to.shape.params.codec (take (k * p.channels) (numbers_in p.codec bytes))
-  passed_on = ap (λ (n : ℕ). numbers_in to.shape.params.codec (take n bytes)) taken ∙ passed p to.shape.params.codec bytes k alike (omega (arith, taken, within))
+  taken : k * align ≡ k * block_align p.channels p.codec
+  taken = ap (λ (i : ℕ). k * i) size
 
-  pub taken_whole : AreWhole to.shape.params (length (take (k * align) bytes))
-  taken_whole =
-      let align_to : align ≡ block_align to.shape.params.channels to.shape.params.codec = size ∙ ap (λ (q : Codec). block_align p.channels q) alike.0 ∙ ap (λ (n : ℕ). block_align n to.shape.params.codec) may.alike in
-      ap (λ (n : ℕ). n % block_align to.shape.params.channels to.shape.params.codec) size_taken
-      ∙ ap (λ (n : ℕ). k * align % n) (sym align_to) ∙ mul-mod_left k align
+  pub bytes_within : k * align ≤ length bytes
+  bytes_within = omega (arith, taken, fits.1, same, held)
 
-  abbrev ys : List ℤ
-  ys = numbers_in to.shape.params.codec (take (k * align) bytes)
+  pub bytes_taken : length (take (k * align) bytes) ≡ bytes_in p.codec (k * m)
+  bytes_taken = length-take-le (k * align) bytes bytes_within ∙ taken ∙ frames_size p.codec p.channels k pass.0 ∙ ap (bytes_in p.codec) (sym numbers)
 
-  some_to : 1 ≤ to.shape.params.channels
-  some_to = omega (arith, some, may.alike)
+  to_numbers : k * m ≡ k * to.shape.params.channels
+  to_numbers = numbers ∙ ap (λ (i : ℕ). k * i) may.alike
 
-  linear_to : is_linear to.shape.params.codec ≡ true
-  linear_to = subst (λ (q : Codec). is_linear q ≡ true) alike.0 alike.1
+  pub frames_counted : k * m / to.shape.params.channels ≡ k
+  frames_counted = ap (λ (i : ℕ). i / to.shape.params.channels) to_numbers ∙ mul-div_cancel k (let e : 0 < to.shape.params.channels = omega (arith, some_channel, may.alike) in e)
 
-  fits : (k ≤ left_in from) × (k * p.channels ≤ length (numbers_in p.codec bytes))
-  fits = count_fits from (length (numbers_in p.codec bytes)) k some block_whole count_is
+  pub frames_are_whole : (k * m) % to.shape.params.channels ≡ 0
+  frames_are_whole = ap (λ (i : ℕ). i % to.shape.params.channels) to_numbers ∙ mul-mod_left k to.shape.params.channels
 
-  count_of_ys : length ys ≡ k * to.shape.params.channels
-  count_of_ys = length_changed p.codec to.shape.params.codec (numbers_in p.codec bytes) ys (k * p.channels) passed_on fits.1 ∙ ap (λ (n : ℕ). k * n) may.alike
+  pub room_left : 1 ≤ block_frames to.shape.params.codec → HasRoom (k * m / to.shape.params.channels) to
+  room_left one = subst (λ (i : ℕ). HasRoom i to) (sym frames_counted) (room_fewer to k (left_in from) one left may.in_room)
 
-  pub passes : MayPass (take (k * align) bytes) to
-  passes =
-      let one : 1 ≤ block_frames to.shape.params.codec = omega (arith, linear_frames to.shape.params.codec (Linear (linear_form to.shape.params.codec linear_to).0) (linear_form to.shape.params.codec linear_to).1) in
-      record {
-        at_end = may.at_end;
-        linear = λ plain. linear_to;
-        whole = taken_whole;
-        roomy = subst (λ (m : ℕ). HasRoom m to) (sym (frames_are ys k to some_to count_of_ys)) (room_fewer to k (left_in from) one fits.0 may.in_room);
-      }
-
-  pub grows : (to' : Known) → IsLonger (length ys / to.shape.params.channels) to to' → IsLonger k to to'
-  grows to' is = given_longer ys k to some_to count_of_ys to' is
-
-  pub passed_numbers : (r : Editing) → first_groups p.channels k (numbers_in p.codec bytes) ≡ frames_read r k → ys ≡ change_numbers p.codec to.shape.params.codec (next_numbers k r)
-  passed_numbers r gives = passed_on ∙ ap (change_numbers p.codec to.shape.params.codec) (block_numbers p.channels k (numbers_in p.codec bytes) r gives)
-
--- bytes of as many frames as a block has places for have as many numbers
-pub same_places : (p : Parameters) (b : List ℕ) (n : ℕ) → is_linear p.codec ≡ true → n % p.channels ≡ 0 → length b ≡ bytes_of_frames p (n / p.channels) → length (numbers_in p.codec b) ≡ n
-same_places p b n linear whole size =
-    let all : n / p.channels * p.channels + n % p.channels ≡ n = div-add-mod' n p.channels in
-    omega (arith, count_numbers p.codec p.channels (n / p.channels) b (is_fixed p.codec linear) size, all, whole)
-
--- samples that are not linear do not pass
-pub not_alike : (pass : Bool) (from to : Codec) → (IsTrue pass → AreAlike from to) → (is_linear from ≡ true → ⊥) → pass ≡ false
-not_alike true from to alike never = absurd (never (alike refl).1)
-not_alike false from to alike never = refl
+  -- they pass as the numbers of the next frames
+  pub passed : (r : Editing) → first_groups p.channels k (numbers_in p.codec bytes) ≡ frames_read r k
+      → change_numbers p.codec to.shape.params.codec (numbers_in p.codec (take (k * align) bytes)) ≡ change_numbers p.codec to.shape.params.codec (next_numbers k r)
+  passed r gives =
+      ap (λ (i : ℕ). change_numbers p.codec to.shape.params.codec (numbers_in p.codec (take i bytes))) taken
+      ∙ ap (change_numbers p.codec to.shape.params.codec) (front_numbers p bytes k pass.0 (omega (arith, taken, bytes_within)) ∙ block_numbers p.channels k (numbers_in p.codec bytes) r gives)
 
 -- in ADPCM bytes are no numbers
 pub no_numbers : (codec : Codec) (b : List ℕ) → is_adpcm codec ≡ true → numbers_in codec b ≡ []

@@ -164,9 +164,13 @@ next_count places file = count_read places (known_of file)
 abbrev pub next_frames : {D M : Type 0} {d : Ghosts D} {m : ModeGhosts M} → ℕ → File D M d m → Editing → List (List ℤ)
 next_frames places file e = frames_read e (next_count places file)
 
--- linear samples of one codec: the bytes of the one file's frames are those of the other's
-abbrev pub AreAlike : Codec → Codec → Type 0
-AreAlike from to = (from ≡ to) × (is_linear from ≡ true)
+-- samples of a codec pass as those of a linear one by their bytes alone: each has bytes of its own
+abbrev pub Pass : Codec → Codec → Type 0
+Pass from to = (is_adpcm from ≡ false) × (is_linear to ≡ true)
+
+-- the bytes of so many samples
+abbrev pub bytes_in : Codec → ℕ → ℕ
+bytes_in codec n = n * block_align 1 codec
 
 -- how many numbers bytes are in a file's codec
 abbrev pub count_in : {D M : Type 0} {ghosts : Ghosts D} {mode : ModeGhosts M} → File D M ghosts mode → List ℕ → ℕ

@@ -1,16 +1,16 @@
 //! The frames of one file, behind those of another.
 
-ghost use Rattle.std.specs.Prelude.{◌≡◌, ◌-◌, ◌*◌, ◌/◌, ◌%◌, ◌≤◌, IfOk, IsTrue, OnOk, false, length, true};
+ghost use Rattle.std.specs.Prelude.{◌≡◌, ◌-◌, ◌*◌, ◌/◌, ◌%◌, ◌≤◌, IfOk, OnOk, false, length, true};
 ghost use Rattle.snd_disk.specs.Device.{GoesOnFrom, OnlyReadsOn};
 ghost use Rattle.snd_layout.specs.Blocks.{block_frames};
-ghost use Rattle.snd_modes.specs.Bytes.{AreWhole};
 ghost use Rattle.snd_modes.specs.Calls.{AsksForFrames, count_read};
 ghost use Rattle.snd_modes.specs.Handle.{StandsAfter, channels_of, codec_of, disk_of, known_of, loan_of};
 ghost use Rattle.snd_modes.specs.Editing.{frames_read, moved_by};
 ghost use Rattle.snd_modes.specs.Outcomes.{AsksNothing, TellsOn};
-ghost use Rattle.snd_output.specs.Appended.{AreAlike, AsksForLeft, CountsFiles, FindsChanged, LeavesFiles, Lengthens, MayAppend, OnlyReadsIn, bytes_for, count_in, frames_ahead, frames_for, left_in, next_count, next_frames, next_numbers, numbers_left};
+ghost use Rattle.snd_output.specs.Appended.{AsksForLeft, CountsFiles, FindsChanged, LeavesFiles, Lengthens, MayAppend, OnlyReadsIn, Pass, bytes_for, bytes_in, frames_ahead, left_in, next_count, next_frames, next_numbers, numbers_left};
 
 use crate::making::Making;
+use crate::samples::{give_passed, pass};
 use crate::steps::{read_some, read_some_bytes};
 use crate::stop::Stop;
 use crate::widths::change_numbers;
@@ -31,21 +31,11 @@ pub fn numbers_of<D: Disk, M: Mode>(file: &File<'_, D, M>) -> (usize, Codec)
     (usize::from(params.channels), params.codec)
 }
 
-/// The most bytes that are read at a time.
+/// The most bytes that are held at a time.
 const MOST_BYTES: usize = 16384;
 
-// Whether the bytes of one file's frames are those of another's: linear samples of one codec.
-fn are_alike(from: Codec, to: Codec) -> bool
-    ensures { IsTrue result → AreAlike from to }
-{
-    match from {
-        Codec::U8 | Codec::S8 | Codec::S16(_) | Codec::S24(_) | Codec::S32(_) => from == to,
-        Codec::MuLaw | Codec::ALaw | Codec::Ima { .. } | Codec::Ms { .. } => false,
-    }
-}
-
-// How many places of a block are used, which are for whole frames: as many as there are, but where bytes pass
-// as they stand those of frames that have no more bytes than are read at a time.
+// How many places of a block are used, which are for whole frames: as many as there are, but where they pass
+// as bytes those of frames that have no more bytes than are held at a time.
 fn places_of(places: usize, channels: usize, align: usize, pass: bool) -> usize
     requires some { 1 ≤ channels }
     requires one { channels ≤ places }
@@ -76,50 +66,58 @@ fn held_of(places: usize, channels: usize, align: usize, pass: bool) -> usize
     0
 }
 
-// Puts frames of one file behind those of another as `append_block` does, as the bytes that they stand in.
+// Puts frames of one file behind those of another as `append_block` does, by their bytes.
 fn pass_block<D: Disk, E: Disk, M: Making>(
     from: &mut File<'_, D, Read>,
     to: &mut File<'_, E, M>,
+    block: &mut [i32],
     bytes: &mut [u8],
+    coded: &mut [u8],
 ) -> Result<usize, Stop>
     requires may { MayAppend (known_of from.old) (known_of to.old) }
-    requires alike { AreAlike (codec_of from.old) (codec_of to.old) }
-    requires whole { AreWhole (known_of from.old).shape.params (length bytes.old) }
+    requires pass { Pass (codec_of from.old) (codec_of to.old) }
+    requires whole { length block.old % channels_of from.old ≡ 0 }
+    requires held { length bytes.old ≡ bytes_for from.old (length block.old) }
+    requires few { length block.old ≤ 16384 }
+    requires fits { bytes_in (codec_of to.old) (length block.old) ≤ length coded.old }
     ensures loan { loan_of from.new ≡ loan_of from.old }
     ensures to_loan { loan_of to.new ≡ loan_of to.old }
-    ensures count { IfOk result (λ k. k ≡ next_count (count_in from.old bytes.old) from.old) }
-    ensures left { LeavesFiles (next_count (count_in from.old bytes.old) from.old) from.old from.new to.old to.new result }
+    ensures count { IfOk result (λ k. k ≡ next_count (length block.old) from.old) }
+    ensures left { LeavesFiles (next_count (length block.old) from.old) from.old from.new to.old to.new result }
+    ensures changed { FindsChanged D.state (next_frames (length block.old) from.old) from.old result }
     ensures stands { IfOk result (λ k. StandsAfter D.state from.old from.new (moved_by k)) }
     ensures lengthens { IfOk result (λ k. Lengthens D.state E.state (next_numbers k) from.old to.old to.new) }
-    ensures changed { FindsChanged D.state (frames_for from.old bytes.old) from.old result }
     ensures faults { CountsFiles D.state E.state from.old from.new to.old to.new result }
     ensures reads { OnlyReadsIn D.Disk from.old from.new }
     ensures tells { TellsOn E.state to.old to.new }
     ensures time { GoesOnFrom E.state E.left_between (disk_of to.old) (disk_of to.new) }
-    ensures asked { AsksForFrames D.state (count_in from.old bytes.old) from.old from.new }
+    ensures asked { AsksForFrames D.state (length block.old) from.old from.new }
     ensures to_asked { AsksNothing E.state to.old to.new }
 {
-    let params = from.params();
-    params.are_good();
-    let align = usize::from(params.block_align());
+    let (channels, codec) = numbers_of(from);
+    let align = usize::from(from.params().block_align());
     let count = read_some_bytes(from, bytes)?;
-    M::give_bytes(to, &bytes[..count * align])?;
+    let numbers = &mut block[..count * channels];
+    give_passed(to, codec, &bytes[..count * align], numbers, coded)?;
     Ok(count)
 }
 
 // Puts as many frames of one file behind those of another as a block has places for, fewer only at the
-// end; as the bytes that they stand in, where these pass. The answer is how many.
+// end; by their bytes, where these pass. The answer is how many.
 fn append_block<D: Disk, E: Disk, M: Making>(
     from: &mut File<'_, D, Read>,
     to: &mut File<'_, E, M>,
     block: &mut [i32],
     bytes: &mut [u8],
+    coded: &mut [u8],
     pass: bool,
 ) -> Result<usize, Stop>
     requires may { MayAppend (known_of from.old) (known_of to.old) }
     requires whole { length block.old % channels_of from.old ≡ 0 }
-    requires alike { pass ≡ true → AreAlike (codec_of from.old) (codec_of to.old) }
-    requires room { pass ≡ true → length bytes.old ≡ bytes_for from.old (length block.old) }
+    requires pass { pass ≡ true → Pass (codec_of from.old) (codec_of to.old) }
+    requires held { pass ≡ true → length bytes.old ≡ bytes_for from.old (length block.old) }
+    requires few { pass ≡ true → length block.old ≤ 16384 }
+    requires fits { pass ≡ true → bytes_in (codec_of to.old) (length block.old) ≤ length coded.old }
     ensures loan { loan_of from.new ≡ loan_of from.old }
     ensures to_loan { loan_of to.new ≡ loan_of to.old }
     ensures count { IfOk result (λ k. k ≡ next_count (length block.old) from.old) }
@@ -135,7 +133,7 @@ fn append_block<D: Disk, E: Disk, M: Making>(
     ensures to_asked { AsksNothing E.state to.old to.new }
 {
     if pass {
-        return pass_block(from, to, bytes);
+        return pass_block(from, to, block, bytes, coded);
     }
     let (channels, codec) = numbers_of(from);
     let (_, wanted) = numbers_of(to);
@@ -149,10 +147,10 @@ fn append_block<D: Disk, E: Disk, M: Making>(
 /// Puts the frames that are left in one file, from the one to read next on, behind those of another, a
 /// block at a time. Where the codecs have numbers of different widths, each number is changed: a wider
 /// one is a multiple by a power of two, a narrower one is divided by it and rounded toward minus infinity.
-/// Linear samples that keep their codec pass as the bytes that they are. What the block held is lost; it has
-/// places for one frame at least. It takes no memory, and asks the disk
-/// that is read for at most the bytes of the frames; in ADPCM for those of their blocks, and in each call for
-/// two more.
+/// Samples that become linear ones pass by their bytes, those that keep their codec as the bytes that they
+/// are; those of ADPCM do not. What the block held is lost; it has places for one frame at least. It takes no
+/// memory, and asks the disk that is read for at most the bytes of the frames; in ADPCM for those of their
+/// blocks, and in each call for two more.
 ///
 /// The answer is `Fault` where a call of one of the two disks failed: from then on its file is broken; and
 /// `Changed` where a block of the file that is read is bad, so never where `check_blocks` passed them all and
@@ -178,16 +176,18 @@ pub fn append<D: Disk, E: Disk, M: Making>(
 {
     let (channels, codec) = numbers_of(from);
     let (_, wanted) = numbers_of(to);
-    let pass = are_alike(codec, wanted);
+    let pass = pass(codec, wanted);
     let align = usize::from(from.params().block_align());
-    let places = places_of(block.len(), channels, align, pass);
+    let most = align.max(usize::from(to.params().block_align()));
+    let places = places_of(block.len(), channels, most, pass);
     let whole = &mut block[..places];
     let mut buffer = [0u8; MOST_BYTES];
     let held = held_of(places, channels, align, pass);
     let bytes = &mut buffer[..held];
+    let mut coded = [0u8; MOST_BYTES];
     let mut count = 1;
     while count > 0 {
-        count = append_block(from, to, whole, bytes, pass)?;
+        count = append_block(from, to, whole, bytes, &mut coded, pass)?;
     }
     Ok(())
 }

@@ -7,6 +7,7 @@ mod codec;
 mod ends;
 pub mod laws;
 mod making;
+mod samples;
 mod steps;
 mod stop;
 mod widths;

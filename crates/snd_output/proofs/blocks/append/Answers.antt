@@ -1,4 +1,4 @@
-use Rattle.std.proofs.Common.{rules, ◌≡◌, ◌∙◌, ap, sym, subst, refl, ℕ, ◌+◌, ◌-◌, ◌*◌, ◌/◌, ◌%◌, ◌≤◌, ℤ, List, ◌++◌, length, min, take, true, false, arith}
+use Rattle.std.proofs.Common.{rules, ◌≡◌, ◌∙◌, ap, sym, subst, refl, ℕ, ◌+◌, ◌-◌, ◌*◌, ◌/◌, ◌%◌, ◌≤◌, ℤ, List, ◌++◌, length, min, take, true, arith}
 use Rattle.std.proofs.lemmas.List.{length-take-le}
 use Rattle.snd_disk.proofs.Chains.{goes_on_then, only_reads_then}
 use Rattle.snd_disk.specs.State.{AtMost}
@@ -8,13 +8,12 @@ use Rattle.snd_modes.specs.Calls.{count_read}
 use Rattle.snd_modes.specs.Editing.{Editing, moved_by}
 use Rattle.snd_modes.specs.Handle.{Known, Stands, channels_of, codec_of, disk_of, known_of}
 use Rattle.snd_modes.specs.Reading.{bytes_of_frames, bytes_to_read}
-use Rattle.snd_output.specs.Appended.{MayAppend, bytes_for, left_in, next_numbers, read_on}
+use Rattle.snd_output.specs.Appended.{MayAppend, Pass, bytes_for, bytes_in, left_in, next_numbers, read_on}
 use Rattle.snd_output.specs.Made.{IsMaking}
 use Rattle.snd_output.specs.Widths.{change_numbers}
 use Rattle.snd_output.proofs.Appending.{all_numbers, asked_all, asked_before, asked_by, asked_each, asked_none, asked_on, bad_ahead, count_fits, each_whole, left_later, longer_as, longer_none, longer_then, may_go_on, moved_none, moved_twice, none_left, numbers_none, one_fits, numbers_twice, read_none, read_twice}
-use Rattle.snd_layout.specs.Blocks.{block_align}
-use Rattle.snd_modes.specs.Bytes.{is_linear}
-use Rattle.snd_output.proofs.Passing.{is_fixed, not_alike}
+use Rattle.snd_layout.specs.Blocks.{block_align, is_adpcm}
+use Rattle.snd_output.proofs.Passing.{held_places, no_pass}
 use Rattle.snd_output.proofs.Changing.{changed_as}
 use Rattle.snd_output.proofs.blocks.append.Goals as goal
 
@@ -29,6 +28,9 @@ loop-count-init g c =
     let m = c.places_of-places.result in
     let places = c.places_of-places.ensures in
     let size : length (take m c.args.block.now) ≡ m = length-take-le m c.args.block.now places.fits in
+    let room = λ (pass : c.pass-pass.result ≡ true). held_places from to m q c.from-align.result c.from.result c.max-most.result c.requires.may
+    (subst (λ (x : Codec). Pass x to.shape.params.codec) c.numbers_of-channels.ensures.codec (subst (Pass c.numbers_of-channels.result.1) c.numbers_of-wanted.ensures.codec (c.pass-pass.ensures pass)))
+    is c.numbers_of-channels.ensures.some places.whole (places.most pass) (omega (arith, c.max-most.ensures)) (omega (arith, c.max-most.ensures)) (search rules) (search rules) in
     record {
       loan = refl;
       to_loan = refl;
@@ -48,16 +50,19 @@ loop-count-init g c =
       some = omega (arith, size, places.one, is);
       whole = ap (λ (i : ℕ). i % channels_of c.args.from.now) size ∙ ap (λ (i : ℕ). m % i) (sym is) ∙ places.whole;
       each = λ blocks.
-          let all : m ≡ n - n % q = places.all (not_alike c.are_alike-pass.result _ _ c.are_alike-pass.ensures (λ linear. let e : true ≡ false = sym blocks ∙ is_fixed _ (subst (λ (x : Codec). is_linear x ≡ true) c.numbers_of-channels.ensures.codec linear) in cc)) in
+          let all : m ≡ n - n % q = places.all (no_pass c.pass-pass.result _ _ c.pass-pass.ensures (ap is_adpcm c.numbers_of-channels.ensures.codec ∙ blocks)) in
           ap (λ (i : ℕ). i / channels_of c.args.from.now) (size ∙ all) ∙ ap (λ (i : ℕ). (n - n % i) / channels_of c.args.from.now) is
           ∙ each_whole n (channels_of c.args.from.now) (omega (arith, is, c.numbers_of-channels.ensures.some));
-      room = λ pass.
+      held =
+          λ pass.
           let align : c.from-align.result ≡ block_align from.shape.params.channels from.shape.params.codec = search rules in
           let held : length (take c.held_of-held.result _) ≡ c.held_of-held.result = length-take-le c.held_of-held.result _ (omega (arith, c.held_of-held.ensures.most)) in
           held ∙ c.held_of-held.ensures.value pass
           ∙ ap (λ (i : ℕ). m / i * c.from-align.result) is
           ∙ ap (λ (i : ℕ). i / channels_of c.args.from.now * c.from-align.result) (sym size)
           ∙ ap (λ (a : ℕ). length (take m c.args.block.now) / channels_of c.args.from.now * a) align;
+      few = λ pass. omega (arith, size, (room pass).0);
+      fits = λ pass. omega (arith, ap (bytes_in (codec_of c.args.to.now)) size, (room pass).1);
       asked = asked_none from.shape.params _ from.place (left_in from) 1 _;
     }
 
@@ -113,7 +118,9 @@ loop-count-preserved g c =
       some = omega (arith, c.append_block.auto.block, inv.some);
       whole = ap (λ (n : ℕ). n % channels_of c.args.from.now) c.append_block.auto.block ∙ inv.whole;
       each = λ blocks. ap (λ (n : ℕ). n / channels_of c.args.from.now) c.append_block.auto.block ∙ inv.each blocks;
-      room = λ pass. c.append_block.auto.bytes ∙ inv.room pass ∙ ap (λ (n : ℕ). bytes_for c.args.from.now n) (sym c.append_block.auto.block);
+      held = λ pass. c.append_block.auto.bytes ∙ inv.held pass ∙ ap (λ (n : ℕ). bytes_for c.args.from.now n) (sym c.append_block.auto.block);
+      few = λ pass. omega (arith, c.append_block.auto.block, inv.few pass);
+      fits = λ pass. omega (arith, c.append_block.auto.coded, ap (bytes_in (codec_of c.args.to.now)) c.append_block.auto.block, inv.fits pass);
       asked =
           let each = places / channels_of c.args.from.now in
           let many : 1 ≤ each = one_fits places (channels_of c.args.from.now) (omega (arith, c.numbers_of-channels.ensures.channels, c.numbers_of-channels.ensures.some)) inv.some in
@@ -209,7 +216,7 @@ slice_bounds-whole-end g c = c.places_of-places.ensures.fits
 pub slice_bounds-whole-end-2 : goal.slice_bounds-whole-end-2
 slice_bounds-whole-end-2 g c = sym (length-take-le c.places_of-places.result c.args.block.now c.places_of-places.ensures.fits)
 
-pub append_block-requires-clause-room : goal.append_block-requires-clause-room
-append_block-requires-clause-room g c = λ pass.
+pub append_block-requires-clause-held : goal.append_block-requires-clause-held
+append_block-requires-clause-held g c = λ pass.
     let places = length c.loop-count.whole in
-    c.loop-count.invariant.room pass ∙ sym (ap (λ (k : Known). bytes_of_frames k.shape.params (places / k.shape.params.channels)) c.loop-count.invariant.read)
+    c.loop-count.invariant.held pass ∙ sym (ap (λ (k : Known). bytes_of_frames k.shape.params (places / k.shape.params.channels)) c.loop-count.invariant.read)

@@ -1,13 +1,7 @@
-use Rattle.std.proofs.Common.{rules, ◌≡◌, ◌∙◌, ap, sym, subst, ℕ, ◌/◌, ◌%◌, ℤ, List, ◌++◌, length}
+use Rattle.std.proofs.Common.{rules, ◌≡◌, ◌∙◌, ap, sym, subst, ℕ, ◌%◌, ℤ, List, ◌++◌, length}
 use Rattle.snd_modes.specs.Calls.{count_read}
-use Rattle.snd_modes.specs.Handle.{disk_of, known_of}
-use Rattle.snd_modes.specs.Reading.{bytes_to_read}
-use Rattle.std.specs.Prelude.{IfOk}
-use Rattle.snd_disk.specs.State.{AtMost}
-use Rattle.snd_layout.specs.Blocks.{block_align}
-use Rattle.std.proofs.Math.Nat.{mul-mod_left}
-use Rattle.snd_output.proofs.Passing.{same_places}
-use Rattle.snd_output.specs.Appended.{AppendLeaves, read_on}
+use Rattle.snd_modes.specs.Handle.{known_of}
+use Rattle.snd_output.specs.Appended.{read_on}
 use Rattle.snd_output.specs.Made.{IsMaking}
 use Rattle.snd_output.proofs.Appending.{block_is, block_known, block_may, left_unread, left_unwritten, longer_as, never_changed, read_failed, write_failed}
 use Rattle.snd_output.proofs.Changing.{changed_as}
@@ -73,27 +67,3 @@ returns-clause-lengthens g c = λ kind p pieces xs r e reads stands making.
       given.1,
       subst (λ (l : List ℤ). IsMaking kind p pieces (xs ++ l) given.0) are given.2,
     )
-
-pub pass_block-requires-clause-whole : goal.pass_block-requires-clause-whole
-pass_block-requires-clause-whole g c =
-    let p = (known_of c.args.from.now).shape.params in
-    let align = block_align p.channels p.codec in
-    ap (λ (n : ℕ). n % align) (c.requires.room c.if-pass.true) ∙ mul-mod_left (length c.args.block.now / p.channels) align
-
-pub returns-then-pass-clause-count : goal.returns-then-pass-clause-count
-returns-then-pass-clause-count g c =
-    let from = known_of c.args.from.now in
-    let same = same_places from.shape.params c.args.bytes.now (length c.args.block.now) (c.requires.alike c.if-pass.true).1 c.requires.whole (c.requires.room c.if-pass.true) in
-    subst (λ (n : ℕ). IfOk c.pass_block.result (λ k. k ≡ count_read n from)) same c.pass_block.ensures.count
-
-pub returns-then-pass-clause-left : goal.returns-then-pass-clause-left
-returns-then-pass-clause-left g c =
-    let from = known_of c.args.from.now in
-    let same = same_places from.shape.params c.args.bytes.now (length c.args.block.now) (c.requires.alike c.if-pass.true).1 c.requires.whole (c.requires.room c.if-pass.true) in
-    subst (λ (n : ℕ). AppendLeaves (count_read n from) from (known_of c.pass_block.new.from) (known_of c.args.to.now) (known_of c.pass_block.new.to) c.pass_block.result) same c.pass_block.ensures.left
-
-pub returns-then-pass-clause-asked : goal.returns-then-pass-clause-asked
-returns-then-pass-clause-asked g c =
-    let from = known_of c.args.from.now in
-    let same = same_places from.shape.params c.args.bytes.now (length c.args.block.now) (c.requires.alike c.if-pass.true).1 c.requires.whole (c.requires.room c.if-pass.true) in
-    subst (λ (n : ℕ). AtMost (g.D.Disk.state (disk_of c.args.from.now)).asked (bytes_to_read from.shape.params (count_read n from)) (g.D.Disk.state (disk_of c.pass_block.new.from)).asked) same c.pass_block.ensures.asked

@@ -1,4 +1,4 @@
-use Rattle.std.proofs.Common.{◌≡◌, ◌∙◌, ap, sym, subst, refl, ℕ, ℤ, ◌/◌, List, ◌++◌, [], length}
+use Rattle.std.proofs.Common.{◌∙◌, ap, sym, subst, refl, ℤ, ◌/◌, List, ◌++◌, length}
 use Rattle.std.proofs.Math.Nat.{zero-div}
 use Rattle.std.proofs.lemmas.List.{append-nil}
 use Rattle.snd_modes.specs.Handle.{codec_of, known_of}

@@ -1,0 +1,77 @@
+//! Frames that pass from one file into another as the bytes of their samples.
+
+ghost use Rattle.std.specs.Prelude.{◌≡◌, ◌/◌, ◌%◌, ◌≤◌, IsTrue, OnOk, length, take};
+ghost use Rattle.snd_disk.specs.Device.{GoesOnFrom};
+ghost use Rattle.snd_modes.specs.Bytes.{numbers_in};
+ghost use Rattle.snd_modes.specs.Handle.{channels_of, codec_of, disk_of, known_of, loan_of};
+ghost use Rattle.snd_modes.specs.Outcomes.{AsksNothing, TellsOn};
+ghost use Rattle.snd_output.specs.Appended.{CountsFile, Gains, HasRoom, IsAtEnd, LeavesFile, Pass, bytes_in};
+ghost use Rattle.snd_output.specs.Widths.{change_numbers};
+
+use crate::making::Making;
+use crate::stop::Stop;
+use snd_container::{Fixed, fixed_form};
+use snd_disk::Disk;
+use snd_layout::Codec;
+use snd_modes::File;
+use snd_recode::recode;
+
+/// Whether samples of one codec pass as those of another by their bytes alone: each has bytes of its own, and
+/// the other codec is linear.
+pub(crate) fn pass(from: Codec, to: Codec) -> bool
+    ensures { IsTrue result → Pass from to }
+{
+    match to {
+        Codec::U8 | Codec::S8 | Codec::S16(_) | Codec::S24(_) | Codec::S32(_) => !from.is_adpcm(),
+        Codec::MuLaw | Codec::ALaw | Codec::Ima { .. } | Codec::Ms { .. } => false,
+    }
+}
+
+// Puts the bytes of samples of one codec in another into the front of a buffer, and tells how many they are.
+fn recode_into(from: Codec, to: Codec, bytes: &[u8], numbers: &mut [i32], coded: &mut [u8]) -> usize
+    requires pass { Pass from to }
+    requires held { length bytes.now ≡ bytes_in from (length numbers.old) }
+    requires few { length numbers.old ≤ 16384 }
+    requires fits { bytes_in to (length numbers.old) ≤ length coded.old }
+    ensures size { result ≡ bytes_in to (length numbers.old) }
+    ensures numbers { numbers_in to (take result coded.new) ≡ change_numbers from to (numbers_in from bytes.now) }
+{
+    let (Some(old), Some(Fixed::Linear(new))) = (fixed_form(from), fixed_form(to)) else {
+        unreachable!()
+    };
+    let count = new.bytes() * numbers.len();
+    recode(old, new, bytes, numbers, &mut coded[..count]);
+    count
+}
+
+/// Gives a file the frames that bytes are in another codec: as they stand, where the file has the same one.
+/// What the numbers and the buffer held is lost. `Fault` where a call of the disk failed.
+pub(crate) fn give_passed<E: Disk, M: Making>(
+    to: &mut File<'_, E, M>,
+    codec: Codec,
+    bytes: &[u8],
+    numbers: &mut [i32],
+    coded: &mut [u8],
+) -> Result<(), Stop>
+    requires pass { Pass codec (codec_of to.old) }
+    requires at_end { IsAtEnd (known_of to.old) }
+    requires room { HasRoom (length numbers.old / channels_of to.old) (known_of to.old) }
+    requires whole { length numbers.old % channels_of to.old ≡ 0 }
+    requires held { length bytes.now ≡ bytes_in codec (length numbers.old) }
+    requires few { length numbers.old ≤ 16384 }
+    requires fits { bytes_in (codec_of to.old) (length numbers.old) ≤ length coded.old }
+    ensures loan { loan_of to.new ≡ loan_of to.old }
+    ensures left { LeavesFile (length numbers.old / channels_of to.old) to.old to.new result }
+    ensures gains { OnOk result (Gains E.state (change_numbers codec (codec_of to.old) (numbers_in codec bytes.now)) to.old to.new) }
+    ensures faults { CountsFile E.state to.old to.new result }
+    ensures tells { TellsOn E.state to.old to.new }
+    ensures time { GoesOnFrom E.state E.left_between (disk_of to.old) (disk_of to.new) }
+    ensures asked { AsksNothing E.state to.old to.new }
+{
+    let wanted = to.params().codec;
+    if codec == wanted {
+        return M::give_bytes(to, bytes);
+    }
+    let count = recode_into(codec, wanted, bytes, numbers, coded);
+    M::give_bytes(to, &coded[..count])
+}
