@@ -85,7 +85,9 @@ fn add_block<D: Disk, E: Disk, M: Making>(
     M::give(to, block)
 }
 
-// Puts all frames there, into a block that has places for them.
+// Puts all frames there, by a block that has places for those that are held at once. Its buffer stays out of the
+// stack frame in which bytes pass.
+#[inline(never)]
 fn add_all<D: Disk, E: Disk, M: Making>(
     alloc: Global,
     inputs: &mut [Input<D>],

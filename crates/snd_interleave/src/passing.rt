@@ -109,7 +109,9 @@ fn pass_block<D: Disk, E: Disk, M: Making>(
     M::give_bytes(to, block)
 }
 
-// Puts all frames there, into a block that has places for them.
+// Puts all frames there, by a block that has places for those that are held at once. Its buffer stays out of the
+// stack frame in which numbers are put there.
+#[inline(never)]
 fn pass_all<D: Disk, E: Disk, M: Making>(
     alloc: Global,
     inputs: &mut [Input<D>],

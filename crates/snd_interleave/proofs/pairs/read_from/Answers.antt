@@ -1,4 +1,4 @@
-use Rattle.std.proofs.Common.{rules, ◌≡◌, ◌≤◌, ◌∙◌, ap, subst, sym, true, length, arith}
+use Rattle.std.proofs.Common.{◌≡◌, ◌≤◌, ◌∙◌, ap, subst, sym, true, length, arith}
 use Rattle.snd_disk.specs.State.{AtMost}
 use Rattle.snd_layout.specs.Blocks.{is_adpcm}
 use Rattle.snd_layout.specs.Params.{Parameters}
@@ -6,7 +6,7 @@ use Rattle.snd_layout.specs.declared.codec.Codec.{Codec}
 use Rattle.snd_modes.specs.Bytes.{AreWhole, numbers_in}
 use Rattle.snd_modes.specs.Calls.{count_read}
 use Rattle.snd_modes.specs.Editing.{moved_to}
-use Rattle.snd_modes.specs.Handle.{Known, channels_of, codec_of, disk_of, known_of}
+use Rattle.snd_modes.specs.Handle.{Known, codec_of, disk_of, known_of}
 use Rattle.snd_modes.specs.Reading.{bytes_to_read}
 use Rattle.snd_interleave.specs.Pairs.{is_pair}
 use Rattle.snd_interleave.specs.Reading.{GivesNumbers}

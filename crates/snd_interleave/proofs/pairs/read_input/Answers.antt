@@ -1,4 +1,4 @@
-use Rattle.std.proofs.Common.{◌≡◌, ◌∙◌, ap, subst, sym, ℤ, List, drop, take, true}
+use Rattle.std.proofs.Common.{◌≡◌, ◌∙◌, ap, subst, sym, ℤ, List, drop, take}
 use Rattle.std.proofs.lemmas.Result.{IfOk-weaker}
 use Rattle.snd_disk.specs.State.{AtMost}
 use Rattle.snd_layout.specs.Shape.{Shape}

@@ -1,4 +1,4 @@
-use Rattle.std.proofs.Common.{rules, ◌≡◌, ◌≤◌, ◌∙◌, ap, subst, sym, ℕ, ◌*◌, ◌/◌, ℤ, List, ◌++◌, length, arith}
+use Rattle.std.proofs.Common.{◌≡◌, ◌≤◌, ◌∙◌, ap, subst, sym, ℕ, ◌*◌, ◌/◌, ℤ, List, ◌++◌, length, arith}
 use Rattle.std.proofs.lemmas.Result.{on_ok_weaker}
 use Rattle.snd_layout.specs.Params.{Parameters}
 use Rattle.snd_modes.specs.Bytes.{numbers_in}

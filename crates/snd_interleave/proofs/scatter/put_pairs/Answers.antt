@@ -1,4 +1,4 @@
-use Rattle.std.proofs.Common.{◌∙◌, refl, length, ◌+◌, ◌*◌, ◌<◌, arith}
+use Rattle.std.proofs.Common.{◌∙◌, refl, length, ◌+◌, ◌*◌, arith}
 use Rattle.std.proofs.lemmas.List.{length-set}
 use Rattle.snd_interleave.proofs.PairBytes.{other_pairs_more, pair_within, put_pair_more}
 use Rattle.snd_interleave.proofs.scatter.put_pairs.Goals as goal
