@@ -1,4 +1,5 @@
-//! The frames of inputs side by side, behind those of a file that is made: as numbers, where they do not pass as bytes.
+//! The frames of inputs side by side, behind those of a file that is made: as numbers, where they do not pass as
+//! bytes.
 
 ghost use Rattle.std.specs.Prelude.{◌≡◌, ◌*◌, OnOk, length};
 ghost use Rattle.snd_disk.specs.Device.{GoesOnFrom};
@@ -85,8 +86,8 @@ fn add_block<D: Disk, E: Disk, M: Making>(
     M::give(to, block)
 }
 
-// Puts all frames there, by a block that has places for those that are held at once. Its buffer stays out of the
-// stack frame in which bytes pass.
+// Puts all frames there, by a block that has places for those that are held at once. Its buffer stays out of
+// the stack frame in which bytes pass.
 #[inline(never)]
 fn add_all<D: Disk, E: Disk, M: Making>(
     alloc: Global,
@@ -127,8 +128,8 @@ fn add_all<D: Disk, E: Disk, M: Making>(
 
 /// Puts the frames of inputs of one channel behind those of a file that is made, side by side, a block at a
 /// time: so many, from the first on, with zeros where an input has ended. Each number has the width of the
-/// codec of the file; where all are linear ones of 16 bits, of that codec, they pass as the bytes that they are.
-/// Each frame of an input is asked for once.
+/// codec of the file; where all are linear ones of 16 bits, of that codec, they pass as the bytes that they
+/// are. Each frame of an input is asked for once.
 ///
 /// The answer is `Fault` where a call of a disk failed, `Memory` where there is none, and `Changed` where an
 /// input has a bad block.

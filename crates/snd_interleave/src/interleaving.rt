@@ -151,8 +151,8 @@ fn open_rest<'a, S: Shelf>(
 ///
 /// `Fault` where a call of the shelf or of a disk failed, and `Memory` where there is none: then the output
 /// may stand there in part. All inputs are open at once, and frames pass in blocks: as the bytes that they are
-/// where all have one linear codec of 16 bits, and else as numbers. No more bytes are asked than the inputs have,
-/// and 16384 for each.
+/// where all have one linear codec of 16 bits, and else as numbers. No more bytes are asked than the inputs
+/// have, and 16384 for each.
 pub fn interleave<'a, S: Shelf>(
     alloc: Global,
     interleaving: &Interleaving<'a>,

@@ -1,5 +1,5 @@
-//! Sound files of one channel put side by side, as the channels of one file. Where all of them have one linear codec
-//! of 16 bits, their samples pass as the bytes that they are; all others pass as numbers.
+//! Sound files of one channel put side by side, as the channels of one file. Where all of them have one linear
+//! codec of 16 bits, their samples pass as the bytes that they are; all others pass as numbers.
 #![tactic(auto)]
 
 mod blocks;

@@ -1,4 +1,4 @@
-//! The frames of inputs side by side as the bytes that they are, behind those of a file that is made: where all
+//! The frames of inputs side by side, as the bytes that they are, behind those of a file that is made: where all
 //! have the linear codec of 16 bits that this file has.
 
 ghost use Rattle.std.specs.Prelude.{◌≡◌, ◌*◌, ◌%◌, ℕ, IsTrue, OnOk, length};
@@ -109,8 +109,8 @@ fn pass_block<D: Disk, E: Disk, M: Making>(
     M::give_bytes(to, block)
 }
 
-// Puts all frames there, by a block that has places for those that are held at once. Its buffer stays out of the
-// stack frame in which numbers are put there.
+// Puts all frames there, by a block that has places for those that are held at once. Its buffer stays out of
+// the stack frame in which numbers are put there.
 #[inline(never)]
 fn pass_all<D: Disk, E: Disk, M: Making>(
     alloc: Global,
