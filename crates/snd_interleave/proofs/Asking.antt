@@ -55,13 +55,13 @@ one_turn frames n k before (inr end) =
 abbrev upto_as : Bool → ℕ → ℕ → ℕ → ℕ → ℕ
 upto_as blocks per align frames m = cond blocks ((m / per + 2 * (m / 16384 + (1 - min 1 (frames - m)))) * align) (m * align)
 
-upto_more : (blocks : Bool) (per align frames n k : ℕ) → n < frames → (k ≡ 16384) ⊎ (frames ≤ n + k)
+upto_more : (blocks : Bool) (per align frames n k : ℕ) → n < frames → (blocks ≡ true → (k ≡ 16384) ⊎ (frames ≤ n + k))
     → upto_as blocks per align frames n + cond blocks ((min k (frames - n) / per + 2) * align) (min k (frames - n) * align) ≤ upto_as blocks per align frames (n + min k (frames - n))
 upto_more true per align frames n k before ends =
     let c = min k (frames - n) in
     let old = n / per + 2 * (n / 16384 + (1 - min 1 (frames - n))) in
     let new = (n + c) / per + 2 * ((n + c) / 16384 + (1 - min 1 (frames - (n + c)))) in
-    let turn = one_turn frames n k before ends in
+    let turn = one_turn frames n k before (ends refl) in
     let fewer : old + (c / per + 2) ≤ new = fewer_of (n / per) (c / per) ((n + c) / per) (n / 16384 + (1 - min 1 (frames - n))) ((n + c) / 16384 + (1 - min 1 (frames - (n + c)))) (div_sum per n c) turn in
     sums old (c / per + 2) new (mul-le-mul_left align fewer)
   where
@@ -79,7 +79,7 @@ abbrev upto_of : Shape → ℕ → ℕ
 upto_of h m = upto_as (is_adpcm h.params.codec) (block_frames h.params.codec) (block_align h.params.channels h.params.codec) h.frames m
 
 -- so that those of a run of frames and of the next are no more than those of both
-upto_next : (h : Shape) (n k : ℕ) → (k ≡ 16384) ⊎ (h.frames ≤ n + k) → bytes_upto n h + bytes_from n k h ≤ bytes_upto (n + k) h
+upto_next : (h : Shape) (n k : ℕ) → (is_adpcm h.params.codec ≡ true → (k ≡ 16384) ⊎ (h.frames ≤ n + k)) → bytes_upto n h + bytes_from n k h ≤ bytes_upto (n + k) h
 upto_next h n k ends = elim (cases_lt n h.frames) [
   | inl before ↦
       let c = min k (h.frames - n) in
@@ -196,20 +196,31 @@ module _ {D : Type 0} {ghosts : Ghosts D} (state : D → State) where
     | inr le ↦ asks_same _ _ _ (asks.others k d d' lt le)
   ]
 
-  -- a run of frames, and the next; and what comes to no more than all
-  pub each_then : (n m : ℕ) (xs ys zs : List (Input D ghosts)) → ReadAll ghosts xs ys → (m ≡ 16384) ⊎ ((k : ℕ) (d : Input D ghosts) → k < length xs → (get_or xs k d).layout.frames ≤ n + m)
+  -- a run of frames, and the next
+  each_next : (n m : ℕ) (xs ys zs : List (Input D ghosts)) → ReadAll ghosts xs ys
+      → ((k : ℕ) (d : Input D ghosts) → k < length xs → is_adpcm (get_or xs k d).layout.params.codec ≡ true → (m ≡ 16384) ⊎ ((get_or xs k d).layout.frames ≤ n + m))
       → AsksEach state (bytes_upto n) xs ys → AsksEach state (bytes_from n m) ys zs → AsksEach state (bytes_upto (n + m)) xs zs
-  each_then n m xs ys zs reads ends before next k d d' lt =
+  each_next n m xs ys zs reads ends before next k d d' lt =
       let one = before k d d lt in
       let two = next k d d' (omega (arith, lt, reads.count)) in
       let h = (get_or xs k d).layout in
       let more : bytes_from n m (get_or ys k d).layout ≡ bytes_from n m h = ap (bytes_from n m) (reads.each k d d lt).layout in
-      let both = upto_next h n m (⊎_elim (λ whole. inl whole) (λ all. inr (all k d lt)) ends) in
+      let both = upto_next h n m (ends k d lt) in
       chained (bytes_upto n h) (bytes_from n m (get_or ys k d).layout) (bytes_from n m h) (bytes_upto (n + m) h) _ _ _ more both one two
     where
       chained : (f g g' s a b c : ℕ) → g ≡ g' → f + g' ≤ s → AtMost a f b → AtMost b g c → AtMost a s c
       chained f g g' s a b c e le one two = record { later = omega (arith, one.later, two.later); most = omega (arith, e, le, one.most, two.most) }
 
+  pub each_then : (n m : ℕ) (xs ys zs : List (Input D ghosts)) → ReadAll ghosts xs ys → (m ≡ 16384) ⊎ ((k : ℕ) (d : Input D ghosts) → k < length xs → (get_or xs k d).layout.frames ≤ n + m)
+      → AsksEach state (bytes_upto n) xs ys → AsksEach state (bytes_from n m) ys zs → AsksEach state (bytes_upto (n + m)) xs zs
+  each_then n m xs ys zs reads ends = each_next n m xs ys zs reads (λ k d lt blocks. ⊎_elim (λ whole. inl whole) (λ all. inr (all k d lt)) ends)
+
+  -- .. of so many frames as may be, where none of them has blocks
+  pub each_then_plain : (n m : ℕ) (xs ys zs : List (Input D ghosts)) → ReadAll ghosts xs ys → ((k : ℕ) (d : Input D ghosts) → k < length xs → is_adpcm (get_or xs k d).layout.params.codec ≡ false)
+      → AsksEach state (bytes_upto n) xs ys → AsksEach state (bytes_from n m) ys zs → AsksEach state (bytes_upto (n + m)) xs zs
+  each_then_plain n m xs ys zs reads plain = each_next n m xs ys zs reads (λ k d lt blocks. absurd (let never : true ≡ false = sym blocks ∙ plain k d lt in cc))
+
+  -- and what comes to no more than all
   pub each_once : (n : ℕ) (xs ys : List (Input D ghosts)) → AreMono xs → AsksEach state (bytes_upto n) xs ys → AsksOnce state xs ys
   each_once n xs ys mono asks k d d' lt = asks_less _ _ _ _ (bytes_all (get_or xs k d).layout n (mono k d lt)) (asks k d d' lt)
 

@@ -19,11 +19,11 @@ pub in_frame : (n count j c : ℕ) → j < count → c < n → j * n + c < count
 in_frame n count j c lt within = let end = next_frame n count j lt in omega (arith, end, within)
 
 -- one place is one number of one frame
-frame_apart : (n i w j c : ℕ) → w < n → c < n → (j < i) ⊎ (i < j) → j * n + c ≢ i * n + w
+pub frame_apart : (n i w j c : ℕ) → w < n → c < n → (j < i) ⊎ (i < j) → j * n + c ≢ i * n + w
 frame_apart n i w j c within within' (inl lt) same = let end = next_frame n i j lt in omega (arith, end, within', same)
 frame_apart n i w j c within within' (inr lt) same = let end = next_frame n j i lt in omega (arith, end, within, same)
 
-place_apart : (n i w j c : ℕ) → w < n → c < n → c ≢ w → j * n + c ≢ i * n + w
+pub place_apart : (n i w j c : ℕ) → w < n → c < n → c ≢ w → j * n + c ≢ i * n + w
 place_apart n i w j c within within' other same = elim (cases_lt j i) [
   | inl before ↦ frame_apart n i w j c within within' (inl before) same
   | inr le ↦ elim (cases_lt i j) [

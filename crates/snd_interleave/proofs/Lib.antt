@@ -11,4 +11,6 @@ pub mod Lists
 pub mod Making
 pub mod Numbers
 pub mod Opened
+pub mod PairBytes
+pub mod PairNumbers
 pub mod Reading

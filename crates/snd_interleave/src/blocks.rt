@@ -1,4 +1,5 @@
-//! The frames of inputs side by side, behind those of a file that is made.
+//! The frames of inputs side by side, behind those of a file that is made: as numbers, where they do not pass as
+//! bytes.
 
 ghost use Rattle.std.specs.Prelude.{◌≡◌, ◌*◌, OnOk, length};
 ghost use Rattle.snd_disk.specs.Device.{GoesOnFrom};
@@ -11,6 +12,7 @@ ghost use Rattle.snd_interleave.specs.Asking.{AsksEach, AsksOnce, bytes_from};
 ghost use Rattle.snd_interleave.specs.Channels.{AreMono, CountsAddingTo, CountsInputs, HasFrames, Lengthens, ReadAll, StayGood, layouts_of, most_frames};
 
 use crate::channel::{read_numbers, width_in};
+use crate::passing::{are_pairs, pass_frames};
 use crate::scatter::{put_channel, width_of};
 use snd_disk::Disk;
 use snd_inputs::Input;
@@ -84,7 +86,9 @@ fn add_block<D: Disk, E: Disk, M: Making>(
     M::give(to, block)
 }
 
-// Puts all frames there, into a block that has places for them.
+// Puts all frames there, by a block that has places for those that are held at once. Its buffer stays out of
+// the stack frame in which bytes pass.
+#[inline(never)]
 fn add_all<D: Disk, E: Disk, M: Making>(
     alloc: Global,
     inputs: &mut [Input<D>],
@@ -124,7 +128,8 @@ fn add_all<D: Disk, E: Disk, M: Making>(
 
 /// Puts the frames of inputs of one channel behind those of a file that is made, side by side, a block at a
 /// time: so many, from the first on, with zeros where an input has ended. Each number has the width of the
-/// codec of the file. Each frame of an input is asked for once.
+/// codec of the file; where all are linear ones of 16 bits, of that codec, they pass as the bytes that they
+/// are. Each frame of an input is asked for once.
 ///
 /// The answer is `Fault` where a call of a disk failed, `Memory` where there is none, and `Changed` where an
 /// input has a bad block.
@@ -150,6 +155,10 @@ pub(crate) fn add_frames<D: Disk, E: Disk, M: Making>(
     ensures asked { AsksOnce D.state inputs.old inputs.new }
     ensures unasked { AsksNothing E.state to.old to.new }
 {
+    let (_, codec) = numbers_of(to);
+    if are_pairs(inputs, codec) {
+        return pass_frames(alloc, inputs, to, frames);
+    }
     to.params().are_good();
     let places = BLOCK * inputs.len();
     let Ok(mut block) = vec![in alloc; 0i32; places] else {

@@ -150,8 +150,9 @@ fn open_rest<'a, S: Shelf>(
 /// or the count of an ADPCM WAVE file for the frames; `BadBlock` of the first input that has a bad block.
 ///
 /// `Fault` where a call of the shelf or of a disk failed, and `Memory` where there is none: then the output
-/// may stand there in part. All inputs are open at once, and frames pass in blocks. No more bytes are asked
-/// than the inputs have, and 16384 for each.
+/// may stand there in part. All inputs are open at once, and frames pass in blocks: as the bytes that they are
+/// where all have one linear codec of 16 bits, and else as numbers. No more bytes are asked than the inputs
+/// have, and 16384 for each.
 pub fn interleave<'a, S: Shelf>(
     alloc: Global,
     interleaving: &Interleaving<'a>,

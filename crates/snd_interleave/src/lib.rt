@@ -1,4 +1,5 @@
-//! Sound files of one channel put side by side, as the channels of one file.
+//! Sound files of one channel put side by side, as the channels of one file. Where all of them have one linear
+//! codec of 16 bits, their samples pass as the bytes that they are; all others pass as numbers.
 #![tactic(auto)]
 
 mod blocks;
@@ -7,6 +8,8 @@ mod checking;
 mod interleaving;
 mod judge;
 mod make;
+mod pairs;
+mod passing;
 mod scatter;
 
 pub use interleaving::interleave;

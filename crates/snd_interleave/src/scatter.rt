@@ -1,7 +1,8 @@
-//! Numbers that are put side by side.
+//! Numbers that are put side by side, and the pairs of bytes that some of them are.
 
 ghost use Rattle.std.specs.Prelude.{◌≡◌, ◌*◌, ◌<◌, All, length};
 ghost use Rattle.snd_interleave.specs.Beside.{FitsChannel, HasChannel, KeepsChannels};
+ghost use Rattle.snd_interleave.specs.Pairs.{HasPairs, KeepsPairs, pairs_in};
 ghost use Rattle.snd_output.specs.Widths.{changed_all, width_of};
 ghost use Rattle.snd_pcm.specs.Width.{HasWidth, IsWidth};
 
@@ -41,5 +42,21 @@ pub(crate) fn put_channel(
 {
     for (i, number) in numbers.iter().enumerate() {
         block[i * channels + which] = change_width(from, to, *number);
+    }
+}
+
+/// Puts pairs of bytes into a block of as many frames, as one of their channels.
+pub(crate) fn put_pairs(pairs: &[u8], channels: usize, which: usize, block: &mut [u8])
+    requires within { which < channels }
+    requires size { length block.old ≡ length pairs.now * channels }
+    ensures put { HasPairs channels which pairs.now block.new }
+    ensures others { KeepsPairs channels which (pairs_in pairs.now) block.old block.new }
+{
+    for i in 0..pairs.len() / 2 {
+        // both are read before one is put, so that a pair is moved as one
+        let (first, second) = (pairs[2 * i], pairs[2 * i + 1]);
+        let at = 2 * (i * channels + which);
+        block[at] = first;
+        block[at + 1] = second;
     }
 }
