@@ -19,9 +19,10 @@ use Rattle.snd_modes.specs.Editing.{Editing}
 use Rattle.snd_modes.specs.Handle.{Known}
 use Rattle.snd_modes.specs.Reading.{bytes_to_read}
 use Rattle.snd_output.proofs.Appending.{frames_are}
-use Rattle.snd_output.proofs.Numbers.{all_same_width}
+use Rattle.snd_recode.proofs.Numbers.{all_same_width}
 use Rattle.snd_output.specs.Appended.{HasRoom, IsAtEnd, MayPass}
-use Rattle.snd_output.specs.Widths.{changed_all, width_of}
+use Rattle.snd_output.specs.Widths.{width_of}
+use Rattle.snd_recode.specs.Recoded.{changed_all}
 use Rattle.snd_interleave.specs.Asking.{bytes_from}
 use Rattle.snd_interleave.specs.Beside.{HasChannel, KeepsChannels, frame_at}
 use Rattle.snd_interleave.specs.Channels.{AreNumbersAt, HoldAll, ReadAll}

@@ -3,7 +3,8 @@
 ghost use Rattle.std.specs.Prelude.{◌≡◌, ◌*◌, ◌<◌, All, length};
 ghost use Rattle.snd_interleave.specs.Beside.{FitsChannel, HasChannel, KeepsChannels};
 ghost use Rattle.snd_interleave.specs.Pairs.{HasPairs, KeepsPairs, pairs_in};
-ghost use Rattle.snd_output.specs.Widths.{changed_all, width_of};
+ghost use Rattle.snd_output.specs.Widths.{width_of};
+ghost use Rattle.snd_recode.specs.Recoded.{changed_all};
 ghost use Rattle.snd_pcm.specs.Width.{HasWidth, IsWidth};
 
 use snd_layout::Codec;

@@ -1,7 +1,8 @@
 use Rattle.std.proofs.Common.{rules, ◌≡◌, ◌∙◌, refl, sym, subst, ℕ, ◌+◌, ◌<◌, ℤ, pos, List, get_or, length, set, Ok, Err, arith}
 use Rattle.std.proofs.lemmas.List.{get_or_default, length-map}
 use Rattle.snd_output.proofs.Ranges.{width_fits}
-use Rattle.snd_output.specs.Widths.{changed_all, width_of}
+use Rattle.snd_output.specs.Widths.{width_of}
+use Rattle.snd_recode.specs.Recoded.{changed_all}
 use Rattle.snd_pcm.specs.Width.{HasWidth, changed}
 use Rattle.snd_interleave.specs.Asking.{AsksInput, bytes_from}
 use Rattle.snd_interleave.specs.Beside.{FitsChannel, HasChannel, KeepsChannels, frame_at}

@@ -1,7 +1,7 @@
 use Rattle.std.proofs.Common.{rules, ◌≡◌, ◌∙◌, ap, sym, subst, ◌*◌, ◌<◌, ℤ, pos, List, get_or, length, to_z, of_z, w32, arith}
 use Rattle.std.proofs.lemmas.List.{get_or-map, length-map}
 use Rattle.snd_pcm.specs.Width.{HasWidth, changed}
-use Rattle.snd_output.specs.Widths.{changed_all}
+use Rattle.snd_recode.specs.Recoded.{changed_all}
 use Rattle.snd_interleave.proofs.Frames.{fits_more, others_more, put_more}
 use Rattle.snd_interleave.proofs.scatter.put_channel.Goals as goal
 

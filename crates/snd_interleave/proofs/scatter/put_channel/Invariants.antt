@@ -1,6 +1,6 @@
 use Rattle.std.proofs.Common.{length, take}
 use Rattle.snd_interleave.specs.Beside.{FitsChannel, HasChannel, KeepsChannels}
-use Rattle.snd_output.specs.Widths.{changed_all}
+use Rattle.snd_recode.specs.Recoded.{changed_all}
 use Rattle.snd_pcm.specs.Width.{HasWidth}
 use Rattle.snd_interleave.proofs.scatter.put_channel.Given as goal
 
