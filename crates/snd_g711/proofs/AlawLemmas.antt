@@ -1,5 +1,5 @@
 -- Facts on the A-law's definitions.
-use Rattle.std.proofs.Common.{negsuc, ◌⊎◌, ◌≡◌, sym, ap, ◌∙◌, ℕ, ℤ, pos, neg_ℤ, ◌+◌, ◌/◌, ◌%◌, ◌<◌, ◌≤◌, inl, inr, Bool, true, false, FitsSigned, List, map, All, get_or, zero-add, arith, bit_xor}
+use Rattle.std.proofs.Common.{negsuc, ◌⊎◌, ◌≡◌, sym, ap, ◌∙◌, ℕ, ℤ, pos, neg_ℤ, ◌+◌, ◌/◌, ◌%◌, ◌<◌, ◌≤◌, inl, inr, refl, subst, Bool, true, false, FitsSigned, List, map, All, get_or, zero-add, arith, bit_xor}
 use Rattle.std.specs.Prelude.{if◌then◌else◌, nat_lt, nat_eq}
 use Rattle.std.specs.Int.{w16, is_negative}
 use Rattle.std.proofs.lemmas.Bool.{cases_lt}
@@ -75,6 +75,21 @@ unfolding alaw_byte
 byte_positive value code n e =
     ap (λ (k : ℕ). bit_xor (128 + k) 85) e
     ∙ ap (λ (b : Bool). bit_xor ((if b then 0 else 128) + alaw_code (alaw_distance value)) 85) (sym n)
+
+-- inverting the sign bit as well sets it
+turned : (code : ℕ) → code < 128 → bit_xor code 213 ≡ bit_xor (128 + code) 85
+turned code h = eqb→eq _ _ (every_below (λ k. nat_eq (bit_xor k 213) (bit_xor (128 + k) 85)) 128 tt code h)
+
+-- the byte, by the bits that are inverted of the code
+pub byte_by_sign : (value : ℤ) (code bits : ℕ) → code ≡ alaw_code (alaw_distance value) → bits ≡ (if is_negative value then 85 else 213) → bit_xor code bits ≡ alaw_byte value
+byte_by_sign value code bits e b = go (is_negative value) refl
+  where
+    go : (sign : Bool) → is_negative value ≡ sign → bit_xor code bits ≡ alaw_byte value
+    go true n = ap (bit_xor code) (b ∙ ap (λ (s : Bool). if s then 85 else 213) n) ∙ byte_negative value code n e
+    go false n =
+        ap (bit_xor code) (b ∙ ap (λ (s : Bool). if s then 85 else 213) n)
+        ∙ turned code (subst (λ (k : ℕ). k < 128) (sym e) (code-lt (alaw_distance value)))
+        ∙ byte_positive value code n e
 
 pub round_trip : AlawRoundTrip
 unfolding alaw_byte alaw_value segment_and_step

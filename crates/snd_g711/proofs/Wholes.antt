@@ -4,7 +4,7 @@ use Rattle.std.specs.Prelude.{not}
 use mathlib.Core.Bool.{true≢false}
 use lib.Arith.{lt→nleb}
 use lib.Dec.{T, eqb, leb, ltb}
-use lib.Ieee.{Float, nan, inf, fin, binary32, down, is_nan, nan_bits, odd, of_bits, of_fields, round, sub, sum, up}
+use lib.Ieee.{Float, nan, inf, fin, binary32, down, nan_bits, odd, of_bits, of_fields, round, sub, sum, up}
 use lib.Ieee.Exact.{HasValue, odd_sign, round_exact}
 use lib.Ieee.Fits.{down_pos}
 use lib.Pow.{pow_pos}

@@ -1,12 +1,12 @@
 //! The A-law.
-ghost use Rattle.std.specs.Prelude.{◌≡◌, length, map, All, FitsSigned};
-ghost use Rattle.std.specs.Int.{w16};
+ghost use Rattle.std.specs.Prelude.{◌≡◌, length, map, All, FitsSigned, if◌then◌else◌};
+ghost use Rattle.std.specs.Int.{w16, is_negative};
 ghost use Rattle.snd_g711.specs.Alaw.{alaw_value, alaw_distance, alaw_byte, AlawRoundTrip};
 
 use crate::segment::steps_below;
 
-/// The bits of a byte that the A-law inverts.
-const EVEN_BITS: u8 = 0x55;
+/// The bits that the A-law inverts of a code and the sign bit of values from zero on.
+const INVERTED: u32 = 0xD5;
 
 /// The value of each byte.
 static VALUES: [i32; 256] = [
@@ -57,18 +57,21 @@ fn distance_of(value: i32) -> u32
     }
 }
 
+/// The bits of a value's code that are inverted: the even ones, and the sign bit for zero and above.
+#[inline]
+fn inverted(value: i32) -> u32
+    ensures { result ≡ (if is_negative value then 0x55 else 0xD5) }
+{
+    INVERTED ^ ((value >> 31).cast_unsigned() & 0x80)
+}
+
 /// The A-law byte of a value of 16 bits.
 #[inline]
 fn byte_of(value: i32) -> u8
     requires { FitsSigned w16 value }
     ensures { result ≡ alaw_byte value }
 {
-    let code = steps_below(distance_of(value) / 2) as u8;
-    if value < 0 {
-        code ^ EVEN_BITS
-    } else {
-        (128 + code) ^ EVEN_BITS
-    }
+    (steps_below(distance_of(value) / 2) ^ inverted(value)) as u8
 }
 
 /// The A-law byte of a 16-bit value.
