@@ -6,4 +6,5 @@ mod Heads
 mod Laid
 pub mod Marks
 pub mod OfKinds
+pub mod Sources
 pub mod Widths

@@ -1,6 +1,6 @@
 -- The samples of a codec with a fixed number of bytes for each: linear ones, and those of the two laws of ITU-T
 -- Recommendation G.711 (1988), "Pulse code modulation (PCM) of voice frequencies", which have one byte for a number of 16 bits.
-use Rattle.std.specs.Prelude.{◌≡◌, ℕ, ℤ, List, All, map}
+use Rattle.std.specs.Prelude.{◌≡◌, ℕ, ℤ, negsuc, List, All, map, ◌==◌, if◌then◌else◌}
 use Rattle.snd_fields.specs.declared.field.Order.TheVariants.{Little}
 use Rattle.snd_g711.specs.Alaw.{alaw_byte, alaw_value}
 use Rattle.snd_g711.specs.Mulaw.{mulaw_byte, mulaw_value}
@@ -40,6 +40,15 @@ abbrev pub kept_number : Fixed → ℤ → ℤ
 kept_number (Linear form) x = x
 kept_number MuLaw x = mulaw_value (mulaw_byte x)
 kept_number ALaw x = alaw_value (alaw_byte x)
+
+-- Numbers of which bytes are the samples: those that they stand for, but that the second zero of the mu-law, 0x7F, is written of -1.
+abbrev pub mulaw_source : ℕ → ℤ
+mulaw_source byte = if byte == 0x7F then negsuc 0 else mulaw_value byte
+
+abbrev pub sources : Fixed → List ℕ → List ℤ
+sources (Linear form) bytes = linear_samples form bytes
+sources MuLaw bytes = map mulaw_source bytes
+sources ALaw bytes = map alaw_value bytes
 
 -- ---- the laws of kept numbers
 
