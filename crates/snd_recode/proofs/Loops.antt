@@ -21,30 +21,30 @@ pub law_all : (f : ℕ → ℤ) (bytes into : List ℕ) (i : ℕ) → length int
     → take (2 * i) into ++ samples_bytes (S16 Little) (drop i (map f bytes)) ≡ into
 law_all f bytes into i room all = write_all (S16 Little) (map f bytes) into i (2 * i) (omega (arith, room, all)) (omega (arith, all, length-map bytes f))
 
--- ---- a loop that makes numbers of samples in another width
+-- ---- a loop that makes one thing of each sample: its number in another width, or the byte of a law
 
-pub number_step : (f : ℤ → ℤ) (bytes : List ℕ) (into : List ℤ) (i : ℕ) (x : ℤ) → length bytes ≡ 2 * length into → i < length into
+pub number_step : {X : Type 0} (f : ℤ → X) (bytes : List ℕ) (into : List X) (i : ℕ) (x : X) → length bytes ≡ 2 * length into → i < length into
     → x ≡ f (value (S16 Little) (number Little bytes (2 * i) 2))
     → take i into ++ drop i (map f (samples (S16 Little) bytes)) ≡ map f (samples (S16 Little) bytes)
     → take (i + 1) (set into i x) ++ drop (i + 1) (map f (samples (S16 Little) bytes)) ≡ map f (samples (S16 Little) bytes)
-number_step f bytes into i x room lt is so_far =
+number_step {X = X} f bytes into i x room lt is so_far =
     let xs = samples (S16 Little) bytes in
     let ys = map f xs in
     let half : i < length bytes / 2 = omega (arith, room, lt) in
     let within : i < length xs = omega (arith, half, length-samples (S16 Little) bytes) in
-    let same : x ≡ get_or ys i (pos 0) = is ∙ ap f (sym (get_or-samples (S16 Little) bytes i (pos 0) half)) ∙ sym (get_or-map f xs i (pos 0) (pos 0) within) in
-    ap (λ (l : List ℤ). l ++ drop (i + 1) ys) (take_more_set into i x lt)
+    let same : x ≡ get_or ys i x = is ∙ ap f (sym (get_or-samples (S16 Little) bytes i (pos 0) half)) ∙ sym (get_or-map f xs i (pos 0) x within) in
+    ap (λ (l : List X). l ++ drop (i + 1) ys) (take_more_set into i x lt)
     ∙ append_assoc (take i into) (x ∷ []) (drop (i + 1) ys)
-    ∙ ap (λ (y : ℤ). take i into ++ y ∷ drop (i + 1) ys) same
-    ∙ ap (λ (l : List ℤ). take i into ++ l) (sym (drop_more ys i (pos 0) (omega (arith, within, length-map xs f))))
+    ∙ ap (λ (y : X). take i into ++ y ∷ drop (i + 1) ys) same
+    ∙ ap (λ (l : List X). take i into ++ l) (sym (drop_more ys i x (omega (arith, within, length-map xs f))))
     ∙ so_far
 
-pub number_all : (f : ℤ → ℤ) (bytes : List ℕ) (into : List ℤ) (i : ℕ) → length bytes ≡ 2 * length into → length into ≤ i
+pub number_all : {X : Type 0} (f : ℤ → X) (bytes : List ℕ) (into : List X) (i : ℕ) → length bytes ≡ 2 * length into → length into ≤ i
     → take i into ++ drop i (map f (samples (S16 Little) bytes)) ≡ into
-number_all f bytes into i room all =
+number_all {X = X} f bytes into i room all =
     let xs = samples (S16 Little) bytes in
     let half : length bytes / 2 ≤ i = omega (arith, room, all) in
-    ap (λ (l : List ℤ). take i into ++ l) (drop_all i (map f xs) (omega (arith, half, length-map xs f, length-samples (S16 Little) bytes)))
+    ap (λ (l : List X). take i into ++ l) (drop_all i (map f xs) (omega (arith, half, length-map xs f, length-samples (S16 Little) bytes)))
     ∙ append-nil (take i into) ∙ take_all i into all
 
 -- ---- of samples that become wider

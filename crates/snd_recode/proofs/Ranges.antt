@@ -1,27 +1,19 @@
 -- The ranges of numbers whose width is changed.
-use Rattle.std.proofs.Common.{◌≡◌, ◌∙◌, ap, sym, inl, inr, subst, ℕ, ◌+◌, ◌-◌, ◌*◌, ◌^◌, ◌≤◌, ℤ, pos, negsuc, Bool, cond, List, All, FitsSigned, get_or, w16, arith}
+use Rattle.std.proofs.Common.{◌≡◌, ◌∙◌, ap, sym, inl, inr, subst, ℕ, ◌+◌, ◌-◌, ◌*◌, ◌^◌, ◌≤◌, ℤ, pos, negsuc, Bool, cond, List, All, get_or, arith}
 use Rattle.std.proofs.Math.Nat.{mul-le-mul_right, one-le-pow}
 use Rattle.std.proofs.lemmas.Bool.{cases_lt, le-leb, lt-leb}
 use Rattle.std.proofs.lemmas.Int.{ints}
 use Rattle.std.proofs.lemmas.List.Elements.{All-get_or, All-map}
 use Rattle.std.proofs.lemmas.Nat.{pow-add}
 use Rattle.std.specs.Prelude.{◌*ℤ◌}
-use Rattle.snd_container.specs.Fixed.{InRange, range_form, samples}
+use Rattle.snd_container.specs.Fixed.{InRange, range_form}
 use Rattle.snd_container.specs.declared.fixed.Fixed.{Fixed}
-use Rattle.snd_container.specs.declared.fixed.Fixed.TheVariants.{Linear, MuLaw, ALaw}
-use Rattle.snd_fields.specs.Laws.{IsByte}
-use Rattle.snd_g711.proofs.AlawLemmas.{alaw_value_fits}
-use Rattle.snd_g711.proofs.MulawLemmas.{mulaw_value_fits}
-use Rattle.snd_g711.specs.Alaw.{alaw_value}
-use Rattle.snd_g711.specs.Mulaw.{mulaw_value}
 use Rattle.snd_pcm.specs.Pcm.{bit_count}
-use Rattle.snd_pcm.specs.Pcm as pcm
 use Rattle.snd_pcm.specs.Width.{HasWidth, changed, floor_div}
 use Rattle.snd_pcm.specs.declared.linear.Linear as linear
 use Rattle.snd_pcm.specs.declared.linear.Linear.TheVariants.{U8, S8, S16, S24, S32}
-use Rattle.snd_pcm.proofs.RoundTrips.{samples_are_in_range}
 use Rattle.snd_pcm.proofs.Narrowed.{narrowed}
-use Rattle.snd_recode.specs.Recoded.{recoded}
+use Rattle.snd_recode.specs.Recoded.{recoded, width_of}
 
 -- a wider number
 wider : (from to : ℕ) (x : ℤ) → 1 ≤ from → from ≤ to → HasWidth from x → HasWidth to (x *ℤ pos (2 ^ (to - from)))
@@ -53,18 +45,10 @@ some_bits (S16 order) = omega arith
 some_bits (S24 order) = omega arith
 some_bits (S32 order) = omega arith
 
--- numbers of a codec, in the width of a linear one
-pub recoded_fit : (from : Fixed) (to : linear.Linear) (xs : List ℤ) → All (InRange from) xs → All (pcm.InRange to) (recoded from to xs)
+-- numbers of a codec, in the width of another
+pub recoded_fit : (from to : Fixed) (xs : List ℤ) → All (InRange from) xs → All (InRange to) (recoded from to xs)
 recoded_fit from to xs all =
-    let old = bit_count (range_form from) in
-    All-map (pcm.InRange to) (changed old (bit_count to)) xs
-    (λ k d lt. changed_fits old (bit_count to) (get_or xs k d) (some_bits (range_form from)) (some_bits to) (All-get_or (InRange from) xs k d lt all))
-
-sixteen : (x : ℤ) → FitsSigned w16 x → InRange MuLaw x
-sixteen x fits = (omega (arith, ints, fits), omega (arith, ints, fits))
-
--- the numbers of samples are in the range of their codec
-pub samples_fit : (form : Fixed) (bytes : List ℕ) → All IsByte bytes → All (InRange form) (samples form bytes)
-samples_fit (Linear form) bytes all = samples_are_in_range form bytes all
-samples_fit MuLaw bytes all = All-map (InRange MuLaw) mulaw_value bytes (λ k d lt. sixteen (mulaw_value (get_or bytes k d)) (mulaw_value_fits (get_or bytes k d)))
-samples_fit ALaw bytes all = All-map (InRange ALaw) alaw_value bytes (λ k d lt. sixteen (alaw_value (get_or bytes k d)) (alaw_value_fits (get_or bytes k d)))
+    let old = width_of from in
+    let new = width_of to in
+    All-map (InRange to) (changed old new) xs
+    (λ k d lt. changed_fits old new (get_or xs k d) (some_bits (range_form from)) (some_bits (range_form to)) (All-get_or (InRange from) xs k d lt all))

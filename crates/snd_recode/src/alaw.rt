@@ -1,13 +1,14 @@
-//! The A-law of ITU-T G.711 as linear samples of 16 bits.
-#![tactic(auto, using(crate::proofs::Loops::law_all, crate::proofs::Loops::law_step))]
+//! The A-law of ITU-T G.711 as linear samples of 16 bits, and these as its bytes.
+#![tactic(auto, using(crate::proofs::Loops::law_all, crate::proofs::Loops::law_step, crate::proofs::Loops::number_all, crate::proofs::Loops::number_step))]
 
 ghost use Rattle.std.specs.Prelude.{◌≡◌, ◌*◌, length, map};
 ghost use Rattle.snd_fields.specs.declared.field.Order.TheVariants.{Little};
-ghost use Rattle.snd_g711.specs.Alaw.{alaw_value};
-ghost use Rattle.snd_pcm.specs.Pcm.{sample_bytes, samples_bytes};
+ghost use Rattle.snd_g711.specs.Alaw.{alaw_byte, alaw_value};
+ghost use Rattle.snd_pcm.specs.Pcm.{sample_bytes, samples, samples_bytes};
 ghost use Rattle.snd_pcm.specs.declared.linear.Linear.TheVariants.{S16};
 
-use snd_g711::alaw_decode;
+use crate::pair::number_in;
+use snd_g711::{alaw_decode, alaw_encode};
 
 // The bytes of a byte's value.
 #[inline(always)]
@@ -27,5 +28,15 @@ pub(crate) fn alaw_as_linear(bytes: &[u8], into: &mut [u8])
         let [low, high] = bytes_of(*byte);
         into[2 * i] = low;
         into[2 * i + 1] = high;
+    }
+}
+
+/// Linear samples of 16 bits, the lowest byte first, as A-law bytes. `bytes` has two for each place.
+pub(crate) fn linear_as_alaw(bytes: &[u8], into: &mut [u8])
+    requires room { length bytes.now ≡ 2 * length into.old }
+    ensures { into.new ≡ map alaw_byte (samples (S16 Little) bytes.now) }
+{
+    for (i, byte) in into.iter_mut().enumerate() {
+        *byte = alaw_encode(number_in(bytes[2 * i], bytes[2 * i + 1]));
     }
 }

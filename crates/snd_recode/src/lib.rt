@@ -1,9 +1,11 @@
-//! Samples of a codec with a fixed number of bytes for each, as those of a linear one. Where there is a loop
-//! for the two codecs, no numbers stand between. Nothing here allocates or is refused.
+//! Samples of a codec with a fixed number of bytes for each, as those of another one. Pairs of codecs that files
+//! often have get a loop of their own; those of all others go by their numbers. Nothing here allocates or is
+//! refused.
 #![tactic(auto)]
 
 mod alaw;
 mod mulaw;
+mod pair;
 mod recoding;
 mod wider;
 

@@ -1,12 +1,15 @@
-//! The mu-law of ITU-T G.711 as linear samples of 16 bits.
-#![tactic(auto, using(crate::proofs::Loops::law_all, crate::proofs::Loops::law_step))]
+//! The mu-law of ITU-T G.711 as linear samples of 16 bits, and these as its bytes.
+#![tactic(auto, using(crate::proofs::Loops::law_all, crate::proofs::Loops::law_step, crate::proofs::Loops::number_all, crate::proofs::Loops::number_step))]
 
 ghost use Rattle.std.specs.Prelude.{◌≡◌, ◌*◌, ◌≤◌, length, map};
 ghost use Rattle.snd_fields.specs.declared.field.Order.TheVariants.{Little};
-ghost use Rattle.snd_g711.specs.Mulaw.{mulaw_value};
-ghost use Rattle.snd_pcm.specs.Pcm.{code, samples_bytes};
+ghost use Rattle.snd_g711.specs.Mulaw.{mulaw_byte, mulaw_value};
+ghost use Rattle.snd_pcm.specs.Pcm.{code, samples, samples_bytes};
 ghost use Rattle.snd_pcm.specs.declared.linear.Linear.TheVariants.{S16};
 ghost use Rattle.snd_recode.specs.Factors.{mulaw_factor};
+
+use crate::pair::number_in;
+use snd_g711::mulaw_encode;
 
 /// The most bytes that are read at a time.
 const MOST: usize = 16384;
@@ -67,4 +70,14 @@ pub(crate) fn mulaw_as_linear(bytes: &[u8], into: &mut [u8])
     let factors = &mut room[..bytes.len()];
     put_factors(bytes, factors);
     put_values(bytes, factors, into);
+}
+
+/// Linear samples of 16 bits, the lowest byte first, as mu-law bytes. `bytes` has two for each place.
+pub(crate) fn linear_as_mulaw(bytes: &[u8], into: &mut [u8])
+    requires room { length bytes.now ≡ 2 * length into.old }
+    ensures { into.new ≡ map mulaw_byte (samples (S16 Little) bytes.now) }
+{
+    for (i, byte) in into.iter_mut().enumerate() {
+        *byte = mulaw_encode(number_in(bytes[2 * i], bytes[2 * i + 1]));
+    }
 }

@@ -7,6 +7,7 @@ ghost use Rattle.snd_pcm.specs.Pcm.{sample, sample_bytes, samples, samples_bytes
 ghost use Rattle.snd_pcm.specs.Width.{IsWidth, changed};
 ghost use Rattle.snd_pcm.specs.declared.linear.Linear.TheVariants.{S16, S24, S32};
 
+use crate::pair::number_in;
 use snd_fields::Order;
 use snd_pcm::{Linear, change_width, put_samples};
 
@@ -16,7 +17,7 @@ fn number_of(width: u8, low: u8, high: u8) -> i32
     requires { IsWidth width }
     ensures { result ≡ changed 16 width (sample (S16 Little) (low ∷ high ∷ [])) }
 {
-    change_width(16, width, i32::from(i16::from_le_bytes([low, high])))
+    change_width(16, width, i32::from(number_in(low, high)))
 }
 
 // Its bytes, where that has 32.

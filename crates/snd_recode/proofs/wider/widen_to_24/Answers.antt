@@ -13,4 +13,4 @@ pub put_samples-requires-clause-in_range : goal.put_samples-requires-clause-in_r
 put_samples-requires-clause-in_range c =
     let bytes = c.args.bytes.now in
     subst (All (InRange (S24 Little))) (sym c.read_as.ensures)
-    (recoded_fit (Linear (S16 Little)) (S24 Little) (samples (S16 Little) bytes) (samples_are_in_range (S16 Little) bytes (all_from_bytes bytes (λ i. omega (arith, c.type_inv.bytes i)))))
+    (recoded_fit (Linear (S16 Little)) (Linear (S24 Little)) (samples (S16 Little) bytes) (samples_are_in_range (S16 Little) bytes (all_from_bytes bytes (λ i. omega (arith, c.type_inv.bytes i)))))
