@@ -1,55 +1,61 @@
 -- Frames that are given as the bytes of their samples.
-use Rattle.std.proofs.Common.{◌≡◌, ◌∙◌, ap, sym, subst, refl, ℕ, ◌*◌, ◌/◌, ◌%◌, ◌≤◌, List, Option, Some, All, length, true, arith}
+use Rattle.std.proofs.Common.{◌≡◌, ◌∙◌, ap, sym, subst, refl, ℕ, ◌+◌, ◌*◌, ◌/◌, ◌%◌, ◌^◌, ◌<◌, ◌≤◌, List, Option, None, Some, All, length, false, arith}
+use Rattle.std.proofs.Math.Nat.{mul-le-mul_right}
+use Rattle.std.specs.Prelude.{is_none}
 use Rattle.snd_fields.specs.Laws.{IsByte}
 use Rattle.snd_layout.specs.Blocks.{block_align}
 use Rattle.snd_layout.specs.Params.{Parameters}
+use Rattle.snd_layout.specs.Shape.{Shape, end}
 use Rattle.snd_layout.specs.declared.codec.Codec.{Codec}
-use Rattle.snd_layout.specs.declared.codec.Codec.TheVariants.{U8, S8, S16, S24, S32, MuLaw, ALaw, Ima, Ms}
-use Rattle.snd_pcm.specs.declared.linear.Linear as linear
-use Rattle.snd_pcm.proofs.RoundTrips.{samples_are_in_range, samples_are_written_back}
 use Rattle.snd_container.specs.Fixed.{InRange, byte_count}
 use Rattle.snd_container.specs.Sound.{fixed_of}
 use Rattle.snd_container.specs.declared.fixed.Fixed.{Fixed}
-use Rattle.snd_container.specs.declared.fixed.Fixed.TheVariants.{Linear}
-use Rattle.snd_container.proofs.FixedSamples.{length-samples}
-use Rattle.snd_modes.specs.Bytes.{AreWhole, is_linear, numbers_as, numbers_in}
+use Rattle.snd_container.proofs.FixedSamples.{byte_count_pos}
+use Rattle.snd_container.proofs.Sources.{length-sources, sources_fit, sources_written}
+use Rattle.snd_modes.specs.Bytes.{AreWhole, sources_as, sources_in}
 use Rattle.snd_modes.specs.Edits.{coded, coded_as}
 use Rattle.snd_modes.specs.Reading.{FitCodec}
 use Rattle.snd_modes.proofs.Ranges.{fits_form}
+use Rattle.snd_modes.proofs.Sealing.{end_is}
 use Rattle.snd_modes.proofs.SoundFrames.{linear_align}
 
--- the form of linear samples
-pub linear_form : (codec : Codec) → is_linear codec ≡ true → (form : linear.Linear) × (fixed_of codec ≡ Some (Linear form))
-linear_form U8 is = (linear.TheVariants.U8, refl)
-linear_form S8 is = (linear.TheVariants.S8, refl)
-linear_form (S16 order) is = (linear.TheVariants.S16 order, refl)
-linear_form (S24 order) is = (linear.TheVariants.S24 order, refl)
-linear_form (S32 order) is = (linear.TheVariants.S32 order, refl)
-linear_form MuLaw is = absurd cc
-linear_form ALaw is = absurd cc
-linear_form (Ima align per_block) is = absurd cc
-linear_form (Ms align per_block) is = absurd cc
+-- the form of samples that are not in blocks
+pub form_given : (form : Option Fixed) → is_none form ≡ false → (of : Fixed) × (form ≡ Some of)
+form_given None is = absurd cc
+form_given (Some of) is = (of, refl)
 
-pub count_of_given : (codec : Codec) (b : List ℕ) (form : Fixed) → fixed_of codec ≡ Some form → length (numbers_in codec b) ≡ length b / byte_count form
-count_of_given codec b form is = ap (λ (o : Option Fixed). length (numbers_as o b)) is ∙ length-samples form b
+pub count_of_given : (codec : Codec) (b : List ℕ) (form : Fixed) → fixed_of codec ≡ Some form → length (sources_in codec b) ≡ length b / byte_count form
+count_of_given codec b form is = ap (λ (o : Option Fixed). length (sources_as o b)) is ∙ length-sources form b
 
 -- whole frames are whole samples
 whole_samples : (w channels n : ℕ) → 1 ≤ w * channels → n % (w * channels) ≡ 0 → n ≡ w * (channels * (n / (w * channels)))
 whole_samples w channels n some whole = grind (arith, whole)
 
--- the bytes of the numbers that they stand for are they themselves
-pub bytes_given : (p : Parameters) (b : List ℕ) → is_linear p.codec ≡ true → 1 ≤ p.channels → AreWhole p (length b) → All IsByte b → coded p (numbers_in p.codec b) ≡ b
-bytes_given p b linear some whole bytes =
-    let form = (linear_form p.codec linear).0 in
-    let is : fixed_of p.codec ≡ Some (Linear form) = (linear_form p.codec linear).1 in
-    let align : block_align p.channels p.codec ≡ byte_count (Linear form) * p.channels = linear_align p.codec (Linear form) p.channels is in
-    ap (λ (o : Option Fixed). coded_as o (numbers_as o b)) is
-    ∙ samples_are_written_back form b (p.channels * (length b / (byte_count (Linear form) * p.channels)))
-    (whole_samples (byte_count (Linear form)) p.channels (length b) (grind (arith, some)) (subst (λ (n : ℕ). length b % n ≡ 0) align whole)) bytes
+-- the bytes of the numbers of which they are the samples are they themselves
+pub bytes_given : (p : Parameters) (b : List ℕ) → is_none (fixed_of p.codec) ≡ false → 1 ≤ p.channels → AreWhole p (length b) → All IsByte b → coded p (sources_in p.codec b) ≡ b
+bytes_given p b fixed some whole bytes =
+    let form = (form_given (fixed_of p.codec) fixed).0 in
+    let is : fixed_of p.codec ≡ Some form = (form_given (fixed_of p.codec) fixed).1 in
+    let align : block_align p.channels p.codec ≡ byte_count form * p.channels = linear_align p.codec form p.channels is in
+    ap (λ (o : Option Fixed). coded_as o (sources_as o b)) is
+    ∙ sources_written form b (p.channels * (length b / (byte_count form * p.channels)))
+    (whole_samples (byte_count form) p.channels (length b) (some_align form) (subst (λ (n : ℕ). length b % n ≡ 0) align whole)) bytes
+  where
+    some_align : (form : Fixed) → 1 ≤ byte_count form * p.channels
+    some_align form = grind (arith, some, byte_count_pos form)
 
-pub fits_given : (codec : Codec) (b : List ℕ) → is_linear codec ≡ true → All IsByte b → FitCodec codec (numbers_in codec b)
-fits_given codec b linear bytes =
-    let form = (linear_form codec linear).0 in
-    let is : fixed_of codec ≡ Some (Linear form) = (linear_form codec linear).1 in
-    fits_form codec (Linear form) (numbers_in codec b) is
-    (subst (λ (o : Option Fixed). All (InRange (Linear form)) (numbers_as o b)) (sym is) (samples_are_in_range form b bytes))
+pub fits_given : (codec : Codec) (b : List ℕ) → is_none (fixed_of codec) ≡ false → All IsByte b → FitCodec codec (sources_in codec b)
+fits_given codec b fixed bytes =
+    let form = (form_given (fixed_of codec) fixed).0 in
+    let is : fixed_of codec ≡ Some form = (form_given (fixed_of codec) fixed).1 in
+    fits_form codec form (sources_in codec b) is
+    (subst (λ (o : Option Fixed). All (InRange form) (sources_as o b)) (sym is) (sources_fit form b bytes))
+
+-- a file has fewer frames than bytes
+pub few_frames : (h : Shape) → is_none (fixed_of h.params.codec) ≡ false → 1 ≤ h.params.channels → end h h.frames + 8 ≤ 2 ^ 63 → h.frames < 2 ^ 63
+few_frames h fixed some within =
+    let form = form_given (fixed_of h.params.codec) fixed in
+    let samples : 1 * h.frames ≤ h.params.channels * h.frames = mul-le-mul_right h.frames some in
+    let bytes : 1 * (h.params.channels * h.frames) ≤ byte_count form.0 * (h.params.channels * h.frames) =
+    mul-le-mul_right (h.params.channels * h.frames) (let e : 1 ≤ byte_count form.0 = omega (arith, byte_count_pos form.0) in e) in
+    omega (arith, samples, bytes, end_is h form.0 h.frames form.1, within)

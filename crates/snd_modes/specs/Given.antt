@@ -1,5 +1,5 @@
 -- What is given to be written over the data: the numbers of frames, or the bytes of their samples.
-use Rattle.std.specs.Prelude.{◌≡◌, ℕ, ℤ, true, List, All, length}
+use Rattle.std.specs.Prelude.{ℕ, ℤ, List, All, length}
 use Rattle.snd_disk.specs.declared.disk.Disk.{Ghosts}
 use Rattle.snd_fields.specs.Laws.{IsByte}
 use Rattle.snd_layout.specs.Shape.{Shape}
@@ -8,23 +8,23 @@ use Rattle.snd_modes.specs.declared.given.Given.TheVariants.{Numbers, Bytes}
 use Rattle.snd_modes.specs.declared.handle.File.{File}
 use Rattle.snd_modes.specs.declared.mode.Mode.{Ghosts as ModeGhosts}
 use Rattle.snd_modes.specs.Handle.{known_of}
-use Rattle.snd_modes.specs.Bytes.{AreWhole, is_linear, numbers_in}
+use Rattle.snd_modes.specs.Bytes.{AreWhole, sources_in}
 use Rattle.snd_modes.specs.Edits.{coded}
 use Rattle.snd_modes.specs.Writing.{HoldsCoded}
 
 -- the numbers of either
 abbrev pub given : Shape → Given → List ℤ
 given h (Numbers xs) = xs.now
-given h (Bytes bytes) = numbers_in h.params.codec bytes.now
+given h (Bytes bytes) = sources_in h.params.codec bytes.now
 
 -- and their bytes
 abbrev pub coded_given : Shape → Given → List ℕ
 coded_given h from = coded h.params (given h from)
 
--- bytes are given of whole frames of linear samples alone
+-- bytes are given of whole frames alone
 abbrev pub MayBeGiven : Shape → Given → Type 0
 MayBeGiven h (Numbers xs) = Unit {0}
-MayBeGiven h (Bytes bytes) = (is_linear h.params.codec ≡ true) × AreWhole h.params (length bytes.now) × All IsByte bytes.now
+MayBeGiven h (Bytes bytes) = AreWhole h.params (length bytes.now) × All IsByte bytes.now
 
 -- where samples are made early of numbers, they stand at the front of a block
 abbrev pub HoldsGiven : Shape → Given → List ℕ → Type 0

@@ -30,7 +30,7 @@ fn fits_codec(layout: &Layout, from: &[i32], block: &mut [u8]) -> bool
     put_in_range(form, from, block)
 }
 
-// .. of what is given. Those of samples are.
+// .. of what is given. Bytes are the samples of such numbers.
 fn fits_given(layout: &Layout, from: Given<'_>, block: &mut [u8]) -> bool
     requires linear { is_none (fixed_of layout.now.params.codec) ≡ false }
     requires given { MayBeGiven layout.now from }

@@ -5,7 +5,7 @@ ghost use Rattle.snd_disk.specs.Device.{CountsOn, GoesOnFrom, IsStable, WritesAt
 ghost use Rattle.snd_container.specs.Values.{closed_end};
 ghost use Rattle.snd_modes.specs.Chunks.{KeepsChunksOn};
 ghost use Rattle.snd_modes.specs.Edits.{automatic_to, moved_write_to, sealed_to, state_after, written_to};
-ghost use Rattle.snd_modes.specs.Bytes.{AreWhole, is_linear, numbers_of};
+ghost use Rattle.snd_modes.specs.Bytes.{AreWhole, sources_of};
 ghost use Rattle.snd_modes.specs.Given.{MayBeGiven, given_to};
 ghost use Rattle.snd_modes.specs.Handle.{StandsAfter, codec_of, disk_of, known_of, loan_of};
 ghost use Rattle.snd_modes.specs.Outcomes.{AsksNothing, CountsCall, KeepsBefore, KeepsFrames, StandsOn, TellsOn, WritesFrames, auto_outcome, update_outcome, write_outcome};
@@ -77,24 +77,24 @@ impl<'d, D: Disk, M: CanWrite> File<'d, D, M> {
         self.write_given(Given::Numbers(from))
     }
 
-    /// Writes frames as `write_frames` does, given as the bytes of their samples, which are linear ones: what
-    /// they stand for is always in the codec's range. The slice holds whole frames.
+    /// Writes frames as `write_frames` does, given as the bytes of their samples. These are always those of
+    /// numbers in the codec's range: of the ones that they stand for, but that the second zero of the mu-law
+    /// is the byte of -1. The slice holds whole frames.
     pub fn write_bytes(&mut self, from: &[u8]) -> Result<(), WriteError>
-        requires linear { is_linear (codec_of self.old) ≡ true }
-        requires whole { AreWhole (known_of self.old).shape.params (length from.now) }
+        requires { AreWhole (known_of self.old).shape.params (length from.now) }
         ensures loan { loan_of self.new ≡ loan_of self.old }
-        ensures left { WriteLeaves (numbers_of self.old from.now) (known_of self.old) (known_of self.new) result }
-        ensures stands { StandsOn (write_outcome result) D.state self.old self.new (written_to (numbers_of self.old from.now)) }
+        ensures left { WriteLeaves (sources_of self.old from.now) (known_of self.old) (known_of self.new) result }
+        ensures stands { StandsOn (write_outcome result) D.state self.old self.new (written_to (sources_of self.old from.now)) }
         ensures chunks { OnOk result (KeepsChunksOn D.state self.old self.new) }
         ensures stable { OnOk result ((known_of self.old).automatic ≡ true → IsStable D.state D.may_leave (disk_of self.new)) }
-        ensures leaves { (known_of self.old).automatic ≡ true → LeavesSafe D.Disk (write_outcome result) (written_to (numbers_of self.old from.now)) self.old self.new }
-        ensures rests { (known_of self.old).automatic ≡ true → StaysAtRest D.Disk (write_outcome result) (written_to (numbers_of self.old from.now)) self.old self.new }
+        ensures leaves { (known_of self.old).automatic ≡ true → LeavesSafe D.Disk (write_outcome result) (written_to (sources_of self.old from.now)) self.old self.new }
+        ensures rests { (known_of self.old).automatic ≡ true → StaysAtRest D.Disk (write_outcome result) (written_to (sources_of self.old from.now)) self.old self.new }
 
         ensures beside { KeepsBefore D.state self.old self.new }
         ensures tells { TellsOn D.state self.old self.new }
         ensures time { GoesOnFrom D.state D.left_between (disk_of self.old) (disk_of self.new) }
         ensures faults { CountsCall (write_outcome result) D.state self.old self.new }
-        ensures written { WritesFrames D.state (length (numbers_of self.old from.now)) self.old self.new }
+        ensures written { WritesFrames D.state (length (sources_of self.old from.now)) self.old self.new }
         ensures asked { AsksNothing D.state self.old self.new }
     {
         self.write_given(Given::Bytes(from))

@@ -1,5 +1,5 @@
 use Rattle.std.proofs.Common.{◌≡◌, ◌∙◌, ap, sym, ℕ, ◌/◌, length}
-use Rattle.snd_modes.specs.Bytes.{numbers_in}
+use Rattle.snd_modes.specs.Bytes.{sources_in}
 use Rattle.snd_modes.specs.Given.{given}
 use Rattle.snd_modes.proofs.GivenBytes.{count_of_given}
 use Rattle.snd_modes.proofs.growth.count_given.Goals as goal
@@ -9,7 +9,7 @@ returns-in-Bytes-clause-value c =
     let h = c.args.layout.now in
     let p = h.params in
     let bytes = c.in-Bytes.bytes.now in
-    let is : given h c.args.from ≡ numbers_in p.codec bytes = ap (given h) c.in-Bytes.is in
+    let is : given h c.args.from ≡ sources_in p.codec bytes = ap (given h) c.in-Bytes.is in
     ap (λ (w : ℕ). length bytes / w) c.bytes.ensures ∙ sym (count_of_given p.codec bytes c.in-Some.form (sym c.in-Some.ensures.form)) ∙ ap length (sym is)
 
 pub returns-in-Numbers-clause-value : goal.returns-in-Numbers-clause-value

@@ -1,6 +1,6 @@
 use Rattle.std.proofs.Common.{◌≡◌, ap, sym, subst, refl, ℤ, List}
 use Rattle.std.specs.Prelude.{◌↔◌, IsTrue}
-use Rattle.snd_modes.specs.Bytes.{numbers_in}
+use Rattle.snd_modes.specs.Bytes.{sources_in}
 use Rattle.snd_modes.specs.Given.{HoldsGiven, MayBeGiven, given}
 use Rattle.snd_modes.specs.Reading.{FitCodec}
 use Rattle.snd_modes.specs.declared.given.Given.{Given}
@@ -12,9 +12,9 @@ returns-in-Bytes-clause-fit c =
     let h = c.args.layout.now in
     let p = h.params in
     let bytes = c.in-Bytes.field-0.now in
-    let is : given h c.args.from ≡ numbers_in p.codec bytes = ap (given h) c.in-Bytes.is in
+    let is : given h c.args.from ≡ sources_in p.codec bytes = ap (given h) c.in-Bytes.is in
     let may = subst (MayBeGiven h) c.in-Bytes.is c.requires.given in
-    (λ yes. subst (FitCodec p.codec) (sym is) (fits_given p.codec bytes may.0 may.2), λ fit. refl)
+    (λ yes. subst (FitCodec p.codec) (sym is) (fits_given p.codec bytes c.requires.linear may.1), λ fit. refl)
 
 pub returns-in-Bytes-clause-coded : goal.returns-in-Bytes-clause-coded
 returns-in-Bytes-clause-coded c = λ yes. subst (λ (f : Given). HoldsGiven c.args.layout.now f c.args.block.now) (sym c.in-Bytes.is) tt

@@ -1,5 +1,7 @@
 use Rattle.std.proofs.Common.{◌≡◌, ◌∙◌, ap, sym, subst, ℕ, ◌+◌, ◌<◌, ◌≤◌, ◌^◌, ℤ, List, Bor, length}
+use Rattle.std.specs.Prelude.{is_none, false}
 use Rattle.std.specs.Result.{OnOk}
+use Rattle.snd_container.specs.Sound.{fixed_of}
 use Rattle.snd_disk.specs.State.{IsWritten}
 use Rattle.snd_layout.specs.Shape.{Shape, end}
 use Rattle.snd_block_writer.specs.Puts.{LeavesPartly}
@@ -27,15 +29,15 @@ write_data-requires g c =
     }
 
 -- the bytes that are given are those of their numbers
-ready : (h : Shape) (from : Given) (bytes : Bor (List ℕ)) → from ≡ Bytes bytes → 1 ≤ h.params.channels → MayBeGiven h from → bytes.now ≡ coded_given h from
-ready h from bytes is some may =
+ready : (h : Shape) (from : Given) (bytes : Bor (List ℕ)) → from ≡ Bytes bytes → is_none (fixed_of h.params.codec) ≡ false → 1 ≤ h.params.channels → MayBeGiven h from → bytes.now ≡ coded_given h from
+ready h from bytes is fixed some may =
     let are = subst (MayBeGiven h) is may in
-    sym (ap (coded_given h) is ∙ bytes_given h.params bytes.now are.0 some are.1 are.2)
+    sym (ap (coded_given h) is ∙ bytes_given h.params bytes.now fixed some are.0 are.1)
 
 pub write_ready-requires : goal.write_ready-requires
 write_ready-requires g c =
     let h = c.args.layout.now in
-    let same = ready h c.args.from c.in-Bytes.bytes c.in-Bytes.is c.keeps_rules.ensures.params.some_channel c.requires.given in
+    let same = ready h c.args.from c.in-Bytes.bytes c.in-Bytes.is c.requires.linear c.keeps_rules.ensures.params.some_channel c.requires.given in
     record {
       linear = c.requires.linear;
       placed = c.requires.placed;
@@ -64,17 +66,17 @@ returns-in-Numbers-clause-partly g c =
 pub returns-in-Bytes-clause-done : goal.returns-in-Bytes-clause-done
 returns-in-Bytes-clause-done g c =
     let h = c.args.layout.now in
-    let same = ready h c.args.from c.in-Bytes.bytes c.in-Bytes.is c.keeps_rules.ensures.params.some_channel c.requires.given in
+    let same = ready h c.args.from c.in-Bytes.bytes c.in-Bytes.is c.requires.linear c.keeps_rules.ensures.params.some_channel c.requires.given in
     subst (λ (s : List ℕ). OnOk c.write_ready.result (IsWritten (end h c.args.place) s (g.D.Disk.state c.args.disk.now) (g.D.Disk.state c.write_ready.new.disk))) same c.write_ready.ensures.done
 
 pub returns-in-Bytes-clause-puts : goal.returns-in-Bytes-clause-puts
 returns-in-Bytes-clause-puts g c =
     let h = c.args.layout.now in
-    let same = ready h c.args.from c.in-Bytes.bytes c.in-Bytes.is c.keeps_rules.ensures.params.some_channel c.requires.given in
+    let same = ready h c.args.from c.in-Bytes.bytes c.in-Bytes.is c.requires.linear c.keeps_rules.ensures.params.some_channel c.requires.given in
     subst (λ (s : List ℕ). PutsAt g.D.Disk.state g.D.Disk.left_between (end h c.args.place) (length s) c.args.disk.now c.write_ready.new.disk) same c.write_ready.ensures.puts
 
 pub returns-in-Bytes-clause-partly : goal.returns-in-Bytes-clause-partly
 returns-in-Bytes-clause-partly g c =
     let h = c.args.layout.now in
-    let same = ready h c.args.from c.in-Bytes.bytes c.in-Bytes.is c.keeps_rules.ensures.params.some_channel c.requires.given in
+    let same = ready h c.args.from c.in-Bytes.bytes c.in-Bytes.is c.requires.linear c.keeps_rules.ensures.params.some_channel c.requires.given in
     subst (λ (s : List ℕ). LeavesPartly g.D.Disk (end h c.args.place) s c.args.disk.now c.write_ready.new.disk) same c.write_ready.ensures.partly
