@@ -14,3 +14,4 @@ pub mod MadeSounds
 pub mod Numbers
 pub mod Passing
 pub mod Ranges
+pub mod SameBytes

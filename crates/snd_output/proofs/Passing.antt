@@ -1,42 +1,45 @@
 -- Samples that pass from one file to another by their bytes.
-use Rattle.std.proofs.Common.{◌≡◌, ◌∙◌, ap, sym, subst, refl, ℕ, ◌+◌, ◌*◌, ◌/◌, ◌%◌, ◌<◌, ◌≤◌, Bool, List, [], ◌++◌, All, Option, Some, length, take, min, true, false, arith}
+use Rattle.std.proofs.Common.{◌≡◌, ◌∙◌, ap, sym, subst, refl, ℕ, ◌+◌, ◌*◌, ◌/◌, ◌%◌, ◌<◌, ◌≤◌, ℤ, Bool, List, [], ◌++◌, All, Option, Some, length, take, min, true, false, arith}
 use Rattle.std.proofs.Math.Nat.{mul-div_cancel, mul-le-mul_left, mul-le-mul_right, mul-mod_left}
 use Rattle.std.proofs.lemmas.Nat.{div-add-mod'}
-use Rattle.std.proofs.lemmas.List.{length-take-le, take_at}
-use Rattle.std.specs.Prelude.{Err, IsTrue, Result}
+use Rattle.std.proofs.lemmas.List.{length-map, length-take-le, take_at}
+use Rattle.std.specs.Prelude.{Err, IsTrue, Result, is_none}
 use Rattle.snd_fields.specs.Laws.{IsByte}
 use Rattle.snd_layout.specs.Blocks.{block_align, block_frames, is_adpcm}
 use Rattle.snd_layout.specs.Params.{Parameters}
 use Rattle.snd_layout.specs.declared.codec.Codec.{Codec}
 use Rattle.snd_layout.specs.declared.codec.Codec.TheVariants.{U8, S8, S16, S24, S32, MuLaw, ALaw, Ima, Ms}
-use Rattle.snd_container.specs.Fixed.{byte_count, range_form, samples}
+use Rattle.snd_container.specs.Fixed.{InRange, byte_count, range_form, samples, samples_bytes}
 use Rattle.snd_container.specs.Sound.{fixed_of}
 use Rattle.snd_container.specs.declared.fixed.Fixed as fixed
 use Rattle.snd_container.specs.declared.fixed.Fixed.{Fixed}
 use Rattle.snd_container.specs.declared.fixed.Fixed.TheVariants.{Linear}
-use Rattle.snd_container.proofs.FixedSamples.{byte_count_pos, samples_of_parts}
-use Rattle.snd_modes.specs.Bytes.{AreWhole, is_linear, numbers_as, numbers_in}
+use Rattle.snd_container.proofs.FixedSamples.{byte_count_pos, count_of_bytes, length-samples, samples_of_parts}
+use Rattle.snd_container.proofs.Sources.{samples_fit, sources_written}
+use Rattle.snd_modes.specs.Bytes.{AreWhole, numbers_as, numbers_in, sources_as, sources_in}
 use Rattle.snd_modes.specs.Calls.{ReadLeaves, count_read}
 use Rattle.snd_modes.specs.Editing.{Editing, frames_read}
+use Rattle.snd_modes.specs.Edits.{coded_as}
 use Rattle.snd_modes.specs.Handle.{Known}
-use Rattle.snd_modes.specs.Reading.{bytes_of_frames}
+use Rattle.snd_modes.specs.Reading.{FitCodec, bytes_of_frames}
 use Rattle.snd_modes.specs.declared.error.ReadError.{ReadError}
 use Rattle.snd_modes.specs.declared.error.ReadError.TheVariants.{BadBlock}
 use Rattle.snd_modes.proofs.BytesRead.{count_numbers, numbers_are_whole}
-use Rattle.snd_modes.proofs.GivenBytes.{fits_given}
+use Rattle.snd_modes.proofs.GivenBytes.{count_of_given, fits_given}
+use Rattle.snd_modes.proofs.Ranges.{fits_form}
 use Rattle.snd_modes.proofs.SoundFrames.{frame_bytes, linear_align, linear_frames}
-use Rattle.snd_pcm.proofs.RoundTrips.{samples_read_back}
 use Rattle.snd_pcm.specs.Groups.{first_groups}
-use Rattle.snd_pcm.specs.Pcm.{bit_count, samples_bytes}
+use Rattle.snd_pcm.specs.Pcm.{bit_count}
+use Rattle.snd_pcm.specs.Width.{changed}
 use Rattle.snd_pcm.specs.declared.linear.Linear as linear
 use Rattle.snd_recode.specs.Recoded.{changed_all, recoded}
 use Rattle.snd_recode.proofs.Numbers.{all_same_width}
-use Rattle.snd_recode.proofs.Ranges.{recoded_fit, samples_fit}
-use Rattle.snd_output.specs.Appended.{HasRoom, IsAtEnd, MayAppend, MayGive, MayPass, Pass, bytes_in, left_in, next_numbers}
+use Rattle.snd_recode.proofs.Ranges.{recoded_fit}
+use Rattle.snd_output.specs.Appended.{HasRoom, IsAtEnd, MayAppend, MayGive, MayPass, Pass, bytes_in, coded_in, has_two_zeros, left_in, next_numbers}
 use Rattle.snd_output.specs.Widths.{change_numbers, width_of}
 use Rattle.snd_output.proofs.Appending.{block_numbers, count_fits, room_fewer}
 
--- what has no blocks has a form, and what is linear has none
+-- what has no blocks has a form, and its frames are blocks of one
 pub some_form : (codec : Codec) → is_adpcm codec ≡ false → (form : Fixed) × (fixed_of codec ≡ Some form)
 some_form U8 is = (Linear linear.TheVariants.U8, refl)
 some_form S8 is = (Linear linear.TheVariants.S8, refl)
@@ -48,19 +51,8 @@ some_form ALaw is = (fixed.TheVariants.ALaw, refl)
 some_form (Ima align per_block) is = absurd cc
 some_form (Ms align per_block) is = absurd cc
 
-pub linear_is_fixed : (codec : Codec) → is_linear codec ≡ true → is_adpcm codec ≡ false
-linear_is_fixed U8 is = refl
-linear_is_fixed S8 is = refl
-linear_is_fixed (S16 order) is = refl
-linear_is_fixed (S24 order) is = refl
-linear_is_fixed (S32 order) is = refl
-linear_is_fixed MuLaw is = refl
-linear_is_fixed ALaw is = refl
-linear_is_fixed (Ima align per_block) is = absurd cc
-linear_is_fixed (Ms align per_block) is = absurd cc
-
-pub linear_frames_are : (codec : Codec) → is_linear codec ≡ true → 1 ≤ block_frames codec
-linear_frames_are codec linear = let form = some_form codec (linear_is_fixed codec linear) in omega (arith, linear_frames codec form.0 form.1)
+pub fixed_frames_are : (codec : Codec) → is_adpcm codec ≡ false → 1 ≤ block_frames codec
+fixed_frames_are codec fixed = let form = some_form codec fixed in omega (arith, linear_frames codec form.0 form.1)
 
 -- no block is bad where there are none
 pub no_bad_block : (places : ℕ) (old new : Known) (result : Result ℕ ReadError) (error : ReadError) → is_adpcm old.shape.params.codec ≡ false → ReadLeaves places old new result → result ≡ Err error
@@ -78,6 +70,15 @@ size_of codec form n is = sym (frame_bytes codec form 1 n n is (omega arith))
 pub numbers_counted : (codec : Codec) (b : List ℕ) (n : ℕ) → is_adpcm codec ≡ false → length b ≡ bytes_in codec n → length (numbers_in codec b) ≡ n
 numbers_counted codec b n fixed size = count_numbers codec 1 n b fixed size ∙ (let e : n * 1 ≡ n = omega arith in e)
 
+-- they are of as many numbers as they stand for
+pub sources_counted : (codec : Codec) (b : List ℕ) (n : ℕ) → is_adpcm codec ≡ false → length b ≡ bytes_in codec n → length (sources_in codec b) ≡ n
+sources_counted codec b n fixed size =
+    let form = (some_form codec fixed).0 in
+    let is = (some_form codec fixed).1 in
+    count_of_given codec b form is
+    ∙ sym (ap (λ (o : Option Fixed). length (numbers_as o b)) is ∙ length-samples form b)
+    ∙ numbers_counted codec b n fixed size
+
 -- of frames
 pub frames_size : (codec : Codec) (channels k : ℕ) → is_adpcm codec ≡ false → k * block_align channels codec ≡ bytes_in codec (k * channels)
 frames_size codec channels k fixed =
@@ -93,26 +94,29 @@ frames_whole p n fixed whole =
     ap (λ (m : ℕ). m % block_align p.channels p.codec) (ap (bytes_in p.codec) all ∙ sym (frames_size p.codec p.channels q fixed)) ∙ mul-mod_left q (block_align p.channels p.codec)
 
 -- bytes of whole frames may pass
-pub may_pass : (k : Known) (b : List ℕ) (n : ℕ) → is_linear k.shape.params.codec ≡ true → length b ≡ bytes_in k.shape.params.codec n → n % k.shape.params.channels ≡ 0
+pub may_pass : (k : Known) (b : List ℕ) (n : ℕ) → is_adpcm k.shape.params.codec ≡ false → length b ≡ bytes_in k.shape.params.codec n → n % k.shape.params.channels ≡ 0
     → IsAtEnd k → HasRoom (n / k.shape.params.channels) k → MayPass b k
-may_pass k b n linear size whole at_end roomy =
+may_pass k b n fixed size whole at_end roomy =
     let p = k.shape.params in
-    let fixed = linear_is_fixed p.codec linear in
     record {
       at_end = at_end;
-      linear = λ plain. linear;
       whole = ap (λ (m : ℕ). m % block_align p.channels p.codec) size ∙ frames_whole p n fixed whole;
-      roomy = subst (λ (m : ℕ). HasRoom (m / p.channels) k) (sym (numbers_counted p.codec b n fixed size)) roomy;
+      roomy = subst (λ (m : ℕ). HasRoom (m / p.channels) k) (sym (sources_counted p.codec b n fixed size)) roomy;
     }
 
--- bytes that may be given are numbers that may
-pub may_give_bytes : (b : List ℕ) (k : Known) → MayPass b k → is_linear k.shape.params.codec ≡ true → All IsByte b → MayGive (numbers_in k.shape.params.codec b) k
-may_give_bytes b k may linear bytes = record {
-  at_end = may.at_end;
-  whole = numbers_are_whole k.shape.params b (linear_is_fixed k.shape.params.codec linear) may.whole;
-  in_range = fits_given k.shape.params.codec b linear bytes;
-  roomy = may.roomy;
-}
+-- bytes that may be given are those of numbers that may
+pub may_give_bytes : (b : List ℕ) (k : Known) → MayPass b k → is_none (fixed_of k.shape.params.codec) ≡ false → is_adpcm k.shape.params.codec ≡ false → All IsByte b → MayGive (sources_in k.shape.params.codec b) k
+may_give_bytes b k may form fixed bytes =
+    let p = k.shape.params in
+    let is = some_form p.codec fixed in
+    let as_many : length (sources_in p.codec b) ≡ length (numbers_in p.codec b) =
+    count_of_given p.codec b is.0 is.1 ∙ sym (ap (λ (o : Option Fixed). length (numbers_as o b)) is.1 ∙ length-samples is.0 b) in
+    record {
+      at_end = may.at_end;
+      whole = ap (λ (m : ℕ). m % p.channels) as_many ∙ numbers_are_whole p b fixed may.whole;
+      in_range = fits_given p.codec b form bytes;
+      roomy = may.roomy;
+    }
 
 -- bytes of as many frames as a block has places for have as many numbers
 pub same_places : (p : Parameters) (b : List ℕ) (n : ℕ) → is_adpcm p.codec ≡ false → n % p.channels ≡ 0 → length b ≡ bytes_of_frames p (n / p.channels) → length (numbers_in p.codec b) ≡ n
@@ -139,7 +143,7 @@ places_fit p to m q align to_align most pass channels some whole fits le to_le i
     let least : q ≤ align = omega (arith, channels, is, align_least p.codec p.channels pass.0) in
     let few : f * q ≤ f * align = mul-le-mul_left f least in
     let size : bytes_in to m ≡ f * to_align =
-    ap (bytes_in to) (all ∙ ap (λ (n : ℕ). f * n) channels) ∙ sym (frames_size to p.channels f (linear_is_fixed to pass.1)) ∙ ap (λ (n : ℕ). f * n) (sym to_is) in
+    ap (bytes_in to) (all ∙ ap (λ (n : ℕ). f * n) channels) ∙ sym (frames_size to p.channels f pass.1) ∙ ap (λ (n : ℕ). f * n) (sym to_is) in
     (omega (arith, all, few, old, fits), omega (arith, size, new, fits), omega (arith, old, fits))
 
 pub held_places : (from to : Known) (m q align to_align most : ℕ) → MayAppend from to → Pass from.shape.params.codec to.shape.params.codec → q ≡ from.shape.params.channels → 1 ≤ q → m % q ≡ 0
@@ -167,25 +171,63 @@ width_is ALaw form is = let same : fixed.TheVariants.ALaw ≡ form = cc in ap (�
 width_is (Ima align per_block) form is = absurd cc
 width_is (Ms align per_block) form is = absurd cc
 
--- a buffer of which they are the front has their numbers there, in its own width
-pub recoded_numbers : (from to : Codec) (old : Fixed) (new : linear.Linear) (bytes front rest : List ℕ) (n : ℕ) → fixed_of from ≡ Some old → fixed_of to ≡ Some (Linear new) → All IsByte bytes
-    → front ≡ samples_bytes new (recoded old new (samples old bytes)) → n ≡ length front → numbers_in to (take n (front ++ rest)) ≡ change_numbers from to (numbers_in from bytes)
-recoded_numbers from to old new bytes front rest n from_is to_is all is size =
-    let ys = recoded old new (samples old bytes) in
-    let back : samples (Linear new) (samples_bytes new ys) ≡ ys = samples_read_back new ys (recoded_fit old new (samples old bytes) (samples_fit old bytes all)) in
-    ap (numbers_in to) (take_at front rest n (sym size) ∙ is)
-    ∙ ap (λ (o : Option Fixed). numbers_as o (samples_bytes new ys)) to_is
-    ∙ back
-    ∙ ap (λ (w : ℕ). changed_all w (bit_count new) (samples old bytes)) (sym (width_is from old from_is))
-    ∙ ap (λ (w : ℕ). changed_all (width_of from) w (samples old bytes)) (sym (width_is to (Linear new) to_is))
-    ∙ ap (λ (o : Option Fixed). changed_all (width_of from) (width_of to) (numbers_as o bytes)) (sym from_is)
+-- samples as those of another codec
+changed_is : (from to : Codec) (old new : Fixed) (b : List ℕ) → fixed_of from ≡ Some old → fixed_of to ≡ Some new → change_numbers from to (numbers_in from b) ≡ recoded old new (samples old b)
+changed_is from to old new b from_is to_is =
+    ap (λ (o : Option Fixed). change_numbers from to (numbers_as o b)) from_is
+    ∙ ap (λ (w : ℕ). changed_all w (width_of to) (samples old b)) (width_is from old from_is)
+    ∙ ap (λ (w : ℕ). changed_all (bit_count (range_form old)) w (samples old b)) (width_is to new to_is)
 
--- of one codec they are the same
-pub same_numbers : (from to : Codec) (b : List ℕ) → from ≡ to → numbers_in to b ≡ change_numbers from to (numbers_in from b)
+-- a buffer of which they are the front has their bytes there
+pub recoded_bytes : (from to : Codec) (old new : Fixed) (bytes front rest : List ℕ) (n : ℕ) → fixed_of from ≡ Some old → fixed_of to ≡ Some new
+    → front ≡ samples_bytes new (recoded old new (samples old bytes)) → n ≡ length front → take n (front ++ rest) ≡ coded_in to (change_numbers from to (numbers_in from bytes))
+recoded_bytes from to old new bytes front rest n from_is to_is is size =
+    take_at front rest n (sym size) ∙ is
+    ∙ ap (samples_bytes new) (sym (changed_is from to old new bytes from_is to_is))
+    ∙ ap (λ (o : Option Fixed). coded_as o (change_numbers from to (numbers_in from bytes))) (sym to_is)
+
+-- they are in the range of that codec
+pub changed_fit : (from to : Codec) (b : List ℕ) → Pass from to → All IsByte b → FitCodec to (change_numbers from to (numbers_in from b))
+changed_fit from to b pass all =
+    let old = some_form from pass.0 in
+    let new = some_form to pass.1 in
+    fits_form to new.0 (change_numbers from to (numbers_in from b)) new.1
+    (subst (All (InRange new.0)) (sym (changed_is from to old.0 new.0 b old.1 new.1)) (recoded_fit old.0 new.0 (samples old.0 b) (samples_fit old.0 b all)))
+
+pub changed_counted : (from to : Codec) (b : List ℕ) (n : ℕ) → is_adpcm from ≡ false → length b ≡ bytes_in from n → length (change_numbers from to (numbers_in from b)) ≡ n
+changed_counted from to b n fixed size = length-map (numbers_in from b) (changed (width_of from) (width_of to)) ∙ numbers_counted from b n fixed size
+
+pub coded_are_bytes : (codec : Codec) (xs : List ℤ) → is_adpcm codec ≡ false → All IsByte (coded_in codec xs)
+coded_are_bytes codec xs fixed =
+    let form = some_form codec fixed in
+    subst (λ (o : Option Fixed). All IsByte (coded_as o xs)) (sym form.1) (count_of_bytes form.0 xs).1
+
+-- bytes are written of the numbers of which they are
+pub sources_coded : (codec : Codec) (b : List ℕ) (n : ℕ) → is_adpcm codec ≡ false → length b ≡ bytes_in codec n → All IsByte b → coded_in codec (sources_in codec b) ≡ b
+sources_coded codec b n fixed size all =
+    let form = (some_form codec fixed).0 in
+    let is = (some_form codec fixed).1 in
+    ap (λ (o : Option Fixed). coded_as o (sources_as o b)) is ∙ sources_written form b n (size ∙ size_of codec form n is) all
+
+-- where no two samples stand for one number, these are the numbers that they stand for
+one_source : (codec : Codec) (b : List ℕ) → has_two_zeros codec ≡ false → sources_in codec b ≡ numbers_in codec b
+one_source U8 b one = refl
+one_source S8 b one = refl
+one_source (S16 order) b one = refl
+one_source (S24 order) b one = refl
+one_source (S32 order) b one = refl
+one_source MuLaw b one = absurd cc
+one_source ALaw b one = refl
+one_source (Ima align per_block) b one = refl
+one_source (Ms align per_block) b one = refl
+
+-- and of one codec they are the same
+pub same_numbers : (from to : Codec) (b : List ℕ) → (from ≡ to) × (has_two_zeros from ≡ false) → sources_in to b ≡ change_numbers from to (numbers_in from b)
 same_numbers from to b same =
-    ap (λ (q : Codec). numbers_in q b) (sym same)
+    ap (λ (q : Codec). sources_in q b) (sym same.0)
+    ∙ one_source from b same.1
     ∙ sym (all_same_width (width_of from) (numbers_in from b))
-    ∙ ap (λ (q : Codec). change_numbers from q (numbers_in from b)) same
+    ∙ ap (λ (q : Codec). change_numbers from q (numbers_in from b)) same.0
 
 -- ---- the first frames
 
@@ -270,8 +312,8 @@ module _ (from to : Known) (n k m align : ℕ) (old bytes : List ℕ) (may : May
       ap (λ (i : ℕ). change_numbers p.codec to.shape.params.codec (numbers_in p.codec (take i bytes))) taken
       ∙ ap (change_numbers p.codec to.shape.params.codec) (front_numbers p bytes k pass.0 (omega (arith, taken, bytes_within)) ∙ block_numbers p.channels k (numbers_in p.codec bytes) r gives)
 
--- in ADPCM bytes are no numbers
-pub no_numbers : (codec : Codec) (b : List ℕ) → is_adpcm codec ≡ true → numbers_in codec b ≡ []
+-- in ADPCM bytes are of no numbers
+pub no_numbers : (codec : Codec) (b : List ℕ) → is_adpcm codec ≡ true → sources_in codec b ≡ []
 no_numbers U8 b is = absurd cc
 no_numbers S8 b is = absurd cc
 no_numbers (S16 order) b is = absurd cc

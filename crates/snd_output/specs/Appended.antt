@@ -1,7 +1,8 @@
 -- How the frames of one file are put behind those of another.
-use Rattle.std.specs.Prelude.{◌≡◌, ◌⊎◌, ℕ, ◌+◌, ◌-◌, ◌*◌, ◌/◌, ◌%◌, ◌^◌, ◌<◌, ◌≤◌, false, List, ℤ, ◌++◌, None, Result, Ok, Err, drop, length, take, is_some, true, if◌then◌else◌}
+use Rattle.std.specs.Prelude.{◌≡◌, ◌⊎◌, ℕ, ◌+◌, ◌-◌, ◌*◌, ◌/◌, ◌%◌, ◌^◌, ◌<◌, ◌≤◌, Bool, false, List, ℤ, ◌++◌, None, Result, Ok, Err, drop, length, take, is_some, true, if◌then◌else◌}
 use Rattle.snd_blocks.specs.Frames.{has_bad}
 use Rattle.snd_chunks.specs.Written.{NewChunk}
+use Rattle.snd_container.specs.Sound.{fixed_of}
 use Rattle.snd_disk.specs.declared.disk.Disk.{Ghosts}
 use Rattle.snd_disk.specs.Device.{AsksAtMost, OnlyReadsOn}
 use Rattle.snd_disk.specs.State.{Rises, State}
@@ -9,13 +10,15 @@ use Rattle.snd_layout.specs.Blocks.{block_align, block_frames, is_adpcm}
 use Rattle.snd_layout.specs.Params.{Parameters, data_bytes}
 use Rattle.snd_layout.specs.Shape.{room}
 use Rattle.snd_layout.specs.declared.codec.Codec.{Codec}
+use Rattle.snd_layout.specs.declared.codec.Codec.TheVariants.{MuLaw}
 use Rattle.snd_layout.specs.declared.kind.Kind.{Kind}
 use Rattle.snd_layout.specs.declared.kind.Kind.TheVariants.{Wave}
 use Rattle.snd_modes.specs.declared.handle.File.{File}
 use Rattle.snd_modes.specs.declared.mode.Mode.{Ghosts as ModeGhosts}
-use Rattle.snd_modes.specs.Bytes.{AreWhole, is_linear, numbers_in, numbers_of}
+use Rattle.snd_modes.specs.Bytes.{AreWhole, numbers_of, sources_in}
 use Rattle.snd_modes.specs.Calls.{count_read}
 use Rattle.snd_modes.specs.Editing.{Editing, frames_read}
+use Rattle.snd_modes.specs.Edits.{coded_as}
 use Rattle.snd_modes.specs.Handle.{Known, Stands, channels_of, codec_of, disk_of, known_of}
 use Rattle.snd_modes.specs.Reading.{FitCodec, GivesFrames, bytes_of_frames}
 use Rattle.snd_output.specs.declared.stop.Stop.{Stop}
@@ -66,12 +69,11 @@ pub record MayGive (xs : List ℤ) (k : Known) : Type 0 where
   pub in_range : FitCodec k.shape.params.codec xs
   pub roomy : HasRoom (length xs / k.shape.params.channels) k
 
--- Bytes may: whole frames of linear samples, whatever they stand for. In ADPCM bytes alone stand for no numbers, and none are given.
+-- Bytes may: whole frames, whatever they stand for. In ADPCM bytes alone stand for no numbers, and none are given.
 pub record MayPass (bytes : List ℕ) (k : Known) : Type 0 where
   pub at_end : IsAtEnd k
-  pub linear : is_adpcm k.shape.params.codec ≡ false → is_linear k.shape.params.codec ≡ true
   pub whole : AreWhole k.shape.params (length bytes)
-  pub roomy : HasRoom (length (numbers_in k.shape.params.codec bytes) / k.shape.params.channels) k
+  pub roomy : HasRoom (length (sources_in k.shape.params.codec bytes) / k.shape.params.channels) k
 
 -- and they were; or a call of the disk failed, and the file is broken
 abbrev pub GiveLeaves : {T : Type 0} → ℕ → Known → Known → Result T Stop → Type 0
@@ -164,9 +166,18 @@ next_count places file = count_read places (known_of file)
 abbrev pub next_frames : {D M : Type 0} {d : Ghosts D} {m : ModeGhosts M} → ℕ → File D M d m → Editing → List (List ℤ)
 next_frames places file e = frames_read e (next_count places file)
 
--- samples of a codec pass as those of a linear one by their bytes alone: each has bytes of its own
+-- samples of a codec pass as those of another by their bytes alone: each has bytes of its own in both
 abbrev pub Pass : Codec → Codec → Type 0
-Pass from to = (is_adpcm from ≡ false) × (is_linear to ≡ true)
+Pass from to = (is_adpcm from ≡ false) × (is_adpcm to ≡ false)
+
+-- whether two samples of a codec stand for 0, of which only one is written of it
+abbrev pub has_two_zeros : Codec → Bool
+has_two_zeros MuLaw = true
+has_two_zeros codec = false
+
+-- the bytes of the samples that are written of numbers
+abbrev pub coded_in : Codec → List ℤ → List ℕ
+coded_in codec xs = coded_as (fixed_of codec) xs
 
 -- the bytes of so many samples
 abbrev pub bytes_in : Codec → ℕ → ℕ

@@ -147,9 +147,8 @@ fn append_block<D: Disk, E: Disk, M: Making>(
 /// Puts the frames that are left in one file, from the one to read next on, behind those of another, a
 /// block at a time. Where the codecs have numbers of different widths, each number is changed: a wider
 /// one is a multiple by a power of two, a narrower one is divided by it and rounded toward minus infinity.
-/// Samples that become linear ones pass by their bytes, those that keep their codec as the bytes that they
-/// are; those of ADPCM do not. What the block held is lost; it has places for one frame at least. It takes no
-/// memory, and asks the disk that is read for at most the bytes of the frames; in ADPCM for those of their
+/// Samples pass by their bytes, but where either codec is ADPCM. What the block held is lost; it has places for
+/// one frame at least. It takes no memory, and asks the disk that is read for at most the bytes of the frames; in ADPCM for those of their
 /// blocks, and in each call for two more.
 ///
 /// The answer is `Fault` where a call of one of the two disks failed: from then on its file is broken; and

@@ -17,3 +17,4 @@ pub use codec::{codec_like, params_like};
 pub use ends::finish;
 pub use making::Making;
 pub use stop::Stop;
+pub use widths::width_of;

@@ -4,13 +4,13 @@ ghost use Rattle.std.specs.Prelude.{◌≡◌, [], ◌/◌, IfOk, None, OnOk, le
 ghost use Rattle.snd_disk.specs.Device.{GoesOnFrom, WritesAtMost};
 ghost use Rattle.snd_layout.specs.Blocks.{is_adpcm};
 ghost use Rattle.snd_layout.specs.Fit.{fit_refusal};
-ghost use Rattle.snd_modes.specs.Bytes.{numbers_of};
+ghost use Rattle.snd_modes.specs.Bytes.{sources_of};
 ghost use Rattle.snd_modes.specs.Handle.{IsFresh, channels_of, disk_of, known_of, loan_of};
 ghost use Rattle.snd_modes.specs.Loans.{answer_of, disk_after, loan_after};
 ghost use Rattle.snd_modes.specs.Outcomes.{AsksNothing, TellsOn};
 ghost use Rattle.snd_modes.specs.Relaid.{shape_with};
 ghost use Rattle.snd_patch.specs.Steps.{StillTells};
-ghost use Rattle.snd_output.specs.Appended.{CountsFile, Gains, IsAtEnd, LeavesFile, MayGive, MayPass, count_in};
+ghost use Rattle.snd_output.specs.Appended.{CountsFile, Gains, IsAtEnd, LeavesFile, MayGive, MayPass};
 ghost use Rattle.snd_output.specs.Ends.{BeginsFile, CountsStop, IsUnchanged, stop_of};
 
 use crate::stop::Stop;
@@ -66,13 +66,13 @@ pub trait Making: CanMake {
         ensures time { GoesOnFrom E.state E.left_between (disk_of to.old) (disk_of to.new) }
         ensures asked { AsksNothing E.state to.old to.new };
 
-    /// Gives a file frames, as `give` does, as the bytes of their samples, which are linear ones. The slice
-    /// holds whole frames. To a file of ADPCM it gives none, since bytes alone stand for no numbers there.
+    /// Gives a file frames, as `give` does, as the bytes of their samples. The slice holds whole frames. To a
+    /// file of ADPCM it gives none, since bytes alone stand for no numbers there.
     fn give_bytes<E: Disk>(to: &mut File<'_, E, Self>, from: &[u8]) -> Result<(), Stop>
         requires may { MayPass from.now (known_of to.old) }
         ensures loan { loan_of to.new ≡ loan_of to.old }
-        ensures left { LeavesFile (count_in to.old from.now / channels_of to.old) to.old to.new result }
-        ensures gains { OnOk result (Gains E.state (numbers_of to.old from.now) to.old to.new) }
+        ensures left { LeavesFile (length (sources_of to.old from.now) / channels_of to.old) to.old to.new result }
+        ensures gains { OnOk result (Gains E.state (sources_of to.old from.now) to.old to.new) }
         ensures faults { CountsFile E.state to.old to.new result }
         ensures tells { TellsOn E.state to.old to.new }
         ensures time { GoesOnFrom E.state E.left_between (disk_of to.old) (disk_of to.new) }

@@ -1,30 +1,34 @@
 //! Frames that pass from one file into another as the bytes of their samples.
 
-ghost use Rattle.std.specs.Prelude.{◌≡◌, ◌/◌, ◌%◌, ◌≤◌, IsTrue, OnOk, length, take};
+ghost use Rattle.std.specs.Prelude.{◌≡◌, ◌/◌, ◌%◌, ◌≤◌, false, IsTrue, OnOk, length, take};
 ghost use Rattle.snd_disk.specs.Device.{GoesOnFrom};
 ghost use Rattle.snd_modes.specs.Bytes.{numbers_in};
 ghost use Rattle.snd_modes.specs.Handle.{channels_of, codec_of, disk_of, known_of, loan_of};
 ghost use Rattle.snd_modes.specs.Outcomes.{AsksNothing, TellsOn};
-ghost use Rattle.snd_output.specs.Appended.{CountsFile, Gains, HasRoom, IsAtEnd, LeavesFile, Pass, bytes_in};
+ghost use Rattle.snd_output.specs.Appended.{CountsFile, Gains, HasRoom, IsAtEnd, LeavesFile, Pass, bytes_in, coded_in, has_two_zeros};
 ghost use Rattle.snd_output.specs.Widths.{change_numbers};
 
 use crate::making::Making;
 use crate::stop::Stop;
-use snd_container::{Fixed, fixed_form};
+use snd_container::fixed_form;
 use snd_disk::Disk;
 use snd_layout::Codec;
 use snd_modes::File;
 use snd_recode::recode;
 
-/// Whether samples of one codec pass as those of another by their bytes alone: each has bytes of its own, and
-/// the other codec is linear.
+/// Whether samples of one codec pass as those of another by their bytes alone: each has bytes of its own in both.
 pub(crate) fn pass(from: Codec, to: Codec) -> bool
     ensures { IsTrue result → Pass from to }
 {
-    match to {
-        Codec::U8 | Codec::S8 | Codec::S16(_) | Codec::S24(_) | Codec::S32(_) => !from.is_adpcm(),
-        Codec::MuLaw | Codec::ALaw | Codec::Ima { .. } | Codec::Ms { .. } => false,
-    }
+    !from.is_adpcm() && !to.is_adpcm()
+}
+
+// Whether samples of one codec stay as they are in another: it is the same one, and no two samples stand for one
+// number, as two of the mu-law do for zero.
+fn stay(from: Codec, to: Codec) -> bool
+    ensures { IsTrue result → (from ≡ to) × (has_two_zeros from ≡ false) }
+{
+    from == to && !matches!(from, Codec::MuLaw)
 }
 
 // Puts the bytes of samples of one codec in another into the front of a buffer, and tells how many they are.
@@ -34,9 +38,9 @@ fn recode_into(from: Codec, to: Codec, bytes: &[u8], numbers: &mut [i32], coded:
     requires few { length numbers.old ≤ 16384 }
     requires fits { bytes_in to (length numbers.old) ≤ length coded.old }
     ensures size { result ≡ bytes_in to (length numbers.old) }
-    ensures numbers { numbers_in to (take result coded.new) ≡ change_numbers from to (numbers_in from bytes.now) }
+    ensures coded { take result coded.new ≡ coded_in to (change_numbers from to (numbers_in from bytes.now)) }
 {
-    let (Some(old), Some(Fixed::Linear(new))) = (fixed_form(from), fixed_form(to)) else {
+    let (Some(old), Some(new)) = (fixed_form(from), fixed_form(to)) else {
         unreachable!()
     };
     let count = new.bytes() * numbers.len();
@@ -44,7 +48,7 @@ fn recode_into(from: Codec, to: Codec, bytes: &[u8], numbers: &mut [i32], coded:
     count
 }
 
-/// Gives a file the frames that bytes are in another codec: as they stand, where the file has the same one.
+/// Gives a file the frames that bytes are in another codec, or in its own.
 /// What the numbers and the buffer held is lost. `Fault` where a call of the disk failed.
 pub(crate) fn give_passed<E: Disk, M: Making>(
     to: &mut File<'_, E, M>,
@@ -69,7 +73,7 @@ pub(crate) fn give_passed<E: Disk, M: Making>(
     ensures asked { AsksNothing E.state to.old to.new }
 {
     let wanted = to.params().codec;
-    if codec == wanted {
+    if stay(codec, wanted) {
         return M::give_bytes(to, bytes);
     }
     let count = recode_into(codec, wanted, bytes, numbers, coded);

@@ -8,8 +8,8 @@ ghost use Rattle.snd_output.specs.Widths.{change_numbers, width_of};
 use snd_layout::Codec;
 use snd_recode::change_widths;
 
-// How many bits the numbers of a codec have.
-fn width_of(codec: Codec) -> u8
+/// How many bits the numbers of a codec have: 8, 16, 24 or 32.
+pub fn width_of(codec: Codec) -> u8
     ensures value { result ≡ width_of codec }
     ensures is { IsWidth result }
 {

@@ -14,7 +14,7 @@ use Rattle.std.proofs.lemmas.List.{length-take-le}
 use Rattle.snd_layout.specs.Blocks.{block_align, block_frames}
 use Rattle.snd_layout.specs.declared.codec.Codec.{Codec}
 use Rattle.snd_blocks.specs.Frames.{has_bad}
-use Rattle.snd_output.proofs.Passing.{bytes_taken, bytes_within, count_is, frames_are_whole, frames_counted, linear_frames_are, numbers_within, passed, room_left, same_places}
+use Rattle.snd_output.proofs.Passing.{bytes_taken, bytes_within, count_is, frames_are_whole, frames_counted, fixed_frames_are, numbers_within, passed, room_left, same_places}
 use Rattle.snd_output.proofs.Changing.{changed_as}
 use Rattle.snd_output.proofs.blocks.pass_block.Goals as goal
 
@@ -108,7 +108,7 @@ give_passed-requires-clause-room g c =
     let size : length (take k c.args.block.now) ≡ k = length-take-le k c.args.block.now (numbers_within (known_of c.args.from.now) (known_of c.args.to.now) (length c.args.block.now) c.in_ok-count.count c.numbers_of-channels.result.0 c.from-align.result c.args.bytes.now c.read_some_bytes.new.into c.requires.may c.requires.pass
     c.numbers_of-channels.ensures.channels c.numbers_of-channels.ensures.some c.requires.whole c.requires.held c.read_some_bytes.auto.into
     (c.from-align.ensures ∙ c.block_align.ensures ∙ ap (λ (q : Parameters). block_align q.channels q.codec) c.params.ensures) c.in_ok-count.ensures.count) in
-    let one : 1 ≤ block_frames to.shape.params.codec = linear_frames_are to.shape.params.codec c.requires.pass.1 in
+    let one : 1 ≤ block_frames to.shape.params.codec = fixed_frames_are to.shape.params.codec c.requires.pass.1 in
     subst (λ (n : ℕ). HasRoom (n / to.shape.params.channels) to) (sym size) (room_left (known_of c.args.from.now) (known_of c.args.to.now) (length c.args.block.now) c.in_ok-count.count c.numbers_of-channels.result.0 c.from-align.result c.args.bytes.now c.read_some_bytes.new.into c.requires.may c.requires.pass
     c.numbers_of-channels.ensures.channels c.numbers_of-channels.ensures.some c.requires.whole c.requires.held c.read_some_bytes.auto.into
     (c.from-align.ensures ∙ c.block_align.ensures ∙ ap (λ (q : Parameters). block_align q.channels q.codec) c.params.ensures) c.in_ok-count.ensures.count one)

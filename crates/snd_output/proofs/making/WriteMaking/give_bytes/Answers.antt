@@ -3,7 +3,7 @@ use Rattle.snd_layout.specs.Blocks.{is_adpcm}
 use Rattle.snd_layout.specs.Params.{Parameters}
 use Rattle.snd_layout.specs.Shape.{Shape}
 use Rattle.snd_modes.specs.Edits.{written_to}
-use Rattle.snd_modes.specs.Bytes.{numbers_in}
+use Rattle.snd_modes.specs.Bytes.{sources_in}
 use Rattle.snd_modes.specs.Handle.{codec_of, known_of}
 use Rattle.snd_modes.specs.WriteCalls.{MayWrite}
 use Rattle.snd_modes.proofs.Rooms.{not_adpcm}
@@ -15,20 +15,20 @@ use Rattle.snd_output.proofs.Lengthened.{written_is_making}
 use Rattle.snd_output.proofs.making.WriteMaking.give_bytes.Goals as goal
 
 pub returns-in-Ok-clause-left : goal.returns-in-Ok-clause-left
-returns-in-Ok-clause-left g c = written_longer (numbers_in (codec_of c.args.to.now) c.args.from.now) (known_of c.args.to.now) (may_give_bytes c.args.from.now (known_of c.args.to.now) c.requires.may (c.requires.may.linear (not_adpcm (known_of c.args.to.now).shape.params.codec (c.args.to.now.linear refl))) (all_from_bytes c.args.from.now (λ i. omega (arith, c.type_inv.from i)))) (known_of c.write_bytes.new.self) c.in-Ok.ensures.left.2
+returns-in-Ok-clause-left g c = written_longer (sources_in (codec_of c.args.to.now) c.args.from.now) (known_of c.args.to.now) (may_give_bytes c.args.from.now (known_of c.args.to.now) c.requires.may (c.args.to.now.linear refl) (not_adpcm (known_of c.args.to.now).shape.params.codec (c.args.to.now.linear refl)) (all_from_bytes c.args.from.now (λ i. omega (arith, c.type_inv.from i)))) (known_of c.write_bytes.new.self) c.in-Ok.ensures.left.2
 
 pub returns-in-Ok-clause-gains : goal.returns-in-Ok-clause-gains
 returns-in-Ok-clause-gains g c = λ kind p pieces xs e stands making.
-    let ys = (numbers_in (codec_of c.args.to.now) c.args.from.now) in
+    let ys = (sources_in (codec_of c.args.to.now) c.args.from.now) in
     let file = c.args.to.now in
     let plain : is_adpcm p.codec ≡ false =
     ap (λ (q : Parameters). is_adpcm q.codec) (sym (making_params kind p pieces xs e making)) ∙ ap (λ (s : Shape). is_adpcm s.params.codec) (sym stands.shape) ∙ not_adpcm (known_of file).shape.params.codec (file.linear refl) in
     let may : MayWrite ys e.shape e.write_place =
-    subst (λ (n : ℕ). MayWrite ys e.shape n) stands.write_place (subst (λ (s : Shape). MayWrite ys s (known_of file).write_place) stands.shape (may_write ys (known_of file) (may_give_bytes c.args.from.now (known_of c.args.to.now) c.requires.may (c.requires.may.linear (not_adpcm (known_of c.args.to.now).shape.params.codec (c.args.to.now.linear refl))) (all_from_bytes c.args.from.now (λ i. omega (arith, c.type_inv.from i)))))) in
+    subst (λ (n : ℕ). MayWrite ys e.shape n) stands.write_place (subst (λ (s : Shape). MayWrite ys s (known_of file).write_place) stands.shape (may_write ys (known_of file) (may_give_bytes c.args.from.now (known_of c.args.to.now) c.requires.may (c.args.to.now.linear refl) (not_adpcm (known_of c.args.to.now).shape.params.codec (c.args.to.now.linear refl)) (all_from_bytes c.args.from.now (λ i. omega (arith, c.type_inv.from i)))))) in
     (written_to ys e, c.in-Ok.ensures.stands e stands, written_is_making kind p pieces xs ys e making plain may)
 
 pub unreachable-requires : goal.unreachable-requires
-unreachable-requires g c = never_unwritten (numbers_in (codec_of c.args.to.now) c.args.from.now) (known_of c.args.to.now) (may_give_bytes c.args.from.now (known_of c.args.to.now) c.requires.may (c.requires.may.linear (not_adpcm (known_of c.args.to.now).shape.params.codec (c.args.to.now.linear refl))) (all_from_bytes c.args.from.now (λ i. omega (arith, c.type_inv.from i)))) _ _ _ c.write_bytes.ensures.left c.in-Err.is (λ step fault. search rules)
+unreachable-requires g c = never_unwritten (sources_in (codec_of c.args.to.now) c.args.from.now) (known_of c.args.to.now) (may_give_bytes c.args.from.now (known_of c.args.to.now) c.requires.may (c.args.to.now.linear refl) (not_adpcm (known_of c.args.to.now).shape.params.codec (c.args.to.now.linear refl)) (all_from_bytes c.args.from.now (λ i. omega (arith, c.type_inv.from i)))) _ _ _ c.write_bytes.ensures.left c.in-Err.is (λ step fault. search rules)
 
 pub write_bytes-requires : goal.write_bytes-requires
-write_bytes-requires g c = record { linear = c.requires.may.linear (not_adpcm (known_of c.args.to.now).shape.params.codec (c.args.to.now.linear refl)); whole = c.requires.may.whole }
+write_bytes-requires g c = c.requires.may.whole
