@@ -14,3 +14,4 @@ pub mod Opened
 pub mod PairBytes
 pub mod PairNumbers
 pub mod Reading
+pub mod TwoPairs

@@ -13,7 +13,7 @@ use Rattle.snd_layout.specs.Params.{Parameters}
 use Rattle.snd_layout.specs.Shape.{Shape}
 use Rattle.snd_layout.specs.declared.codec.Codec.{Codec}
 use Rattle.snd_layout.specs.declared.codec.Codec.TheVariants.{U8, S8, S16, S24, S32, MuLaw, ALaw, Ima, Ms}
-use Rattle.snd_modes.specs.Bytes.{AreWhole, is_linear, numbers_in}
+use Rattle.snd_modes.specs.Bytes.{AreWhole, numbers_in, sources_in}
 use Rattle.snd_modes.specs.Calls.{count_read}
 use Rattle.snd_modes.specs.Editing.{Editing}
 use Rattle.snd_modes.specs.Handle.{Known}
@@ -48,8 +48,8 @@ of_pairs P all (Ima align per_block) is = absurd cc
 of_pairs P all (Ms align per_block) is = absurd cc
 
 module _ (codec : Codec) (pair : is_pair codec ≡ true) where
-  pub pairs_linear : is_linear codec ≡ true
-  pairs_linear = of_pairs (λ (q : Codec). is_linear q ≡ true) (λ order. refl) codec pair
+  pub pairs_stand : (b : List ℕ) → sources_in codec b ≡ numbers_in codec b
+  pairs_stand b = of_pairs (λ (q : Codec). sources_in q b ≡ numbers_in q b) (λ order. refl) codec pair
 
   pub pairs_plain : is_adpcm codec ≡ false
   pairs_plain = of_pairs (λ (q : Codec). is_adpcm q ≡ false) (λ order. refl) codec pair
@@ -161,6 +161,10 @@ pub block_pairs : (codec : Codec) (buffer block : List ℕ) (n : ℕ) → is_pai
 block_pairs codec buffer block n pair whole size =
     pairs_counted codec pair block ∙ ap (λ (m : ℕ). m / 2) (size ∙ half_of (length buffer) n whole) ∙ mul-div_cancel_left (pairs_in buffer * n) (let e : 0 < 2 = omega arith in e)
 
+-- and they are as many numbers
+pub block_sources : (codec : Codec) (buffer block : List ℕ) (n : ℕ) → is_pair codec ≡ true → length buffer % 2 ≡ 0 → length block ≡ length buffer * n → length (sources_in codec block) ≡ pairs_in buffer * n
+block_sources codec buffer block n pair whole size = ap length (pairs_stand codec pair block) ∙ block_pairs codec buffer block n pair whole size
+
 -- they may be given to a file
 pub may_pass : (buffer block : List ℕ) (to : Known) → is_pair to.shape.params.codec ≡ true → 1 ≤ to.shape.params.channels → length buffer % 2 ≡ 0 → length block ≡ length buffer * to.shape.params.channels
     → IsAtEnd to → HasRoom (pairs_in buffer) to → MayPass block to
@@ -171,7 +175,6 @@ may_pass buffer block to pair some whole size at_end roomy =
     let all : length block ≡ n * (2 * c) = size ∙ half_of (length buffer) c whole ∙ (let e : 2 * (n * c) ≡ n * (2 * c) = omega arith in e) in
     record {
       at_end = at_end;
-      linear = λ plain. pairs_linear codec pair;
       whole = ap (λ (m : ℕ). length block % m) (pairs_align codec pair c) ∙ ap (λ (m : ℕ). m % (2 * c)) all ∙ mul-mod_left n (2 * c);
-      roomy = subst (λ (m : ℕ). HasRoom m to) (sym (frames_are (numbers_in codec block) n to some (block_pairs codec buffer block c pair whole size))) roomy;
+      roomy = subst (λ (m : ℕ). HasRoom m to) (sym (frames_are (sources_in codec block) n to some (block_sources codec buffer block c pair whole size))) roomy;
     }

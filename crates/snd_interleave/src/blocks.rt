@@ -13,12 +13,12 @@ ghost use Rattle.snd_interleave.specs.Channels.{AreMono, CountsAddingTo, CountsI
 
 use crate::channel::{read_numbers, width_in};
 use crate::passing::{are_pairs, pass_frames};
-use crate::scatter::{put_channel, width_of};
+use crate::scatter::put_channel;
 use snd_disk::Disk;
 use snd_inputs::Input;
 use snd_layout::Codec;
 use snd_modes::File;
-use snd_output::{Making, Stop, numbers_of};
+use snd_output::{Making, Stop, numbers_of, width_of};
 use std::alloc::Global;
 
 /// The numbers that are held at once of each channel.

@@ -14,12 +14,11 @@ ghost use Rattle.snd_interleave.specs.Asking.{AsksFile, AsksInput, AsksLaid, byt
 ghost use Rattle.snd_interleave.specs.Channels.{CountsReadOf, InputChanged, LaidChanged, Reads, faults_of};
 ghost use Rattle.snd_interleave.specs.Reading.{GivesHeld, GivesLaid, GivesNumbers, HasNumbers, IsCount};
 
-use crate::scatter::width_of;
 use snd_disk::Disk;
 use snd_inputs::{Input, close_read};
 use snd_layout::{Layout, PieceList};
 use snd_modes::{File, Read, ReadError, open_laid};
-use snd_output::Stop;
+use snd_output::{Stop, width_of};
 use std::alloc::Global;
 
 /// How many bits the numbers of an input have.

@@ -12,7 +12,7 @@ ghost use Rattle.snd_interleave.specs.Channels.{AreMono, CountsAddingTo, CountsI
 ghost use Rattle.snd_interleave.specs.Pairs.{AreAlike, ArePairs, HasPairFrames, is_pair, pairs_in};
 
 use crate::pairs::read_pairs;
-use crate::scatter::put_pairs;
+use crate::scatter::{join_pairs, put_pairs};
 use snd_disk::Disk;
 use snd_inputs::Input;
 use snd_layout::Codec;
@@ -47,9 +47,9 @@ pub(crate) fn are_pairs<D: Disk>(inputs: &[Input<D>], codec: Codec) -> bool
     true
 }
 
-// Puts the frames of inputs into a block, from a place on: as many as a buffer has places for the pairs of one
-// input. Behind the end of an input they are zeros.
-fn fill_block<D: Disk>(
+// Puts the frames of inputs into a block, from a place on, one input after the other: as many as a buffer has
+// places for the pairs of one input. Behind the end of an input they are zeros.
+fn fill_each<D: Disk>(
     alloc: Global,
     inputs: &mut [Input<D>],
     place: u64,
@@ -75,16 +75,73 @@ fn fill_block<D: Disk>(
     Ok(())
 }
 
-// Puts the frames of inputs, from a place on, behind those of a file that is made: as many as a buffer has
-// places for the pairs of one input. The block has places for all of them.
+// .. of two inputs at once, by a buffer for each
+fn fill_two<D: Disk>(
+    alloc: Global,
+    inputs: &mut [Input<D>],
+    place: u64,
+    left: &mut [u8],
+    right: &mut [u8],
+    block: &mut [u8],
+) -> Result<(), Stop>
+    requires two { length inputs.old ≡ 2 }
+    requires alike { length right.old ≡ length left.old }
+    requires mono { AreMono inputs.old }
+    requires pairs { AreAlike inputs.old }
+    requires whole { length left.old % 2 ≡ 0 }
+    requires size { length block.old ≡ length left.old * length inputs.old }
+    ensures filled { OnOk result (HasPairFrames D.state inputs.old place (pairs_in left.old) block.new) }
+    ensures faults { CountsInputs D.state inputs.old inputs.new result }
+    ensures unchanged { IsUnchanged result }
+    ensures reads { ReadAll D.Disk inputs.old inputs.new }
+    ensures asked { AsksEach D.state (bytes_from place (pairs_in left.old)) inputs.old inputs.new }
+{
+    let first = &mut inputs[0];
+    read_pairs(alloc, first, place, left)?;
+    let last = &mut inputs[1];
+    read_pairs(alloc, last, place, right)?;
+    join_pairs(left, right, block);
+    Ok(())
+}
+
+// .. of as many inputs as there are
+fn fill_block<D: Disk>(
+    alloc: Global,
+    inputs: &mut [Input<D>],
+    place: u64,
+    buffer: &mut [u8],
+    second: &mut [u8],
+    block: &mut [u8],
+) -> Result<(), Stop>
+    requires alike { length second.old ≡ length buffer.old }
+    requires mono { AreMono inputs.old }
+    requires pairs { AreAlike inputs.old }
+    requires whole { length buffer.old % 2 ≡ 0 }
+    requires size { length block.old ≡ length buffer.old * length inputs.old }
+    ensures filled { OnOk result (HasPairFrames D.state inputs.old place (pairs_in buffer.old) block.new) }
+    ensures faults { CountsInputs D.state inputs.old inputs.new result }
+    ensures unchanged { IsUnchanged result }
+    ensures reads { ReadAll D.Disk inputs.old inputs.new }
+    ensures asked { AsksEach D.state (bytes_from place (pairs_in buffer.old)) inputs.old inputs.new }
+{
+    if inputs.len() == 2 {
+        return fill_two(alloc, inputs, place, buffer, second, block);
+    }
+    fill_each(alloc, inputs, place, buffer, block)
+}
+
+// Puts the frames of inputs, from a place on, behind those of a file that is made: as many as either of two
+// buffers has places for the pairs of one input. The block has places for all of them.
 fn pass_block<D: Disk, E: Disk, M: Making>(
     alloc: Global,
     inputs: &mut [Input<D>],
     to: &mut File<'_, E, M>,
     place: u64,
     buffer: &mut [u8],
+    second: &mut [u8],
     block: &mut [u8],
 ) -> Result<(), Stop>
+    requires two { length second.old ≡ length buffer.old }
     requires mono { AreMono inputs.old }
     requires pairs { ArePairs (codec_of to.old) inputs.old }
     requires alike { channels_of to.old ≡ length inputs.old }
@@ -105,11 +162,11 @@ fn pass_block<D: Disk, E: Disk, M: Making>(
     ensures unasked { AsksNothing E.state to.old to.new }
 {
     to.params().are_good();
-    fill_block(alloc, inputs, place, buffer, block)?;
+    fill_block(alloc, inputs, place, buffer, second, block)?;
     M::give_bytes(to, block)
 }
 
-// Puts all frames there, by a block that has places for those that are held at once. Its buffer stays out of
+// Puts all frames there, by a block that has places for those that are held at once. Its buffers stay out of
 // the stack frame in which numbers are put there.
 #[inline(never)]
 fn pass_all<D: Disk, E: Disk, M: Making>(
@@ -138,12 +195,21 @@ fn pass_all<D: Disk, E: Disk, M: Making>(
 {
     let (channels, _) = numbers_of(to);
     let mut buffer = [0u8; MOST_BYTES];
+    let mut second = [0u8; MOST_BYTES];
     let mut place = 0;
     while place < frames {
         let count = (frames - place).min(MOST_PAIRS as u64) as usize;
         let pairs = &mut buffer[..2 * count];
         let whole = &mut block[..2 * count * channels];
-        pass_block(alloc, inputs, to, place, pairs, whole)?;
+        pass_block(
+            alloc,
+            inputs,
+            to,
+            place,
+            pairs,
+            &mut second[..2 * count],
+            whole,
+        )?;
         place += count as u64;
     }
     Ok(())

@@ -1,27 +1,12 @@
 //! Numbers that are put side by side, and the pairs of bytes that some of them are.
 
-ghost use Rattle.std.specs.Prelude.{◌≡◌, ◌*◌, ◌<◌, All, length};
+ghost use Rattle.std.specs.Prelude.{◌≡◌, ◌∷◌, [], ◌*◌, ◌<◌, All, length};
 ghost use Rattle.snd_interleave.specs.Beside.{FitsChannel, HasChannel, KeepsChannels};
 ghost use Rattle.snd_interleave.specs.Pairs.{HasPairs, KeepsPairs, pairs_in};
-ghost use Rattle.snd_output.specs.Widths.{width_of};
 ghost use Rattle.snd_recode.specs.Recoded.{changed_all};
 ghost use Rattle.snd_pcm.specs.Width.{HasWidth, IsWidth};
 
-use snd_layout::Codec;
 use snd_pcm::change_width;
-
-/// How many bits the numbers of a codec have.
-pub(crate) fn width_of(codec: Codec) -> u8
-    ensures value { result ≡ width_of codec }
-    ensures is { IsWidth result }
-{
-    match codec {
-        Codec::U8 | Codec::S8 => 8,
-        Codec::S24(_) => 24,
-        Codec::S32(_) => 32,
-        Codec::S16(_) | Codec::MuLaw | Codec::ALaw | Codec::Ima { .. } | Codec::Ms { .. } => 16,
-    }
-}
 
 /// Puts numbers into a block of as many frames, as one of their channels, each changed to another width.
 pub(crate) fn put_channel(
@@ -59,5 +44,31 @@ pub(crate) fn put_pairs(pairs: &[u8], channels: usize, which: usize, block: &mut
         let at = 2 * (i * channels + which);
         block[at] = first;
         block[at + 1] = second;
+    }
+}
+
+// Two pairs one behind the other. They pass through one number, so that the compiler moves many of them at once.
+#[inline(always)]
+fn frame_of(a: u8, b: u8, c: u8, d: u8) -> [u8; 4]
+    ensures { result ≡ a ∷ b ∷ c ∷ d ∷ [] }
+{
+    let left = u32::from(u16::from_le_bytes([a, b]));
+    let right = u32::from(u16::from_le_bytes([c, d]));
+    (left + right * 65536).to_le_bytes()
+}
+
+/// Puts the pairs of two channels side by side, as frames of both.
+pub(crate) fn join_pairs(left: &[u8], right: &[u8], block: &mut [u8])
+    requires size { length block.old ≡ length left.now * 2 }
+    requires alike { length right.now ≡ length left.now }
+    ensures left { HasPairs 2 0 left.now block.new }
+    ensures right { HasPairs 2 1 right.now block.new }
+{
+    for i in 0..left.len() / 2 {
+        let [a, b, c, d] = frame_of(left[2 * i], left[2 * i + 1], right[2 * i], right[2 * i + 1]);
+        block[4 * i] = a;
+        block[4 * i + 1] = b;
+        block[4 * i + 2] = c;
+        block[4 * i + 3] = d;
     }
 }
