@@ -72,6 +72,17 @@ for one in PAIRS:
     for other in PAIRS:
         converted(one, other)
 
+# ---- a law copied into the same law: each byte stays, but for the second zero of the mu-law, which is written as the first
+for codec in ("ulaw", "alaw"):
+    head = kinds.whole_file("au", codec, 1, RATE, [0] * 256)[:-256]
+    every = bytes(range(256))
+    with open("every.au", "wb") as file:
+        file.write(head + every)
+    kept = every.replace(b"\x7f", b"\xff") if codec == "ulaw" else every
+    cases.case(f"every byte of {codec}", wrong_run(["convert", "every.au", "again.au"], b"ok 256\n", b"", 0, ("again.au", head + kept)))
+    os.remove("every.au")
+    os.remove("again.au")
+
 # ---- files of other programs
 held = numbers("pcm_24_le", FRAMES * 2)
 with open("plain.wav", "wb") as file:
@@ -132,5 +143,5 @@ if os.geteuid() == 0 and subprocess.run(["mount", "-t", "tmpfs", "-o", "size=64k
     cases.case("a full disk", ([] if (done.returncode, done.stdout, done.stderr) == (3, b"", b"") else [repr(done)]) + ([] if before == after else ["other files changed"]))
 else:
     print("tools: skipped: a disk that is full, since only the superuser makes one")
-cases.end(len(PAIRS) ** 2 + 5 + 5 + 1 + many)
+cases.end(len(PAIRS) ** 2 + 2 + 5 + 5 + 1 + many)
 PY
