@@ -1,5 +1,5 @@
 -- Facts on the mu-law's definitions.
-use Rattle.std.proofs.Common.{min, ◌≡◌, refl, sym, ap, ◌∙◌, ℕ, ℤ, pos, neg_ℤ, ◌+◌, ◌-◌, ◌*◌, ◌/◌, ◌%◌, ◌^◌, ◌<◌, ◌≤◌, inl, inr, Bool, true, false, FitsSigned, List, map, All, get_or, arith}
+use Rattle.std.proofs.Common.{◌≡◌, refl, sym, ap, ◌∙◌, ℕ, ℤ, pos, neg_ℤ, ◌+◌, ◌-◌, ◌*◌, ◌/◌, ◌%◌, ◌^◌, ◌<◌, ◌≤◌, inl, inr, Bool, true, false, FitsSigned, List, map, All, get_or, bit_xor, arith}
 use Rattle.std.specs.Prelude.{if◌then◌else◌, nat_lt, nat_eq, ◌==◌, unsigned_abs}
 use Rattle.std.specs.Int.{w16, is_negative}
 use Rattle.std.proofs.lemmas.Bool.{cases_lt}
@@ -48,13 +48,6 @@ mulaw_value_fits byte =
 pub all_values_fit : (bytes : List ℕ) → All (FitsSigned w16) (map mulaw_value bytes)
 all_values_fit bytes = All-map (FitsSigned w16) mulaw_value bytes (λ k d lt. mulaw_value_fits (get_or bytes k d))
 
--- the steps below the cut and biased magnitude, without the first sixteen, are the code
-pub code_is : (value z : ℤ) (magnitude cut steps : ℕ) → z ≡ value → magnitude ≡ unsigned_abs z → cut ≡ min magnitude 32635 → (128 ≤ cut + 132 → steps ≡ 16 + segment_and_step (cut + 132)) → steps - 16 ≡ mulaw_code (unsigned_abs value)
-code_is value z magnitude cut steps p q r s =
-    let e : cut ≡ min (unsigned_abs value) 32635 = r ∙ ap (λ (n : ℕ). min n 32635) (q ∙ ap unsigned_abs p) in
-    let t : steps - 16 ≡ segment_and_step (cut + 132) = omega (arith, s (omega arith)) in
-    t ∙ ap (λ (n : ℕ). segment_and_step (n + 132)) e
-
 pub byte_negative : (value : ℤ) (code : ℕ) → is_negative value ≡ true → code ≡ mulaw_code (unsigned_abs value) → 127 - code ≡ mulaw_byte value
 unfolding mulaw_byte
 byte_negative value code n e =
@@ -66,6 +59,27 @@ unfolding mulaw_byte
 byte_positive value code n e =
     let sum : 255 - code ≡ 255 - (0 + code) = omega arith in
     sum ∙ ap (λ (k : ℕ). 255 - (0 + k)) e ∙ ap (λ (b : Bool). 255 - ((if b then 128 else 0) + mulaw_code (unsigned_abs value))) (sym n)
+
+-- the byte, by the bits that are inverted of the code
+complement : (code : ℕ) → code < 128 → (bit_xor code 127 ≡ 127 - code) × (bit_xor code 255 ≡ 255 - code)
+complement code h = (
+  eqb→eq _ _ (every_below (λ k. nat_eq (bit_xor k 127) (127 - k)) 128 tt code h),
+  eqb→eq _ _ (every_below (λ k. nat_eq (bit_xor k 255) (255 - k)) 128 tt code h),
+)
+
+pub byte_by_sign : (value : ℤ) (code bits : ℕ) → code < 128 → code ≡ mulaw_code (unsigned_abs value) → bits ≡ (if is_negative value then 127 else 255) → bit_xor code bits ≡ mulaw_byte value
+byte_by_sign value code bits h e b = go (is_negative value) refl
+  where
+    go : (sign : Bool) → is_negative value ≡ sign → bit_xor code bits ≡ mulaw_byte value
+    go true n = ap (bit_xor code) (b ∙ ap (λ (s : Bool). if s then 127 else 255) n) ∙ (complement code h).0 ∙ byte_negative value code n e
+    go false n = ap (bit_xor code) (b ∙ ap (λ (s : Bool). if s then 127 else 255) n) ∙ (complement code h).1 ∙ byte_positive value code n e
+
+pub xor_fits : (value : ℤ) (code bits : ℕ) → code < 128 → bits ≡ (if is_negative value then 127 else 255) → bit_xor code bits < 256
+xor_fits value code bits h b = go (is_negative value) refl
+  where
+    go : (sign : Bool) → is_negative value ≡ sign → bit_xor code bits < 256
+    go true n = omega (arith, ap (bit_xor code) (b ∙ ap (λ (s : Bool). if s then 127 else 255) n) ∙ (complement code h).0)
+    go false n = omega (arith, ap (bit_xor code) (b ∙ ap (λ (s : Bool). if s then 127 else 255) n) ∙ (complement code h).1)
 
 -- the byte that encoding gives for a byte's value
 abbrev returned : ℕ → ℕ

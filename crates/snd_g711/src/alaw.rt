@@ -6,7 +6,7 @@ ghost use Rattle.snd_g711.specs.Alaw.{alaw_value, alaw_distance, alaw_byte, Alaw
 use crate::segment::steps_below;
 
 /// The bits that the A-law inverts of a code and the sign bit of values from zero on.
-const INVERTED: u32 = 0xD5;
+const INVERTED: u16 = 0xD5;
 
 /// The value of each byte.
 static VALUES: [i32; 256] = [
@@ -47,38 +47,30 @@ pub fn alaw_decode(byte: u8) -> i16
 
 /// How far a value lies from 0, or a negative one from -1.
 #[inline]
-fn distance_of(value: i32) -> u32
+fn distance_of(value: i16) -> u16
     ensures { result ≡ alaw_distance value }
 {
     if value < 0 {
-        (-1 - value) as u32
+        (-1 - value) as u16
     } else {
-        value as u32
+        value as u16
     }
 }
 
 /// The bits of a value's code that are inverted: the even ones, and the sign bit for zero and above.
 #[inline]
-fn inverted(value: i32) -> u32
+fn inverted(value: i16) -> u16
     ensures { result ≡ (if is_negative value then 0x55 else 0xD5) }
 {
-    INVERTED ^ ((value >> 31).cast_unsigned() & 0x80)
-}
-
-/// The A-law byte of a value of 16 bits.
-#[inline]
-fn byte_of(value: i32) -> u8
-    requires { FitsSigned w16 value }
-    ensures { result ≡ alaw_byte value }
-{
-    (steps_below(distance_of(value) / 2) ^ inverted(value)) as u8
+    INVERTED ^ ((value >> 15).cast_unsigned() & 0x80)
 }
 
 /// The A-law byte of a 16-bit value.
+#[inline]
 pub fn alaw_encode(value: i16) -> u8
     ensures { result ≡ alaw_byte value }
 {
-    byte_of(i32::from(value))
+    (steps_below(distance_of(value) / 2) ^ inverted(value)) as u8
 }
 
 /// Decodes a block: each byte's value stands in `into` at its place. Both have the same length.
@@ -99,7 +91,7 @@ pub fn alaw_encode_all(from: &[i32], bytes: &mut [u8])
     ensures { bytes.new ≡ map alaw_byte from.now }
 {
     for (i, byte) in bytes.iter_mut().enumerate() {
-        *byte = byte_of(from[i]);
+        *byte = alaw_encode(from[i] as i16);
     }
 }
 

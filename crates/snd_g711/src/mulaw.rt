@@ -1,9 +1,9 @@
 //! The mu-law.
-ghost use Rattle.std.specs.Prelude.{◌≡◌, ◌<◌, pos, length, map, All, FitsSigned};
-ghost use Rattle.std.specs.Int.{w16};
+ghost use Rattle.std.specs.Prelude.{◌≡◌, ◌<◌, pos, length, map, All, FitsSigned, if◌then◌else◌};
+ghost use Rattle.std.specs.Int.{w16, is_negative};
 ghost use Rattle.snd_g711.specs.Mulaw.{mulaw_magnitude, mulaw_value, mulaw_byte, MulawRoundTrip, MulawKeepsDecoded};
 
-use crate::segment::steps_below;
+use crate::segment::code_of;
 
 /// What brings a magnitude with the bias of 132 from 2 ^ 23 on, where floats stand one apart.
 const TO_ONES: f32 = 8_388_476.0;
@@ -35,21 +35,20 @@ pub fn mulaw_decode(byte: u8) -> i16
     value_of(byte) as i16
 }
 
-/// The mu-law byte of a value of 16 bits.
+/// The bits of a value's code that are inverted: all, and the sign bit for zero and above.
 #[inline]
-fn byte_of(value: i32) -> u8
-    requires { FitsSigned w16 value }
-    ensures { result ≡ mulaw_byte value }
+fn inverted(value: i16) -> u16
+    ensures { result ≡ (if is_negative value then 0x7F else 0xFF) }
 {
-    let code = (steps_below(value.unsigned_abs().min(32635) + 132) - 16) as u8;
-    if value < 0 { 127 - code } else { 255 - code }
+    0xFF ^ ((value >> 15).cast_unsigned() & 0x80)
 }
 
 /// The mu-law byte of a 16-bit value. Beyond 32635 the magnitude is cut.
+#[inline]
 pub fn mulaw_encode(value: i16) -> u8
     ensures { result ≡ mulaw_byte value }
 {
-    byte_of(i32::from(value))
+    (code_of(value.unsigned_abs().min(32635) + 132) ^ inverted(value)) as u8
 }
 
 /// Decodes a block: each byte's value stands in `into` at its place. Both have the same length.
@@ -70,7 +69,7 @@ pub fn mulaw_encode_all(from: &[i32], bytes: &mut [u8])
     ensures { bytes.new ≡ map mulaw_byte from.now }
 {
     for (i, byte) in bytes.iter_mut().enumerate() {
-        *byte = byte_of(from[i]);
+        *byte = mulaw_encode(from[i] as i16);
     }
 }
 

@@ -7,7 +7,7 @@ ghost use Rattle.snd_g711.specs.Alaw.{alaw_byte, alaw_value};
 ghost use Rattle.snd_pcm.specs.Pcm.{sample_bytes, samples, samples_bytes};
 ghost use Rattle.snd_pcm.specs.declared.linear.Linear.TheVariants.{S16};
 
-use crate::pair::number_in;
+use crate::pair::{nothing, number_in};
 use snd_g711::{alaw_decode, alaw_encode};
 
 // The bytes of a byte's value.
@@ -36,7 +36,8 @@ pub(crate) fn linear_as_alaw(bytes: &[u8], into: &mut [u8])
     requires room { length bytes.now ≡ 2 * length into.old }
     ensures { into.new ≡ map alaw_byte (samples (S16 Little) bytes.now) }
 {
+    let nothing = nothing(bytes, into);
     for (i, byte) in into.iter_mut().enumerate() {
-        *byte = alaw_encode(number_in(bytes[2 * i], bytes[2 * i + 1]));
+        *byte = alaw_encode(number_in(bytes[2 * i], bytes[2 * i + 1]) + nothing);
     }
 }

@@ -8,7 +8,7 @@ ghost use Rattle.snd_pcm.specs.Pcm.{code, samples, samples_bytes};
 ghost use Rattle.snd_pcm.specs.declared.linear.Linear.TheVariants.{S16};
 ghost use Rattle.snd_recode.specs.Factors.{mulaw_factor};
 
-use crate::pair::number_in;
+use crate::pair::{nothing, number_in};
 use snd_g711::mulaw_encode;
 
 /// The most bytes that are read at a time.
@@ -77,7 +77,8 @@ pub(crate) fn linear_as_mulaw(bytes: &[u8], into: &mut [u8])
     requires room { length bytes.now ≡ 2 * length into.old }
     ensures { into.new ≡ map mulaw_byte (samples (S16 Little) bytes.now) }
 {
+    let nothing = nothing(bytes, into);
     for (i, byte) in into.iter_mut().enumerate() {
-        *byte = mulaw_encode(number_in(bytes[2 * i], bytes[2 * i + 1]));
+        *byte = mulaw_encode(number_in(bytes[2 * i], bytes[2 * i + 1]) + nothing);
     }
 }
