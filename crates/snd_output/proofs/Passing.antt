@@ -131,26 +131,33 @@ align_least codec channels fixed =
     let times : 1 * channels ≤ byte_count form * channels = mul-le-mul_right channels (let e : 1 ≤ byte_count form = omega (arith, byte_count_pos form) in e) in
     omega (arith, times, linear_align codec form channels (some_form codec fixed).1)
 
--- frames that have no more bytes than are held, in either of two codecs, are no more samples, and have no more bytes in each
-pub places_fit : (p : Parameters) (to : Codec) (m q align to_align most : ℕ) → Pass p.codec to → q ≡ p.channels → 1 ≤ q → m % q ≡ 0 → m / q * most ≤ 16384 → align ≤ most → to_align ≤ most
-    → align ≡ block_align p.channels p.codec → to_align ≡ block_align p.channels to → (m ≤ 16384) × (bytes_in to m ≤ 16384) × (m / q * align ≤ 16384)
-places_fit p to m q align to_align most pass channels some whole fits le to_le is to_is =
+-- a sample has four bytes at most
+few_bytes : (form : Fixed) → byte_count form ≤ 4
+few_bytes (Linear linear.TheVariants.U8) = omega arith
+few_bytes (Linear linear.TheVariants.S8) = omega arith
+few_bytes (Linear (linear.TheVariants.S16 order)) = omega arith
+few_bytes (Linear (linear.TheVariants.S24 order)) = omega arith
+few_bytes (Linear (linear.TheVariants.S32 order)) = omega arith
+few_bytes fixed.TheVariants.MuLaw = omega arith
+few_bytes fixed.TheVariants.ALaw = omega arith
+
+-- frames that have no more bytes than are read are no more samples, and become no more than four bytes each
+places_fit : (p : Parameters) (to : Codec) (m q align : ℕ) → Pass p.codec to → q ≡ p.channels → 1 ≤ q → m % q ≡ 0 → m / q * align ≤ 16384 → align ≡ block_align p.channels p.codec
+    → (m ≤ 16384) × (bytes_in to m ≤ 65536)
+places_fit p to m q align pass channels some whole fits is =
     let f = m / q in
+    let form = some_form to pass.1 in
     let parts : f * q + m % q ≡ m = div-add-mod' m q in
     let all : m ≡ f * q = omega (arith, parts, whole) in
-    let old : f * align ≤ f * most = mul-le-mul_left f le in
-    let new : f * to_align ≤ f * most = mul-le-mul_left f to_le in
     let least : q ≤ align = omega (arith, channels, is, align_least p.codec p.channels pass.0) in
     let few : f * q ≤ f * align = mul-le-mul_left f least in
-    let size : bytes_in to m ≡ f * to_align =
-    ap (bytes_in to) (all ∙ ap (λ (n : ℕ). f * n) channels) ∙ sym (frames_size to p.channels f pass.1) ∙ ap (λ (n : ℕ). f * n) (sym to_is) in
-    (omega (arith, all, few, old, fits), omega (arith, size, new, fits), omega (arith, old, fits))
+    let within : m ≤ 16384 = omega (arith, all, few, fits) in
+    let most : byte_count form.0 * m ≤ 4 * m = mul-le-mul_right m (few_bytes form.0) in
+    (within, omega (arith, size_of to form.0 m form.1, most, within))
 
-pub held_places : (from to : Known) (m q align to_align most : ℕ) → MayAppend from to → Pass from.shape.params.codec to.shape.params.codec → q ≡ from.shape.params.channels → 1 ≤ q → m % q ≡ 0
-    → m / q * most ≤ 16384 → align ≤ most → to_align ≤ most → align ≡ block_align from.shape.params.channels from.shape.params.codec → to_align ≡ block_align to.shape.params.channels to.shape.params.codec
-    → (m ≤ 16384) × (bytes_in to.shape.params.codec m ≤ 16384) × (m / q * align ≤ 16384)
-held_places from to m q align to_align most may pass channels some whole fits le to_le is to_is =
-    places_fit from.shape.params to.shape.params.codec m q align to_align most pass channels some whole fits le to_le is (to_is ∙ ap (λ (n : ℕ). block_align n to.shape.params.codec) (sym may.alike))
+pub held_places : (from to : Known) (m q align : ℕ) → Pass from.shape.params.codec to.shape.params.codec → q ≡ from.shape.params.channels → 1 ≤ q → m % q ≡ 0
+    → m / q * align ≤ 16384 → align ≡ block_align from.shape.params.channels from.shape.params.codec → (m ≤ 16384) × (bytes_in to.shape.params.codec m ≤ 65536)
+held_places from to m q align pass channels some whole fits is = places_fit from.shape.params to.shape.params.codec m q align pass channels some whole fits is
 
 -- samples in blocks do not pass
 pub no_pass : (pass : Bool) (from to : Codec) → (IsTrue pass → Pass from to) → is_adpcm from ≡ true → pass ≡ false

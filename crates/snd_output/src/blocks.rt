@@ -31,11 +31,13 @@ pub fn numbers_of<D: Disk, M: Mode>(file: &File<'_, D, M>) -> (usize, Codec)
     (usize::from(params.channels), params.codec)
 }
 
-/// The most bytes that are held at a time.
+/// The most bytes of samples that are read at a time, and the most that they become, since one may become four.
 const MOST_BYTES: usize = 16384;
 
+const MOST_CODED: usize = 4 * MOST_BYTES;
+
 // How many places of a block are used, which are for whole frames: as many as there are, but where they pass
-// as bytes those of frames that have no more bytes than are held at a time.
+// as bytes those of frames that have no more bytes than are read at a time.
 fn places_of(places: usize, channels: usize, align: usize, pass: bool) -> usize
     requires some { 1 ≤ channels }
     requires one { channels ≤ places }
@@ -177,13 +179,12 @@ pub fn append<D: Disk, E: Disk, M: Making>(
     let (_, wanted) = numbers_of(to);
     let pass = pass(codec, wanted);
     let align = usize::from(from.params().block_align());
-    let most = align.max(usize::from(to.params().block_align()));
-    let places = places_of(block.len(), channels, most, pass);
+    let places = places_of(block.len(), channels, align, pass);
     let whole = &mut block[..places];
     let mut buffer = [0u8; MOST_BYTES];
     let held = held_of(places, channels, align, pass);
     let bytes = &mut buffer[..held];
-    let mut coded = [0u8; MOST_BYTES];
+    let mut coded = [0u8; MOST_CODED];
     let mut count = 1;
     while count > 0 {
         count = append_block(from, to, whole, bytes, &mut coded, pass)?;

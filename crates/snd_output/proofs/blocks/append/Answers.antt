@@ -28,9 +28,9 @@ loop-count-init g c =
     let m = c.places_of-places.result in
     let places = c.places_of-places.ensures in
     let size : length (take m c.args.block.now) ≡ m = length-take-le m c.args.block.now places.fits in
-    let room = λ (pass : c.pass-pass.result ≡ true). held_places from to m q c.from-align.result c.from.result c.max-most.result c.requires.may
+    let room = λ (pass : c.pass-pass.result ≡ true). held_places from to m q c.from-align.result
     (subst (λ (x : Codec). Pass x to.shape.params.codec) c.numbers_of-channels.ensures.codec (subst (Pass c.numbers_of-channels.result.1) c.numbers_of-wanted.ensures.codec (c.pass-pass.ensures pass)))
-    is c.numbers_of-channels.ensures.some places.whole (places.most pass) (omega (arith, c.max-most.ensures)) (omega (arith, c.max-most.ensures)) (search rules) (search rules) in
+    is c.numbers_of-channels.ensures.some places.whole (places.most pass) (search rules) in
     record {
       loan = refl;
       to_loan = refl;
