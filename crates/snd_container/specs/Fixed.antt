@@ -1,6 +1,7 @@
 -- The samples of a codec with a fixed number of bytes for each: linear ones, and those of the two laws of ITU-T
 -- Recommendation G.711 (1988), "Pulse code modulation (PCM) of voice frequencies", which have one byte for a number of 16 bits.
-use Rattle.std.specs.Prelude.{◌≡◌, ℕ, ℤ, negsuc, List, All, map, ◌==◌, if◌then◌else◌}
+use Rattle.std.specs.Prelude.{◌≡◌, ◌*◌, ℕ, ℤ, negsuc, List, All, length, map, ◌==◌, if◌then◌else◌}
+use Rattle.snd_fields.specs.Laws.{IsByte}
 use Rattle.snd_fields.specs.declared.field.Order.TheVariants.{Little}
 use Rattle.snd_g711.specs.Alaw.{alaw_byte, alaw_value}
 use Rattle.snd_g711.specs.Mulaw.{mulaw_byte, mulaw_value}
@@ -59,3 +60,7 @@ NumbersAreKept = (form : Fixed) (xs : List ℤ) → All (InRange form) xs → sa
 -- a number that was kept is kept as it is
 abbrev pub KeptNumbersStay : Type 0
 KeptNumbersStay = (form : Fixed) (x : ℤ) → kept_number form (kept_number form x) ≡ kept_number form x
+
+-- whole samples are the bytes of their sources
+abbrev pub BytesAreKept : Type 0
+BytesAreKept = (form : Fixed) (bytes : List ℕ) (n : ℕ) → length bytes ≡ byte_count form * n → All IsByte bytes → samples_bytes form (sources form bytes) ≡ bytes

@@ -1,7 +1,7 @@
 //! The laws of the layouts of files of every kind, proved of every file. The function does nothing: its
 //! contract is the laws.
 
-ghost use Rattle.snd_container.specs.Fixed.{KeptNumbersStay, NumbersAreKept};
+ghost use Rattle.snd_container.specs.Fixed.{BytesAreKept, KeptNumbersStay, NumbersAreKept};
 ghost use Rattle.snd_container.specs.Laws.{KeepAllLaws};
 
 /// What the containers owe the layers above, for files of every kind. Where the field that decides the
@@ -16,9 +16,11 @@ pub fn keep_all_laws()
 {}
 
 /// Samples that are written stand for the numbers that their codec keeps: a linear one keeps each, a law
-/// of G.711 one near it. What was kept once does not change when it is written again.
-#[tactic(auto, using(crate::proofs::FixedSamples::numbers_are_kept, crate::proofs::FixedSamples::kept_numbers_stay))]
+/// of G.711 one near it. What was kept once does not change when it is written again. Bytes that are whole
+/// samples are those of their sources, also where they are the second zero of the mu-law.
+#[tactic(auto, using(crate::proofs::FixedSamples::numbers_are_kept, crate::proofs::FixedSamples::kept_numbers_stay, crate::proofs::Sources::sources_written))]
 pub fn written_samples_are_kept()
     ensures kept { NumbersAreKept }
     ensures once { KeptNumbersStay }
+    ensures bytes { BytesAreKept }
 {}
