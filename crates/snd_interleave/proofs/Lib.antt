@@ -15,3 +15,4 @@ pub mod PairBytes
 pub mod PairNumbers
 pub mod Reading
 pub mod TwoPairs
+pub mod TwoReads

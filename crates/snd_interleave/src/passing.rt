@@ -47,35 +47,8 @@ pub(crate) fn are_pairs<D: Disk>(inputs: &[Input<D>], codec: Codec) -> bool
     true
 }
 
-// Puts the frames of inputs into a block, from a place on, one input after the other: as many as a buffer has
-// places for the pairs of one input. Behind the end of an input they are zeros.
-fn fill_each<D: Disk>(
-    alloc: Global,
-    inputs: &mut [Input<D>],
-    place: u64,
-    buffer: &mut [u8],
-    block: &mut [u8],
-) -> Result<(), Stop>
-    requires mono { AreMono inputs.old }
-    requires pairs { AreAlike inputs.old }
-    requires whole { length buffer.old % 2 ≡ 0 }
-    requires size { length block.old ≡ length buffer.old * length inputs.old }
-    ensures filled { OnOk result (HasPairFrames D.state inputs.old place (pairs_in buffer.old) block.new) }
-    ensures faults { CountsInputs D.state inputs.old inputs.new result }
-    ensures unchanged { IsUnchanged result }
-    ensures reads { ReadAll D.Disk inputs.old inputs.new }
-    ensures asked { AsksEach D.state (bytes_from place (pairs_in buffer.old)) inputs.old inputs.new }
-{
-    let channels = inputs.len();
-    for i in 0..channels {
-        let input = &mut inputs[i];
-        read_pairs(alloc, input, place, buffer)?;
-        put_pairs(buffer, channels, i, block);
-    }
-    Ok(())
-}
-
-// .. of two inputs at once, by a buffer for each
+// Puts the frames of two inputs into a block, from a place on: as many as either of two buffers has places for the
+// pairs of one input. Behind the end of an input they are zeros.
 fn fill_two<D: Disk>(
     alloc: Global,
     inputs: &mut [Input<D>],
@@ -104,8 +77,8 @@ fn fill_two<D: Disk>(
     Ok(())
 }
 
-// .. of as many inputs as there are
-fn fill_block<D: Disk>(
+// .. of as many inputs as there are: where they are not two, one after the other by the first buffer
+fn fill_pairs<D: Disk>(
     alloc: Global,
     inputs: &mut [Input<D>],
     place: u64,
@@ -124,10 +97,16 @@ fn fill_block<D: Disk>(
     ensures reads { ReadAll D.Disk inputs.old inputs.new }
     ensures asked { AsksEach D.state (bytes_from place (pairs_in buffer.old)) inputs.old inputs.new }
 {
-    if inputs.len() == 2 {
+    let channels = inputs.len();
+    if channels == 2 {
         return fill_two(alloc, inputs, place, buffer, second, block);
     }
-    fill_each(alloc, inputs, place, buffer, block)
+    for i in 0..channels {
+        let input = &mut inputs[i];
+        read_pairs(alloc, input, place, buffer)?;
+        put_pairs(buffer, channels, i, block);
+    }
+    Ok(())
 }
 
 // Puts the frames of inputs, from a place on, behind those of a file that is made: as many as either of two
@@ -162,7 +141,7 @@ fn pass_block<D: Disk, E: Disk, M: Making>(
     ensures unasked { AsksNothing E.state to.old to.new }
 {
     to.params().are_good();
-    fill_block(alloc, inputs, place, buffer, second, block)?;
+    fill_pairs(alloc, inputs, place, buffer, second, block)?;
     M::give_bytes(to, block)
 }
 

@@ -12,7 +12,7 @@ use Rattle.snd_interleave.proofs.Filling.{block_is}
 use Rattle.snd_interleave.proofs.Inputs.{all_unread, one_read, read_then, still_mono}
 use Rattle.snd_interleave.proofs.Numbers.{numbers_more}
 use Rattle.snd_interleave.proofs.PairNumbers.{block_pairs, channel_put, channels_kept, one_pair, pair_channel, pairs_counted, still_pairs}
-use Rattle.snd_interleave.proofs.passing.fill_each.Goals as goal
+use Rattle.snd_interleave.proofs.passing.fill_pairs.Goals as goal
 
 pub loop-i-init : goal.loop-i-init
 loop-i-init g c = record {

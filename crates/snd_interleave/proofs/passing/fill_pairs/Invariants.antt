@@ -7,7 +7,7 @@ use Rattle.snd_interleave.specs.Beside.{frame_at}
 use Rattle.snd_interleave.specs.Channels.{AreCalm, HoldAll, ReadAll}
 use Rattle.snd_interleave.specs.Interleave.{channels_in}
 use Rattle.snd_interleave.specs.Pairs.{ArePairs, pairs_in}
-use Rattle.snd_interleave.proofs.passing.fill_each.Given as goal
+use Rattle.snd_interleave.proofs.passing.fill_pairs.Given as goal
 
 abbrev pub invariant-loop-i : goal.invariant-loop-i
 invariant-loop-i g l = record {
