@@ -1,7 +1,8 @@
 """What the benches share: commands measured side by side, and one table of what was found.
 
 A command is a list of words, with the file that it reads, the file that it writes to, and one that it makes. Each runs once to
-warm up; then all of a group run in turn, as many times each, and the least and the middle of the times are taken."""
+warm up; then all of a group run in turn, as many times each, but one that takes more than four seconds twice, and the least and
+the middle of the times are taken."""
 import os
 import statistics
 import subprocess
@@ -9,6 +10,9 @@ import sys
 import time
 
 TRIES = int(os.environ.get("BENCH_TRIES", "9"))
+
+# the seconds from which on a command runs twice alone
+SLOW = 4
 
 
 def run(words, given="/dev/null", to="/dev/null", made=None):
@@ -35,9 +39,10 @@ def side_by_side(commands):
     """Measures commands by name, each (words, given, to, made): the least and the middle of the milliseconds, and the peak memory."""
     found = {name: [] for name in commands}
     peaks = {name: peak(*command) for name, command in commands.items()}
-    for _ in range(TRIES):
+    for turn in range(TRIES):
         for name, command in commands.items():
-            found[name].append(run(*command))
+            if turn < 2 or min(found[name]) < SLOW:
+                found[name].append(run(*command))
     return {name: (1000 * min(runs), 1000 * statistics.median(runs), peaks[name]) for name, runs in found.items()}
 
 
