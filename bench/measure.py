@@ -1,8 +1,9 @@
 """What the benches share: commands measured side by side, and one table of what was found.
 
 A command is a list of words, with the file that it reads, the file that it writes to, and one that it makes. Each runs once to
-warm up; then all of a group run in turn, as many times each, but one that takes more than four seconds twice, and the least and
-the middle of the times are taken."""
+warm up; then all of a group run in turn, as many times each, but one that takes more than four seconds once, and the least and
+the middle of the times are taken. Where a host's speed changes from minute to minute, a better figure is the middle of what a
+command takes by what another one took in the same turn."""
 import os
 import statistics
 import subprocess
@@ -11,7 +12,7 @@ import time
 
 TRIES = int(os.environ.get("BENCH_TRIES", "9"))
 
-# the seconds from which on a command runs twice alone
+# the seconds from which on a command runs once alone
 SLOW = 4
 
 
@@ -35,15 +36,33 @@ def peak(words, given="/dev/null", to="/dev/null", made=None):
         return int(file.read().split()[-1])
 
 
-def side_by_side(commands):
-    """Measures commands by name, each (words, given, to, made): the least and the middle of the milliseconds, and the peak memory."""
+def turns(commands, leave=True):
+    """Runs commands by name in turn, each (words, given, to, made), and gives the seconds of the runs of each. What one makes is
+    removed after each run where it is not left."""
     found = {name: [] for name in commands}
-    peaks = {name: peak(*command) for name, command in commands.items()}
     for turn in range(TRIES):
         for name, command in commands.items():
-            if turn < 2 or min(found[name]) < SLOW:
+            if turn == 0 or min(found[name]) < SLOW:
                 found[name].append(run(*command))
-    return {name: (1000 * min(runs), 1000 * statistics.median(runs), peaks[name]) for name, runs in found.items()}
+                if not leave:
+                    os.remove(command[3])
+    return found
+
+
+def times(runs):
+    """The least and the middle of seconds, in milliseconds."""
+    return 1000 * min(runs), 1000 * statistics.median(runs)
+
+
+def part(runs, others):
+    """The middle of what runs take by what others took in the same turn."""
+    return statistics.median(it / other for it, other in zip(runs, others))
+
+
+def side_by_side(commands):
+    """Measures commands by name, each (words, given, to, made): the least and the middle of the milliseconds, and the peak memory."""
+    peaks = {name: peak(*command) for name, command in commands.items()}
+    return {name: (*times(runs), peaks[name]) for name, runs in turns(commands).items()}
 
 
 def same(one, other):
