@@ -4,8 +4,8 @@ use Rattle.std.proofs.lemmas.List.{append-nil, drop_all, drop_more, get_or-map, 
 use Rattle.snd_fields.specs.Field.{number}
 use Rattle.snd_fields.specs.declared.field.Order.TheVariants.{Little}
 use Rattle.snd_pcm.specs.Pcm.{sample_bytes, samples, samples_bytes, value}
-use Rattle.snd_pcm.specs.declared.linear.Linear.TheVariants.{S16, S32}
-use Rattle.snd_pcm.proofs.Series.{get_or-samples, length-samples, write_all, write_step2, write_step4}
+use Rattle.snd_pcm.specs.declared.linear.Linear.TheVariants.{S16, S24, S32}
+use Rattle.snd_pcm.proofs.Series.{get_or-samples, length-samples, write_all, write_step2, write_step3, write_step4}
 
 -- ---- of bytes that stand for a number each
 
@@ -21,7 +21,7 @@ pub law_all : (f : ℕ → ℤ) (bytes into : List ℕ) (i : ℕ) → length int
     → take (2 * i) into ++ samples_bytes (S16 Little) (drop i (map f bytes)) ≡ into
 law_all f bytes into i room all = write_all (S16 Little) (map f bytes) into i (2 * i) (omega (arith, room, all)) (omega (arith, all, length-map bytes f))
 
--- ---- a loop that makes one thing of each sample: its number in another width, or the byte of a law
+-- ---- a loop that makes one thing of each sample
 
 pub number_step : {X : Type 0} (f : ℤ → X) (bytes : List ℕ) (into : List X) (i : ℕ) (x : X) → length bytes ≡ 2 * length into → i < length into
     → x ≡ f (value (S16 Little) (number Little bytes (2 * i) 2))
@@ -48,6 +48,25 @@ number_all {X = X} f bytes into i room all =
     ∙ append-nil (take i into) ∙ take_all i into all
 
 -- ---- of samples that become wider
+
+pub three_step : (f : ℤ → ℤ) (bytes into : List ℕ) (i a b c : ℕ) → length bytes % 2 ≡ 0 → 2 * length into ≡ 3 * length bytes → i < length bytes / 2
+    → a ∷ b ∷ c ∷ [] ≡ sample_bytes (S24 Little) (f (value (S16 Little) (number Little bytes (2 * i) 2)))
+    → take (3 * i) into ++ samples_bytes (S24 Little) (drop i (map f (samples (S16 Little) bytes))) ≡ samples_bytes (S24 Little) (map f (samples (S16 Little) bytes))
+    → take (3 * (i + 1)) (set (set (set into (3 * i) a) (3 * i + 1) b) (3 * i + 2) c) ++ samples_bytes (S24 Little) (drop (i + 1) (map f (samples (S16 Little) bytes)))
+    ≡ samples_bytes (S24 Little) (map f (samples (S16 Little) bytes))
+three_step f bytes into i a b c whole room lt is so_far =
+    let xs = samples (S16 Little) bytes in
+    let count : length (map f xs) ≡ length bytes / 2 = length-map xs f ∙ length-samples (S16 Little) bytes in
+    let within : i < length xs = omega (arith, lt, length-samples (S16 Little) bytes) in
+    write_step3 (S24 Little) (map f xs) into i a b c (omega (arith, whole, room, count)) (omega (arith, lt, count))
+    (is ∙ ap (λ (x : ℤ). sample_bytes (S24 Little) (f x)) (sym (get_or-samples (S16 Little) bytes i (pos 0) lt)) ∙ ap (sample_bytes (S24 Little)) (sym (get_or-map f xs i (pos 0) (pos 0) within))) so_far
+
+pub three_all : (f : ℤ → ℤ) (bytes into : List ℕ) (i : ℕ) → length bytes % 2 ≡ 0 → 2 * length into ≡ 3 * length bytes → length bytes / 2 ≤ i
+    → take (3 * i) into ++ samples_bytes (S24 Little) (drop i (map f (samples (S16 Little) bytes))) ≡ into
+three_all f bytes into i whole room all =
+    let xs = samples (S16 Little) bytes in
+    let count : length (map f xs) ≡ length bytes / 2 = length-map xs f ∙ length-samples (S16 Little) bytes in
+    write_all (S24 Little) (map f xs) into i (3 * i) (omega (arith, whole, room, all)) (omega (arith, all, count))
 
 pub wide_step : (f : ℤ → ℤ) (bytes into : List ℕ) (i a b c d : ℕ) → length bytes % 2 ≡ 0 → length into ≡ 2 * length bytes → i < length bytes / 2
     → a ∷ b ∷ c ∷ d ∷ [] ≡ sample_bytes (S32 Little) (f (value (S16 Little) (number Little bytes (2 * i) 2)))

@@ -1,2 +1,3 @@
 pub mod Factors
 pub mod Recoded
+pub mod Wider

@@ -65,7 +65,7 @@ pub fn recode(from: Fixed, to: Fixed, bytes: &[u8], numbers: &mut [i32], into: &
         (Fixed::Linear(Linear::S16(Order::Little)), Fixed::MuLaw) => linear_as_mulaw(bytes, into),
         (Fixed::Linear(Linear::S16(Order::Little)), Fixed::ALaw) => linear_as_alaw(bytes, into),
         (Fixed::Linear(Linear::S16(Order::Little)), Fixed::Linear(Linear::S24(Order::Little))) =>
-            widen_to_24(bytes, numbers, into),
+            widen_to_24(bytes, into),
         (Fixed::Linear(Linear::S16(Order::Little)), Fixed::Linear(Linear::S32(Order::Little))) =>
             widen_to_32(bytes, into),
         _ => recode_numbers(from, to, bytes, numbers, into),

@@ -1,15 +1,16 @@
 //! Linear samples of 16 bits as those of more.
-#![tactic(auto, using(crate::proofs::Loops::number_all, crate::proofs::Loops::number_step, crate::proofs::Loops::wide_all, crate::proofs::Loops::wide_step))]
+#![tactic(auto, using(crate::proofs::Loops::three_all, crate::proofs::Loops::three_step, crate::proofs::Loops::wide_all, crate::proofs::Loops::wide_step))]
 
-ghost use Rattle.std.specs.Prelude.{◌≡◌, ◌∷◌, [], ◌*◌, ◌%◌, length, map};
+ghost use Rattle.std.specs.Prelude.{◌≡◌, ◌∷◌, [], ◌+◌, ◌*◌, ◌/◌, ◌%◌, ◌<◌, ◌≤◌, length, map};
 ghost use Rattle.snd_fields.specs.declared.field.Order.TheVariants.{Little};
-ghost use Rattle.snd_pcm.specs.Pcm.{sample, sample_bytes, samples, samples_bytes};
+ghost use Rattle.snd_pcm.specs.Pcm.{sample, sample_bytes, samples, samples_bytes, value};
+ghost use Rattle.snd_fields.specs.Field.{number};
 ghost use Rattle.snd_pcm.specs.Width.{IsWidth, changed};
 ghost use Rattle.snd_pcm.specs.declared.linear.Linear.TheVariants.{S16, S24, S32};
+ghost use Rattle.snd_recode.specs.Wider.{ArePut};
 
 use crate::pair::number_in;
-use snd_fields::Order;
-use snd_pcm::{Linear, change_width, put_samples};
+use snd_pcm::change_width;
 
 // The number of a sample of 16 bits, in another width.
 #[inline(always)]
@@ -29,26 +30,71 @@ fn wide_bytes(width: u8, low: u8, high: u8) -> [u8; 4]
     number_of(width, low, high).to_le_bytes()
 }
 
-// The numbers of samples of 16 bits in another width. `bytes` holds as many samples as there are places.
-fn read_as(width: u8, bytes: &[u8], into: &mut [i32])
-    requires width { IsWidth width }
-    requires room { length bytes.now ≡ 2 * length into.old }
-    ensures { into.new ≡ map (changed 16 width) (samples (S16 Little) bytes.now) }
+// The bytes of a sample of 16 bits as those of one of 24.
+#[inline(always)]
+fn three_bytes(low: u8, high: u8) -> [u8; 3]
+    ensures { result ≡ sample_bytes (S24 Little) (changed 16 24 (sample (S16 Little) (low ∷ high ∷ []))) }
 {
-    for (i, number) in into.iter_mut().enumerate() {
-        *number = number_of(width, bytes[2 * i], bytes[2 * i + 1]);
+    [0, low, high]
+}
+
+// Puts three bytes, which are those of a sample of 24 bits, at its place.
+#[inline(always)]
+fn put_three(bytes: &[u8], i: usize, three: [u8; 3], into: &mut [u8])
+    requires whole { length bytes.now % 2 ≡ 0 }
+    requires room { 2 * length into.old ≡ 3 * length bytes.now }
+    requires within { i < length bytes.now / 2 }
+    requires are { three ≡ sample_bytes (S24 Little) (changed 16 24 (value (S16 Little) (number Little bytes.now (2 * i) 2))) }
+    requires so_far { ArePut i bytes.now into.old }
+    ensures { ArePut (i + 1) bytes.now into.new }
+{
+    let [lowest, low, high] = three;
+    into[3 * i] = lowest;
+    into[3 * i + 1] = low;
+    into[3 * i + 2] = high;
+}
+
+// Samples of 16 bits as those of 24, four at a time, as far as they go: all four are read before the first is put,
+// which lets the compiler move them at once.
+fn widen_fours(bytes: &[u8], into: &mut [u8])
+    requires whole { length bytes.now % 2 ≡ 0 }
+    requires room { 2 * length into.old ≡ 3 * length bytes.now }
+    ensures { ArePut (4 * (length bytes.now / 8)) bytes.now into.new }
+{
+    for i in 0..bytes.len() / 8 {
+        let (one, two, three, four) = (4 * i, 4 * i + 1, 4 * i + 2, 4 * i + 3);
+        let first = three_bytes(bytes[2 * one], bytes[2 * one + 1]);
+        let second = three_bytes(bytes[2 * two], bytes[2 * two + 1]);
+        let third = three_bytes(bytes[2 * three], bytes[2 * three + 1]);
+        let last = three_bytes(bytes[2 * four], bytes[2 * four + 1]);
+        put_three(bytes, one, first, into);
+        put_three(bytes, two, second, into);
+        put_three(bytes, three, third, into);
+        put_three(bytes, four, last, into);
     }
 }
 
-/// Samples of 16 bits as those of 24, the lowest byte first in both. `numbers` has a place for each sample,
-/// and `into` has just enough places.
-pub(crate) fn widen_to_24(bytes: &[u8], numbers: &mut [i32], into: &mut [u8])
-    requires numbers { length bytes.now ≡ 2 * length numbers.old }
-    requires room { length into.old ≡ 3 * length numbers.old }
+// .. and those from one on, one by one
+fn widen_rest(from: usize, bytes: &[u8], into: &mut [u8])
+    requires whole { length bytes.now % 2 ≡ 0 }
+    requires room { 2 * length into.old ≡ 3 * length bytes.now }
+    requires within { from ≤ length bytes.now / 2 }
+    requires so_far { ArePut from bytes.now into.old }
     ensures { into.new ≡ samples_bytes (S24 Little) (map (changed 16 24) (samples (S16 Little) bytes.now)) }
 {
-    read_as(24, bytes, numbers);
-    put_samples(Linear::S24(Order::Little), numbers, into);
+    for i in from..bytes.len() / 2 {
+        put_three(bytes, i, three_bytes(bytes[2 * i], bytes[2 * i + 1]), into);
+    }
+}
+
+/// Samples of 16 bits as those of 24, the lowest byte first in both. `into` has just enough places.
+pub(crate) fn widen_to_24(bytes: &[u8], into: &mut [u8])
+    requires whole { length bytes.now % 2 ≡ 0 }
+    requires room { 2 * length into.old ≡ 3 * length bytes.now }
+    ensures { into.new ≡ samples_bytes (S24 Little) (map (changed 16 24) (samples (S16 Little) bytes.now)) }
+{
+    widen_fours(bytes, into);
+    widen_rest(4 * (bytes.len() / 8), bytes, into);
 }
 
 /// Samples of 16 bits as those of 32, the lowest byte first in both. `into` has just enough places.
