@@ -5,7 +5,7 @@ ghost use Rattle.snd_disk.specs.Device.{AsksAtMost, GoesOnFrom, IsStable, OnlyRe
 ghost use Rattle.snd_blocks.specs.Frames.{has_bad};
 ghost use Rattle.snd_layout.specs.Blocks.{is_adpcm};
 ghost use Rattle.snd_layout.specs.Params.{data_bytes};
-ghost use Rattle.snd_layout.specs.Shape.{KeepsRule};
+ghost use Rattle.snd_layout.specs.Shape.{KeepsRule, end};
 ghost use Rattle.snd_patch.specs.Steps.{KeepsBeside, StillTells};
 ghost use Rattle.snd_modes.specs.Bytes.{AreWhole, bytes_behind, numbers_of};
 ghost use Rattle.snd_modes.specs.Calls.{AsksForFrames, CheckLeaves, CountsReading, ReadLeaves, SeekLeaves, count_read};
@@ -25,7 +25,7 @@ use crate::mode::{CanRead, Mode};
 use snd_blocks::BlockError;
 use snd_disk::Disk;
 use snd_layout::{Kind, Params};
-use snd_patch::seal;
+use snd_patch::{data_end, seal};
 
 impl<'d, D: Disk, M: Mode> File<'d, D, M> {
     /// How many frames the file holds.
@@ -40,6 +40,14 @@ impl<'d, D: Disk, M: Mode> File<'d, D, M> {
         ensures { result ≡ (known_of self.now).shape.params }
     {
         self.layout.params
+    }
+
+    /// The place in the file behind the data of its frames.
+    pub fn data_end(&self) -> u64
+        ensures { result ≡ end (known_of self.now).shape (known_of self.now).shape.frames }
+    {
+        self.layout.keeps_rule();
+        data_end(&self.layout, self.layout.frames)
     }
 
     /// The container that the file is.

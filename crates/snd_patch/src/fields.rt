@@ -16,8 +16,8 @@ use snd_container::{closing_bytes, data_bytes, inner_bytes, outer_bytes, side_by
 use snd_disk::{Disk, Failed, Step};
 use snd_layout::{Field, Layout};
 
-// The place behind the data of so many frames.
-pub(crate) fn data_end(layout: &Layout, frames: u64) -> u64
+/// The place behind the data of so many frames.
+pub fn data_end(layout: &Layout, frames: u64) -> u64
     requires { end layout.now frames < 2 ^ 63 }
     ensures { result ≡ end layout.now frames }
 {

@@ -7,5 +7,5 @@ pub mod laws;
 mod steps;
 mod update;
 
-pub use fields::put_closing;
+pub use fields::{data_end, put_closing};
 pub use update::{cut_behind, grow, seal, shrink};
