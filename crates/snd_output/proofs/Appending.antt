@@ -326,12 +326,12 @@ one_turn each j left k some is = elim (cases_lt left each) [
       omega (arith, whole, next, same, some)
 ]
 
-asked_more : (blocks : Bool) (per align each j left k : ℕ) → 1 ≤ each → k ≡ min each left
+asked_more : (blocks : Bool) (per align each j left k : ℕ) → 1 ≤ each → (blocks ≡ true → k ≡ min each left)
     → asked_as blocks per align each j left 1 + cond blocks ((k / per + 2) * align) (k * align) ≤ asked_as blocks per align each (j + k) (left - k) k
 asked_more true per align each j left k some is =
     let before = j / per + 2 * turns each j left 1 in
     let after = (j + k) / per + 2 * turns each (j + k) (left - k) k in
-    let fewer : before + (k / per + 2) ≤ after = omega (arith, div_sum per j k, one_turn each j left k some is) in
+    let fewer : before + (k / per + 2) ≤ after = omega (arith, div_sum per j k, one_turn each j left k some (is refl)) in
     let times : align * (before + (k / per + 2)) ≤ align * after = mul-le-mul_left align fewer in
     sums before (k / per + 2) after times
   where
@@ -359,8 +359,8 @@ asked_end false per align each n j left count within =
 pub asked_none : (p : Parameters) (each place left count asked : ℕ) → AtMost asked (asked_by p each (place - place) left count) asked
 asked_none p each place left count asked = record { later = omega arith; most = omega arith }
 
--- after what was asked for j frames, that for k more, by a file with the same parameters
-pub asked_on : (now : Known) (p : Parameters) (each j left k i old mid new : ℕ) → now.shape.params ≡ p → 1 ≤ each → k ≡ min each left → i ≡ j + k
+-- after what was asked for j frames, that for k more, by a file with the same parameters: in ADPCM as many as fit or are left
+pub asked_on : (now : Known) (p : Parameters) (each j left k i old mid new : ℕ) → now.shape.params ≡ p → 1 ≤ each → (is_adpcm p.codec ≡ true → k ≡ min each left) → i ≡ j + k
     → AtMost old (asked_by p each j left 1) mid → AtMost mid (bytes_to_read now.shape.params k) new → AtMost old (asked_by p each i (left - k) k) new
 asked_on now p each j left k i old mid new same some is sum before asked =
     let read : bytes_to_read now.shape.params k ≡ bytes_to_read p k = ap (λ (q : Parameters). bytes_to_read q k) same in
@@ -388,16 +388,6 @@ asked_all p each n j left count old new within asked =
   where
     most_by : (x z : ℕ) → x ≤ z → AtMost old x new → AtMost old z new
     most_by x z le was = record { later = was.later; most = omega (arith, le, was.most) }
-
--- which does not hang on the calls where there are no blocks
-pub asked_each : (p : Parameters) (each other n : ℕ) → (is_adpcm p.codec ≡ true → each ≡ other) → bytes_by_calls p each n ≡ bytes_by_calls p other n
-asked_each p each other n same = go (is_adpcm p.codec) refl
-  where
-    go : (b : Bool) → is_adpcm p.codec ≡ b → bytes_by_calls p each n ≡ bytes_by_calls p other n
-    go true is = ap (λ (m : ℕ). bytes_by_calls p m n) (same is)
-    go false is =
-        let plain : Bool → ℕ → ℕ = λ b m. cond b ((n / block_frames p.codec + 2 * (n / m + 2)) * block_align p.channels p.codec) (n * block_align p.channels p.codec) in
-        ap (λ (b : Bool). plain b each) is ∙ sym (ap (λ (b : Bool). plain b other) is)
 
 -- how many frames a block has places for, whose places are for whole ones
 pub each_whole : (n c : ℕ) → 1 ≤ c → (n - n % c) / c ≡ n / c

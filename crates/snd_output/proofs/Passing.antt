@@ -1,5 +1,5 @@
 -- Samples that pass from one file to another by their bytes.
-use Rattle.std.proofs.Common.{◌≡◌, ◌∙◌, ap, sym, subst, refl, ℕ, ◌+◌, ◌*◌, ◌/◌, ◌%◌, ◌<◌, ◌≤◌, ℤ, Bool, List, [], ◌++◌, All, Option, Some, length, take, min, true, false, arith}
+use Rattle.std.proofs.Common.{◌≡◌, ◌∙◌, ap, sym, subst, refl, ℕ, ◌+◌, ◌-◌, ◌*◌, ◌/◌, ◌%◌, ◌<◌, ◌≤◌, ℤ, Bool, List, [], ◌++◌, All, Option, Some, length, take, min, true, false, arith}
 use Rattle.std.proofs.Math.Nat.{mul-div_cancel, mul-le-mul_left, mul-le-mul_right, mul-mod_left}
 use Rattle.std.proofs.lemmas.Nat.{div-add-mod'}
 use Rattle.std.proofs.lemmas.List.{length-map, length-take-le, take_at}
@@ -37,7 +37,7 @@ use Rattle.snd_recode.proofs.Numbers.{all_same_width}
 use Rattle.snd_recode.proofs.Ranges.{recoded_fit}
 use Rattle.snd_output.specs.Appended.{HasRoom, IsAtEnd, MayAppend, MayGive, MayPass, Pass, bytes_in, coded_in, has_two_zeros, left_in, next_numbers}
 use Rattle.snd_output.specs.Widths.{change_numbers, width_of}
-use Rattle.snd_output.proofs.Appending.{block_numbers, count_fits, room_fewer}
+use Rattle.snd_output.proofs.Appending.{block_numbers, count_fits, div_sum, room_fewer}
 
 -- what has no blocks has a form, and its frames are blocks of one
 pub some_form : (codec : Codec) → is_adpcm codec ≡ false → (form : Fixed) × (fixed_of codec ≡ Some form)
@@ -158,6 +158,14 @@ places_fit p to m q align pass channels some whole fits is =
 pub held_places : (from to : Known) (m q align : ℕ) → Pass from.shape.params.codec to.shape.params.codec → q ≡ from.shape.params.channels → 1 ≤ q → m % q ≡ 0
     → m / q * align ≤ 16384 → align ≡ block_align from.shape.params.channels from.shape.params.codec → (m ≤ 16384) × (bytes_in to.shape.params.codec m ≤ 65536)
 held_places from to m q align pass channels some whole fits is = places_fit from.shape.params to.shape.params.codec m q align pass channels some whole fits is
+
+-- fewer places are for no more bytes
+pub fewer_held : (p m q align : ℕ) → p ≤ m → m / q * align ≤ 16384 → p / q * align ≤ 16384
+fewer_held p m q align fewer fits =
+    let rest : p + (m - p) ≡ m = omega (arith, fewer) in
+    let frames : p / q ≤ m / q = omega (arith, div_sum q p (m - p), ap (λ (i : ℕ). i / q) rest) in
+    let times : p / q * align ≤ m / q * align = mul-le-mul_right align frames in
+    omega (arith, times, fits)
 
 -- samples in blocks do not pass
 pub no_pass : (pass : Bool) (from to : Codec) → (IsTrue pass → Pass from to) → is_adpcm from ≡ true → pass ≡ false

@@ -2,7 +2,7 @@
 
 ghost use Rattle.std.specs.Prelude.{◌≡◌, ◌-◌, ◌*◌, ◌/◌, ◌%◌, ◌≤◌, IfOk, OnOk, false, length, true};
 ghost use Rattle.snd_disk.specs.Device.{GoesOnFrom, OnlyReadsOn};
-ghost use Rattle.snd_layout.specs.Blocks.{block_frames};
+ghost use Rattle.snd_layout.specs.Blocks.{block_frames, is_adpcm};
 ghost use Rattle.snd_modes.specs.Calls.{AsksForFrames, count_read};
 ghost use Rattle.snd_modes.specs.Handle.{StandsAfter, channels_of, codec_of, disk_of, known_of, loan_of};
 ghost use Rattle.snd_modes.specs.Editing.{frames_read, moved_by};
@@ -10,6 +10,7 @@ ghost use Rattle.snd_modes.specs.Outcomes.{AsksNothing, TellsOn};
 ghost use Rattle.snd_output.specs.Appended.{AsksForLeft, CountsFiles, FindsChanged, LeavesFiles, Lengthens, MayAppend, OnlyReadsIn, Pass, bytes_for, bytes_in, frames_ahead, left_in, next_count, next_frames, next_numbers, numbers_left};
 
 use crate::making::Making;
+use crate::pages::frames_first;
 use crate::samples::{give_passed, pass};
 use crate::steps::{read_some, read_some_bytes};
 use crate::stop::Stop;
@@ -53,6 +54,29 @@ fn places_of(places: usize, channels: usize, align: usize, pass: bool) -> usize
         return frames.min(MOST_BYTES / align) * channels;
     }
     frames * channels
+}
+
+// How many places the first block uses: as many as the others, or fewer, so that the later blocks end where the pages
+// of the file do that is given them.
+fn first_places<E: Disk, M: Making>(
+    to: &File<'_, E, M>,
+    places: usize,
+    channels: usize,
+    pass: bool,
+) -> usize
+    requires fixed { pass ≡ true → is_adpcm (codec_of to.now) ≡ false }
+    requires some { 1 ≤ channels }
+    requires one { channels ≤ places }
+    requires whole { places % channels ≡ 0 }
+    ensures one { channels ≤ result }
+    ensures fits { result ≤ places }
+    ensures whole { result % channels ≡ 0 }
+    ensures all { pass ≡ false → result ≡ places }
+{
+    if pass {
+        return frames_first(to, places / channels) * channels;
+    }
+    places
 }
 
 // How many bytes are held for so many places: those of their frames, where bytes pass.
@@ -149,9 +173,10 @@ fn append_block<D: Disk, E: Disk, M: Making>(
 /// Puts the frames that are left in one file, from the one to read next on, behind those of another, a
 /// block at a time. Where the codecs have numbers of different widths, each number is changed: a wider
 /// one is a multiple by a power of two, a narrower one is divided by it and rounded toward minus infinity.
-/// Samples pass by their bytes, but where either codec is ADPCM. What the block held is lost; it has places for
-/// one frame at least. It takes no memory, and asks the disk that is read for at most the bytes of the frames; in ADPCM for those of their
-/// blocks, and in each call for two more.
+/// Samples pass by their bytes, but where either codec is ADPCM; then the first block may be shorter than the
+/// others. What the block held is lost; it has places for one frame at least. It takes no memory, and asks the
+/// disk that is read for at most the bytes of the frames; in ADPCM for those of their blocks, and in each call
+/// for two more.
 ///
 /// The answer is `Fault` where a call of one of the two disks failed: from then on its file is broken; and
 /// `Changed` where a block of the file that is read is bad, so never where `check_blocks` passed them all and
@@ -179,15 +204,17 @@ pub fn append<D: Disk, E: Disk, M: Making>(
     let (_, wanted) = numbers_of(to);
     let pass = pass(codec, wanted);
     let align = usize::from(from.params().block_align());
-    let places = places_of(block.len(), channels, align, pass);
-    let whole = &mut block[..places];
+    let most = places_of(block.len(), channels, align, pass);
     let mut buffer = [0u8; MOST_BYTES];
-    let held = held_of(places, channels, align, pass);
-    let bytes = &mut buffer[..held];
     let mut coded = [0u8; MOST_CODED];
+    let mut places = first_places(to, most, channels, pass);
     let mut count = 1;
     while count > 0 {
+        let whole = &mut block[..places];
+        let held = held_of(places, channels, align, pass);
+        let bytes = &mut buffer[..held];
         count = append_block(from, to, whole, bytes, &mut coded, pass)?;
+        places = most;
     }
     Ok(())
 }

@@ -8,12 +8,12 @@ use Rattle.snd_modes.specs.Calls.{count_read}
 use Rattle.snd_modes.specs.Editing.{Editing, moved_by}
 use Rattle.snd_modes.specs.Handle.{Known, Stands, channels_of, codec_of, disk_of, known_of}
 use Rattle.snd_modes.specs.Reading.{bytes_of_frames, bytes_to_read}
-use Rattle.snd_output.specs.Appended.{MayAppend, Pass, bytes_for, bytes_in, left_in, next_numbers, read_on}
+use Rattle.snd_output.specs.Appended.{MayAppend, Pass, bytes_in, left_in, next_numbers, read_on}
 use Rattle.snd_output.specs.Made.{IsMaking}
 use Rattle.snd_output.specs.Widths.{change_numbers}
-use Rattle.snd_output.proofs.Appending.{all_numbers, asked_all, asked_before, asked_by, asked_each, asked_none, asked_on, bad_ahead, count_fits, each_whole, left_later, longer_as, longer_none, longer_then, may_go_on, moved_none, moved_twice, none_left, numbers_none, one_fits, numbers_twice, read_none, read_twice}
+use Rattle.snd_output.proofs.Appending.{all_numbers, asked_all, asked_before, asked_by, asked_none, asked_on, bad_ahead, count_fits, each_whole, left_later, longer_as, longer_none, longer_then, may_go_on, moved_none, moved_twice, none_left, numbers_none, one_fits, numbers_twice, read_none, read_twice}
 use Rattle.snd_layout.specs.Blocks.{block_align, is_adpcm}
-use Rattle.snd_output.proofs.Passing.{held_places, no_pass}
+use Rattle.snd_output.proofs.Passing.{fewer_held, held_places, no_pass}
 use Rattle.snd_output.proofs.Changing.{changed_as}
 use Rattle.snd_output.proofs.blocks.append.Goals as goal
 
@@ -25,12 +25,10 @@ loop-count-init g c =
     let n = length c.args.block.now in
     let q = c.numbers_of-channels.result.0 in
     let is : q ≡ channels_of c.args.from.now = c.numbers_of-channels.ensures.channels in
-    let m = c.places_of-places.result in
-    let places = c.places_of-places.ensures in
-    let size : length (take m c.args.block.now) ≡ m = length-take-le m c.args.block.now places.fits in
-    let room = λ (pass : c.pass-pass.result ≡ true). held_places from to m q c.from-align.result
-    (subst (λ (x : Codec). Pass x to.shape.params.codec) c.numbers_of-channels.ensures.codec (subst (Pass c.numbers_of-channels.result.1) c.numbers_of-wanted.ensures.codec (c.pass-pass.ensures pass)))
-    is c.numbers_of-channels.ensures.some places.whole (places.most pass) (search rules) in
+    let m = c.places_of-most.result in
+    let most = c.places_of-most.ensures in
+    let p = c.first_places-places.result in
+    let places = c.first_places-places.ensures in
     record {
       loan = refl;
       to_loan = refl;
@@ -47,22 +45,14 @@ loop-count-init g c =
       tells = search rules;
       time = search rules;
       to_asked = refl;
-      some = omega (arith, size, places.one, is);
-      whole = ap (λ (i : ℕ). i % channels_of c.args.from.now) size ∙ ap (λ (i : ℕ). m % i) (sym is) ∙ places.whole;
+      some = omega (arith, places.one, is);
+      below = omega (arith, places.fits, most.fits);
+      whole = ap (λ (i : ℕ). p % i) (sym is) ∙ places.whole;
       each = λ blocks.
-          let all : m ≡ n - n % q = places.all (no_pass c.pass-pass.result _ _ c.pass-pass.ensures (ap is_adpcm c.numbers_of-channels.ensures.codec ∙ blocks)) in
-          ap (λ (i : ℕ). i / channels_of c.args.from.now) (size ∙ all) ∙ ap (λ (i : ℕ). (n - n % i) / channels_of c.args.from.now) is
+          let none = no_pass c.pass-pass.result _ _ c.pass-pass.ensures (ap is_adpcm c.numbers_of-channels.ensures.codec ∙ blocks) in
+          ap (λ (i : ℕ). i / channels_of c.args.from.now) (places.all none ∙ most.all none) ∙ ap (λ (i : ℕ). (n - n % i) / channels_of c.args.from.now) is
           ∙ each_whole n (channels_of c.args.from.now) (omega (arith, is, c.numbers_of-channels.ensures.some));
-      held =
-          λ pass.
-          let align : c.from-align.result ≡ block_align from.shape.params.channels from.shape.params.codec = search rules in
-          let held : length (take c.held_of-held.result _) ≡ c.held_of-held.result = length-take-le c.held_of-held.result _ (omega (arith, c.held_of-held.ensures.most)) in
-          held ∙ c.held_of-held.ensures.value pass
-          ∙ ap (λ (i : ℕ). m / i * c.from-align.result) is
-          ∙ ap (λ (i : ℕ). i / channels_of c.args.from.now * c.from-align.result) (sym size)
-          ∙ ap (λ (a : ℕ). length (take m c.args.block.now) / channels_of c.args.from.now * a) align;
-      few = λ pass. omega (arith, size, (room pass).0);
-      fits = λ pass. omega (arith, ap (bytes_in (codec_of c.args.to.now)) size, (room pass).1);
+      held = λ pass. fewer_held p m q c.from-align.result places.fits (most.most pass);
       asked = asked_none from.shape.params _ from.place (left_in from) 1 _;
     }
 
@@ -78,14 +68,18 @@ loop-count-preserved g c =
     let count = c.in_ok-count.count in
     let j = now.place - first.place in
     let i = c.append_block.new.from.read_place - first.place in
-    let places = length c.loop-count.whole in
+    let block = c.loop-count.block in
+    let places = length (take c.loop-count.places block) in
+    let size : places ≡ c.loop-count.places = length-take-le c.loop-count.places block (omega (arith, inv.below, c.loop-count.auto.block)) in
+    let most = c.places_of-most.ensures in
+    let alike : c.numbers_of-channels.result.0 ≡ channels_of c.args.from.now = c.numbers_of-channels.ensures.channels in
     let here : now.place ≡ first.place + j = ap (λ (k : Known). k.place) inv.read in
     let frames : now.shape.frames ≡ first.shape.frames = ap (λ (k : Known). k.shape.frames) inv.read in
     let channels : now.shape.params.channels ≡ first.shape.params.channels = ap (λ (k : Known). k.shape.params.channels) inv.read in
     let next : c.append_block.new.from.read_place ≡ now.place + count_read places now = ap (λ (k : Known). k.place) one.left.0 in
     let sum : i ≡ j + count = omega (arith, here, next, one.count) in
     let some : 1 ≤ now.shape.params.channels = omega (arith, channels, c.numbers_of-channels.ensures.channels, c.numbers_of-channels.ensures.some) in
-    let fits = count_fits now places count some (ap (λ (n : ℕ). places % n) channels ∙ inv.whole) one.count in
+    let fits = count_fits now places count some (ap (λ (n : ℕ). places % n) channels ∙ ap (λ (n : ℕ). n % channels_of c.args.from.now) size ∙ inv.whole) one.count in
     let from_codec : codec_of c.loop-count.from ≡ codec_of c.args.from.now = ap (λ (k : Known). k.shape.params.codec) inv.read in
     let to_codec : codec_of c.loop-count.to ≡ codec_of c.args.to.now = ap (λ (s : Shape). s.params.codec) inv.written.shape in
     record {
@@ -95,7 +89,7 @@ loop-count-preserved g c =
       written = longer_as (j + count) i to_first to_new (sym sum) (longer_then j count to_first to_now to_new inv.written (longer_as (count_read places now) count to_now to_new (sym one.count) one.left.1));
       within = omega (arith, sum, fits.0, here, frames, inv.within);
       ended = λ none.
-          let gone : left_in now ≡ 0 = none_left now places count some (omega (arith, channels, inv.some)) one.count none in
+          let gone : left_in now ≡ 0 = none_left now places count some (omega (arith, channels, size, inv.some)) one.count none in
           omega (arith, sum, none, gone, here, frames, inv.within);
       stands = λ e stands. subst (λ (r : Editing). Stands g.D.Disk.state c.append_block.new.from r) (moved_twice j count i e sum) (one.stands (moved_by j e) (inv.stands e stands));
       lengthens = λ kind p pieces xs r e reads stands making.
@@ -115,16 +109,21 @@ loop-count-preserved g c =
       tells = search rules;
       time = goes_on_then _ _ _ _ _ _ inv.time one.time;
       to_asked = one.to_asked ∙ inv.to_asked;
-      some = omega (arith, c.append_block.auto.block, inv.some);
-      whole = ap (λ (n : ℕ). n % channels_of c.args.from.now) c.append_block.auto.block ∙ inv.whole;
-      each = λ blocks. ap (λ (n : ℕ). n / channels_of c.args.from.now) c.append_block.auto.block ∙ inv.each blocks;
-      held = λ pass. c.append_block.auto.bytes ∙ inv.held pass ∙ ap (λ (n : ℕ). bytes_for c.args.from.now n) (sym c.append_block.auto.block);
-      few = λ pass. omega (arith, c.append_block.auto.block, inv.few pass);
-      fits = λ pass. omega (arith, c.append_block.auto.coded, ap (bytes_in (codec_of c.args.to.now)) c.append_block.auto.block, inv.fits pass);
+      some = omega (arith, most.one, alike);
+      below = most.fits;
+      whole = ap (λ (i : ℕ). c.places_of-most.result % i) (sym alike) ∙ most.whole;
+      each = λ blocks.
+          let n = length c.args.block.now in
+          let none = no_pass c.pass-pass.result _ _ c.pass-pass.ensures (ap is_adpcm c.numbers_of-channels.ensures.codec ∙ blocks) in
+          ap (λ (i : ℕ). i / channels_of c.args.from.now) (most.all none) ∙ ap (λ (i : ℕ). (n - n % i) / channels_of c.args.from.now) alike
+          ∙ each_whole n (channels_of c.args.from.now) (omega (arith, alike, c.numbers_of-channels.ensures.some));
+      held = most.most;
       asked =
-          let each = places / channels_of c.args.from.now in
-          let many : 1 ≤ each = one_fits places (channels_of c.args.from.now) (omega (arith, c.numbers_of-channels.ensures.channels, c.numbers_of-channels.ensures.some)) inv.some in
-          let is : count ≡ min each (left_in now) = one.count ∙ ap (λ (n : ℕ). min (places / n) (left_in now)) channels in
+          let each = length c.args.block.now / channels_of c.args.from.now in
+          let many : 1 ≤ each = one_fits (length c.args.block.now) (channels_of c.args.from.now) (omega (arith, alike, c.numbers_of-channels.ensures.some)) c.requires.places in
+          let is : is_adpcm first.shape.params.codec ≡ true → count ≡ min each (left_in now) =
+          λ blocks. one.count ∙ ap (λ (n : ℕ). min (places / n) (left_in now)) channels ∙ ap (λ (n : ℕ). min (n / channels_of c.args.from.now) (left_in now)) size
+          ∙ ap (λ (n : ℕ). min n (left_in now)) (inv.each blocks) in
           let params : now.shape.params ≡ first.shape.params = ap (λ (k : Known). k.shape.params) inv.read in
           let begun = (g.D.Disk.state (disk_of c.args.from.now)).asked in
           let mid = (g.D.Disk.state (disk_of c.loop-count.from)).asked in
@@ -132,9 +131,8 @@ loop-count-preserved g c =
           let before = asked_before first.shape.params each j (left_in now) c.loop-count.count begun mid (omega (arith, c.loop-count-test.true)) inv.asked in
           let more = subst (λ (n : ℕ). AtMost mid (bytes_to_read now.shape.params n) end) (sym one.count) one.asked in
           let rest : left_in now - count ≡ left_in (known_of c.append_block.new.from) = (let e : left_in now - count ≡ now.shape.frames - (now.place + count_read places now) = omega (arith, one.count) in e) ∙ sym (ap left_in one.left.0) in
-          subst (λ (n : ℕ). AtMost begun (asked_by first.shape.params (n / channels_of c.args.from.now) i (left_in (known_of c.append_block.new.from)) count) end) (sym c.append_block.auto.block)
-          (subst (λ (n : ℕ). AtMost begun (asked_by first.shape.params each i n count) end) rest
-          (asked_on now first.shape.params each j (left_in now) count i begun mid end params many is sum before more));
+          subst (λ (n : ℕ). AtMost begun (asked_by first.shape.params each i n count) end) rest
+          (asked_on now first.shape.params each j (left_in now) count i begun mid end params many is sum before more);
     }
 
 pub append_block-requires-clause-may : goal.append_block-requires-clause-may
@@ -167,21 +165,18 @@ pub returns-clause-asked : goal.returns-clause-asked
 returns-clause-asked g c =
     let inv = c.loop-count.invariant in
     let first = known_of c.args.from.now in
-    let each = length c.loop-count.whole / channels_of c.args.from.now in
-    subst (λ (n : ℕ). AtMost (g.D.Disk.state (disk_of c.args.from.now)).asked n (g.D.Disk.state (disk_of c.loop-count.from)).asked)
-    (asked_each first.shape.params each (length c.args.block.now / channels_of c.args.from.now) (left_in first) inv.each)
-    (asked_all first.shape.params each (left_in first) ((known_of c.loop-count.from).place - first.place) (left_in (known_of c.loop-count.from)) c.loop-count.count _ _ inv.within inv.asked)
+    asked_all first.shape.params (length c.args.block.now / channels_of c.args.from.now) (left_in first) ((known_of c.loop-count.from).place - first.place) (left_in (known_of c.loop-count.from)) c.loop-count.count _ _ inv.within inv.asked
 
 pub returns-in_err-count-clause-left : goal.returns-in_err-count-clause-left
 returns-in_err-count-clause-left g c =
-    left_later (left_in (known_of c.args.from.now)) (count_read (length c.loop-count.whole) (known_of c.loop-count.from)) (known_of c.args.from.now) (known_of c.loop-count.from) (known_of c.append_block.new.from)
+    left_later (left_in (known_of c.args.from.now)) (count_read (length (take c.loop-count.places c.loop-count.block)) (known_of c.loop-count.from)) (known_of c.args.from.now) (known_of c.loop-count.from) (known_of c.append_block.new.from)
     (known_of c.args.to.now) (known_of c.loop-count.to) (known_of c.append_block.new.to) c.in_err-count.field-0.0 c.from_residual.result (search rules) (ap (λ (k : Known). k.shape) c.loop-count.invariant.read) c.in_err-count.ensures.left
 
 pub returns-in_err-count-clause-changed : goal.returns-in_err-count-clause-changed
 returns-in_err-count-clause-changed g c =
     let inv = c.loop-count.invariant in
     let j = (known_of c.loop-count.from).place - (known_of c.args.from.now).place in
-    let k = count_read (length c.loop-count.whole) (known_of c.loop-count.from) in
+    let k = count_read (length (take c.loop-count.places c.loop-count.block)) (known_of c.loop-count.from) in
     changed_as _ _ c.in_err-count.field-0.0 c.from_residual.result (search rules)
     (λ bad e stands. bad_ahead e.frames e.place j k (bad (moved_by j e) (inv.stands e stands))) c.in_err-count.ensures.changed
 
@@ -191,32 +186,68 @@ returns-in_err-count-clause-asked g c =
     let first = known_of c.args.from.now in
     let now = known_of c.loop-count.from in
     let j = now.place - first.place in
-    let places = length c.loop-count.whole in
+    let places = length (take c.loop-count.places c.loop-count.block) in
+    let size : places ≡ c.loop-count.places = length-take-le c.loop-count.places c.loop-count.block (omega (arith, inv.below, c.loop-count.auto.block)) in
     let k = count_read places now in
-    let each = places / channels_of c.args.from.now in
+    let each = length c.args.block.now / channels_of c.args.from.now in
     let here : now.place ≡ first.place + j = ap (λ (k : Known). k.place) inv.read in
     let frames : now.shape.frames ≡ first.shape.frames = ap (λ (k : Known). k.shape.frames) inv.read in
     let channels : now.shape.params.channels ≡ first.shape.params.channels = ap (λ (k : Known). k.shape.params.channels) inv.read in
     let params : now.shape.params ≡ first.shape.params = ap (λ (k : Known). k.shape.params) inv.read in
-    let many : 1 ≤ each = one_fits places (channels_of c.args.from.now) (omega (arith, c.numbers_of-channels.ensures.channels, c.numbers_of-channels.ensures.some)) inv.some in
-    let is : k ≡ min each (left_in now) = ap (λ (n : ℕ). min (places / n) (left_in now)) channels in
-    let few : k ≤ left_in now = omega (arith, is) in
+    let many : 1 ≤ each = one_fits (length c.args.block.now) (channels_of c.args.from.now) (omega (arith, c.numbers_of-channels.ensures.channels, c.numbers_of-channels.ensures.some)) c.requires.places in
+    let is : is_adpcm first.shape.params.codec ≡ true → k ≡ min each (left_in now) =
+    λ blocks. ap (λ (n : ℕ). min (places / n) (left_in now)) channels ∙ ap (λ (n : ℕ). min (n / channels_of c.args.from.now) (left_in now)) size ∙ ap (λ (n : ℕ). min n (left_in now)) (inv.each blocks) in
+    let few : k ≤ left_in now = omega arith in
     let before = asked_before first.shape.params each j (left_in now) c.loop-count.count _ _ (omega (arith, c.loop-count-test.true)) inv.asked in
     let asked = asked_on now first.shape.params each j (left_in now) k (j + k) _ _ _ params many is refl before c.in_err-count.ensures.asked in
-    subst (λ (n : ℕ). AtMost (g.D.Disk.state (disk_of c.args.from.now)).asked n (g.D.Disk.state (disk_of c.append_block.new.from)).asked)
-    (asked_each first.shape.params each (length c.args.block.now / channels_of c.args.from.now) (left_in first) inv.each)
-    (asked_all first.shape.params each (left_in first) (j + k) (left_in now - k) k _ _ (omega (arith, few, here, frames, inv.within)) asked)
+    asked_all first.shape.params each (left_in first) (j + k) (left_in now - k) k _ _ (omega (arith, few, here, frames, inv.within)) asked
 
 pub returns-in_err-count-clause-reads : goal.returns-in_err-count-clause-reads
 returns-in_err-count-clause-reads g c = only_reads_then _ _ _ _ _ _ _ _ _ c.loop-count.invariant.reads c.in_err-count.ensures.reads
 
 pub slice_bounds-whole-end : goal.slice_bounds-whole-end
-slice_bounds-whole-end g c = c.places_of-places.ensures.fits
+slice_bounds-whole-end g c = omega (arith, c.loop-count.invariant.below, c.loop-count.auto.block)
 
-pub slice_bounds-whole-end-2 : goal.slice_bounds-whole-end-2
-slice_bounds-whole-end-2 g c = sym (length-take-le c.places_of-places.result c.args.block.now c.places_of-places.ensures.fits)
+pub append_block-requires-clause-whole : goal.append_block-requires-clause-whole
+append_block-requires-clause-whole g c =
+    let inv = c.loop-count.invariant in
+    let block = c.loop-count.block in
+    let size = length-take-le c.loop-count.places block (omega (arith, inv.below, c.loop-count.auto.block)) in
+    ap (λ (k : Known). length (take c.loop-count.places block) % k.shape.params.channels) inv.read ∙ ap (λ (n : ℕ). n % channels_of c.args.from.now) size ∙ inv.whole
 
 pub append_block-requires-clause-held : goal.append_block-requires-clause-held
 append_block-requires-clause-held g c = λ pass.
-    let places = length c.loop-count.whole in
-    c.loop-count.invariant.held pass ∙ sym (ap (λ (k : Known). bytes_of_frames k.shape.params (places / k.shape.params.channels)) c.loop-count.invariant.read)
+    let inv = c.loop-count.invariant in
+    let block = c.loop-count.block in
+    let places = length (take c.loop-count.places block) in
+    let size : places ≡ c.loop-count.places = length-take-le c.loop-count.places block (omega (arith, inv.below, c.loop-count.auto.block)) in
+    let from = known_of c.args.from.now in
+    let align : c.from-align.result ≡ block_align from.shape.params.channels from.shape.params.codec = search rules in
+    let held : length (take c.held_of-held.result _) ≡ c.held_of-held.result = length-take-le c.held_of-held.result _ (omega (arith, c.held_of-held.ensures.most)) in
+    held ∙ c.held_of-held.ensures.value pass
+    ∙ ap (λ (i : ℕ). c.loop-count.places / i * c.from-align.result) c.numbers_of-channels.ensures.channels
+    ∙ ap (λ (i : ℕ). i / channels_of c.args.from.now * c.from-align.result) (sym size)
+    ∙ ap (λ (a : ℕ). places / channels_of c.args.from.now * a) align
+    ∙ sym (ap (λ (k : Known). bytes_of_frames k.shape.params (places / k.shape.params.channels)) inv.read)
+
+pub append_block-requires-clause-few : goal.append_block-requires-clause-few
+append_block-requires-clause-few g c = λ pass.
+    let inv = c.loop-count.invariant in
+    let size = length-take-le c.loop-count.places c.loop-count.block (omega (arith, inv.below, c.loop-count.auto.block)) in
+    let is = c.numbers_of-channels.ensures.channels in
+    let passes = subst (λ (x : Codec). Pass x (codec_of c.args.to.now)) c.numbers_of-channels.ensures.codec (subst (Pass c.numbers_of-channels.result.1) c.numbers_of-wanted.ensures.codec (c.pass-pass.ensures pass)) in
+    let room = held_places (known_of c.args.from.now) (known_of c.args.to.now) c.loop-count.places c.numbers_of-channels.result.0 c.from-align.result passes is c.numbers_of-channels.ensures.some
+    (ap (λ (i : ℕ). c.loop-count.places % i) is ∙ inv.whole) (inv.held pass) (search rules) in
+    omega (arith, size, room.0)
+
+pub append_block-requires-clause-fits : goal.append_block-requires-clause-fits
+append_block-requires-clause-fits g c = λ pass.
+    let inv = c.loop-count.invariant in
+    let size = length-take-le c.loop-count.places c.loop-count.block (omega (arith, inv.below, c.loop-count.auto.block)) in
+    let is = c.numbers_of-channels.ensures.channels in
+    let passes = subst (λ (x : Codec). Pass x (codec_of c.args.to.now)) c.numbers_of-channels.ensures.codec (subst (Pass c.numbers_of-channels.result.1) c.numbers_of-wanted.ensures.codec (c.pass-pass.ensures pass)) in
+    let room = held_places (known_of c.args.from.now) (known_of c.args.to.now) c.loop-count.places c.numbers_of-channels.result.0 c.from-align.result passes is c.numbers_of-channels.ensures.some
+    (ap (λ (i : ℕ). c.loop-count.places % i) is ∙ inv.whole) (inv.held pass) (search rules) in
+    let codec : codec_of c.loop-count.to ≡ codec_of c.args.to.now = ap (λ (s : Shape). s.params.codec) inv.written.shape in
+    let coded : length c.loop-count.coded ≡ 65536 = search rules in
+    omega (arith, ap (bytes_in (codec_of c.loop-count.to)) size, ap (λ (q : Codec). bytes_in q c.loop-count.places) codec, room.1, coded)

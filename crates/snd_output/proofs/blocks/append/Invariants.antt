@@ -1,10 +1,10 @@
-use Rattle.std.proofs.Common.{◌≡◌, ◌+◌, ◌-◌, ◌/◌, ◌%◌, ◌≤◌, length, min, true}
+use Rattle.std.proofs.Common.{◌≡◌, ◌+◌, ◌-◌, ◌*◌, ◌/◌, ◌%◌, ◌≤◌, length, min, true}
 use Rattle.snd_disk.specs.Device.{AsksAtMost, GoesOnFrom, OnlyReadsOn}
 use Rattle.snd_layout.specs.Blocks.{is_adpcm}
 use Rattle.snd_modes.specs.Editing.{moved_by}
 use Rattle.snd_modes.specs.Handle.{StandsAfter, channels_of, codec_of, disk_of, known_of, loan_of}
 use Rattle.snd_modes.specs.Outcomes.{AsksNothing, TellsOn}
-use Rattle.snd_output.specs.Appended.{IsLonger, Lengthens, bytes_for, bytes_in, left_in, next_numbers, read_on}
+use Rattle.snd_output.specs.Appended.{IsLonger, Lengthens, left_in, next_numbers, read_on}
 use Rattle.snd_output.proofs.Appending.{asked_by}
 use Rattle.snd_output.proofs.blocks.append.Given as goal
 
@@ -26,13 +26,12 @@ invariant-loop-count g l =
       tells : TellsOn g.E.Disk.state l.fn.to l.to;
       time : GoesOnFrom g.E.Disk.state g.E.Disk.left_between (disk_of l.fn.to) (disk_of l.to);
       to_asked : AsksNothing g.E.Disk.state l.fn.to l.to;
-      some : channels_of l.fn.from ≤ length l.whole;
-      whole : length l.whole % channels_of l.fn.from ≡ 0;
-      each : is_adpcm (codec_of l.fn.from) ≡ true → length l.whole / channels_of l.fn.from ≡ length l.fn.block / channels_of l.fn.from;
-      held : l.pass ≡ true → length l.bytes ≡ bytes_for l.fn.from (length l.whole);
-      few : l.pass ≡ true → length l.whole ≤ 16384;
-      fits : l.pass ≡ true → bytes_in (codec_of l.fn.to) (length l.whole) ≤ length l.coded;
-      asked : AsksAtMost g.D.Disk.state (asked_by (known_of l.fn.from).shape.params (length l.whole / channels_of l.fn.from) k (left_in (known_of l.from)) l.count) (disk_of l.fn.from) (disk_of l.from);
+      some : channels_of l.fn.from ≤ l.places;
+      below : l.places ≤ length l.fn.block;
+      whole : l.places % channels_of l.fn.from ≡ 0;
+      each : is_adpcm (codec_of l.fn.from) ≡ true → l.places / channels_of l.fn.from ≡ length l.fn.block / channels_of l.fn.from;
+      held : l.pass ≡ true → l.places / l.channels * l.align ≤ 16384;
+      asked : AsksAtMost g.D.Disk.state (asked_by (known_of l.fn.from).shape.params (length l.fn.block / channels_of l.fn.from) k (left_in (known_of l.from)) l.count) (disk_of l.fn.from) (disk_of l.from);
     }
 
 abbrev pub decreases-loop-count : goal.decreases-loop-count
