@@ -17,7 +17,7 @@ use snd_disk::Disk;
 use snd_inputs::Input;
 use snd_layout::Codec;
 use snd_modes::File;
-use snd_output::{Making, Stop, numbers_of};
+use snd_output::{Making, Stop, frames_first, numbers_of};
 use std::alloc::Global;
 
 /// The bytes that are held at once of each channel, and the numbers that they are.
@@ -47,37 +47,9 @@ pub(crate) fn are_pairs<D: Disk>(inputs: &[Input<D>], codec: Codec) -> bool
     true
 }
 
-// Puts the frames of two inputs into a block, from a place on: as many as either of two buffers has places for the
-// pairs of one input. Behind the end of an input they are zeros.
-fn fill_two<D: Disk>(
-    alloc: Global,
-    inputs: &mut [Input<D>],
-    place: u64,
-    left: &mut [u8],
-    right: &mut [u8],
-    block: &mut [u8],
-) -> Result<(), Stop>
-    requires two { length inputs.old ≡ 2 }
-    requires alike { length right.old ≡ length left.old }
-    requires mono { AreMono inputs.old }
-    requires pairs { AreAlike inputs.old }
-    requires whole { length left.old % 2 ≡ 0 }
-    requires size { length block.old ≡ length left.old * length inputs.old }
-    ensures filled { OnOk result (HasPairFrames D.state inputs.old place (pairs_in left.old) block.new) }
-    ensures faults { CountsInputs D.state inputs.old inputs.new result }
-    ensures unchanged { IsUnchanged result }
-    ensures reads { ReadAll D.Disk inputs.old inputs.new }
-    ensures asked { AsksEach D.state (bytes_from place (pairs_in left.old)) inputs.old inputs.new }
-{
-    let first = &mut inputs[0];
-    read_pairs(alloc, first, place, left)?;
-    let last = &mut inputs[1];
-    read_pairs(alloc, last, place, right)?;
-    join_pairs(left, right, block);
-    Ok(())
-}
-
-// .. of as many inputs as there are: where they are not two, one after the other by the first buffer
+// Puts the frames of inputs into a block, from a place on: as many as either of two buffers has places for the
+// pairs of one input. Behind the end of an input they are zeros. Two inputs are read into a buffer each and
+// joined at once; others pass one after the other by the first buffer.
 fn fill_pairs<D: Disk>(
     alloc: Global,
     inputs: &mut [Input<D>],
@@ -99,7 +71,12 @@ fn fill_pairs<D: Disk>(
 {
     let channels = inputs.len();
     if channels == 2 {
-        return fill_two(alloc, inputs, place, buffer, second, block);
+        let first = &mut inputs[0];
+        read_pairs(alloc, first, place, buffer)?;
+        let last = &mut inputs[1];
+        read_pairs(alloc, last, place, second)?;
+        join_pairs(buffer, second, block);
+        return Ok(());
     }
     for i in 0..channels {
         let input = &mut inputs[i];
@@ -145,8 +122,8 @@ fn pass_block<D: Disk, E: Disk, M: Making>(
     M::give_bytes(to, block)
 }
 
-// Puts all frames there, by a block that has places for those that are held at once. Its buffers stay out of
-// the stack frame in which numbers are put there.
+// Puts all frames there, by a block that has places for those that are held at once, fewer at first, as
+// `frames_first` says. Its buffers stay out of the stack frame in which numbers are put there.
 #[inline(never)]
 fn pass_all<D: Disk, E: Disk, M: Making>(
     alloc: Global,
@@ -175,9 +152,10 @@ fn pass_all<D: Disk, E: Disk, M: Making>(
     let (channels, _) = numbers_of(to);
     let mut buffer = [0u8; MOST_BYTES];
     let mut second = [0u8; MOST_BYTES];
+    let mut most = frames_first(to, MOST_PAIRS) as u64;
     let mut place = 0;
     while place < frames {
-        let count = (frames - place).min(MOST_PAIRS as u64) as usize;
+        let count = (frames - place).min(most) as usize;
         let pairs = &mut buffer[..2 * count];
         let whole = &mut block[..2 * count * channels];
         pass_block(
@@ -190,6 +168,7 @@ fn pass_all<D: Disk, E: Disk, M: Making>(
             whole,
         )?;
         place += count as u64;
+        most = MOST_PAIRS as u64;
     }
     Ok(())
 }

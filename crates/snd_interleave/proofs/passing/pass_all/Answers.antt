@@ -15,7 +15,7 @@ use Rattle.snd_interleave.proofs.Adding.{numbers_on, room_on}
 use Rattle.snd_interleave.proofs.Asking.{each_none, each_once, each_then_plain}
 use Rattle.snd_interleave.proofs.Counts.{adding_then, calm_itself, calm_then}
 use Rattle.snd_interleave.proofs.Inputs.{all_unread, hold_still, read_then, still_mono}
-use Rattle.snd_interleave.proofs.PairNumbers.{all_plain, still_pairs}
+use Rattle.snd_interleave.proofs.PairNumbers.{all_plain, pairs_plain, still_pairs}
 use Rattle.snd_interleave.proofs.passing.pass_all.Goals as goal
 
 pub loop-place-init : goal.loop-place-init
@@ -23,6 +23,8 @@ loop-place-init g c = record {
   loan = refl;
   known = longer_none (known_of c.args.to.now);
   within = omega arith;
+  some = omega (arith, c.frames_first-most.ensures);
+  few = omega (arith, c.frames_first-most.ensures);
   lengthens = λ kind p pieces xs es e hold stands making. (e, stands, subst (λ (l : List ℤ). IsMaking kind p pieces l e) (sym (append-nil xs)) making);
   calm = calm_itself g.D.Disk.state c.args.inputs.now;
   to_calm = refl;
@@ -32,6 +34,9 @@ loop-place-init g c = record {
   tells = search rules;
   time = search rules;
 }
+
+pub frames_first-most-requires-clause-fixed : goal.frames_first-most-requires-clause-fixed
+frames_first-most-requires-clause-fixed g c = pairs_plain (codec_of c.args.to.now) c.requires.pairs.pair
 
 pub pass_block-requires-clause-mono : goal.pass_block-requires-clause-mono
 pass_block-requires-clause-mono g c =
@@ -72,6 +77,8 @@ loop-place-preserved g c =
       loan = one.loan ∙ inv.loan;
       known = longer_as (n + k) (n + c.min-count.result) known (known_of c.pass_block.new.to) sum (longer_then n k known (known_of c.loop-place.to) (known_of c.pass_block.new.to) inv.known one.left);
       within = omega (arith, c.min-count.ensures, inv.within);
+      some = omega arith;
+      few = omega arith;
       lengthens = λ kind p pieces xs es e hold stands making.
           let channels = channels_in (codec_of c.args.to.now) es in
           let before = inv.lengthens kind p pieces xs es e hold stands making in

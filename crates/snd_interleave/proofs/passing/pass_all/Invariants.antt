@@ -12,6 +12,8 @@ invariant-loop-place g l = record {
   loan : loan_of l.to ≡ loan_of l.fn.to;
   known : IsLonger l.place (known_of l.fn.to) (known_of l.to);
   within : l.place ≤ l.frames;
+  some : 1 ≤ l.most;
+  few : l.most ≤ 8192;
   lengthens : Lengthens g.D.Disk.state g.E.Disk.state 0 l.place l.fn.inputs l.fn.to l.to;
   calm : AreCalm g.D.Disk.state l.fn.inputs l.inputs;
   to_calm : (g.E.Disk.state (disk_of l.to)).faults ≡ (g.E.Disk.state (disk_of l.fn.to)).faults;
