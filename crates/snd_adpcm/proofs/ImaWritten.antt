@@ -1,5 +1,6 @@
 -- The codes that the writing rule gives, two samples at a time.
-use Rattle.std.proofs.Common.{◌≡◌, ℕ, ℤ, suc, ◌+◌, ◌*◌, ◌/◌, ◌%◌, List, [], ◌∷◌, ◌++◌, length, get_or, refl, sym, ap, subst, ◌∙◌, append_assoc, arith}
+use Rattle.std.proofs.Common.{◌≡◌, ℕ, ℤ, suc, ◌+◌, ◌*◌, ◌/◌, ◌%◌, List, [], ◌∷◌, ◌++◌, length, get_or, set, take, ◌<◌, refl, sym, ap, subst, ◌∙◌, append_assoc, arith}
+use Rattle.std.proofs.lemmas.List.{take_more_set}
 use Rattle.snd_adpcm.specs.declared.ima.ImaState.{ImaState}
 use Rattle.snd_adpcm.specs.Frames.{bytes_low_half_first, firsts, seconds, fours}
 use Rattle.snd_adpcm.specs.Ima.{ima_code, ima_predictor, ima_index, ima_codes, ima_predictor_after, ima_index_after}
@@ -23,6 +24,13 @@ index_after-sample s t sample code samples f = rw (f.predictor, f.index) refl
 -- one more byte
 pub one_byte : (bytes new whole : List ℕ) (one two : ℕ) (codes rest : List ℕ) → new ≡ bytes ++ (one + 16 * two) ∷ [] → codes ≡ one ∷ two ∷ rest → bytes ++ bytes_low_half_first codes ≡ whole → new ++ bytes_low_half_first rest ≡ whole
 one_byte bytes new whole one two codes rest p q h = rw p (simp append_assoc (rw q at h))
+
+-- .. put at its place
+pub byte_put : (bytes new whole : List ℕ) (n byte one two : ℕ) (codes rest : List ℕ) → n < length bytes → byte ≡ one + 16 * two → new ≡ set bytes n byte → codes ≡ one ∷ two ∷ rest
+    → take n bytes ++ bytes_low_half_first codes ≡ whole → take (n + 1) new ++ bytes_low_half_first rest ≡ whole
+byte_put bytes new whole n byte one two codes rest within is put split so_far =
+    one_byte (take n bytes) (take (n + 1) new) whole one two codes rest
+    (ap (take (n + 1)) put ∙ take_more_set bytes n byte within ∙ ap (λ (b : ℕ). take n bytes ++ b ∷ []) is) split so_far
 
 -- the codes of a list in two parts
 pub ima_codes-append : (p : ℤ) (i : ℕ) (xs ys : List ℤ) → ima_codes p i (xs ++ ys) ≡ ima_codes p i xs ++ ima_codes (ima_predictor_after p i xs) (ima_index_after p i xs) ys

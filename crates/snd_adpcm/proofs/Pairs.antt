@@ -10,6 +10,18 @@ drop_two {X} xs n d lt =
     let next : 2 * n + 1 + 1 ≡ 2 * (n + 1) = omega arith in
     drop_more xs (2 * n) d (omega arith) ∙ ap (λ (rest : List X). get_or xs (2 * n) d ∷ rest) (drop_more xs (2 * n + 1) d lt ∙ ap (λ k. get_or xs (2 * n + 1) d ∷ drop k xs) next)
 
+-- .. and four
+pub drop_four : {X : Type 0} (xs : List X) (n : ℕ) (d : X) → 4 * n + 3 < length xs
+    → drop (4 * n) xs ≡ get_or xs (4 * n) d ∷ get_or xs (4 * n + 1) d ∷ get_or xs (4 * n + 2) d ∷ get_or xs (4 * n + 3) d ∷ drop (4 * (n + 1)) xs
+drop_four {X} xs n d lt =
+    let second : 4 * n + 1 + 1 ≡ 4 * n + 2 = omega arith in
+    let third : 4 * n + 2 + 1 ≡ 4 * n + 3 = omega arith in
+    let next : 4 * n + 3 + 1 ≡ 4 * (n + 1) = omega arith in
+    drop_more xs (4 * n) d (omega arith)
+    ∙ ap (λ (rest : List X). get_or xs (4 * n) d ∷ rest) (drop_more xs (4 * n + 1) d (omega arith) ∙ ap (λ k. get_or xs (4 * n + 1) d ∷ drop k xs) second
+    ∙ ap (λ (rest : List X). get_or xs (4 * n + 1) d ∷ rest) (drop_more xs (4 * n + 2) d (omega arith) ∙ ap (λ k. get_or xs (4 * n + 2) d ∷ drop k xs) third
+    ∙ ap (λ (rest : List X). get_or xs (4 * n + 2) d ∷ rest) (drop_more xs (4 * n + 3) d lt ∙ ap (λ k. get_or xs (4 * n + 3) d ∷ drop k xs) next)))
+
 -- a list of which a front of even length is told apart
 pub firsts-append : {X : Type 0} (xs ys : List X) → length xs % 2 ≡ 0 → firsts (xs ++ ys) ≡ firsts xs ++ firsts ys
 firsts-append [] ys even = refl

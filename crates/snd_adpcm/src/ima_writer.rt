@@ -85,18 +85,47 @@ fn put_head(first: i32, index: usize, into: &mut ArrayVec<u8, 8192>)
     into.push(0);
 }
 
-/// The samples of each channel in 8 frames of two.
-fn split_frames(frames: &[i32]) -> ([i32; 8], [i32; 8])
-    requires { length frames.now ≡ 16 }
-    ensures left { result.0 ≡ firsts frames.now }
-    ensures right { result.1 ≡ seconds frames.now }
+/// What 8 samples of a channel become: their bytes, two codes in each, and the place after them.
+#[derive(Clone, Copy)]
+struct Coded {
+    bytes: [u8; 4],
+    place: ImaPlace,
+}
+
+/// What 8 frames of two channels become. The channels are coded side by side: neither waits for the other, and the
+/// compiler can hold both in one register.
+fn encode_beside(frames: &[i32], first: ImaPlace, second: ImaPlace) -> (Coded, Coded)
+    requires eight { length frames.now ≡ 16 }
+    requires range { All Is16Bit frames.now }
+    ensures left { result.0.bytes ≡ ima_run first.state (firsts frames.now) }
+    ensures left_predictor { result.0.place.state.predictor ≡ ima_predictor_after first.state.predictor first.state.index (firsts frames.now) }
+    ensures left_index { result.0.place.state.index ≡ ima_end_index first.state (firsts frames.now) }
+    ensures right { result.1.bytes ≡ ima_run second.state (seconds frames.now) }
+    ensures right_predictor { result.1.place.state.predictor ≡ ima_predictor_after second.state.predictor second.state.index (seconds frames.now) }
+    ensures right_index { result.1.place.state.index ≡ ima_end_index second.state (seconds frames.now) }
 {
-    let mut left = [0; 8];
-    let mut right = [0; 8];
-    for n in 0..8 {
-        left[n] = frames[2 * n];
-        right[n] = frames[2 * n + 1];
+    let mut one = [0; 4];
+    let mut two = [0; 4];
+    let mut left = first;
+    let mut right = second;
+    for n in 0..4 {
+        let (low, middle) = left.encode(frames[4 * n]);
+        let (right_low, right_middle) = right.encode(frames[4 * n + 1]);
+        let (high, end) = middle.encode(frames[4 * n + 2]);
+        let (right_high, right_end) = right_middle.encode(frames[4 * n + 3]);
+        one[n] = (low + 16 * high) as u8;
+        two[n] = (right_low + 16 * right_high) as u8;
+        left = end;
+        right = right_end;
     }
+    let left = Coded {
+        bytes: one,
+        place: left,
+    };
+    let right = Coded {
+        bytes: two,
+        place: right,
+    };
     (left, right)
 }
 
@@ -114,14 +143,16 @@ fn encode_frames(
     ensures left { result.0.index ≡ ima_end_index first (firsts frames.now) }
     ensures right { result.1.index ≡ ima_end_index second (seconds frames.now) }
 {
-    let mut left = first;
-    let mut right = second;
+    let mut left = ImaPlace::of(first);
+    let mut right = ImaPlace::of(second);
     for n in 0..frames.len() / 16 {
-        let (left_samples, right_samples) = split_frames(&frames[16 * n..16 * n + 16]);
-        left = encode_run(&left_samples, left, into);
-        right = encode_run(&right_samples, right, into);
+        let (one, two) = encode_beside(&frames[16 * n..16 * n + 16], left, right);
+        into.try_extend_from_slice(&one.bytes).unwrap();
+        into.try_extend_from_slice(&two.bytes).unwrap();
+        left = one.place;
+        right = two.place;
     }
-    (left, right)
+    (left.state, right.state)
 }
 
 /// Puts a block of one channel, and gives its index after it.

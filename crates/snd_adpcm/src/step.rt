@@ -426,6 +426,9 @@ pub fn reached(step: u32, way: i32, target: i32) -> i32
     }
 }
 
+// An entry's number is made in 32 bits, as the code and the step have, so that the compiler can make those of two
+// channels at once.
+
 /// The change of the predictor by a code.
 #[inline]
 pub fn change_at(index: usize, code: u8) -> i32
@@ -435,7 +438,7 @@ pub fn change_at(index: usize, code: u8) -> i32
     ensures least { negsuc 65534 ≤ℤ result }
     ensures most { result ≤ℤ pos 65535 }
 {
-    CHANGES[16 * index + usize::from(code)]
+    CHANGES[(16 * index as u32 + u32::from(code)) as usize]
 }
 
 /// The index after a code, from 0 to 88.
@@ -445,7 +448,7 @@ pub fn next_index_at(index: usize, code: u32) -> usize
     requires code { code < 16 }
     ensures { result ≡ next_index 0 88 index code }
 {
-    usize::from(NEXT_INDICES[16 * index + code as usize])
+    usize::from(NEXT_INDICES[(16 * index as u32 + code) as usize])
 }
 
 /// The step size after a code.
@@ -456,5 +459,5 @@ pub fn next_step_at(index: usize, code: u32) -> u32
     ensures value { result ≡ step_size (next_index 0 88 index code) }
     ensures most { result ≤ 32767 }
 {
-    u32::from(NEXT_STEPS[16 * index + code as usize])
+    u32::from(NEXT_STEPS[(16 * index as u32 + code) as usize])
 }

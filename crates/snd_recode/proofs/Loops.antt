@@ -1,10 +1,12 @@
 -- Loops that put the bytes of samples, each made of one byte or of one sample.
-use Rattle.std.proofs.Common.{◌≡◌, ◌∙◌, ap, sym, ℕ, ◌+◌, ◌*◌, ◌/◌, ◌%◌, ◌<◌, ◌≤◌, ℤ, pos, List, [], ◌∷◌, ◌++◌, length, get_or, set, take, drop, map, append_assoc, arith}
+use Rattle.std.proofs.Common.{◌≡◌, ◌∙◌, ap, sym, suc, ℕ, ◌+◌, ◌*◌, ◌/◌, ◌%◌, ◌<◌, ◌≤◌, ℤ, pos, List, [], ◌∷◌, ◌++◌, length, get_or, set, take, drop, map, append_assoc, arith}
 use Rattle.std.proofs.lemmas.List.{append-nil, drop_all, drop_more, get_or-map, length-map, take_all, take_more_set}
 use Rattle.snd_fields.specs.Field.{number}
 use Rattle.snd_fields.specs.declared.field.Order.TheVariants.{Little}
-use Rattle.snd_pcm.specs.Pcm.{sample_bytes, samples, samples_bytes, value}
+use Rattle.snd_pcm.specs.Pcm.{sample, sample_bytes, samples, samples_bytes, value}
+use Rattle.snd_pcm.specs.Width.{changed}
 use Rattle.snd_pcm.specs.declared.linear.Linear.TheVariants.{S16, S24, S32}
+use Rattle.snd_recode.specs.Wider.{ArePut}
 use Rattle.snd_pcm.proofs.Series.{get_or-samples, length-samples, write_all, write_step2, write_step3, write_step4}
 
 -- ---- of bytes that stand for a number each
@@ -86,3 +88,15 @@ wide_all f bytes into i whole room all =
     let xs = samples (S16 Little) bytes in
     let count : length (map f xs) ≡ length bytes / 2 = length-map xs f ∙ length-samples (S16 Little) bytes in
     write_all (S32 Little) (map f xs) into i (4 * i) (omega (arith, whole, room, all)) (omega (arith, all, count))
+
+-- three bytes that are those of a sample, put at its place
+pub three_put : (bytes into new three : List ℕ) (i next : ℕ) → next ≡ i + 1 → length bytes % 2 ≡ 0 → 2 * length into ≡ 3 * length bytes → i < length bytes / 2
+    → three ≡ sample_bytes (S24 Little) (changed 16 24 (sample (S16 Little) (get_or bytes (2 * i) 0 ∷ get_or bytes (2 * i + 1) 0 ∷ [])))
+    → new ≡ set (set (set into (3 * i) (get_or three 0 0)) (3 * i + 1) (get_or three 1 0)) (3 * i + 2) (get_or three 2 0)
+    → ArePut i bytes into → ArePut next bytes new
+three_put bytes into new three i next by_one whole room lt is put so_far =
+    let second : 2 * i + 1 ≡ suc (2 * i) = omega arith in
+    let bytes_are : get_or three 0 0 ∷ get_or three 1 0 ∷ get_or three 2 0 ∷ [] ≡ sample_bytes (S24 Little) (changed 16 24 (value (S16 Little) (number Little bytes (2 * i) 2))) =
+    ap (λ (l : List ℕ). get_or l 0 0 ∷ get_or l 1 0 ∷ get_or l 2 0 ∷ []) is
+    ∙ ap (λ (j : ℕ). sample_bytes (S24 Little) (changed 16 24 (sample (S16 Little) (get_or bytes (2 * i) 0 ∷ get_or bytes j 0 ∷ [])))) second in
+    rw (by_one, put) (three_step (changed 16 24) bytes into i _ _ _ whole room lt bytes_are so_far)

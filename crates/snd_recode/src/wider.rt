@@ -1,33 +1,23 @@
 //! Linear samples of 16 bits as those of more.
 #![tactic(auto, using(crate::proofs::Loops::three_all, crate::proofs::Loops::three_step, crate::proofs::Loops::wide_all, crate::proofs::Loops::wide_step))]
 
-ghost use Rattle.std.specs.Prelude.{◌≡◌, ◌∷◌, [], ◌+◌, ◌*◌, ◌/◌, ◌%◌, ◌<◌, ◌≤◌, length, map};
+ghost use Rattle.std.specs.Prelude.{◌≡◌, ◌∷◌, [], ◌+◌, ◌*◌, ◌/◌, ◌%◌, ◌<◌, ◌≤◌, get_or, length, map, set};
 ghost use Rattle.snd_fields.specs.declared.field.Order.TheVariants.{Little};
-ghost use Rattle.snd_pcm.specs.Pcm.{sample, sample_bytes, samples, samples_bytes, value};
-ghost use Rattle.snd_fields.specs.Field.{number};
-ghost use Rattle.snd_pcm.specs.Width.{IsWidth, changed};
+ghost use Rattle.snd_pcm.specs.Pcm.{sample, sample_bytes, samples, samples_bytes};
+ghost use Rattle.snd_pcm.specs.Width.{changed};
 ghost use Rattle.snd_pcm.specs.declared.linear.Linear.TheVariants.{S16, S24, S32};
 ghost use Rattle.snd_recode.specs.Wider.{ArePut};
 
 use crate::pair::number_in;
 use snd_pcm::change_width;
 
-// The number of a sample of 16 bits, in another width.
-#[inline(always)]
-fn number_of(width: u8, low: u8, high: u8) -> i32
-    requires { IsWidth width }
-    ensures { result ≡ changed 16 width (sample (S16 Little) (low ∷ high ∷ [])) }
-{
-    change_width(16, width, i32::from(number_in(low, high)))
-}
-
-// Its bytes, where that has 32.
+// The bytes of a sample of 16 bits, in a width that has 32.
 #[inline(always)]
 fn wide_bytes(width: u8, low: u8, high: u8) -> [u8; 4]
     requires { width ≡ 32 }
     ensures { result ≡ sample_bytes (S32 Little) (changed 16 32 (sample (S16 Little) (low ∷ high ∷ []))) }
 {
-    number_of(width, low, high).to_le_bytes()
+    change_width(16, width, i32::from(number_in(low, high))).to_le_bytes()
 }
 
 // The bytes of a sample of 16 bits as those of one of 24.
@@ -38,20 +28,15 @@ fn three_bytes(low: u8, high: u8) -> [u8; 3]
     [0, low, high]
 }
 
-// Puts three bytes, which are those of a sample of 24 bits, at its place.
+// Puts three bytes at the place of a sample of 24 bits.
 #[inline(always)]
-fn put_three(bytes: &[u8], i: usize, three: [u8; 3], into: &mut [u8])
-    requires whole { length bytes.now % 2 ≡ 0 }
-    requires room { 2 * length into.old ≡ 3 * length bytes.now }
-    requires within { i < length bytes.now / 2 }
-    requires are { three ≡ sample_bytes (S24 Little) (changed 16 24 (value (S16 Little) (number Little bytes.now (2 * i) 2))) }
-    requires so_far { ArePut i bytes.now into.old }
-    ensures { ArePut (i + 1) bytes.now into.new }
+fn put_three(into: &mut [u8], i: usize, three: [u8; 3])
+    requires { 3 * i + 2 < length into.old }
+    ensures { into.new ≡ set (set (set into.old (3 * i) (get_or three 0 0)) (3 * i + 1) (get_or three 1 0)) (3 * i + 2) (get_or three 2 0) }
 {
-    let [lowest, low, high] = three;
-    into[3 * i] = lowest;
-    into[3 * i + 1] = low;
-    into[3 * i + 2] = high;
+    into[3 * i] = three[0];
+    into[3 * i + 1] = three[1];
+    into[3 * i + 2] = three[2];
 }
 
 // Samples of 16 bits as those of 24, four at a time, as far as they go: all four are read before the first is put,
@@ -67,10 +52,10 @@ fn widen_fours(bytes: &[u8], into: &mut [u8])
         let second = three_bytes(bytes[2 * two], bytes[2 * two + 1]);
         let third = three_bytes(bytes[2 * three], bytes[2 * three + 1]);
         let last = three_bytes(bytes[2 * four], bytes[2 * four + 1]);
-        put_three(bytes, one, first, into);
-        put_three(bytes, two, second, into);
-        put_three(bytes, three, third, into);
-        put_three(bytes, four, last, into);
+        put_three(into, one, first);
+        put_three(into, two, second);
+        put_three(into, three, third);
+        put_three(into, four, last);
     }
 }
 
@@ -83,7 +68,7 @@ fn widen_rest(from: usize, bytes: &[u8], into: &mut [u8])
     ensures { into.new ≡ samples_bytes (S24 Little) (map (changed 16 24) (samples (S16 Little) bytes.now)) }
 {
     for i in from..bytes.len() / 2 {
-        put_three(bytes, i, three_bytes(bytes[2 * i], bytes[2 * i + 1]), into);
+        put_three(into, i, three_bytes(bytes[2 * i], bytes[2 * i + 1]));
     }
 }
 

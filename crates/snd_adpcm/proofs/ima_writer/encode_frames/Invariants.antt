@@ -6,12 +6,12 @@ use Rattle.snd_adpcm.proofs.ima_writer.encode_frames.Given as goal
 abbrev pub invariant-loop-n : goal.invariant-loop-n
 invariant-loop-n l = record {
   so_far : l.into.items ++ fours
-      (bytes_low_half_first (ima_codes l.left.predictor l.left.index (firsts (drop (16 * l.n) l.frames))))
-      (bytes_low_half_first (ima_codes l.right.predictor l.right.index (seconds (drop (16 * l.n) l.frames))))
+      (bytes_low_half_first (ima_codes l.left.state.predictor l.left.state.index (firsts (drop (16 * l.n) l.frames))))
+      (bytes_low_half_first (ima_codes l.right.state.predictor l.right.state.index (seconds (drop (16 * l.n) l.frames))))
       ≡ l.initial.into.items ++ fours
-      (bytes_low_half_first (ima_codes l.initial.left.predictor l.initial.left.index (firsts l.frames)))
-      (bytes_low_half_first (ima_codes l.initial.right.predictor l.initial.right.index (seconds l.frames)));
+      (bytes_low_half_first (ima_codes l.fn.first.predictor l.fn.first.index (firsts l.frames)))
+      (bytes_low_half_first (ima_codes l.fn.second.predictor l.fn.second.index (seconds l.frames)));
   count : length l.into.items ≡ length l.initial.into.items + 8 * l.n;
-  left : ima_index_after l.left.predictor l.left.index (firsts (drop (16 * l.n) l.frames)) ≡ ima_index_after l.initial.left.predictor l.initial.left.index (firsts l.frames);
-  right : ima_index_after l.right.predictor l.right.index (seconds (drop (16 * l.n) l.frames)) ≡ ima_index_after l.initial.right.predictor l.initial.right.index (seconds l.frames);
+  left : ima_index_after l.left.state.predictor l.left.state.index (firsts (drop (16 * l.n) l.frames)) ≡ ima_index_after l.fn.first.predictor l.fn.first.index (firsts l.frames);
+  right : ima_index_after l.right.state.predictor l.right.state.index (seconds (drop (16 * l.n) l.frames)) ≡ ima_index_after l.fn.second.predictor l.fn.second.index (seconds l.frames);
 }
