@@ -1,6 +1,9 @@
 -- Loops that put the bytes of samples, each made of one byte or of one sample.
-use Rattle.std.proofs.Common.{◌≡◌, ◌∙◌, ap, sym, suc, ℕ, ◌+◌, ◌*◌, ◌/◌, ◌%◌, ◌<◌, ◌≤◌, ℤ, pos, List, [], ◌∷◌, ◌++◌, length, get_or, set, take, drop, map, append_assoc, arith}
-use Rattle.std.proofs.lemmas.List.{append-nil, drop_all, drop_more, get_or-map, length-map, take_all, take_more_set}
+use Rattle.std.proofs.Common.{◌≡◌, ◌∙◌, ap, subst, sym, suc, ℕ, ◌+◌, ◌-◌, ◌*◌, ◌/◌, ◌%◌, ◌<◌, ◌≤◌, ℤ, pos, List, [], ◌∷◌, ◌++◌, length, get_or, set, take, drop, map, append_assoc, arith}
+use Rattle.std.proofs.lemmas.Grind.{flat_map-append}
+use Rattle.std.proofs.lemmas.List.{append-nil, drop-drop, drop_all, drop_more, get_or-map, length-drop, length-map, map-append, take-append-drop, take_all, take_more_set}
+use Rattle.std.proofs.lemmas.Slice.{take-put_mid}
+use borrow.Rule.Slice.PartMut.{put_mid}
 use Rattle.snd_fields.specs.Field.{number}
 use Rattle.snd_fields.specs.declared.field.Order.TheVariants.{Little}
 use Rattle.snd_pcm.specs.Pcm.{sample, sample_bytes, samples, samples_bytes, value}
@@ -22,6 +25,42 @@ law_step f bytes into i a b room lt is so_far =
 pub law_all : (f : ℕ → ℤ) (bytes into : List ℕ) (i : ℕ) → length into ≡ 2 * length bytes → length bytes ≤ i
     → take (2 * i) into ++ samples_bytes (S16 Little) (drop i (map f bytes)) ≡ into
 law_all f bytes into i room all = write_all (S16 Little) (map f bytes) into i (2 * i) (omega (arith, room, all)) (omega (arith, all, length-map bytes f))
+
+-- ---- of pieces of such bytes
+
+-- the bytes of a piece's samples, before those of all that follow it
+parted : (f : ℕ → ℤ) (bytes : List ℕ) (from to : ℕ) → from ≤ to
+    → samples_bytes (S16 Little) (map f (take (to - from) (drop from bytes))) ++ samples_bytes (S16 Little) (map f (drop to bytes)) ≡ samples_bytes (S16 Little) (map f (drop from bytes))
+unfolding samples_bytes
+parted f bytes from to le =
+    let piece = take (to - from) (drop from bytes) in
+    let sum : from + (to - from) ≡ to = omega (arith, le) in
+    let behind : drop to bytes ≡ drop (to - from) (drop from bytes) = sym (drop-drop (to - from) from bytes ∙ ap (λ (n : ℕ). drop n bytes) sum) in
+    sym (flat_map-append (sample_bytes (S16 Little)) (map f piece) (map f (drop to bytes)))
+    ∙ ap (samples_bytes (S16 Little)) (sym (map-append f piece (drop to bytes))
+    ∙ ap (map f) (ap (λ (l : List ℕ). piece ++ l) behind ∙ take-append-drop (to - from) (drop from bytes)))
+
+pub piece_step : (f : ℕ → ℤ) (bytes into new : List ℕ) (from to k : ℕ) → length into ≡ 2 * length bytes → from ≤ to → to ≤ length bytes → 2 * to ≡ 2 * from + length new
+    → new ≡ samples_bytes (S16 Little) (map f (take (to - from) (drop from bytes)))
+    → take (2 * from) into ++ samples_bytes (S16 Little) (map f (drop from bytes)) ≡ samples_bytes (S16 Little) (map f bytes)
+    → take (2 * to) (put_mid (2 * from) k into new) ++ samples_bytes (S16 Little) (map f (drop to bytes)) ≡ samples_bytes (S16 Little) (map f bytes)
+piece_step f bytes into new from to k room le within size is so_far =
+    let rest = samples_bytes (S16 Little) (map f (drop to bytes)) in
+    ap (λ (l : List ℕ). l ++ rest) (take-put_mid (2 * from) k into new (2 * to) size (omega (arith, room, le, within)))
+    ∙ append_assoc (take (2 * from) into) new rest
+    ∙ ap (λ (l : List ℕ). take (2 * from) into ++ l) (ap (λ (l : List ℕ). l ++ rest) is ∙ parted f bytes from to le)
+    ∙ so_far
+
+-- .. and the last piece
+pub piece_all : (f : ℕ → ℤ) (bytes into new : List ℕ) (from done : ℕ) → done ≡ from → new ≡ samples_bytes (S16 Little) (map f (take (length bytes - from) (drop from bytes)))
+    → take (2 * done) into ++ samples_bytes (S16 Little) (map f (drop done bytes)) ≡ samples_bytes (S16 Little) (map f bytes)
+    → put_mid (2 * from) (length into - 2 * from) into new ≡ samples_bytes (S16 Little) (map f bytes)
+piece_all f bytes into new from done same is so_far =
+    let behind = drop_all (length into - 2 * from) (drop (2 * from) into) (omega (arith, length-drop (2 * from) into)) in
+    let whole = take_all (length bytes - from) (drop from bytes) (omega (arith, length-drop from bytes)) in
+    ap (λ (l : List ℕ). take (2 * from) into ++ l)
+    (ap (λ (l : List ℕ). new ++ l) behind ∙ append-nil new ∙ is ∙ ap (λ (l : List ℕ). samples_bytes (S16 Little) (map f l)) whole)
+    ∙ subst (λ (n : ℕ). take (2 * n) into ++ samples_bytes (S16 Little) (map f (drop n bytes)) ≡ samples_bytes (S16 Little) (map f bytes)) same so_far
 
 -- ---- a loop that makes one thing of each sample
 

@@ -11,8 +11,8 @@ ghost use Rattle.snd_recode.specs.Factors.{mulaw_factor};
 use crate::pair::{nothing, number_in};
 use snd_g711::mulaw_encode;
 
-/// The most bytes that are read at a time.
-const MOST: usize = 16384;
+/// How many bytes are read at a time. Few, and a number that the compiler knows: it then unrolls the two loops.
+const PIECE: usize = 128;
 
 // How many times the steps of the first segment go into those of a byte's.
 #[inline(always)]
@@ -23,6 +23,7 @@ fn factor_of(byte: u8) -> u8
 }
 
 // That of each byte. Alone in a loop, sixteen of them are looked up at once.
+#[inline(always)]
 fn put_factors(bytes: &[u8], factors: &mut [u8])
     requires { length factors.old ≡ length bytes.now }
     ensures { factors.new ≡ map mulaw_factor bytes.now }
@@ -47,6 +48,7 @@ fn code_of(byte: u8, factor: u8) -> u16
 }
 
 // The bytes of the values.
+#[inline(always)]
 fn put_values(bytes: &[u8], factors: &[u8], into: &mut [u8])
     requires factors { factors.now ≡ map mulaw_factor bytes.now }
     requires room { length into.old ≡ 2 * length bytes.now }
@@ -59,6 +61,17 @@ fn put_values(bytes: &[u8], factors: &[u8], into: &mut [u8])
     }
 }
 
+// The bytes of the values, with a room for the factors.
+#[inline(always)]
+fn put_piece(bytes: &[u8], factors: &mut [u8], into: &mut [u8])
+    requires factors { length factors.old ≡ length bytes.now }
+    requires room { length into.old ≡ 2 * length bytes.now }
+    ensures { into.new ≡ samples_bytes (S16 Little) (map mulaw_value bytes.now) }
+{
+    put_factors(bytes, factors);
+    put_values(bytes, factors, into);
+}
+
 /// The values of at most 16384 mu-law bytes as linear samples of 16 bits, the lowest byte first. `into` has
 /// just enough places.
 pub(crate) fn mulaw_as_linear(bytes: &[u8], into: &mut [u8])
@@ -66,10 +79,18 @@ pub(crate) fn mulaw_as_linear(bytes: &[u8], into: &mut [u8])
     requires room { length into.old ≡ 2 * length bytes.now }
     ensures { into.new ≡ samples_bytes (S16 Little) (map mulaw_value bytes.now) }
 {
-    let mut room = [0u8; MOST];
-    let factors = &mut room[..bytes.len()];
-    put_factors(bytes, factors);
-    put_values(bytes, factors, into);
+    let mut factors = [0u8; PIECE];
+    let whole = bytes.len() / PIECE;
+    for i in 0..whole {
+        let (from, to) = (PIECE * i, PIECE * (i + 1));
+        put_piece(&bytes[from..to], &mut factors, &mut into[2 * from..2 * to]);
+    }
+    let rest = PIECE * whole;
+    put_piece(
+        &bytes[rest..],
+        &mut factors[..bytes.len() - rest],
+        &mut into[2 * rest..],
+    );
 }
 
 /// Linear samples of 16 bits, the lowest byte first, as mu-law bytes. `bytes` has two for each place.
