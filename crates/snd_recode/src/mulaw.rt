@@ -1,7 +1,7 @@
 //! The mu-law of ITU-T G.711 as linear samples of 16 bits, and these as its bytes.
 #![tactic(auto, using(crate::proofs::Loops::law_all, crate::proofs::Loops::law_step, crate::proofs::Loops::number_all, crate::proofs::Loops::number_step))]
 
-ghost use Rattle.std.specs.Prelude.{◌≡◌, ◌*◌, ◌≤◌, length, map};
+ghost use Rattle.std.specs.Prelude.{◌≡◌, ◌*◌, length, map};
 ghost use Rattle.snd_fields.specs.declared.field.Order.TheVariants.{Little};
 ghost use Rattle.snd_g711.specs.Mulaw.{mulaw_byte, mulaw_value};
 ghost use Rattle.snd_pcm.specs.Pcm.{code, samples, samples_bytes};
@@ -72,11 +72,10 @@ fn put_piece(bytes: &[u8], factors: &mut [u8], into: &mut [u8])
     put_values(bytes, factors, into);
 }
 
-/// The values of at most 16384 mu-law bytes as linear samples of 16 bits, the lowest byte first. `into` has
-/// just enough places.
+/// The values of mu-law bytes as linear samples of 16 bits, the lowest byte first. `into` has just enough
+/// places.
 pub(crate) fn mulaw_as_linear(bytes: &[u8], into: &mut [u8])
-    requires few { length bytes.now ≤ 16384 }
-    requires room { length into.old ≡ 2 * length bytes.now }
+    requires { length into.old ≡ 2 * length bytes.now }
     ensures { into.new ≡ samples_bytes (S16 Little) (map mulaw_value bytes.now) }
 {
     let mut factors = [0u8; PIECE];
