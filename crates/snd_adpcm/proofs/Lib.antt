@@ -4,6 +4,7 @@ pub mod CodedBytes
 pub mod Four
 pub mod ImaCodes
 pub mod ImaWritten
+pub mod LaneCodes
 pub mod MsCodes
 pub mod MsWritten
 pub mod Numbers

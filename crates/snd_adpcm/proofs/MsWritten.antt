@@ -1,5 +1,5 @@
 -- The choice of a predictor, and the codes that the writing rule gives.
-use Rattle.std.proofs.Common.{◌≡◌, ℕ, ℤ, pos, ◌+◌, ◌*◌, ◌/◌, max, List, [], ◌∷◌, ◌++◌, take, drop, Bool, true, false, cond, ltb, refl, sym, ap, ◌∙◌, add-one, append_assoc}
+use Rattle.std.proofs.Common.{◌≡◌, ℕ, ℤ, pos, negsuc, ◌+◌, ◌*◌, ◌/◌, max, List, [], ◌∷◌, ◌++◌, get_or, take, drop, Bool, true, false, cond, ltb, refl, sym, ap, ◌∙◌, add-one, append_assoc}
 use Rattle.snd_adpcm.specs.declared.microsoft_state.MsState.{MsState}
 use Rattle.snd_adpcm.specs.Frames.{bytes_high_half_first, bytes_16, firsts, seconds, alternating}
 use Rattle.snd_adpcm.specs.Microsoft.{least_number, ms_code, ms_codes, ms_sample, ms_delta, newer_weight, older_weight, ms_start_error, ms_number_for, ms_delta_for, ms_newer_of, ms_older_of, ms_codes_for, ms_bytes}
@@ -126,7 +126,7 @@ stereo_block samples rest m n l r out f g rest_is out_is =
     let right : codes_of r (seconds rest) ≡ ms_codes_for (seconds samples) = ap (λ xs. codes_of r (seconds xs)) rest_is ∙ ap (codes_of r) (seconds-rest samples) ∙ codes_for_is (seconds samples) n r g in
     rw (out_is, left, right, f.number_is, f.delta, f.newer, f.older, g.number_is, g.delta, g.newer, g.older) refl
 
--- six pieces put one after another
-pub six_pieces : (head a b c d e f one two three four five six : List ℕ) → one ≡ head ++ a → two ≡ one ++ b → three ≡ two ++ c → four ≡ three ++ d → five ≡ four ++ e → six ≡ five ++ f →
-    six ≡ head ++ (a ++ b) ++ (c ++ d) ++ (e ++ f)
-six_pieces head a b c d e f one two three four five six p q r s t u = rw (u, t, s, r, q, p) (simp append_assoc)
+-- a number's two bytes, one by one
+pub two_bytes : (x : ℤ) (bytes : List ℕ) → bytes ≡ bytes_16 x → bytes_16 x ≡ get_or bytes 0 0 ∷ get_or bytes 1 0 ∷ []
+two_bytes (pos n) bytes is = rw is refl
+two_bytes (negsuc n) bytes is = rw is refl

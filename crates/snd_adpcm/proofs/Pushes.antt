@@ -39,5 +39,5 @@ pub all_put : (xs whole rest : List ℤ) (k : ℕ) → length xs ≤ k → rest 
 all_put xs whole rest k le none h = sym (take_all k xs le) ∙ sym (append-nil (take k xs)) ∙ ap (λ ys. take k xs ++ ys) (sym none) ∙ h
 
 -- a slice of the whole list is written over
-pub written_over : (xs ws : List ℤ) → length ws ≡ length xs → refill (length xs) xs ws ≡ ws
+pub written_over : {X : Type 0} (xs ws : List X) → length ws ≡ length xs → refill (length xs) xs ws ≡ ws
 written_over xs ws same = take_at ws (drop (length ws) xs) (length xs) same

@@ -1,5 +1,5 @@
 -- Four blocks of Microsoft ADPCM of two channels at once: what the call says that decodes them, and then what its code keeps, for
--- the proofs alone.
+-- the proofs alone. Four blocks that are made stand in Lanes.
 use Rattle.std.specs.Prelude.{◌≡◌, ℕ, ℤ, ◌*◌, ◌/◌, ◌%◌, ◌<◌, ◌≤◌, List, All, Bool, false, get_or, length, take, drop, unsigned_abs}
 use Rattle.std.specs.List.{list_any, range_with_len}
 use Rattle.snd_adpcm.specs.declared.microsoft_four.Row.{Row}

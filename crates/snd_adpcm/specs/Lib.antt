@@ -2,6 +2,7 @@ pub mod Blocks
 pub mod Four
 pub mod Frames
 pub mod Ima
+pub mod Lanes
 pub mod Laws
 pub mod Microsoft
 pub mod States

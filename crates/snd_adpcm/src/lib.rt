@@ -6,6 +6,7 @@ mod ima_writer;
 mod laws;
 mod microsoft;
 mod microsoft_four;
+mod microsoft_four_writer;
 mod microsoft_state;
 mod microsoft_writer;
 mod number;

@@ -2,7 +2,7 @@
 
 ghost use Rattle.std.specs.Prelude.{◌≡◌, ◌+◌, ◌*◌, ◌-◌, ◌/◌, ◌%◌, ◌<◌, ◌≤◌, ◌^◌, ◌+ℤ◌, ◌*ℤ◌, ◌≤ℤ◌, All, ◌⊎◌, ◌↔◌, pos, negsuc, length, [], ◌∷◌, ◌++◌, slice_index, IsTrue, OnOk, OnErr, IsErr, unsigned_abs};
 ghost use Rattle.snd_fields.specs.Blocks.{is_ms_align};
-ghost use Rattle.snd_adpcm.specs.Frames.{Is16Bit, high_half_first, floor_div, clamp_16};
+ghost use Rattle.snd_adpcm.specs.Frames.{Is16Bit, high_half_first, floor_div, clamp, clamp_16};
 ghost use Rattle.snd_adpcm.specs.Microsoft.{newer_weight, older_weight, adaptation, ms_prediction, signed_code, ms_delta, number_at, ms_number, ms_start_delta, ms_newer, ms_older, ms_numbers, is_bad_ms_block, ms_channel, ms_block};
 ghost use Rattle.snd_adpcm.specs.States.{ms_sample_at, ms_samples_from, ms_frames_from};
 
@@ -123,6 +123,30 @@ pub(crate) fn held_16(x: i32) -> i32
     } else {
         nearest_16(x)
     }
+}
+
+/// A number held within 16 bits, without a branch.
+#[inline]
+#[tactic(auto, using(crate::proofs::Numbers::abs_within))]
+pub(crate) fn clamped_16(x: i32) -> i32
+    ensures value { result ≡ clamp_16 x }
+    ensures range { Is16Bit result }
+    ensures bound { unsigned_abs result ≤ 32768 }
+{
+    x.clamp(-32768, 32767)
+}
+
+/// The delta that is so many 256ths of one, without a branch.
+#[inline]
+#[tactic(auto, using(crate::proofs::Numbers::abs_within))]
+pub(crate) fn scaled(delta: i32, factor: i32) -> i32
+    requires delta { unsigned_abs delta ≤ 1048576 }
+    requires factor { unsigned_abs factor ≤ 768 }
+    ensures value { result ≡ clamp (pos 16) (pos 1048576) (floor_div (delta *ℤ factor) 256) }
+    ensures least { pos 16 ≤ℤ result }
+    ensures bound { unsigned_abs result ≤ 1048576 }
+{
+    floor_256(product(delta, factor)).clamp(16, 1048576)
 }
 
 /// The sample that lies so many deltas from what two weights foretell.

@@ -8,7 +8,7 @@ ghost use Rattle.snd_adpcm.specs.Microsoft.{is_bad_ms_block, ms_block, ms_number
 ghost use Rattle.snd_adpcm.specs.States.{ms_frames_from};
 
 use crate::BadBlock;
-use crate::microsoft::{MsBlock, adaptation_of, floor_256, prediction, product, signed};
+use crate::microsoft::{MsBlock, adaptation_of, clamped_16, prediction, product, scaled, signed};
 use crate::microsoft_state::MsState;
 use crate::number::{high_code, low_code};
 
@@ -43,30 +43,6 @@ fn all_rows() -> [Row; 256]
         rows[byte] = row_of(byte as u8);
     }
     rows
-}
-
-/// A number held within 16 bits, without a branch.
-#[inline]
-#[tactic(auto, using(crate::proofs::Numbers::abs_within))]
-fn clamped_16(x: i32) -> i32
-    ensures value { result ≡ clamp_16 x }
-    ensures range { Is16Bit result }
-    ensures bound { unsigned_abs result ≤ 32768 }
-{
-    x.clamp(-32768, 32767)
-}
-
-/// The delta that is so many 256ths of one, without a branch.
-#[inline]
-#[tactic(auto, using(crate::proofs::Numbers::abs_within))]
-fn scaled(delta: i32, factor: i32) -> i32
-    requires delta { unsigned_abs delta ≤ 1048576 }
-    requires factor { unsigned_abs factor ≤ 768 }
-    ensures value { result ≡ clamp (pos 16) (pos 1048576) (floor_div (delta *ℤ factor) 256) }
-    ensures least { pos 16 ≤ℤ result }
-    ensures bound { unsigned_abs result ≤ 1048576 }
-{
-    floor_256(product(delta, factor)).clamp(16, 1048576)
 }
 
 /// The sample that lies so many deltas from what a state foretells.

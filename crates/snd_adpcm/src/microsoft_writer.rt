@@ -6,9 +6,9 @@ ghost use Rattle.snd_adpcm.specs.Frames.{Is16Bit, firsts, seconds, clamp, clamp_
 ghost use Rattle.snd_adpcm.specs.Microsoft.{newer_weight, older_weight, ms_error, ms_error_sum, ms_start_error, ms_newer_of, ms_older_of, ms_number_for, ms_delta_for, code_of_number, signed_code, ms_codes_for, ms_bytes, ms_delta, IsMsBlock};
 ghost use Rattle.snd_adpcm.specs.States.{ms_code_at, ms_heads, ms_run, ms_runs, ms_sample_at};
 
-use crate::microsoft::{delta_after, held_16, newer_weight_of, older_weight_of, prediction};
+use crate::microsoft::{clamped_16, delta_after, newer_weight_of, older_weight_of, prediction};
 use crate::microsoft_state::MsState;
-use crate::number::put_number;
+use crate::number::{number_bytes, put_number};
 use arrayvec::ArrayVec;
 
 /// How far a sample is from what a predictor foretells from the two before.
@@ -163,7 +163,7 @@ fn half_above(sample: i32, delta: i32) -> i32
 
 /// The code of a sample, and the sample that it leads to, by what is foretold.
 #[inline]
-fn code_and_sample(foretold: i32, sample: i32, delta: i32) -> (u32, i32)
+pub(crate) fn code_and_sample(foretold: i32, sample: i32, delta: i32) -> (u32, i32)
     requires least { negsuc 6291455 ≤ℤ foretold }
     requires most { foretold ≤ℤ pos 6291456 }
     requires sample { Is16Bit sample }
@@ -178,7 +178,7 @@ fn code_and_sample(foretold: i32, sample: i32, delta: i32) -> (u32, i32)
     let above = half_above(sample, delta);
     let (code, rest) = code_in(above - foretold, delta);
     // what the code does not reach is left of the way: this takes no product
-    (code, held_16(above - rest))
+    (code, clamped_16(above - rest))
 }
 
 /// The code of a sample, and the state after it.
@@ -310,32 +310,65 @@ fn encode_mono(samples: &[i32], into: &mut ArrayVec<u8, 8192>)
     encode_samples(rest, state, into);
 }
 
-/// Puts the heads of two channels.
-fn put_heads(
+/// What the heads of a block of two channels say: the numbers of their predictors, and the states that they begin with.
+#[derive(Clone, Copy)]
+pub(crate) struct Heads {
     left_number: u8,
     right_number: u8,
-    left: MsState,
-    right: MsState,
-    into: &mut ArrayVec<u8, 8192>,
-)
-    requires left_delta { Is16Bit left.delta }
-    requires right_delta { Is16Bit right.delta }
-    requires left_newer { Is16Bit left.newer }
-    requires right_newer { Is16Bit right.newer }
-    requires left_older { Is16Bit left.older }
-    requires right_older { Is16Bit right.older }
-    requires empty { into.old.items ≡ [] }
-    ensures bytes { into.new.items ≡ ms_heads left_number right_number left right }
-    ensures count { length into.new.items ≡ 14 }
-{
-    into.push(left_number);
-    into.push(right_number);
-    put_number(left.delta, into);
-    put_number(right.delta, into);
-    put_number(left.newer, into);
-    put_number(right.newer, into);
-    put_number(left.older, into);
-    put_number(right.older, into);
+    pub(crate) left: MsState,
+    pub(crate) right: MsState,
+    ghost left_delta: { Is16Bit left.delta },
+    ghost right_delta: { Is16Bit right.delta },
+    ghost left_least: { pos 16 ≤ℤ left.delta },
+    ghost right_least: { pos 16 ≤ℤ right.delta },
+}
+
+impl Heads {
+    /// Those of a block that holds some samples.
+    pub(crate) fn of(samples: &[i32]) -> Heads
+        requires least { 4 ≤ length samples.now }
+        requires even { length samples.now % 2 ≡ 0 }
+        requires range { All Is16Bit samples.now }
+        ensures { ms_heads result.left_number result.right_number result.left result.right ++ ms_runs result.left result.right (drop 4 samples.now) ≡ ms_bytes 2 samples.now }
+    {
+        let (left_front, right_front) = first_frames(samples);
+        let (left_number, left) = start_of(left_front.as_slice());
+        let (right_number, right) = start_of(right_front.as_slice());
+        Heads {
+            left_number,
+            right_number,
+            left,
+            right,
+        }
+    }
+
+    /// Their bytes.
+    pub(crate) fn bytes(self) -> [u8; 14]
+        ensures { result ≡ ms_heads self.left_number self.right_number self.left self.right }
+    {
+        let [a, b] = number_bytes(self.left.delta);
+        let [c, d] = number_bytes(self.right.delta);
+        let [e, f] = number_bytes(self.left.newer);
+        let [g, h] = number_bytes(self.right.newer);
+        let [i, j] = number_bytes(self.left.older);
+        let [k, l] = number_bytes(self.right.older);
+        [
+            self.left_number,
+            self.right_number,
+            a,
+            b,
+            c,
+            d,
+            e,
+            f,
+            g,
+            h,
+            i,
+            j,
+            k,
+            l,
+        ]
+    }
 }
 
 /// Puts a block of two channels.
@@ -347,12 +380,10 @@ fn encode_stereo(samples: &[i32], into: &mut ArrayVec<u8, 8192>)
     requires empty { into.old.items ≡ [] }
     ensures { into.new.items ≡ ms_bytes 2 samples.now }
 {
-    let (left_front, right_front) = first_frames(samples);
-    let (left_number, left) = start_of(left_front.as_slice());
-    let (right_number, right) = start_of(right_front.as_slice());
-    put_heads(left_number, right_number, left, right, into);
+    let heads = Heads::of(samples);
+    into.try_extend_from_slice(&heads.bytes()).unwrap();
     let (_, rest) = samples.split_at(4);
-    encode_frames(rest, left, right, into);
+    encode_frames(rest, heads.left, heads.right, into);
 }
 
 /// A writer of Microsoft ADPCM blocks. No block depends on the ones before it.

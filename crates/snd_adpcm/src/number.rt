@@ -31,6 +31,15 @@ pub fn high_code(byte: u8) -> u8
     byte >> 4
 }
 
+/// The two bytes of a number of 16 bits, the low one first.
+#[inline]
+pub fn number_bytes(number: i32) -> [u8; 2]
+    requires { Is16Bit number }
+    ensures { result ≡ bytes_16 number }
+{
+    (number as i16).to_le_bytes()
+}
+
 /// Puts the two bytes of a number of 16 bits, the low one first.
 #[inline]
 pub fn put_number(number: i32, into: &mut ArrayVec<u8, 8192>)
@@ -39,9 +48,22 @@ pub fn put_number(number: i32, into: &mut ArrayVec<u8, 8192>)
     ensures bytes { into.new.items ≡ into.old.items ++ bytes_16 number }
     ensures count { length into.new.items ≡ length into.old.items + 2 }
 {
-    let [low, high] = (number as i16).to_le_bytes();
+    let [low, high] = number_bytes(number);
     into.push(low);
     into.push(high);
+}
+
+/// Makes a list of bytes so long, whatever it holds.
+pub fn make_byte_room(count: usize, into: &mut ArrayVec<u8, 8192>)
+    requires room { count ≤ 8192 }
+    ensures { length into.new.items ≡ count }
+{
+    if into.len() != count {
+        into.clear();
+        for _ in 0..count {
+            into.push(0);
+        }
+    }
 }
 
 /// Makes a list so long, whatever it holds. Where it is that long already, as after a block of the same size, nothing is done.

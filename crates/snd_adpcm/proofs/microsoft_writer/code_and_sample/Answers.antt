@@ -31,5 +31,5 @@ returns-clause-sample c =
     let way_is : way ≡ above -ℤ foretold = omega (arith, ints) in
     let before : to_z w32 (of_z w32 (to_z w32 (of_z w32 above) -ℤ to_z w32 (of_z w32 rest))) ≡ above -ℤ rest = omega (arith, ints) in
     let sample : above -ℤ rest ≡ foretold +ℤ number *ℤ delta = sample_to foretold delta above way (to_z w32 (of_z w32 delta)) rest number c.code_in-code.ensures.rest same way_is in
-    let kept : to_z w32 (of_z w32 c.held_16.result) ≡ c.held_16.result = search rules in
-    kept ∙ c.held_16.ensures.value ∙ ap (λ z. clamp (negsuc 32767) (pos 32767) z) (before ∙ sample)
+    let kept : to_z w32 (of_z w32 c.clamped_16.result) ≡ c.clamped_16.result = search rules in
+    kept ∙ c.clamped_16.ensures.value ∙ ap (λ z. clamp (negsuc 32767) (pos 32767) z) (before ∙ sample)

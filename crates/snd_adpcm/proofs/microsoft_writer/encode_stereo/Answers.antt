@@ -1,36 +1,11 @@
-use Rattle.std.proofs.Common.{◌≡◌, [], ◌∷◌, ◌++◌, take, ap, ◌∙◌}
-use Rattle.std.proofs.lemmas.List.Elements.{All-same, All-take}
-use Rattle.snd_adpcm.specs.Frames.{Is16Bit, bytes_16, bytes_high_half_first, firsts, seconds, alternating}
-use Rattle.snd_adpcm.proofs.MsWritten.{Starts, starts_whole, stereo_block, codes_of}
-use Rattle.snd_adpcm.proofs.Pairs.{All-firsts, All-seconds}
+use Rattle.std.proofs.Common.{◌≡◌, ◌++◌, drop, rules, ap, ◌∙◌}
+use Rattle.snd_adpcm.specs.States.{ms_heads, ms_runs}
 use Rattle.snd_adpcm.proofs.microsoft_writer.encode_stereo.Goals as goal
-
-pub start_of-left_number-requires-clause-range : goal.start_of-left_number-requires-clause-range
-start_of-left_number-requires-clause-range c =
-    All-same Is16Bit c.as_slice.result.now (take 5 (firsts c.args.samples.now)) (c.as_slice.ensures.value ∙ c.first_frames-left_front.ensures.left)
-    (All-take Is16Bit 5 (firsts c.args.samples.now) (All-firsts Is16Bit c.args.samples.now c.requires.range))
-
-pub start_of-right_number-requires-clause-range : goal.start_of-right_number-requires-clause-range
-start_of-right_number-requires-clause-range c =
-    All-same Is16Bit c.as_slice-2.result.now (take 5 (seconds c.args.samples.now)) (c.as_slice-2.ensures.value ∙ c.first_frames-left_front.ensures.right)
-    (All-take Is16Bit 5 (seconds c.args.samples.now) (All-seconds Is16Bit c.args.samples.now c.requires.range))
 
 pub returns : goal.returns
 returns c =
-    let samples = c.args.samples.now in
-    let m = c.start_of-left_number.result.0 in
-    let n = c.start_of-right_number.result.0 in
-    let l = c.start_of-left_number.result.1 in
-    let r = c.start_of-right_number.result.1 in
-    let left : Starts c.as_slice.result.now m l =
-    let e = c.start_of-left_number.ensures in record { number_is = e.number; newer_by = e.newer_by; older_by = e.older_by; newer = e.newer; older = e.older; delta = e.delta } in
-    let right : Starts c.as_slice-2.result.now n r =
-    let e = c.start_of-right_number.ensures in record { number_is = e.number; newer_by = e.newer_by; older_by = e.older_by; newer = e.newer; older = e.older; delta = e.delta } in
-    let codes : c.encode_frames.new.into.items
-    ≡ (m ∷ n ∷ []) ++ (bytes_16 l.delta ++ bytes_16 r.delta) ++ (bytes_16 l.newer ++ bytes_16 r.newer) ++ (bytes_16 l.older ++ bytes_16 r.older)
-    ++ bytes_high_half_first (alternating (codes_of l (firsts c.split_at.result.1.now)) (codes_of r (seconds c.split_at.result.1.now))) =
-    c.encode_frames.ensures ∙ ap (λ bytes. bytes ++ bytes_high_half_first (alternating (codes_of l (firsts c.split_at.result.1.now)) (codes_of r (seconds c.split_at.result.1.now)))) c.put_heads.ensures.bytes in
-    stereo_block samples c.split_at.result.1.now m n l r c.encode_frames.new.into.items
-    (starts_whole (firsts samples) _ m l (c.as_slice.ensures.value ∙ c.first_frames-left_front.ensures.left) left)
-    (starts_whole (seconds samples) _ n r (c.as_slice-2.ensures.value ∙ c.first_frames-left_front.ensures.right) right)
-    c.split_at.ensures.back codes
+    let h = c.of-heads.result in
+    let heads : c.try_extend_from_slice.new.self.items ≡ ms_heads h.left_number h.right_number h.left h.right = search rules in
+    let rest : c.split_at.result.1.now ≡ drop 4 c.args.samples.now = search rules in
+    c.encode_frames.ensures ∙ ap (λ bytes. bytes ++ ms_runs h.left h.right c.split_at.result.1.now) heads
+    ∙ ap (λ frames. ms_heads h.left_number h.right_number h.left h.right ++ ms_runs h.left h.right frames) rest ∙ c.of-heads.ensures

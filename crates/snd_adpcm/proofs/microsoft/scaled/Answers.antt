@@ -1,6 +1,6 @@
 use Rattle.std.proofs.Common.{arith}
 use Rattle.std.proofs.lemmas.Int.{to_z-of_z, ints}
-use Rattle.snd_adpcm.proofs.microsoft_four.scaled.Goals as goal
+use Rattle.snd_adpcm.proofs.microsoft.scaled.Goals as goal
 
 pub floor_256-requires-clause-low : goal.floor_256-requires-clause-low
 floor_256-requires-clause-low c = omega (arith, ints)
