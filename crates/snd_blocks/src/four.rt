@@ -10,15 +10,15 @@ use crate::buffer::MOST_BYTES;
 use crate::fetch::Fetched;
 use arrayvec::ArrayVec;
 use snd_adpcm::MsBlock;
-use snd_layout::{Codec, Layout};
+use snd_layout::{Codec, Layout, Params};
 
-// Whether blocks are decoded four at a time: those of Microsoft ADPCM of two channels, where there is room for the
-// bytes of four.
-pub(crate) fn is_fourfold(layout: &Layout) -> bool
-    ensures { result ≡ true → IsFourfold layout.now }
+/// Whether blocks are read, and made, four at a time: those of Microsoft ADPCM of two channels, where there is room for
+/// the bytes of four.
+pub fn is_fourfold(params: &Params) -> bool
+    ensures { result ≡ true → IsFourfold params.now }
 {
-    let is_microsoft = matches!(layout.params.codec, Codec::Ms { .. });
-    is_microsoft && layout.params.channels == 2 && 4 * usize::from(align_of(layout)) <= MOST_BYTES
+    let is_microsoft = matches!(params.codec, Codec::Ms { .. });
+    is_microsoft && params.channels == 2 && 4 * usize::from(params.block_align()) <= MOST_BYTES
 }
 
 // Makes so many places, whatever they hold.
@@ -48,7 +48,7 @@ pub(crate) fn decode_four(
     ensures { result ≡ true → AreFourOf layout.now fetched number bytes.now into.new.items }
 {
     keeps_blocks(layout);
-    if !is_fourfold(layout) || fetched.next - number < 4 {
+    if !is_fourfold(&layout.params) || fetched.next - number < 4 {
         return false;
     }
     let align = usize::from(align_of(layout));

@@ -14,4 +14,5 @@ mod read;
 pub use buffer::BlockCache;
 pub use check::check_blocks;
 pub use error::BlockError;
+pub use four::is_fourfold;
 pub use read::{read_cached, read_frames};

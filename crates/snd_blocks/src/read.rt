@@ -124,7 +124,7 @@ fn read_limit(layout: &Layout, place: u64, count: usize, start: u64) -> u64
 {
     keeps_blocks(layout);
     let most = (count as u64 / u64::from(frames_of(layout))).saturating_add(2);
-    if !is_fourfold(layout) || most < 4 {
+    if !is_fourfold(&layout.params) || most < 4 {
         return last_block(layout, place, count);
     }
     start + most.min(block_count(layout) - start)

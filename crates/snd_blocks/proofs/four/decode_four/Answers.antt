@@ -5,7 +5,9 @@ use Rattle.snd_adpcm.specs.Four.{AreSamples, part}
 use Rattle.snd_adpcm.specs.Frames.{Is16Bit}
 use Rattle.snd_adpcm.specs.Microsoft.{ms_numbers}
 use Rattle.snd_layout.specs.Blocks.{block_align, block_frames}
+use Rattle.snd_layout.specs.Shape.{Shape}
 use Rattle.snd_blocks.specs.Fetching.{block_among}
+use Rattle.snd_blocks.specs.Four.{IsFourfold}
 use Rattle.snd_blocks.proofs.Kept.{block_part, four_fit, ms_form, on_ok}
 use Rattle.snd_blocks.proofs.four.decode_four.Goals as goal
 
@@ -29,7 +31,7 @@ returns c = λ ok.
     let made = c.make_places.new.samples.items in
     let new = c.decode_four.new.into in
     let items = take (length made) (new ++ drop (length new) made) in
-    let fourfold = c.if-not-is_fourfold.ensures refl in
+    let fourfold : IsFourfold s.params = subst (λ (u : Shape). IsFourfold u.params) c.layout.view_is (c.if-not-is_fourfold.ensures refl) in
     let read : n + 4 ≤ c.args.fetched.next = omega (arith, c.if-fetched-number-lt4.false, c.requires.some) in
     let width : c.from-align.result ≡ align = search rules in
     let frames : c.from.result ≡ per = search rules in
