@@ -10,3 +10,4 @@ pub mod Putting
 pub mod Rules
 pub mod Sizes
 pub mod Standing
+pub mod Together

@@ -1,5 +1,5 @@
 -- What a writer of blocks knows between two calls.
-use Rattle.std.specs.Prelude.{◌≡◌, ℕ, ℤ, pos, zero, suc, ◌+◌, ◌-◌, ◌*◌, ◌/◌, ◌%◌, ◌<◌, All, List, [], ◌++◌, length, take, drop, replicate}
+use Rattle.std.specs.Prelude.{◌≡◌, ◌⊎◌, ℕ, ℤ, pos, zero, suc, ◌+◌, ◌-◌, ◌*◌, ◌/◌, ◌%◌, ◌<◌, ◌≤◌, All, List, [], ◌++◌, length, take, drop, replicate}
 use Rattle.snd_adpcm.specs.Blocks.{Rule, bytes_of_blocks}
 use Rattle.snd_adpcm.specs.Frames.{Is16Bit}
 use Rattle.snd_adpcm.specs.Ima.{Indices, ima_bytes, ima_next_indices}
@@ -9,6 +9,7 @@ use Rattle.snd_layout.specs.declared.codec.Codec.TheVariants.{Ima, Ms}
 use Rattle.snd_layout.specs.Blocks.{block_align}
 use Rattle.snd_layout.specs.Params.{Parameters}
 use Rattle.snd_blocks.specs.Calls.{AreBlocks}
+use Rattle.snd_blocks.specs.Four.{IsFourfold}
 use Rattle.snd_block_writer.specs.Coded.{block_numbers, rest, whole_blocks}
 
 -- ---- the rule of a codec
@@ -96,3 +97,13 @@ block_end start w = next_place start w + block_size w
 -- the one behind the blocks that so many numbers more make whole
 abbrev pub place_after : ℕ → Writing → ℕ → ℕ
 place_after start w count = start + (w.blocks + new_blocks w count) * block_size w
+
+-- ---- what is taken at once, for the proofs alone
+
+-- so many numbers are those of one block, or of four that are made together
+abbrev pub IsOneOrFour : Parameters → ℕ → Type 0
+IsOneOrFour p count = (count ≡ block_numbers p) ⊎ ((count ≡ 4 * block_numbers p) × IsFourfold p)
+
+-- so many numbers more go into the block that is not whole yet, or are those of four blocks where none wait
+abbrev pub IsPart : Writing → ℕ → Type 0
+IsPart w count = (length w.waiting + count ≤ block_numbers w.params) ⊎ ((w.waiting ≡ []) × (count ≡ 4 * block_numbers w.params) × IsFourfold w.params)

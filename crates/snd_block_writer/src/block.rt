@@ -1,14 +1,15 @@
 //! One block, made of its numbers, and put on a disk.
 
-ghost use Rattle.std.specs.Prelude.{◌≡◌, ◌+◌, ◌-◌, ◌<◌, ◌≤◌, ◌^◌, ◌++◌, All, OnOk, [], length, pos, replicate};
+ghost use Rattle.std.specs.Prelude.{◌≡◌, ◌+◌, ◌-◌, ◌*◌, ◌<◌, ◌≤◌, ◌^◌, ◌++◌, All, OnOk, [], length, pos, replicate};
 ghost use Rattle.snd_adpcm.specs.Frames.{Is16Bit};
 ghost use Rattle.snd_disk.specs.Device.{CountsOn};
 ghost use Rattle.snd_disk.specs.State.{IsWritten};
 ghost use Rattle.snd_layout.specs.Blocks.{block_align};
 ghost use Rattle.snd_blocks.specs.Calls.{AreBlocks};
+ghost use Rattle.snd_adpcm.specs.Blocks.{bytes_of_blocks};
 ghost use Rattle.snd_block_writer.specs.Coded.{block_numbers};
 ghost use Rattle.snd_block_writer.specs.Puts.{Puts};
-ghost use Rattle.snd_block_writer.specs.Writing.{rule_of};
+ghost use Rattle.snd_block_writer.specs.Writing.{IsOneOrFour, carried, rule_of};
 
 use arrayvec::ArrayVec;
 use snd_adpcm::{ImaWriter, MsWriter};
@@ -33,6 +34,29 @@ fn encode(params: Params, ima: &mut ImaWriter, numbers: &[i32], into: &mut Array
     }
 }
 
+// Puts the bytes of one block, or of four, in place of what `into` holds, and answers how many blocks they are.
+pub(crate) fn encode_blocks(
+    params: Params,
+    ima: &mut ImaWriter,
+    numbers: &[i32],
+    into: &mut ArrayVec<u8, 8192>,
+) -> u64
+    requires form { AreBlocks params }
+    requires whole { IsOneOrFour params (length numbers.now) }
+    requires range { All Is16Bit numbers.now }
+    ensures count { result * block_numbers params ≡ length numbers.now }
+    ensures bytes { into.new.items ≡ bytes_of_blocks (rule_of params) (block_numbers params) result ima.old numbers.now }
+    ensures indices { ima.new ≡ carried (rule_of params) (block_numbers params) result ima.old numbers.now }
+{
+    let block = usize::from(params.channels) * usize::from(params.block_frames());
+    if numbers.len() > block {
+        MsWriter::new().encode_four(numbers, into);
+        return 4;
+    }
+    encode(params, ima, numbers, into);
+    1
+}
+
 // Puts zeros behind numbers, up to so many in all.
 pub(crate) fn fill_up(numbers: &mut ArrayVec<i32, 16384>, count: usize)
     requires few { length numbers.old.items ≤ count }
@@ -45,7 +69,7 @@ pub(crate) fn fill_up(numbers: &mut ArrayVec<i32, 16384>, count: usize)
 }
 
 // Writes bytes at a place.
-fn write_bytes<D: Disk>(disk: &mut D, at: u64, bytes: &[u8]) -> Result<(), Step>
+pub(crate) fn write_bytes<D: Disk>(disk: &mut D, at: u64, bytes: &[u8]) -> Result<(), Step>
     requires { at + length bytes.now < 2 ^ 63 }
     ensures done { OnOk result (IsWritten at bytes.now (D.state disk.old) (D.state disk.new)) }
     ensures puts { Puts D.Disk at bytes.now disk.old disk.new }

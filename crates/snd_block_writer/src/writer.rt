@@ -7,11 +7,12 @@ ghost use Rattle.snd_layout.specs.Blocks.{is_adpcm};
 ghost use Rattle.snd_blocks.specs.Calls.{AreBlocks};
 ghost use Rattle.snd_block_writer.specs.Calls.{FillsUp, HoldsAll, HoldsMore, PutsBlocks, TakesMore, WritesBlocks, WritesForFrames};
 ghost use Rattle.snd_block_writer.specs.Coded.{block_numbers};
-ghost use Rattle.snd_block_writer.specs.Writing.{KeepsRule, StandsFor, block_end, block_size, given_more, next_place, padding, place_after};
+ghost use Rattle.snd_block_writer.specs.Writing.{IsOneOrFour, IsPart, KeepsRule, StandsFor, block_end, block_size, given_more, next_place, padding, place_after};
 
-use crate::block::{fill_up, put_block};
+use crate::block::{encode_blocks, fill_up, put_block, write_bytes};
 use arrayvec::ArrayVec;
 use snd_adpcm::ImaWriter;
+use snd_blocks::is_fourfold;
 use snd_disk::{Disk, Step};
 use snd_layout::Params;
 use std::marker::Model;
@@ -115,9 +116,45 @@ impl BlockWriter {
         start + self.blocks * u64::from(self.params.block_align())
     }
 
-    // Takes numbers that all go into the block that is not whole yet, and writes it where it is whole then.
+    // How many of so many numbers are taken at once: those of four blocks, where these are made together and none
+    // wait; else as many as the block that is not whole yet still takes.
+    fn next_part(&self, left: usize) -> usize
+        requires { 1 ≤ left }
+        ensures some { 1 ≤ result }
+        ensures most { result ≤ left }
+        ensures part { IsPart self.now result }
+    {
+        let four = 4 * self.block_numbers();
+        if self.waiting.is_empty() && four <= left && is_fourfold(&self.params) {
+            return four;
+        }
+        self.room().min(left)
+    }
+
+    // Takes the numbers of one whole block, or of four, where none wait, and writes these.
+    fn take_blocks<D: Disk>(&mut self, disk: &mut D, start: u64, part: &[i32]) -> Result<(), Step>
+        requires none { self.old.waiting ≡ [] }
+        requires whole { IsOneOrFour self.old.params (length part.now) }
+        requires range { All Is16Bit part.now }
+        requires there { next_place start self.old ≤ (D.state disk.old).size }
+        requires fits { place_after start self.old (length part.now) < 2 ^ 63 }
+        ensures takes { OnOk result (self.new ≡ given_more self.old part.now) }
+        ensures params { self.new.params ≡ self.old.params }
+        ensures there { next_place start self.new ≤ (D.state disk.new).size }
+        ensures done { OnOk result (WritesBlocks D.state start part.now self.old disk.old disk.new) }
+        ensures puts { PutsBlocks D.Disk start part.now self.old disk.old disk.new }
+        ensures faults { CountsOn D.state disk.old disk.new result }
+    {
+        let at = self.next_place(start);
+        let count = encode_blocks(self.params, &mut self.ima, part, &mut self.bytes);
+        write_bytes(disk, at, self.bytes.as_slice())?;
+        self.blocks += count;
+        Ok(())
+    }
+
+    // Takes numbers, as many as `next_part` says or fewer, and writes the blocks that are whole then.
     fn take_part<D: Disk>(&mut self, disk: &mut D, start: u64, part: &[i32]) -> Result<(), Step>
-        requires room { length self.old.waiting + length part.now ≤ block_numbers self.old.params }
+        requires part { IsPart self.old (length part.now) }
         requires range { All Is16Bit part.now }
         requires there { next_place start self.old ≤ (D.state disk.old).size }
         requires fits { place_after start self.old (length part.now) < 2 ^ 63 }
@@ -129,6 +166,9 @@ impl BlockWriter {
         ensures faults { CountsOn D.state disk.old disk.new result }
     {
         let numbers = self.block_numbers();
+        if part.len() >= numbers {
+            return self.take_blocks(disk, start, part);
+        }
         let at = self.next_place(start);
         self.waiting.try_extend_from_slice(part).unwrap();
         if self.waiting.len() < numbers {
@@ -165,7 +205,7 @@ impl BlockWriter {
         self.keeps_rule();
         let mut done = 0;
         while done < from.len() {
-            let next = done + self.room().min(from.len() - done);
+            let next = done + self.next_part(from.len() - done);
             self.take_part(disk, start, &from[done..next])?;
             done = next;
         }

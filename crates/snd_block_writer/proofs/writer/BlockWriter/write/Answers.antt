@@ -24,11 +24,11 @@ loop-done-init g c =
 
 pub take_part-requires-clause-fits : goal.take_part-requires-clause-fits
 take_part-requires-clause-fits g c =
-    fits_there c.args.self.now c.keeps_rule.ensures c.args.from.now c.loop-done.done c.min.result c.loop-done.self c.loop-done.invariant.taken c.args.start _ c.requires.fits
+    fits_there c.args.self.now c.keeps_rule.ensures c.args.from.now c.loop-done.done c.next_part.result c.loop-done.self c.loop-done.invariant.taken c.args.start _ c.requires.fits
 
 pub returns-in_err-take_part-clause-puts : goal.returns-in_err-take_part-clause-puts
 returns-in_err-take_part-clause-puts g c =
-    puts_all c.args.self.now c.keeps_rule.ensures c.args.from.now c.loop-done.done c.min.result c.loop-done.self c.loop-done.invariant.taken
+    puts_all c.args.self.now c.keeps_rule.ensures c.args.from.now c.loop-done.done c.next_part.result c.loop-done.self c.loop-done.invariant.taken
     g.D.Disk c.args.disk.now c.loop-done.disk c.take_part.new.disk c.args.start c.loop-done.invariant.puts c.take_part.ensures.puts
 
 pub returns-in_err-take_part-clause-written : goal.returns-in_err-take_part-clause-written
@@ -40,10 +40,10 @@ loop-done-preserved g c =
     let w = c.args.self.now in
     let rule = c.keeps_rule.ensures in
     let done = c.loop-done.done in
-    let k = c.min.result in
+    let k = c.next_part.result in
     let v = c.loop-done.self in
     let is = c.loop-done.invariant.taken in record {
-      within = omega (arith, c.min.ensures, c.loop-done-test.true);
+      within = omega (arith, c.next_part.ensures.most, c.loop-done-test.true);
       taken = c.in_ok-take_part.ensures.takes ∙ given_next w rule c.args.from.now done k v is;
       done = written_next w rule c.args.from.now done k v is c.args.start (g.D.Disk.state c.args.disk.now) (g.D.Disk.state c.loop-done.disk) (g.D.Disk.state c.take_part.new.disk) c.loop-done.invariant.done c.in_ok-take_part.ensures.done;
       puts = puts_next w rule c.args.from.now done k v is g.D.Disk c.args.disk.now c.loop-done.disk c.take_part.new.disk c.args.start c.loop-done.invariant.puts c.take_part.ensures.puts;
