@@ -16,7 +16,7 @@ use crate::steps::{read_some, read_some_bytes};
 use crate::stop::Stop;
 use crate::widths::change_numbers;
 use snd_disk::Disk;
-use snd_layout::Codec;
+use snd_layout::{Codec, Params};
 use snd_modes::{File, Mode, Read};
 
 /// How many numbers a frame of a file has, and their codec.
@@ -37,23 +37,41 @@ const MOST_BYTES: usize = 16384;
 
 const MOST_CODED: usize = 4 * MOST_BYTES;
 
-// How many places of a block are used, which are for whole frames: as many as there are, but where they pass
-// as bytes those of frames that have no more bytes than are read at a time.
-fn places_of(places: usize, channels: usize, align: usize, pass: bool) -> usize
+// How many frames are given together, so that whole blocks are made of them: those of a block of the file that is
+// given them, but where they come in blocks themselves.
+fn frames_together(from: Codec, to: Params) -> usize
+    requires { 1 ≤ block_frames to.codec }
+    ensures some { 1 ≤ result }
+    ensures one { is_adpcm from ≡ true → result ≡ 1 }
+{
+    if from.is_adpcm() {
+        return 1;
+    }
+    usize::from(to.block_frames())
+}
+
+// How many places of a block are used, which are for whole frames: as many as there are, but fewer where a multiple of
+// so many frames is given together, and where they pass as bytes those of frames that have no more bytes than are read
+// at a time.
+fn places_of(places: usize, channels: usize, align: usize, together: usize, pass: bool) -> usize
     requires some { 1 ≤ channels }
     requires one { channels ≤ places }
+    requires some_together { 1 ≤ together }
     requires fits { pass ≡ true → (1 ≤ align) × (align ≤ 16384) }
     ensures one { channels ≤ result }
     ensures fits { result ≤ places }
     ensures whole { result % channels ≡ 0 }
-    ensures all { pass ≡ false → result ≡ places - places % channels }
+    ensures all { together ≡ 1 → pass ≡ false → result ≡ places - places % channels }
     ensures most { pass ≡ true → result / channels * align ≤ 16384 }
 {
     let frames = places / channels;
     if pass {
         return frames.min(MOST_BYTES / align) * channels;
     }
-    frames * channels
+    if frames < together {
+        return frames * channels;
+    }
+    (frames - frames % together) * channels
 }
 
 // How many places the first block uses: as many as the others, or fewer, so that the later blocks end where the pages
@@ -174,7 +192,8 @@ fn append_block<D: Disk, E: Disk, M: Making>(
 /// block at a time. Where the codecs have numbers of different widths, each number is changed: a wider
 /// one is a multiple by a power of two, a narrower one is divided by it and rounded toward minus infinity.
 /// Samples pass by their bytes, but where either codec is ADPCM; then the first block may be shorter than the
-/// others. What the block held is lost; it has places for one frame at least. It takes no memory, and asks the
+/// others. A file of ADPCM is given whole blocks of its own at a time, as many as there are places for, but by one that
+/// comes in blocks itself. What the block held is lost; it has places for one frame at least. It takes no memory, and asks the
 /// disk that is read for at most the bytes of the frames; in ADPCM for those of their blocks, and in each call
 /// for two more.
 ///
@@ -204,7 +223,8 @@ pub fn append<D: Disk, E: Disk, M: Making>(
     let (_, wanted) = numbers_of(to);
     let pass = pass(codec, wanted);
     let align = usize::from(from.params().block_align());
-    let most = places_of(block.len(), channels, align, pass);
+    let together = frames_together(codec, to.params());
+    let most = places_of(block.len(), channels, align, together, pass);
     let mut buffer = [0u8; MOST_BYTES];
     let mut coded = [0u8; MOST_CODED];
     let mut places = first_places(to, most, channels, pass);

@@ -49,8 +49,10 @@ loop-count-init g c =
       below = omega (arith, places.fits, most.fits);
       whole = ap (λ (i : ℕ). p % i) (sym is) ∙ places.whole;
       each = λ blocks.
-          let none = no_pass c.pass-pass.result _ _ c.pass-pass.ensures (ap is_adpcm c.numbers_of-channels.ensures.codec ∙ blocks) in
-          ap (λ (i : ℕ). i / channels_of c.args.from.now) (places.all none ∙ most.all none) ∙ ap (λ (i : ℕ). (n - n % i) / channels_of c.args.from.now) is
+          let from_blocks = ap is_adpcm c.numbers_of-channels.ensures.codec ∙ blocks in
+          let none = no_pass c.pass-pass.result _ _ c.pass-pass.ensures from_blocks in
+          let alone = c.frames_together-together.ensures.one from_blocks in
+          ap (λ (i : ℕ). i / channels_of c.args.from.now) (places.all none ∙ most.all alone none) ∙ ap (λ (i : ℕ). (n - n % i) / channels_of c.args.from.now) is
           ∙ each_whole n (channels_of c.args.from.now) (omega (arith, is, c.numbers_of-channels.ensures.some));
       held = λ pass. fewer_held p m q c.from-align.result places.fits (most.most pass);
       asked = asked_none from.shape.params _ from.place (left_in from) 1 _;
@@ -114,8 +116,10 @@ loop-count-preserved g c =
       whole = ap (λ (i : ℕ). c.places_of-most.result % i) (sym alike) ∙ most.whole;
       each = λ blocks.
           let n = length c.args.block.now in
-          let none = no_pass c.pass-pass.result _ _ c.pass-pass.ensures (ap is_adpcm c.numbers_of-channels.ensures.codec ∙ blocks) in
-          ap (λ (i : ℕ). i / channels_of c.args.from.now) (most.all none) ∙ ap (λ (i : ℕ). (n - n % i) / channels_of c.args.from.now) alike
+          let from_blocks = ap is_adpcm c.numbers_of-channels.ensures.codec ∙ blocks in
+          let none = no_pass c.pass-pass.result _ _ c.pass-pass.ensures from_blocks in
+          let alone = c.frames_together-together.ensures.one from_blocks in
+          ap (λ (i : ℕ). i / channels_of c.args.from.now) (most.all alone none) ∙ ap (λ (i : ℕ). (n - n % i) / channels_of c.args.from.now) alike
           ∙ each_whole n (channels_of c.args.from.now) (omega (arith, alike, c.numbers_of-channels.ensures.some));
       held = most.most;
       asked =

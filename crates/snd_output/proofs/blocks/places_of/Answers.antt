@@ -1,4 +1,4 @@
-use Rattle.std.proofs.Common.{◌≡◌, ap, ℕ, ◌+◌, ◌*◌, ◌/◌, ◌%◌, ◌<◌, ◌≤◌, arith}
+use Rattle.std.proofs.Common.{◌≡◌, ap, ℕ, ◌+◌, ◌-◌, ◌*◌, ◌/◌, ◌%◌, ◌<◌, ◌≤◌, arith}
 use Rattle.std.proofs.Math.Nat.{mul-div_cancel, mul-le-mul_left, mul-mod_left}
 use Rattle.std.proofs.lemmas.Nat.{div-add-mod'}
 use Rattle.snd_output.proofs.blocks.places_of.Goals as goal
@@ -22,7 +22,7 @@ returns-then-pass-clause-most c = λ pass.
     omega (arith, same, most)
 
 pub returns-clause-whole : goal.returns-clause-whole
-returns-clause-whole c = mul-mod_left (c.args.places / c.args.channels) c.args.channels
+returns-clause-whole c = mul-mod_left (c.args.places / c.args.channels - c.args.places / c.args.channels % c.args.together) c.args.channels
 
 pub returns-then-pass-clause-fits : goal.returns-then-pass-clause-fits
 returns-then-pass-clause-fits c =
