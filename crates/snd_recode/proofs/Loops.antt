@@ -1,7 +1,7 @@
 -- Loops that put the bytes of samples, each made of one byte or of one sample.
 use Rattle.std.proofs.Common.{◌≡◌, ◌∙◌, ap, subst, sym, suc, ℕ, ◌+◌, ◌-◌, ◌*◌, ◌/◌, ◌%◌, ◌<◌, ◌≤◌, ℤ, pos, List, [], ◌∷◌, ◌++◌, length, get_or, set, take, drop, map, append_assoc, arith}
 use Rattle.std.proofs.lemmas.Grind.{flat_map-append}
-use Rattle.std.proofs.lemmas.List.{append-nil, drop-drop, drop_all, drop_more, get_or-map, length-drop, length-map, map-append, take-append-drop, take_all, take_more_set}
+use Rattle.std.proofs.lemmas.List.{append-nil, drop-drop, drop_all, drop_more, get_or-map, length-drop, length-map, map-append, take-append-drop, take-set-le, take_all, take_more_set}
 use Rattle.std.proofs.lemmas.Slice.{take-put_mid}
 use borrow.Rule.Slice.PartMut.{put_mid}
 use Rattle.snd_fields.specs.Field.{number}
@@ -139,3 +139,8 @@ three_put bytes into new three i next by_one whole room lt is put so_far =
     ap (λ (l : List ℕ). get_or l 0 0 ∷ get_or l 1 0 ∷ get_or l 2 0 ∷ []) is
     ∙ ap (λ (j : ℕ). sample_bytes (S24 Little) (changed 16 24 (sample (S16 Little) (get_or bytes (2 * i) 0 ∷ get_or bytes j 0 ∷ [])))) second in
     rw (by_one, put) (three_step (changed 16 24) bytes into i _ _ _ whole room lt bytes_are so_far)
+
+-- a byte behind those that are put
+pub put_beyond : (bytes into : List ℕ) (i at byte : ℕ) → 3 * i ≤ at → ArePut i bytes into → ArePut i bytes (set into at byte)
+put_beyond bytes into i at byte behind so_far =
+    ap (λ (l : List ℕ). l ++ samples_bytes (S24 Little) (drop i (map (changed 16 24) (samples (S16 Little) bytes)))) (take-set-le (3 * i) into at byte behind) ∙ so_far

@@ -1,6 +1,6 @@
 //! The choice of a loop by the two codecs.
 
-ghost use Rattle.std.specs.Prelude.{◌≡◌, ◌*◌, ◌≤◌, All, length};
+ghost use Rattle.std.specs.Prelude.{◌≡◌, ◌*◌, All, length};
 ghost use Rattle.snd_container.specs.Fixed.{byte_count, samples, samples_bytes};
 ghost use Rattle.snd_pcm.specs.Width.{HasWidth, IsWidth};
 ghost use Rattle.snd_recode.specs.Recoded.{changed_all, recoded};
@@ -52,9 +52,8 @@ fn recode_numbers(from: Fixed, to: Fixed, bytes: &[u8], numbers: &mut [i32], int
 
 /// The samples that bytes are in one codec, as the bytes of another: a wider number is a multiple by a power of
 /// two, a narrower one is divided by it and rounded toward minus infinity. `numbers` has a place for each
-/// sample, at most 16384, and `into` just enough places for its bytes; what `numbers` held is lost.
+/// sample, and `into` just enough places for its bytes; what `numbers` held is lost.
 pub fn recode(from: Fixed, to: Fixed, bytes: &[u8], numbers: &mut [i32], into: &mut [u8])
-    requires few { length numbers.old ≤ 16384 }
     requires whole { length bytes.now ≡ byte_count from * length numbers.old }
     requires room { length into.old ≡ byte_count to * length numbers.old }
     ensures { into.new ≡ samples_bytes to (recoded from to (samples from bytes.now)) }

@@ -1,7 +1,7 @@
 //! Linear samples of 16 bits as those of more.
 #![tactic(auto, using(crate::proofs::Loops::three_all, crate::proofs::Loops::three_step, crate::proofs::Loops::wide_all, crate::proofs::Loops::wide_step))]
 
-ghost use Rattle.std.specs.Prelude.{◌≡◌, ◌∷◌, [], ◌+◌, ◌*◌, ◌/◌, ◌%◌, ◌<◌, ◌≤◌, get_or, length, map, set};
+ghost use Rattle.std.specs.Prelude.{◌≡◌, ◌∷◌, [], ◌+◌, ◌-◌, ◌*◌, ◌/◌, ◌%◌, ◌<◌, ◌≤◌, get_or, length, map, set};
 ghost use Rattle.snd_fields.specs.declared.field.Order.TheVariants.{Little};
 ghost use Rattle.snd_pcm.specs.Pcm.{sample, sample_bytes, samples, samples_bytes};
 ghost use Rattle.snd_pcm.specs.Width.{changed};
@@ -39,23 +39,27 @@ fn put_three(into: &mut [u8], i: usize, three: [u8; 3])
     into[3 * i + 2] = three[2];
 }
 
-// Samples of 16 bits as those of 24, four at a time, as far as they go: all four are read before the first is put,
-// which lets the compiler move them at once.
-fn widen_fours(bytes: &[u8], into: &mut [u8])
+// Samples of 16 bits as those of 24, five at a time and the first byte of the one behind them, as far as they go: all
+// five are read before 16 bytes are put, which lets the compiler move them at once.
+fn widen_fives(bytes: &[u8], into: &mut [u8])
     requires whole { length bytes.now % 2 ≡ 0 }
     requires room { 2 * length into.old ≡ 3 * length bytes.now }
-    ensures { ArePut (4 * (length bytes.now / 8)) bytes.now into.new }
+    ensures { ArePut (5 * ((length bytes.now - 1) / 10)) bytes.now into.new }
 {
-    for i in 0..bytes.len() / 8 {
-        let (one, two, three, four) = (4 * i, 4 * i + 1, 4 * i + 2, 4 * i + 3);
+    for i in 0..bytes.len().saturating_sub(1) / 10 {
+        let (one, two, three, four, five) = (5 * i, 5 * i + 1, 5 * i + 2, 5 * i + 3, 5 * i + 4);
         let first = three_bytes(bytes[2 * one], bytes[2 * one + 1]);
         let second = three_bytes(bytes[2 * two], bytes[2 * two + 1]);
         let third = three_bytes(bytes[2 * three], bytes[2 * three + 1]);
-        let last = three_bytes(bytes[2 * four], bytes[2 * four + 1]);
+        let fourth = three_bytes(bytes[2 * four], bytes[2 * four + 1]);
+        let last = three_bytes(bytes[2 * five], bytes[2 * five + 1]);
         put_three(into, one, first);
         put_three(into, two, second);
         put_three(into, three, third);
-        put_three(into, four, last);
+        put_three(into, four, fourth);
+        put_three(into, five, last);
+        // the next sample's lowest byte, which is put again with it
+        into[15 * i + 15] = 0;
     }
 }
 
@@ -78,8 +82,8 @@ pub(crate) fn widen_to_24(bytes: &[u8], into: &mut [u8])
     requires room { 2 * length into.old ≡ 3 * length bytes.now }
     ensures { into.new ≡ samples_bytes (S24 Little) (map (changed 16 24) (samples (S16 Little) bytes.now)) }
 {
-    widen_fours(bytes, into);
-    widen_rest(4 * (bytes.len() / 8), bytes, into);
+    widen_fives(bytes, into);
+    widen_rest(5 * (bytes.len().saturating_sub(1) / 10), bytes, into);
 }
 
 /// Samples of 16 bits as those of 32, the lowest byte first in both. `into` has just enough places.

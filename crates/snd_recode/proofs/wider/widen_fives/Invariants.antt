@@ -1,6 +1,6 @@
 use Rattle.std.proofs.Common.{◌*◌}
 use Rattle.snd_recode.specs.Wider.{ArePut}
-use Rattle.snd_recode.proofs.wider.widen_fours.Given as goal
+use Rattle.snd_recode.proofs.wider.widen_fives.Given as goal
 
 abbrev pub invariant-loop-i : goal.invariant-loop-i
-invariant-loop-i l = ArePut (4 * l.i) l.bytes l.into
+invariant-loop-i l = ArePut (5 * l.i) l.bytes l.into
