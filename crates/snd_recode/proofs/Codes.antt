@@ -1,10 +1,14 @@
--- The codes of mu-law values in 16 bits, seen for each byte.
-use Rattle.std.proofs.Common.{◌≡◌, ◌∙◌, subst, ap, ℕ, ◌+◌, ◌-◌, ◌*◌, ◌/◌, ◌%◌, ◌^◌, ◌<◌, ◌≤◌, nat_eq, nat_lt, arith}
-use lib.Dec.{ltb→lt, eqb→eq}
+-- The values of both laws in 16 bits, seen for each byte.
+use Rattle.std.proofs.Common.{◌≡◌, ◌∙◌, subst, ap, refl, ℕ, ℤ, pos, Bool, true, false, ◌+◌, ◌-◌, ◌*◌, ◌*ℤ◌, ◌/◌, ◌%◌, ◌^◌, ◌<◌, ◌≤◌, List, get_or, length, map, nat_cmp, nat_eq, nat_lt, of_z, to_z, w8, arith}
+use Rattle.std.specs.Ordering.{int_eq, ord_max}
+use Rattle.std.proofs.lemmas.List.{get_or-map}
+use Rattle.std.proofs.lemmas.Bool.Decides.{Decides-int_eq}
+use lib.Dec.{T, ltb→lt, eqb→eq}
 use Rattle.snd_g711.proofs.Below.{every_below}
+use Rattle.snd_g711.specs.Alaw.{alaw_value}
 use Rattle.snd_g711.specs.Mulaw.{mulaw_value}
 use Rattle.snd_pcm.specs.Pcm.{twos_code}
-use Rattle.snd_recode.specs.Factors.{mulaw_factor}
+use Rattle.snd_recode.specs.Factors.{alaw_factor, alaw_halves, mulaw_factor}
 
 pub factor_is : (byte : ℕ) → byte < 256 → 128 / 2 ^ (byte / 16 % 8) ≡ mulaw_factor byte
 factor_is byte lt = eqb→eq _ _ (every_below (λ k. nat_eq (128 / 2 ^ (k / 16 % 8)) (mulaw_factor k)) 256 tt byte lt)
@@ -35,3 +39,25 @@ pub positive : (byte factor : ℕ) → 128 ≤ byte → byte < 256 → factor �
 positive byte factor ge lt f =
     ap (λ (n : ℕ). (252 - byte % 16 * 8) * n - 132) f
     ∙ subst (λ (k : ℕ). magnitude k ≡ twos_code 2 (mulaw_value k)) (let e : byte - 128 + 128 ≡ byte = omega (arith, ge) in e) (positive_is (byte - 128) (omega (arith, ge, lt)))
+
+-- ---- of the A-law
+
+is_true : (b : Bool) → T b → b ≡ true
+is_true true t = refl
+is_true false t = absurd t
+
+pub alaw_factor_is : (code : ℕ) → code < 128 → ord_max nat_cmp (64 / 2 ^ (7 - code / 16)) 1 ≡ 2 ^ (code / 16 - 1)
+alaw_factor_is code lt = eqb→eq _ _ (every_below (λ k. nat_eq (ord_max nat_cmp (64 / 2 ^ (7 - k / 16)) 1) (2 ^ (k / 16 - 1))) 128 tt code lt)
+
+-- as the code reads the halves, of 8 bits
+pub alaw_value_is : (byte : ℕ) → byte < 256 → to_z w8 (of_z w8 (alaw_halves byte)) *ℤ pos (8 * alaw_factor byte) ≡ alaw_value byte
+unfolding alaw_value
+alaw_value_is byte lt = (Decides-int_eq _ _).0 (is_true _ (every_below (λ k. int_eq (to_z w8 (of_z w8 (alaw_halves k)) *ℤ pos (8 * alaw_factor k)) (alaw_value k)) 256 tt byte lt))
+
+-- .. at its place of two lists
+pub alaw_value_at : (bytes factors : List ℕ) (halves : List ℤ) (i : ℕ) → i < length bytes → get_or bytes i 0 < 256 → factors ≡ map alaw_factor bytes → halves ≡ map alaw_halves bytes
+    → to_z w8 (of_z w8 (get_or halves i (pos 0))) *ℤ pos (8 * get_or factors i 0) ≡ alaw_value (get_or bytes i 0)
+alaw_value_at bytes factors halves i within lt factors_are halves_are =
+    let half : get_or halves i (pos 0) ≡ alaw_halves (get_or bytes i 0) = ap (λ (l : List ℤ). get_or l i (pos 0)) halves_are ∙ get_or-map alaw_halves bytes i 0 (pos 0) within in
+    let factor : get_or factors i 0 ≡ alaw_factor (get_or bytes i 0) = ap (λ (l : List ℕ). get_or l i 0) factors_are ∙ get_or-map alaw_factor bytes i 0 0 within in
+    rw (half, factor) (alaw_value_is (get_or bytes i 0) lt)

@@ -12,7 +12,7 @@ use crate::pair::{nothing, number_in};
 use snd_g711::mulaw_encode;
 
 /// How many bytes are read at a time. Few, and a number that the compiler knows: it then unrolls the two loops.
-const PIECE: usize = 128;
+pub(crate) const PIECE: usize = 128;
 
 // How many times the steps of the first segment go into those of a byte's.
 #[inline(always)]

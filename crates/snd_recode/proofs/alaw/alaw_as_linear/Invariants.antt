@@ -6,4 +6,4 @@ use Rattle.snd_pcm.specs.declared.linear.Linear.TheVariants.{S16}
 use Rattle.snd_recode.proofs.alaw.alaw_as_linear.Given as goal
 
 abbrev pub invariant-loop-i : goal.invariant-loop-i
-invariant-loop-i l = take (2 * l.i) l.into ++ samples_bytes (S16 Little) (drop l.i (map alaw_value l.bytes)) ≡ samples_bytes (S16 Little) (map alaw_value l.bytes)
+invariant-loop-i l = take (2 * (128 * l.i)) l.into ++ samples_bytes (S16 Little) (map alaw_value (drop (128 * l.i) l.bytes)) ≡ samples_bytes (S16 Little) (map alaw_value l.bytes)
