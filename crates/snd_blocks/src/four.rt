@@ -15,7 +15,8 @@ use snd_layout::{Codec, Layout, Params};
 /// Whether blocks are read, and made, four at a time: those of Microsoft ADPCM of two channels, where there is room for
 /// the bytes of four.
 pub fn is_fourfold(params: &Params) -> bool
-    ensures { result ≡ true → IsFourfold params.now }
+    ensures only { result ≡ true → IsFourfold params.now }
+    ensures all { IsFourfold params.now → result ≡ true }
 {
     let is_microsoft = matches!(params.codec, Codec::Ms { .. });
     is_microsoft && params.channels == 2 && 4 * usize::from(params.block_align()) <= MOST_BYTES
