@@ -107,7 +107,7 @@ pub(crate) fn prediction(newer_by: i32, older_by: i32, newer: i32, older: i32) -
 fn nearest_16(x: i32) -> i32
     ensures { result ≡ clamp_16 x }
 {
-    x.clamp(-32768, 32767)
+    clamped_16(x)
 }
 
 /// A number held within 16 bits. Few are outside, so that a test that the processor foresees is quicker than two choices.

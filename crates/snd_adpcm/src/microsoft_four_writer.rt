@@ -114,7 +114,7 @@ fn byte_of(high: u32, low: u32) -> u8
 }
 
 /// Puts the bytes of the frames of four blocks, whose heads stand in their places.
-// by itself it has registers enough, and no two of the slices overlap
+// by itself it keeps the lists where they are, behind one pointer, as vector code of their loop wants them
 #[inline(never)]
 fn encode_beside(
     samples: FourSamples<'_>,
