@@ -1,7 +1,7 @@
 """What the benches share: commands measured side by side, and one table of what was found.
 
 A command is a list of words, with the file that it reads, the file that it writes to, and one that it makes. Each runs once to
-warm up; then all of a group run in turn, as many times each, but one that takes more than four seconds once, and the least and
+warm up; then all of a group run in turn, as many times each, but one that takes more than ten seconds once, and the least and
 the middle of the times are taken. Where a host's speed changes from minute to minute, a better figure is the middle of what a
 command takes by what another one took in the same turn."""
 import os
@@ -13,7 +13,7 @@ import time
 TRIES = int(os.environ.get("BENCH_TRIES", "9"))
 
 # the seconds from which on a command runs once alone
-SLOW = 4
+SLOW = 10
 
 
 def run(words, given="/dev/null", to="/dev/null", made=None):
