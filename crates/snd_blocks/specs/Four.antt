@@ -1,4 +1,4 @@
--- Blocks that are decoded four at a time. It is said for the proofs alone.
+-- Blocks that are taken four at a time, and, for the proofs alone, the samples of four that are decoded together.
 use Rattle.std.specs.Prelude.{◌≡◌, ℕ, ℤ, ◌+◌, ◌*◌, ◌<◌, ◌≤◌, List, All, length}
 use Rattle.snd_adpcm.specs.Four.{AreSamples, part}
 use Rattle.snd_adpcm.specs.Frames.{Is16Bit}

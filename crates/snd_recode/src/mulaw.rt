@@ -8,11 +8,8 @@ ghost use Rattle.snd_pcm.specs.Pcm.{code, samples, samples_bytes};
 ghost use Rattle.snd_pcm.specs.declared.linear.Linear.TheVariants.{S16};
 ghost use Rattle.snd_recode.specs.Factors.{mulaw_factor};
 
-use crate::pair::{nothing, number_in};
+use crate::pair::{PIECE, nothing, number_in};
 use snd_g711::mulaw_encode;
-
-/// How many bytes are read at a time. Few, and a number that the compiler knows: it then unrolls the two loops.
-pub(crate) const PIECE: usize = 128;
 
 // How many times the steps of the first segment go into those of a byte's.
 #[inline(always)]

@@ -1,9 +1,12 @@
-//! Two bytes as a linear sample, many of them at once.
+//! Two bytes as a linear sample, many of them at once, and how many of a law's are read so.
 
 ghost use Rattle.std.specs.Prelude.{◌≡◌, ◌∷◌, [], ◌*◌, length, pos};
 ghost use Rattle.snd_fields.specs.declared.field.Order.TheVariants.{Little};
 ghost use Rattle.snd_pcm.specs.Pcm.{sample};
 ghost use Rattle.snd_pcm.specs.declared.linear.Linear.TheVariants.{S16};
+
+/// How many bytes of a law are read at a time. Few, and a number that the compiler knows: it then unrolls the loops.
+pub(crate) const PIECE: usize = 128;
 
 /// The number of a sample of 16 bits, the lowest byte first.
 #[inline(always)]
