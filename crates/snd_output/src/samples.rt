@@ -35,7 +35,6 @@ fn stay(from: Codec, to: Codec) -> bool
 fn recode_into(from: Codec, to: Codec, bytes: &[u8], numbers: &mut [i32], coded: &mut [u8]) -> usize
     requires pass { Pass from to }
     requires held { length bytes.now ≡ bytes_in from (length numbers.old) }
-    requires few { length numbers.old ≤ 16384 }
     requires fits { bytes_in to (length numbers.old) ≤ length coded.old }
     ensures size { result ≡ bytes_in to (length numbers.old) }
     ensures coded { take result coded.new ≡ coded_in to (change_numbers from to (numbers_in from bytes.now)) }
@@ -62,7 +61,6 @@ pub(crate) fn give_passed<E: Disk, M: Making>(
     requires room { HasRoom (length numbers.old / channels_of to.old) (known_of to.old) }
     requires whole { length numbers.old % channels_of to.old ≡ 0 }
     requires held { length bytes.now ≡ bytes_in codec (length numbers.old) }
-    requires few { length numbers.old ≤ 16384 }
     requires fits { bytes_in (codec_of to.old) (length numbers.old) ≤ length coded.old }
     ensures loan { loan_of to.new ≡ loan_of to.old }
     ensures left { LeavesFile (length numbers.old / channels_of to.old) to.old to.new result }
