@@ -5,6 +5,7 @@ pub mod Counts
 pub mod Filling
 pub mod Frames
 pub mod Inputs
+pub mod Joined
 pub mod Joining
 pub mod Judging
 pub mod Lists

@@ -1,5 +1,5 @@
 -- Inputs whose samples are linear ones of 16 bits, as the pairs of bytes that they are. It is said for the proofs alone.
-use Rattle.std.specs.Prelude.{◌≡◌, ◌≢◌, ℕ, ◌+◌, ◌*◌, ◌/◌, ◌<◌, Bool, true, false, List, get_or, length}
+use Rattle.std.specs.Prelude.{◌≡◌, ◌≢◌, ℕ, ◌+◌, ◌*◌, ◌/◌, ◌<◌, Bool, true, false, List, [], ◌∷◌, get_or, length}
 use Rattle.snd_disk.specs.declared.disk.Disk.{Ghosts}
 use Rattle.snd_disk.specs.State.{State}
 use Rattle.snd_inputs.specs.declared.input.Input.{Input}
@@ -28,6 +28,15 @@ HasPairs channels which pairs block = (j : ℕ) → j < pairs_in pairs → SameP
 -- the others stay, in so many frames
 abbrev pub KeepsPairs : ℕ → ℕ → ℕ → List ℕ → List ℕ → Type 0
 KeepsPairs channels which count old new = (j c : ℕ) → j < count → c < channels → c ≢ which → SamePair new (j * channels + c) old (j * channels + c)
+
+-- two of them as a frame
+abbrev pub frame_of : List ℕ → List ℕ → ℕ → List ℕ
+frame_of one other i = get_or one (2 * i) 0 ∷ get_or one (2 * i + 1) 0 ∷ get_or other (2 * i) 0 ∷ get_or other (2 * i + 1) 0 ∷ []
+
+-- so many frames of a block are the pairs of two channels
+pub record AreJoined (count : ℕ) (one other block : List ℕ) : Type 0 where
+  pub left : (j : ℕ) → j < count → SamePair block (j * 2 + 0) one j
+  pub right : (j : ℕ) → j < count → SamePair block (j * 2 + 1) other j
 
 -- ---- inputs
 

@@ -1,8 +1,8 @@
 //! Numbers that are put side by side, and the pairs of bytes that some of them are.
 
-ghost use Rattle.std.specs.Prelude.{◌≡◌, ◌∷◌, [], ◌*◌, ◌<◌, All, length};
+ghost use Rattle.std.specs.Prelude.{◌≡◌, ◌≢◌, ℕ, ◌+◌, ◌*◌, ◌/◌, ◌<◌, All, length};
 ghost use Rattle.snd_interleave.specs.Beside.{FitsChannel, HasChannel, KeepsChannels};
-ghost use Rattle.snd_interleave.specs.Pairs.{HasPairs, KeepsPairs, pairs_in};
+ghost use Rattle.snd_interleave.specs.Pairs.{AreJoined, HasPairs, KeepsPairs, SamePair, frame_of, pairs_in};
 ghost use Rattle.snd_recode.specs.Recoded.{changed_all};
 ghost use Rattle.snd_pcm.specs.Width.{HasWidth, IsWidth};
 
@@ -47,14 +47,48 @@ pub(crate) fn put_pairs(pairs: &[u8], channels: usize, which: usize, block: &mut
     }
 }
 
-// Two pairs one behind the other. They pass through one number, so that the compiler moves many of them at once.
+// The pairs of two channels that are a frame of both.
 #[inline(always)]
-fn frame_of(a: u8, b: u8, c: u8, d: u8) -> [u8; 4]
-    ensures { result ≡ a ∷ b ∷ c ∷ d ∷ [] }
+fn frame_of(left: &[u8], right: &[u8], i: usize) -> [u8; 4]
+    requires within { 2 * i + 1 < length left.now }
+    requires alike { length right.now ≡ length left.now }
+    ensures { result ≡ frame_of left.now right.now i }
 {
-    let left = u32::from(u16::from_le_bytes([a, b]));
-    let right = u32::from(u16::from_le_bytes([c, d]));
-    (left + right * 65536).to_le_bytes()
+    [left[2 * i], left[2 * i + 1], right[2 * i], right[2 * i + 1]]
+}
+
+// Puts a frame of two pairs.
+#[inline(always)]
+fn put_frame(block: &mut [u8], i: usize, frame: [u8; 4])
+    requires { 4 * i + 3 < length block.old }
+    ensures left { SamePair block.new (i * 2 + 0) frame 0 }
+    ensures right { SamePair block.new (i * 2 + 1) frame 1 }
+    ensures others { (k : ℕ) → k ≢ i * 2 + 0 → k ≢ i * 2 + 1 → SamePair block.new k block.old k }
+{
+    block[4 * i] = frame[0];
+    block[4 * i + 1] = frame[1];
+    block[4 * i + 2] = frame[2];
+    block[4 * i + 3] = frame[3];
+}
+
+// Frames of two channels, four at a time, as far as they go: all four are read before they are put, which lets the
+// compiler move them at once.
+fn join_fours(left: &[u8], right: &[u8], block: &mut [u8])
+    requires size { length block.old ≡ length left.now * 2 }
+    requires alike { length right.now ≡ length left.now }
+    ensures { AreJoined (4 * (length left.now / 8)) left.now right.now block.new }
+{
+    for i in 0..left.len() / 8 {
+        let (one, two, three, four) = (4 * i, 4 * i + 1, 4 * i + 2, 4 * i + 3);
+        let first = frame_of(left, right, one);
+        let second = frame_of(left, right, two);
+        let third = frame_of(left, right, three);
+        let fourth = frame_of(left, right, four);
+        put_frame(block, one, first);
+        put_frame(block, two, second);
+        put_frame(block, three, third);
+        put_frame(block, four, fourth);
+    }
 }
 
 /// Puts the pairs of two channels side by side, as frames of both.
@@ -64,11 +98,8 @@ pub(crate) fn join_pairs(left: &[u8], right: &[u8], block: &mut [u8])
     ensures left { HasPairs 2 0 left.now block.new }
     ensures right { HasPairs 2 1 right.now block.new }
 {
-    for i in 0..left.len() / 2 {
-        let [a, b, c, d] = frame_of(left[2 * i], left[2 * i + 1], right[2 * i], right[2 * i + 1]);
-        block[4 * i] = a;
-        block[4 * i + 1] = b;
-        block[4 * i + 2] = c;
-        block[4 * i + 3] = d;
+    join_fours(left, right, block);
+    for i in 4 * (left.len() / 8)..left.len() / 2 {
+        put_frame(block, i, frame_of(left, right, i));
     }
 }

@@ -132,7 +132,7 @@ wide_all f bytes into i whole room all =
 pub three_put : (bytes into new three : List ℕ) (i next : ℕ) → next ≡ i + 1 → length bytes % 2 ≡ 0 → 2 * length into ≡ 3 * length bytes → i < length bytes / 2
     → three ≡ sample_bytes (S24 Little) (changed 16 24 (sample (S16 Little) (get_or bytes (2 * i) 0 ∷ get_or bytes (2 * i + 1) 0 ∷ [])))
     → new ≡ set (set (set into (3 * i) (get_or three 0 0)) (3 * i + 1) (get_or three 1 0)) (3 * i + 2) (get_or three 2 0)
-    → ArePut i bytes into → ArePut next bytes new
+    → ArePut (S24 Little) i bytes into → ArePut (S24 Little) next bytes new
 three_put bytes into new three i next by_one whole room lt is put so_far =
     let second : 2 * i + 1 ≡ suc (2 * i) = omega arith in
     let bytes_are : get_or three 0 0 ∷ get_or three 1 0 ∷ get_or three 2 0 ∷ [] ≡ sample_bytes (S24 Little) (changed 16 24 (value (S16 Little) (number Little bytes (2 * i) 2))) =
@@ -140,7 +140,19 @@ three_put bytes into new three i next by_one whole room lt is put so_far =
     ∙ ap (λ (j : ℕ). sample_bytes (S24 Little) (changed 16 24 (sample (S16 Little) (get_or bytes (2 * i) 0 ∷ get_or bytes j 0 ∷ [])))) second in
     rw (by_one, put) (three_step (changed 16 24) bytes into i _ _ _ whole room lt bytes_are so_far)
 
+-- four bytes that are
+pub four_put : (bytes into new four : List ℕ) (i next : ℕ) → next ≡ i + 1 → length bytes % 2 ≡ 0 → length into ≡ 2 * length bytes → i < length bytes / 2
+    → four ≡ sample_bytes (S32 Little) (changed 16 32 (sample (S16 Little) (get_or bytes (2 * i) 0 ∷ get_or bytes (2 * i + 1) 0 ∷ [])))
+    → new ≡ set (set (set (set into (4 * i) (get_or four 0 0)) (4 * i + 1) (get_or four 1 0)) (4 * i + 2) (get_or four 2 0)) (4 * i + 3) (get_or four 3 0)
+    → ArePut (S32 Little) i bytes into → ArePut (S32 Little) next bytes new
+four_put bytes into new four i next by_one whole room lt is put so_far =
+    let second : 2 * i + 1 ≡ suc (2 * i) = omega arith in
+    let bytes_are : get_or four 0 0 ∷ get_or four 1 0 ∷ get_or four 2 0 ∷ get_or four 3 0 ∷ [] ≡ sample_bytes (S32 Little) (changed 16 32 (value (S16 Little) (number Little bytes (2 * i) 2))) =
+    ap (λ (l : List ℕ). get_or l 0 0 ∷ get_or l 1 0 ∷ get_or l 2 0 ∷ get_or l 3 0 ∷ []) is
+    ∙ ap (λ (j : ℕ). sample_bytes (S32 Little) (changed 16 32 (sample (S16 Little) (get_or bytes (2 * i) 0 ∷ get_or bytes j 0 ∷ [])))) second in
+    rw (by_one, put) (wide_step (changed 16 32) bytes into i _ _ _ _ whole room lt bytes_are so_far)
+
 -- a byte behind those that are put
-pub put_beyond : (bytes into : List ℕ) (i at byte : ℕ) → 3 * i ≤ at → ArePut i bytes into → ArePut i bytes (set into at byte)
+pub put_beyond : (bytes into : List ℕ) (i at byte : ℕ) → 3 * i ≤ at → ArePut (S24 Little) i bytes into → ArePut (S24 Little) i bytes (set into at byte)
 put_beyond bytes into i at byte behind so_far =
     ap (λ (l : List ℕ). l ++ samples_bytes (S24 Little) (drop i (map (changed 16 24) (samples (S16 Little) bytes)))) (take-set-le (3 * i) into at byte behind) ∙ so_far

@@ -1,5 +1,5 @@
 //! Linear samples of 16 bits as those of more.
-#![tactic(auto, using(crate::proofs::Loops::three_all, crate::proofs::Loops::three_step, crate::proofs::Loops::wide_all, crate::proofs::Loops::wide_step))]
+#![tactic(auto, using(crate::proofs::Loops::three_all, crate::proofs::Loops::three_step, crate::proofs::Loops::wide_all))]
 
 ghost use Rattle.std.specs.Prelude.{◌≡◌, ◌∷◌, [], ◌+◌, ◌-◌, ◌*◌, ◌/◌, ◌%◌, ◌<◌, ◌≤◌, get_or, length, map, set};
 ghost use Rattle.snd_fields.specs.declared.field.Order.TheVariants.{Little};
@@ -7,18 +7,6 @@ ghost use Rattle.snd_pcm.specs.Pcm.{sample, sample_bytes, samples, samples_bytes
 ghost use Rattle.snd_pcm.specs.Width.{changed};
 ghost use Rattle.snd_pcm.specs.declared.linear.Linear.TheVariants.{S16, S24, S32};
 ghost use Rattle.snd_recode.specs.Wider.{ArePut};
-
-use crate::pair::number_in;
-use snd_pcm::change_width;
-
-// The bytes of a sample of 16 bits, in a width that has 32.
-#[inline(always)]
-fn wide_bytes(width: u8, low: u8, high: u8) -> [u8; 4]
-    requires { width ≡ 32 }
-    ensures { result ≡ sample_bytes (S32 Little) (changed 16 32 (sample (S16 Little) (low ∷ high ∷ []))) }
-{
-    change_width(16, width, i32::from(number_in(low, high))).to_le_bytes()
-}
 
 // The bytes of a sample of 16 bits as those of one of 24.
 #[inline(always)]
@@ -39,12 +27,32 @@ fn put_three(into: &mut [u8], i: usize, three: [u8; 3])
     into[3 * i + 2] = three[2];
 }
 
+// The bytes of a sample of 16 bits as those of one of 32.
+#[inline(always)]
+fn four_bytes(low: u8, high: u8) -> [u8; 4]
+    ensures { result ≡ sample_bytes (S32 Little) (changed 16 32 (sample (S16 Little) (low ∷ high ∷ []))) }
+{
+    [0, 0, low, high]
+}
+
+// Puts four bytes at the place of a sample of 32 bits.
+#[inline(always)]
+fn put_four(into: &mut [u8], i: usize, four: [u8; 4])
+    requires { 4 * i + 3 < length into.old }
+    ensures { into.new ≡ set (set (set (set into.old (4 * i) (get_or four 0 0)) (4 * i + 1) (get_or four 1 0)) (4 * i + 2) (get_or four 2 0)) (4 * i + 3) (get_or four 3 0) }
+{
+    into[4 * i] = four[0];
+    into[4 * i + 1] = four[1];
+    into[4 * i + 2] = four[2];
+    into[4 * i + 3] = four[3];
+}
+
 // Samples of 16 bits as those of 24, five at a time and the first byte of the one behind them, as far as they go: all
 // five are read before 16 bytes are put, which lets the compiler move them at once.
 fn widen_fives(bytes: &[u8], into: &mut [u8])
     requires whole { length bytes.now % 2 ≡ 0 }
     requires room { 2 * length into.old ≡ 3 * length bytes.now }
-    ensures { ArePut (5 * ((length bytes.now - 1) / 10)) bytes.now into.new }
+    ensures { ArePut (S24 Little) (5 * ((length bytes.now - 1) / 10)) bytes.now into.new }
 {
     for i in 0..bytes.len().saturating_sub(1) / 10 {
         let (one, two, three, four, five) = (5 * i, 5 * i + 1, 5 * i + 2, 5 * i + 3, 5 * i + 4);
@@ -68,7 +76,7 @@ fn widen_rest(from: usize, bytes: &[u8], into: &mut [u8])
     requires whole { length bytes.now % 2 ≡ 0 }
     requires room { 2 * length into.old ≡ 3 * length bytes.now }
     requires within { from ≤ length bytes.now / 2 }
-    requires so_far { ArePut from bytes.now into.old }
+    requires so_far { ArePut (S24 Little) from bytes.now into.old }
     ensures { into.new ≡ samples_bytes (S24 Little) (map (changed 16 24) (samples (S16 Little) bytes.now)) }
 {
     for i in from..bytes.len() / 2 {
@@ -86,20 +94,33 @@ pub(crate) fn widen_to_24(bytes: &[u8], into: &mut [u8])
     widen_rest(5 * (bytes.len().saturating_sub(1) / 10), bytes, into);
 }
 
+// Samples of 16 bits as those of 32, four at a time, as far as they go: all four are read before 16 bytes are put.
+fn widen_fours(bytes: &[u8], into: &mut [u8])
+    requires whole { length bytes.now % 2 ≡ 0 }
+    requires room { length into.old ≡ 2 * length bytes.now }
+    ensures { ArePut (S32 Little) (4 * (length bytes.now / 8)) bytes.now into.new }
+{
+    for i in 0..bytes.len() / 8 {
+        let (one, two, three, four) = (4 * i, 4 * i + 1, 4 * i + 2, 4 * i + 3);
+        let first = four_bytes(bytes[2 * one], bytes[2 * one + 1]);
+        let second = four_bytes(bytes[2 * two], bytes[2 * two + 1]);
+        let third = four_bytes(bytes[2 * three], bytes[2 * three + 1]);
+        let last = four_bytes(bytes[2 * four], bytes[2 * four + 1]);
+        put_four(into, one, first);
+        put_four(into, two, second);
+        put_four(into, three, third);
+        put_four(into, four, last);
+    }
+}
+
 /// Samples of 16 bits as those of 32, the lowest byte first in both. `into` has just enough places.
 pub(crate) fn widen_to_32(bytes: &[u8], into: &mut [u8])
     requires whole { length bytes.now % 2 ≡ 0 }
     requires room { length into.old ≡ 2 * length bytes.now }
     ensures { into.new ≡ samples_bytes (S32 Little) (map (changed 16 32) (samples (S16 Little) bytes.now)) }
 {
-    let count = bytes.len() / 2;
-    // the bits of what is made, from the lengths: of bytes that it knows to be zero the compiler makes no vector code
-    let width = (into.len() / count.max(1) * 8) as u8;
-    for i in 0..count {
-        let [lowest, low, high, highest] = wide_bytes(width, bytes[2 * i], bytes[2 * i + 1]);
-        into[4 * i] = lowest;
-        into[4 * i + 1] = low;
-        into[4 * i + 2] = high;
-        into[4 * i + 3] = highest;
+    widen_fours(bytes, into);
+    for i in 4 * (bytes.len() / 8)..bytes.len() / 2 {
+        put_four(into, i, four_bytes(bytes[2 * i], bytes[2 * i + 1]));
     }
 }

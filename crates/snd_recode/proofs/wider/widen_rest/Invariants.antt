@@ -1,5 +1,7 @@
+use Rattle.snd_fields.specs.declared.field.Order.TheVariants.{Little}
+use Rattle.snd_pcm.specs.declared.linear.Linear.TheVariants.{S24}
 use Rattle.snd_recode.specs.Wider.{ArePut}
 use Rattle.snd_recode.proofs.wider.widen_rest.Given as goal
 
 abbrev pub invariant-loop-i : goal.invariant-loop-i
-invariant-loop-i l = ArePut l.i l.bytes l.into
+invariant-loop-i l = ArePut (S24 Little) l.i l.bytes l.into
