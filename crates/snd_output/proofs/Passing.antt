@@ -141,26 +141,16 @@ few_bytes (Linear (linear.TheVariants.S32 order)) = omega arith
 few_bytes fixed.TheVariants.MuLaw = omega arith
 few_bytes fixed.TheVariants.ALaw = omega arith
 
--- frames that have no more bytes than are read are no more samples, and become no more than four bytes each
-places_fit : (p : Parameters) (to : Codec) (m q align : ℕ) → Pass p.codec to → q ≡ p.channels → 1 ≤ q → m % q ≡ 0 → m / q * align ≤ 16384 → align ≡ block_align p.channels p.codec
-    → (m ≤ 16384) × (bytes_in to m ≤ 65536)
-places_fit p to m q align pass channels some whole fits is =
-    let f = m / q in
-    let form = some_form to pass.1 in
-    let parts : f * q + m % q ≡ m = div-add-mod' m q in
-    let all : m ≡ f * q = omega (arith, parts, whole) in
-    let least : q ≤ align = omega (arith, channels, is, align_least p.codec p.channels pass.0) in
-    let few : f * q ≤ f * align = mul-le-mul_left f least in
-    let within : m ≤ 16384 = omega (arith, all, few, fits) in
-    let most : byte_count form.0 * m ≤ 4 * m = mul-le-mul_right m (few_bytes form.0) in
-    (within, omega (arith, size_of to form.0 m form.1, most, within))
-
-pub held_places : (from to : Known) (m q align : ℕ) → Pass from.shape.params.codec to.shape.params.codec → q ≡ from.shape.params.channels → 1 ≤ q → m % q ≡ 0
-    → m / q * align ≤ 16384 → align ≡ block_align from.shape.params.channels from.shape.params.codec → (m ≤ 16384) × (bytes_in to.shape.params.codec m ≤ 65536)
-held_places from to m q align pass channels some whole fits is = places_fit from.shape.params to.shape.params.codec m q align pass channels some whole fits is
+-- a sample becomes no more than four bytes
+pub places_fit : (to : Codec) (m most : ℕ) → is_adpcm to ≡ false → m ≤ most → bytes_in to m ≤ 4 * most
+places_fit to m most fixed few =
+    let form = some_form to fixed in
+    let each : byte_count form.0 * m ≤ 4 * m = mul-le-mul_right m (few_bytes form.0) in
+    let all : 4 * m ≤ 4 * most = mul-le-mul_left 4 few in
+    omega (arith, size_of to form.0 m form.1, each, all)
 
 -- fewer places are for no more bytes
-pub fewer_held : (p m q align : ℕ) → p ≤ m → m / q * align ≤ 16384 → p / q * align ≤ 16384
+pub fewer_held : (p m q align : ℕ) → p ≤ m → m / q * align ≤ 65536 → p / q * align ≤ 65536
 fewer_held p m q align fewer fits =
     let rest : p + (m - p) ≡ m = omega (arith, fewer) in
     let frames : p / q ≤ m / q = omega (arith, div_sum q p (m - p), ap (λ (i : ℕ). i / q) rest) in

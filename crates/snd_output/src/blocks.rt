@@ -23,6 +23,7 @@ use snd_modes::{File, Mode, Read};
 pub fn numbers_of<D: Disk, M: Mode>(file: &File<'_, D, M>) -> (usize, Codec)
     ensures channels { result.0 ≡ channels_of file.now }
     ensures some { 1 ≤ result.0 }
+    ensures most { result.0 ≤ 256 }
     ensures codec { result.1 ≡ codec_of file.now }
     ensures frames { 1 ≤ block_frames (codec_of file.now) }
 {
@@ -32,10 +33,12 @@ pub fn numbers_of<D: Disk, M: Mode>(file: &File<'_, D, M>) -> (usize, Codec)
     (usize::from(params.channels), params.codec)
 }
 
-/// The most bytes of samples that are read at a time, and the most that they become, since one may become four.
-const MOST_BYTES: usize = 16384;
+// The most bytes of samples that pass at a time, the most samples, and the most bytes that these become, four of each.
+const MOST_BYTES: usize = 65536;
 
-const MOST_CODED: usize = 4 * MOST_BYTES;
+const MOST_NUMBERS: usize = 32768;
+
+const MOST_CODED: usize = 4 * MOST_NUMBERS;
 
 // How many frames are given together, so that whole blocks are made of them: those of a block of the file that is
 // given them, but where they come in blocks themselves.
@@ -57,12 +60,12 @@ fn places_of(places: usize, channels: usize, align: usize, together: usize, pass
     requires some { 1 ≤ channels }
     requires one { channels ≤ places }
     requires some_together { 1 ≤ together }
-    requires fits { pass ≡ true → (1 ≤ align) × (align ≤ 16384) }
+    requires fits { pass ≡ true → (1 ≤ align) × (align ≤ 65536) }
     ensures one { channels ≤ result }
     ensures fits { result ≤ places }
     ensures whole { result % channels ≡ 0 }
     ensures all { together ≡ 1 → pass ≡ false → result ≡ places - places % channels }
-    ensures most { pass ≡ true → result / channels * align ≤ 16384 }
+    ensures most { pass ≡ true → result / channels * align ≤ 65536 }
 {
     let frames = places / channels;
     if pass {
@@ -100,9 +103,9 @@ fn first_places<E: Disk, M: Making>(
 // How many bytes are held for so many places: those of their frames, where bytes pass.
 fn held_of(places: usize, channels: usize, align: usize, pass: bool) -> usize
     requires some { 1 ≤ channels }
-    requires most { pass ≡ true → places / channels * align ≤ 16384 }
+    requires most { pass ≡ true → places / channels * align ≤ 65536 }
     ensures value { pass ≡ true → result ≡ places / channels * align }
-    ensures most { result ≤ 16384 }
+    ensures most { result ≤ 65536 }
 {
     if pass {
         return places / channels * align;
@@ -122,7 +125,7 @@ fn pass_block<D: Disk, E: Disk, M: Making>(
     requires pass { Pass (codec_of from.old) (codec_of to.old) }
     requires whole { length block.old % channels_of from.old ≡ 0 }
     requires held { length bytes.old ≡ bytes_for from.old (length block.old) }
-    requires few { length block.old ≤ 16384 }
+    requires few { length block.old ≤ 32768 }
     requires fits { bytes_in (codec_of to.old) (length block.old) ≤ length coded.old }
     ensures loan { loan_of from.new ≡ loan_of from.old }
     ensures to_loan { loan_of to.new ≡ loan_of to.old }
@@ -160,7 +163,7 @@ fn append_block<D: Disk, E: Disk, M: Making>(
     requires whole { length block.old % channels_of from.old ≡ 0 }
     requires pass { pass ≡ true → Pass (codec_of from.old) (codec_of to.old) }
     requires held { pass ≡ true → length bytes.old ≡ bytes_for from.old (length block.old) }
-    requires few { pass ≡ true → length block.old ≤ 16384 }
+    requires few { pass ≡ true → length block.old ≤ 32768 }
     requires fits { pass ≡ true → bytes_in (codec_of to.old) (length block.old) ≤ length coded.old }
     ensures loan { loan_of from.new ≡ loan_of from.old }
     ensures to_loan { loan_of to.new ≡ loan_of to.old }
@@ -186,6 +189,49 @@ fn append_block<D: Disk, E: Disk, M: Making>(
     change_numbers(codec, wanted, numbers);
     M::give(to, numbers)?;
     Ok(count)
+}
+
+// Puts the frames that are left in one file behind those of another as `append` does, as many at a time as a block has
+// places for; by their bytes, where these pass.
+fn append_by<D: Disk, E: Disk, M: Making>(
+    from: &mut File<'_, D, Read>,
+    to: &mut File<'_, E, M>,
+    block: &mut [i32],
+    pass: bool,
+) -> Result<(), Stop>
+    requires may { MayAppend (known_of from.old) (known_of to.old) }
+    requires places { channels_of from.old ≤ length block.old }
+    requires pass { pass ≡ true → Pass (codec_of from.old) (codec_of to.old) }
+    requires few { pass ≡ true → length block.old ≤ 32768 }
+    requires together { 1 ≤ block_frames (codec_of to.old) }
+    ensures loan { loan_of from.new ≡ loan_of from.old }
+    ensures to_loan { loan_of to.new ≡ loan_of to.old }
+    ensures left { LeavesFiles (left_in (known_of from.old)) from.old from.new to.old to.new result }
+    ensures changed { FindsChanged D.state frames_ahead from.old result }
+    ensures lengthens { OnOk result (Lengthens D.state E.state numbers_left from.old to.old to.new) }
+    ensures faults { CountsFiles D.state E.state from.old from.new to.old to.new result }
+    ensures reads { OnlyReadsIn D.Disk from.old from.new }
+    ensures tells { TellsOn E.state to.old to.new }
+    ensures time { GoesOnFrom E.state E.left_between (disk_of to.old) (disk_of to.new) }
+    ensures asked { AsksForLeft D.state (length block.old) from.old from.new }
+    ensures to_asked { AsksNothing E.state to.old to.new }
+{
+    let (channels, codec) = numbers_of(from);
+    let align = usize::from(from.params().block_align());
+    let together = frames_together(codec, to.params());
+    let most = places_of(block.len(), channels, align, together, pass);
+    let mut buffer = [0u8; MOST_BYTES];
+    let mut coded = [0u8; MOST_CODED];
+    let mut places = first_places(to, most, channels, pass);
+    let mut count = 1;
+    while count > 0 {
+        let whole = &mut block[..places];
+        let held = held_of(places, channels, align, pass);
+        let bytes = &mut buffer[..held];
+        count = append_block(from, to, whole, bytes, &mut coded, pass)?;
+        places = most;
+    }
+    Ok(())
 }
 
 /// Puts the frames that are left in one file, from the one to read next on, behind those of another, a
@@ -219,22 +265,11 @@ pub fn append<D: Disk, E: Disk, M: Making>(
     ensures asked { AsksForLeft D.state (length block.old) from.old from.new }
     ensures to_asked { AsksNothing E.state to.old to.new }
 {
-    let (channels, codec) = numbers_of(from);
+    let (_, codec) = numbers_of(from);
     let (_, wanted) = numbers_of(to);
-    let pass = pass(codec, wanted);
-    let align = usize::from(from.params().block_align());
-    let together = frames_together(codec, to.params());
-    let most = places_of(block.len(), channels, align, together, pass);
-    let mut buffer = [0u8; MOST_BYTES];
-    let mut coded = [0u8; MOST_CODED];
-    let mut places = first_places(to, most, channels, pass);
-    let mut count = 1;
-    while count > 0 {
-        let whole = &mut block[..places];
-        let held = held_of(places, channels, align, pass);
-        let bytes = &mut buffer[..held];
-        count = append_block(from, to, whole, bytes, &mut coded, pass)?;
-        places = most;
+    if pass(codec, wanted) {
+        let mut numbers = [0i32; MOST_NUMBERS];
+        return append_by(from, to, &mut numbers, true);
     }
-    Ok(())
+    append_by(from, to, block, false)
 }

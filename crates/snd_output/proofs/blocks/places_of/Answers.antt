@@ -12,12 +12,12 @@ returns-then-pass-clause-most c = λ pass.
     let align = c.args.align in
     let some : 0 < c.args.channels = omega (arith, c.requires.some) in
     let frames : q * c.args.channels / c.args.channels ≡ q = mul-div_cancel q some in
-    let few : q ≤ 16384 / align = omega (arith, c.min.ensures) in
-    let times : align * q ≤ align * (16384 / align) = mul-le-mul_left align few in
+    let few : q ≤ 65536 / align = omega (arith, c.min.ensures) in
+    let times : align * q ≤ align * (65536 / align) = mul-le-mul_left align few in
     let turn : align * q ≡ q * align = omega arith in
-    let turned : align * (16384 / align) ≡ 16384 / align * align = omega arith in
-    let all : 16384 / align * align + 16384 % align ≡ 16384 = div-add-mod' 16384 align in
-    let most : q * align ≤ 16384 = omega (arith, times, turn, turned, all) in
+    let turned : align * (65536 / align) ≡ 65536 / align * align = omega arith in
+    let all : 65536 / align * align + 65536 % align ≡ 65536 = div-add-mod' 65536 align in
+    let most : q * align ≤ 65536 = omega (arith, times, turn, turned, all) in
     let same : q * c.args.channels / c.args.channels * align ≡ q * align = ap (λ (n : ℕ). n * align) frames in
     omega (arith, same, most)
 

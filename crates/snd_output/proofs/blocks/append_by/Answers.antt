@@ -8,14 +8,14 @@ use Rattle.snd_modes.specs.Calls.{count_read}
 use Rattle.snd_modes.specs.Editing.{Editing, moved_by}
 use Rattle.snd_modes.specs.Handle.{Known, Stands, channels_of, codec_of, disk_of, known_of}
 use Rattle.snd_modes.specs.Reading.{bytes_of_frames, bytes_to_read}
-use Rattle.snd_output.specs.Appended.{MayAppend, Pass, bytes_in, left_in, next_numbers, read_on}
+use Rattle.snd_output.specs.Appended.{MayAppend, bytes_in, left_in, next_numbers, read_on}
 use Rattle.snd_output.specs.Made.{IsMaking}
 use Rattle.snd_output.specs.Widths.{change_numbers}
 use Rattle.snd_output.proofs.Appending.{all_numbers, asked_all, asked_before, asked_by, asked_none, asked_on, bad_ahead, count_fits, each_whole, left_later, longer_as, longer_none, longer_then, may_go_on, moved_none, moved_twice, none_left, numbers_none, one_fits, numbers_twice, read_none, read_twice}
 use Rattle.snd_layout.specs.Blocks.{block_align, is_adpcm}
-use Rattle.snd_output.proofs.Passing.{fewer_held, held_places, no_pass}
+use Rattle.snd_output.proofs.Passing.{fewer_held, no_pass, places_fit}
 use Rattle.snd_output.proofs.Changing.{changed_as}
-use Rattle.snd_output.proofs.blocks.append.Goals as goal
+use Rattle.snd_output.proofs.blocks.append_by.Goals as goal
 
 pub loop-count-init : goal.loop-count-init
 loop-count-init g c =
@@ -50,7 +50,7 @@ loop-count-init g c =
       whole = ap (λ (i : ℕ). p % i) (sym is) ∙ places.whole;
       each = λ blocks.
           let from_blocks = ap is_adpcm c.numbers_of-channels.ensures.codec ∙ blocks in
-          let none = no_pass c.pass-pass.result _ _ c.pass-pass.ensures from_blocks in
+          let none = no_pass c.args.pass _ _ c.requires.pass blocks in
           let alone = c.frames_together-together.ensures.one from_blocks in
           ap (λ (i : ℕ). i / channels_of c.args.from.now) (places.all none ∙ most.all alone none) ∙ ap (λ (i : ℕ). (n - n % i) / channels_of c.args.from.now) is
           ∙ each_whole n (channels_of c.args.from.now) (omega (arith, is, c.numbers_of-channels.ensures.some));
@@ -117,7 +117,7 @@ loop-count-preserved g c =
       each = λ blocks.
           let n = length c.args.block.now in
           let from_blocks = ap is_adpcm c.numbers_of-channels.ensures.codec ∙ blocks in
-          let none = no_pass c.pass-pass.result _ _ c.pass-pass.ensures from_blocks in
+          let none = no_pass c.args.pass _ _ c.requires.pass blocks in
           let alone = c.frames_together-together.ensures.one from_blocks in
           ap (λ (i : ℕ). i / channels_of c.args.from.now) (most.all alone none) ∙ ap (λ (i : ℕ). (n - n % i) / channels_of c.args.from.now) alike
           ∙ each_whole n (channels_of c.args.from.now) (omega (arith, alike, c.numbers_of-channels.ensures.some));
@@ -238,20 +238,13 @@ pub append_block-requires-clause-few : goal.append_block-requires-clause-few
 append_block-requires-clause-few g c = λ pass.
     let inv = c.loop-count.invariant in
     let size = length-take-le c.loop-count.places c.loop-count.block (omega (arith, inv.below, c.loop-count.auto.block)) in
-    let is = c.numbers_of-channels.ensures.channels in
-    let passes = subst (λ (x : Codec). Pass x (codec_of c.args.to.now)) c.numbers_of-channels.ensures.codec (subst (Pass c.numbers_of-channels.result.1) c.numbers_of-wanted.ensures.codec (c.pass-pass.ensures pass)) in
-    let room = held_places (known_of c.args.from.now) (known_of c.args.to.now) c.loop-count.places c.numbers_of-channels.result.0 c.from-align.result passes is c.numbers_of-channels.ensures.some
-    (ap (λ (i : ℕ). c.loop-count.places % i) is ∙ inv.whole) (inv.held pass) (search rules) in
-    omega (arith, size, room.0)
+    omega (arith, size, inv.below, c.requires.few pass)
 
 pub append_block-requires-clause-fits : goal.append_block-requires-clause-fits
 append_block-requires-clause-fits g c = λ pass.
     let inv = c.loop-count.invariant in
     let size = length-take-le c.loop-count.places c.loop-count.block (omega (arith, inv.below, c.loop-count.auto.block)) in
-    let is = c.numbers_of-channels.ensures.channels in
-    let passes = subst (λ (x : Codec). Pass x (codec_of c.args.to.now)) c.numbers_of-channels.ensures.codec (subst (Pass c.numbers_of-channels.result.1) c.numbers_of-wanted.ensures.codec (c.pass-pass.ensures pass)) in
-    let room = held_places (known_of c.args.from.now) (known_of c.args.to.now) c.loop-count.places c.numbers_of-channels.result.0 c.from-align.result passes is c.numbers_of-channels.ensures.some
-    (ap (λ (i : ℕ). c.loop-count.places % i) is ∙ inv.whole) (inv.held pass) (search rules) in
     let codec : codec_of c.loop-count.to ≡ codec_of c.args.to.now = ap (λ (s : Shape). s.params.codec) inv.written.shape in
-    let coded : length c.loop-count.coded ≡ 65536 = search rules in
-    omega (arith, ap (bytes_in (codec_of c.loop-count.to)) size, ap (λ (q : Codec). bytes_in q c.loop-count.places) codec, room.1, coded)
+    let room = places_fit (codec_of c.args.to.now) c.loop-count.places 32768 (c.requires.pass pass).1 (omega (arith, inv.below, c.requires.few pass)) in
+    let coded : length c.loop-count.coded ≡ 131072 = search rules in
+    omega (arith, ap (bytes_in (codec_of c.loop-count.to)) size, ap (λ (q : Codec). bytes_in q c.loop-count.places) codec, room, coded)

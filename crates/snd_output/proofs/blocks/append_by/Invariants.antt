@@ -6,7 +6,7 @@ use Rattle.snd_modes.specs.Handle.{StandsAfter, channels_of, codec_of, disk_of, 
 use Rattle.snd_modes.specs.Outcomes.{AsksNothing, TellsOn}
 use Rattle.snd_output.specs.Appended.{IsLonger, Lengthens, left_in, next_numbers, read_on}
 use Rattle.snd_output.proofs.Appending.{asked_by}
-use Rattle.snd_output.proofs.blocks.append.Given as goal
+use Rattle.snd_output.proofs.blocks.append_by.Given as goal
 
 abbrev pub invariant-loop-count : goal.invariant-loop-count
 invariant-loop-count g l =
@@ -30,7 +30,7 @@ invariant-loop-count g l =
       below : l.places ≤ length l.fn.block;
       whole : l.places % channels_of l.fn.from ≡ 0;
       each : is_adpcm (codec_of l.fn.from) ≡ true → l.places / channels_of l.fn.from ≡ length l.fn.block / channels_of l.fn.from;
-      held : l.pass ≡ true → l.places / l.channels * l.align ≤ 16384;
+      held : l.fn.pass ≡ true → l.places / l.channels * l.align ≤ 65536;
       asked : AsksAtMost g.D.Disk.state (asked_by (known_of l.fn.from).shape.params (length l.fn.block / channels_of l.fn.from) k (left_in (known_of l.from)) l.count) (disk_of l.fn.from) (disk_of l.from);
     }
 
