@@ -14,7 +14,7 @@ use Rattle.snd_sphere.specs.Written.{made_shape as sphere_shape}
 use Rattle.snd_svx.specs.Written.{made_shape as svx_shape}
 use Rattle.snd_voc.specs.Written.{made_shape as voc_shape}
 use Rattle.snd_w64.specs.Written.{made_shape as w64_shape}
-use Rattle.snd_wave.specs.Heads.{new_piece, with_piece}
+use Rattle.snd_chunks.specs.Heads.{new_piece, with_piece}
 use Rattle.snd_wave.specs.Written.{made_shape as wave_shape}
 use Rattle.snd_modes.specs.Handle.{Known}
 use Rattle.snd_modes.specs.Heads.{holds_meta}

@@ -10,7 +10,7 @@ ghost use Rattle.snd_modes.specs.Outcomes.{AsksNothing, TellsOn};
 ghost use Rattle.snd_modes.specs.PieceCalls.{IsUntouched, known_put};
 ghost use Rattle.snd_modes.specs.Pieces.{body_of};
 ghost use Rattle.snd_modes.specs.Relaid.{added_to, outline};
-ghost use Rattle.snd_wave.specs.Heads.{new_piece};
+ghost use Rattle.snd_chunks.specs.Heads.{new_piece};
 ghost use Rattle.snd_output.specs.Ends.{BreaksByFault, CountsOneOf, CountsStop, IsUnchanged};
 ghost use Rattle.snd_carry.specs.Carried.{is_carried};
 ghost use Rattle.snd_carry.specs.Carrying.{CarriesOne, HoldsChunk, HoldsOne};

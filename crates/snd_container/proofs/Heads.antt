@@ -14,7 +14,7 @@ use Rattle.snd_svx.proofs.Putting as svx
 use Rattle.snd_svx.specs.Written as svx_written
 use Rattle.snd_wave.proofs.Putting as wave
 use Rattle.snd_wave.proofs.Relaying.{as_many}
-use Rattle.snd_wave.specs.Heads.{HoldsHeadIn, IsHeadIn, PutsPieceIn, with_piece}
+use Rattle.snd_chunks.specs.Heads.{HoldsHeadIn, IsHeadIn, PutsPieceIn, with_piece}
 use Rattle.snd_wave.specs.Put as wave_put
 use Rattle.snd_wave.specs.Relaid.{AreStanding}
 use Rattle.snd_wave.specs.Written as wave_written

@@ -11,7 +11,7 @@ use Rattle.snd_container.specs.Kinds.{container_of}
 use Rattle.snd_rf64.specs.Put.{rf64_heads}
 use Rattle.snd_svx.specs.Put.{svx_heads}
 use Rattle.snd_svx.specs.Written as svx
-use Rattle.snd_wave.specs.Heads.{Heads, IsHeadIn, with_piece}
+use Rattle.snd_chunks.specs.Heads.{Heads, IsHeadIn, with_piece}
 use Rattle.snd_wave.specs.Put.{wave_heads}
 use Rattle.snd_wave.specs.Written.{MayBePiece}
 

@@ -3,7 +3,7 @@
 ghost use Rattle.std.specs.Prelude.{◌≡◌, ◌<◌, ◌≤◌, ◌==◌, IfErr, OnErr, OnOk, if◌then◌else◌, is_some, length};
 ghost use Rattle.snd_disk.specs.Device.{AsksAtMost, GoesOnFrom, OnlyReadsOn, WritesAtMost};
 ghost use Rattle.snd_layout.specs.declared.error.PieceError.TheVariants.{Memory};
-ghost use Rattle.snd_wave.specs.Heads.{CountsPutting, new_piece};
+ghost use Rattle.snd_chunks.specs.Heads.{CountsPutting, new_piece};
 ghost use Rattle.snd_container.specs.Put.{AddsPiece, HoldsHead, MayBePieceOf, PutsPiece};
 
 use snd_disk::Disk;

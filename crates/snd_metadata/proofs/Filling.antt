@@ -34,8 +34,7 @@ use Rattle.snd_output.specs.declared.stop.Stop.{Stop}
 use Rattle.snd_output.specs.declared.stop.Stop.TheVariants.{Changed, Fault, Memory}
 use Rattle.snd_output.specs.Widths.{change_numbers, joined, width_of}
 use Rattle.snd_pcm.specs.Width.{changed, floor_div}
-use Rattle.snd_wave.specs.Heads.{new_piece}
-use Rattle.snd_wave.specs.Written.{chunk_read}
+use Rattle.snd_chunks.specs.Heads.{chunk_read, new_piece}
 use Rattle.snd_metadata.specs.Making.{HasPut, PutsPlanned, known_filled}
 use Rattle.snd_metadata.specs.Planned.{IsReady, outline_planned}
 use Rattle.snd_metadata.specs.declared.chunks.PlannedChunk.{PlannedChunk}

@@ -5,8 +5,7 @@ use Rattle.std.specs.Str.{bytes_eq}
 use Rattle.snd_carry.specs.Carried.{is_carried}
 use Rattle.snd_chunks.specs.Written.{NewChunk}
 use Rattle.snd_layout.specs.declared.piece.Piece.{Piece}
-use Rattle.snd_wave.specs.Heads.{new_piece, with_piece}
-use Rattle.snd_wave.specs.Written.{chunk_read}
+use Rattle.snd_chunks.specs.Heads.{chunk_read, new_piece, with_piece}
 
 -- the chunks of the input that are kept: those that a copy carries, but only the first 238, so that two more may be added
 abbrev pub kept_pieces : List Piece → List Piece

@@ -10,9 +10,8 @@ use Rattle.snd_chunks.proofs.WrittenChunks.{has_body, has_first, has_others, has
 use Rattle.snd_fields.specs.Field.{bytes_of}
 use Rattle.snd_fields.specs.declared.field.Order.{Order}
 use Rattle.snd_layout.specs.declared.piece.Piece.{Piece}
-use Rattle.snd_wave.specs.Heads.{with_piece}
+use Rattle.snd_chunks.specs.Heads.{chunk_read, with_piece}
 use Rattle.snd_wave.specs.Layout.{piece_of}
-use Rattle.snd_wave.specs.Written.{chunk_read}
 use Rattle.snd_modes.specs.Relaid.{outline}
 
 -- a chunk of the same length, of zeros

@@ -10,8 +10,7 @@ use Rattle.snd_layout.specs.Params.{Parameters, data_bytes}
 use Rattle.snd_layout.specs.Shape.{KeepsRule, Shape, end, room}
 use Rattle.snd_layout.specs.declared.kind.Kind.{Kind}
 use Rattle.snd_patch.specs.Sealed.{with_fields}
-use Rattle.snd_wave.specs.Heads.{Heads, IsHeadIn, with_piece}
-use Rattle.snd_wave.specs.Written.{chunk_read}
+use Rattle.snd_chunks.specs.Heads.{Heads, IsHeadIn, chunk_read, with_piece}
 use Rattle.snd_modes.specs.Relaid.{head_with, outline, shape_put}
 use Rattle.snd_modes.proofs.Blanks.{blank, blanks, blanks_blanks, blanks_with}
 

@@ -8,7 +8,7 @@ use Rattle.snd_layout.specs.Params.{Parameters}
 use Rattle.snd_layout.specs.Shape.{Shape}
 use Rattle.snd_rf64.specs.Put.{rf64_heads}
 use Rattle.snd_svx.specs.Put.{svx_heads}
-use Rattle.snd_wave.specs.Heads.{IsHeadIn}
+use Rattle.snd_chunks.specs.Heads.{IsHeadIn}
 use Rattle.snd_wave.specs.Put.{wave_heads}
 use Rattle.snd_modes.proofs.HeadLaws.{IsBareHead}
 

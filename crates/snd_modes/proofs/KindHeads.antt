@@ -13,7 +13,7 @@ use Rattle.snd_layout.specs.Params.{Parameters}
 use Rattle.snd_layout.specs.Shape.{KeepsRule, Shape}
 use Rattle.snd_layout.specs.declared.kind.Kind.{Kind}
 use Rattle.snd_layout.specs.declared.kind.Kind.TheVariants.{Wave, Rf64, W64, Au, Dns, Voc, Svx, Sphere}
-use Rattle.snd_wave.specs.Heads.{IsHeadIn, new_piece, with_piece}
+use Rattle.snd_chunks.specs.Heads.{IsHeadIn, new_piece, with_piece}
 use Rattle.snd_modes.specs.Heads.{holds_meta, holds_pieces, is_meta_id, is_own_id, is_reserved}
 use Rattle.snd_modes.proofs.HeadLaws.{HeadLaws, IsBareHead, IsPut, bare_in, opens_in, put_in, same_in, told_in, told_pieces}
 use Rattle.snd_modes.proofs.HeadProps.{bare_prop, rf64_prop, svx_prop, wave_prop}

@@ -20,7 +20,8 @@ use Rattle.snd_layout.specs.Written.{written_format}
 use Rattle.snd_layout.specs.declared.kind.Kind.TheVariants.{Rf64}
 use Rattle.snd_patch.specs.Sealed.{with_fields}
 use Rattle.snd_wave.specs.Layout.{piece_of}
-use Rattle.snd_wave.specs.Written.{MayBePiece, chunk_read, new_format}
+use Rattle.snd_chunks.specs.Heads.{chunk_read}
+use Rattle.snd_wave.specs.Written.{MayBePiece, new_format}
 use Rattle.snd_wave.proofs.Made.{no_bytes_yet}
 use Rattle.snd_rf64.specs.Layout.{shape_at}
 use Rattle.snd_rf64.specs.Put.{data_head, first_place, rf64_heads}

@@ -21,7 +21,7 @@ use Rattle.snd_layout.specs.declared.kind.Kind.TheVariants.{Svx}
 use Rattle.snd_patch.specs.Sealed.{with_fields}
 use Rattle.snd_wave.specs.Layout.{piece_of}
 use Rattle.snd_wave.proofs.Relaying.{length-joined}
-use Rattle.snd_wave.specs.Written.{chunk_read}
+use Rattle.snd_chunks.specs.Heads.{chunk_read}
 use Rattle.snd_svx.specs.Layout.{shape_of}
 use Rattle.snd_svx.specs.Put.{closing_behind, svx_heads}
 use Rattle.snd_svx.specs.Values as svx

@@ -24,7 +24,8 @@ use Rattle.snd_wave.specs.Layout.{piece_of}
 use Rattle.snd_wave.specs.Put.{wave_heads}
 use Rattle.snd_wave.specs.Sealed.{put_in, with_values}
 use Rattle.snd_wave.specs.Values as wave
-use Rattle.snd_wave.specs.Written.{MayBeMade, MayBePiece, chunk_read, head_for, head_size, inner_at, inner_size, junk, made_pieces, made_shape, new_format, riff_head, side_at, start_without_filler, wave_head, wave_made}
+use Rattle.snd_chunks.specs.Heads.{chunk_read}
+use Rattle.snd_wave.specs.Written.{MayBeMade, MayBePiece, head_for, head_size, inner_at, inner_size, junk, made_pieces, made_shape, new_format, riff_head, side_at, start_without_filler, wave_head, wave_made}
 use Rattle.snd_wave.proofs.HeadValues.{head_is_counted}
 use Rattle.snd_wave.proofs.Made.{head_reads_back, length-head_for, no_bytes_yet}
 use Rattle.snd_wave.proofs.MadeParts.{made_holds_all}

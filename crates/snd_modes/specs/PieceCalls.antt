@@ -5,7 +5,7 @@ use Rattle.snd_disk.specs.declared.disk.Disk.{Ghosts}
 use Rattle.snd_disk.specs.State.{Rises, State}
 use Rattle.snd_layout.specs.declared.error.PieceError.{PieceError}
 use Rattle.snd_layout.specs.declared.error.PieceError.TheVariants as piece_error
-use Rattle.snd_wave.specs.Heads.{new_piece}
+use Rattle.snd_chunks.specs.Heads.{new_piece}
 use Rattle.snd_modes.specs.declared.handle.File.{File}
 use Rattle.snd_modes.specs.declared.mode.Mode.{Ghosts as ModeGhosts}
 use Rattle.snd_modes.specs.declared.wanted.Wanted.{Wanted}

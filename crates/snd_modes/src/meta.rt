@@ -7,7 +7,7 @@ ghost use Rattle.snd_layout.specs.Params.{AreParams};
 ghost use Rattle.snd_layout.specs.Shape.{KeepsRule};
 ghost use Rattle.snd_container.specs.Put.{HoldsHead, MayBePieceOf, PutsPiece};
 ghost use Rattle.snd_patch.specs.Steps.{StillTells};
-ghost use Rattle.snd_wave.specs.Heads.{CountsPutting, new_piece};
+ghost use Rattle.snd_chunks.specs.Heads.{CountsPutting, new_piece};
 ghost use Rattle.snd_modes.specs.Chunks.{HoldsPut, StandsAsOpened};
 ghost use Rattle.snd_modes.specs.Handle.{disk_of, known_of, loan_of};
 ghost use Rattle.snd_modes.specs.Heads.{holds_pieces, is_meta_id, is_own_id};

@@ -25,7 +25,8 @@ use Rattle.snd_wave.proofs.ByteValues.{both, from_test, number_bytes, three, two
 use Rattle.snd_wave.proofs.Made.{no_bytes_yet}
 use Rattle.snd_wave.specs.Layout.{piece_of}
 use Rattle.snd_wave.specs.Values.{riff_size}
-use Rattle.snd_wave.specs.Written.{MayBePiece, chunk_read, chunks_before, filler, has_fact, head_for, head_size, inner_size, junk, made_pieces, made_shape, new_fact, new_format, riff_head, start_without_filler, wave_head}
+use Rattle.snd_chunks.specs.Heads.{chunk_read}
+use Rattle.snd_wave.specs.Written.{MayBePiece, chunks_before, filler, has_fact, head_for, head_size, inner_size, junk, made_pieces, made_shape, new_fact, new_format, riff_head, start_without_filler, wave_head}
 use Rattle.snd_modes.specs.Editing.{Editing, first_editing}
 use Rattle.snd_modes.specs.Edits.{coded}
 use Rattle.snd_modes.specs.Heads.{holds_meta}

@@ -17,7 +17,7 @@ use Rattle.snd_wave.proofs.Planning.{new_are, new_few}
 use Rattle.snd_wave.proofs.Putting.{small}
 use Rattle.snd_wave.proofs.Relaying.{bytes_few}
 use Rattle.snd_wave.proofs.Splits.{Closes, IsSplit}
-use Rattle.snd_wave.specs.Heads.{IsLayoutIn, with_piece}
+use Rattle.snd_chunks.specs.Heads.{IsLayoutIn, with_piece}
 use Rattle.snd_wave.specs.Relaid.{AreStanding, IsSmall, standing}
 use Rattle.snd_wave.specs.Written.{MayBePiece, new_format}
 use Rattle.snd_wave.specs.declared.rest.Closing.{Closing}

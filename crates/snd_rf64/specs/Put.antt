@@ -5,7 +5,7 @@ use Rattle.snd_chunks.specs.Written.{NewChunk, head_bytes}
 use Rattle.snd_fields.specs.declared.field.Order.TheVariants.{Little}
 use Rattle.snd_layout.specs.Params.{Parameters}
 use Rattle.snd_layout.specs.Written.{written_format}
-use Rattle.snd_wave.specs.Heads.{Heads}
+use Rattle.snd_chunks.specs.Heads.{Heads}
 use Rattle.snd_rf64.specs.Layout.{rf64_layout}
 use Rattle.snd_rf64.specs.Written.{MayBeMade, made_shape, no_size, rf64_head}
 

@@ -10,7 +10,7 @@ ghost use Rattle.snd_layout.specs.declared.error.PieceError.TheVariants.{Memory}
 ghost use Rattle.snd_layout.specs.declared.kind.Kind.TheVariants.{Rf64};
 ghost use Rattle.snd_rf64.specs.Layout.{shape_at};
 ghost use Rattle.snd_rf64.specs.Put.{data_head, first_place, rf64_heads};
-ghost use Rattle.snd_wave.specs.Heads.{CountsPutting, HoldsHeadIn, PutsPieceIn, new_piece};
+ghost use Rattle.snd_chunks.specs.Heads.{CountsPutting, HoldsHeadIn, PutsPieceIn, new_piece};
 ghost use Rattle.snd_wave.specs.Written.{MayBePiece};
 
 use crate::head::{NO_SIZE, plain_start};

@@ -50,7 +50,7 @@ use Rattle.snd_tags.specs.declared.error.TagError.{TagError}
 use Rattle.snd_tags.specs.declared.error.TagError.TheVariants.{Get, BadBody}
 use Rattle.snd_taps.specs.declared.tap.TapKind.{TapKind}
 use Rattle.snd_taps.specs.declared.tap.TapState.{TapState}
-use Rattle.snd_wave.specs.Heads.{new_piece}
+use Rattle.snd_chunks.specs.Heads.{new_piece}
 use Rattle.snd_script.specs.Desk.{Mode, encodes, encoding, frames_told, is_pinned, makes, pinned, reading, reads, updating, writes, writing}
 use Rattle.snd_script.specs.Hex.{bytes_of_hex}
 use Rattle.snd_script.specs.Replies.{Answer, nothing, refuses, says, bext_text, body_text, chunks_text, described, done_line, frames_text, ok_line, points_text, texts_text}

@@ -9,7 +9,7 @@ use Rattle.snd_modes.specs.Handle.{Known}
 use Rattle.snd_modes.specs.PieceCalls.{known_put}
 use Rattle.snd_modes.specs.Relaid.{place_named}
 use Rattle.snd_modes.specs.WriteCalls.{known_sealed}
-use Rattle.snd_wave.specs.Heads.{new_piece}
+use Rattle.snd_chunks.specs.Heads.{new_piece}
 use Rattle.snd_script.specs.Rules.{FileEdited, Rule, known_grounds}
 use Rattle.snd_script.specs.Replies.{Answer, refuses, text_of}
 use Rattle.snd_lines.specs.Refusals.{refusal_number}

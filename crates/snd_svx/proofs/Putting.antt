@@ -16,7 +16,7 @@ use Rattle.snd_layout.specs.declared.piece.Piece.{Piece}
 use Rattle.snd_wave.proofs.Planning.{new_are, new_few}
 use Rattle.snd_wave.proofs.Relaying.{chunks-joined}
 use Rattle.snd_wave.proofs.Splits.{Closes, IsSplit}
-use Rattle.snd_wave.specs.Heads.{IsLayoutIn, with_piece}
+use Rattle.snd_chunks.specs.Heads.{IsLayoutIn, with_piece}
 use Rattle.snd_wave.specs.Put.{filler_for}
 use Rattle.snd_wave.specs.Relaid.{AreStanding, IsSmall, standing}
 use Rattle.snd_wave.specs.declared.rest.Closing.{Closing}

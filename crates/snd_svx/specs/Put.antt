@@ -3,7 +3,7 @@ use Rattle.std.specs.Prelude.{◌≡◌, ℕ, ◌+◌, ◌-◌, List, ◌++◌, 
 use Rattle.snd_chunks.specs.Written.{NewChunk, chunks_bytes, head_bytes}
 use Rattle.snd_fields.specs.declared.field.Order.TheVariants.{Big}
 use Rattle.snd_layout.specs.Params.{Parameters}
-use Rattle.snd_wave.specs.Heads.{Heads}
+use Rattle.snd_chunks.specs.Heads.{Heads}
 use Rattle.snd_wave.specs.Put.{filler_for}
 use Rattle.snd_svx.specs.Layout.{svx_layout}
 use Rattle.snd_svx.specs.Written.{MayBeMade, made_shape, svx_head}

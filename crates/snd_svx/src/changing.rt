@@ -9,7 +9,7 @@ ghost use Rattle.snd_layout.specs.Fit.{fit_refusal};
 ghost use Rattle.snd_layout.specs.Shape.{IsPlaced};
 ghost use Rattle.snd_layout.specs.declared.error.PieceError.TheVariants.{Memory};
 ghost use Rattle.snd_layout.specs.declared.kind.Kind.TheVariants.{Svx};
-ghost use Rattle.snd_wave.specs.Heads.{CountsPutting, HoldsHeadIn, PutsPieceIn, new_piece};
+ghost use Rattle.snd_chunks.specs.Heads.{CountsPutting, HoldsHeadIn, PutsPieceIn, new_piece};
 ghost use Rattle.snd_svx.specs.Layout.{shape_of};
 ghost use Rattle.snd_svx.specs.Put.{closing_behind, svx_heads};
 ghost use Rattle.snd_svx.specs.Written.{MayBePiece};

@@ -19,7 +19,7 @@ use Rattle.snd_modes.specs.Heads.{holds_meta}
 use Rattle.snd_modes.specs.PieceCalls.{IsPutRefusal, IsUntouched, MayPut, known_put, to_replace}
 use Rattle.snd_modes.specs.Pieces.{body_of, first_piece}
 use Rattle.snd_modes.specs.Relaid.{place_named, replaced_to}
-use Rattle.snd_wave.specs.Heads.{new_piece}
+use Rattle.snd_chunks.specs.Heads.{new_piece}
 use Rattle.snd_tags.specs.declared.error.SetError.{SetError}
 use Rattle.snd_tags.specs.declared.error.SetError.TheVariants.{TextTooLong, Put}
 

@@ -8,7 +8,7 @@ use Rattle.snd_layout.specs.Laid.{HoldsJust}
 use Rattle.snd_layout.specs.Params.{AreParams, Parameters, data_bytes}
 use Rattle.snd_layout.specs.Shape.{Shape}
 use Rattle.snd_layout.specs.declared.kind.Kind.TheVariants.{Wave}
-use Rattle.snd_wave.specs.Heads.{Heads, IsHeadIn}
+use Rattle.snd_chunks.specs.Heads.{Heads, IsHeadIn}
 use Rattle.snd_wave.specs.Put.{IsHeadOf, wave_heads}
 use Rattle.snd_wave.specs.Written.{MayBeMade, MayBePiece, made_shape, wave_head}
 use Rattle.snd_wave.proofs.Made.{no_bytes_yet}

@@ -10,7 +10,8 @@ use Rattle.snd_fields.specs.declared.field.Order.TheVariants.{Little}
 use Rattle.snd_layout.specs.Params.{Parameters, data_bytes}
 use Rattle.snd_layout.specs.Written.{written_format}
 use Rattle.snd_wave.specs.Layout.{piece_of}
-use Rattle.snd_wave.specs.Written.{MadeHoldsAll, MayBePiece, chunk_read, chunks_before, filler, head_for, head_size, made_pieces, new_fact, new_format, wave_made}
+use Rattle.snd_chunks.specs.Heads.{chunk_read}
+use Rattle.snd_wave.specs.Written.{MadeHoldsAll, MayBePiece, chunks_before, filler, head_for, head_size, made_pieces, new_fact, new_format, wave_made}
 use Rattle.snd_wave.proofs.Made.{has_chunks, has_self, length-head_for}
 use Rattle.snd_wave.proofs.NewHeads.{size_is}
 

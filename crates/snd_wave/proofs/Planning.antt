@@ -11,7 +11,7 @@ use Rattle.snd_fields.specs.declared.field.Order.{Order}
 use Rattle.snd_layout.specs.Shape.{IsPlaced}
 use Rattle.snd_layout.specs.declared.piece.Piece.{Piece}
 use Rattle.snd_wave.specs.Changes.{IsPlan}
-use Rattle.snd_wave.specs.Heads.{with_piece}
+use Rattle.snd_chunks.specs.Heads.{with_piece}
 use Rattle.snd_wave.specs.Relaid.{AreStanding, IsSmall, behind_piece, relaid, relaid_end, standing}
 use Rattle.snd_wave.specs.declared.plan.Plan.{Plan}
 use Rattle.snd_wave.proofs.Relaying.{as_many, behind_standing, bytes_few, drop_standing, end_standing, length-joined, none_behind, placed_standing, relaid_standing, standing-append, take_standing}

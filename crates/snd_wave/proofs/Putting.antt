@@ -16,7 +16,7 @@ use Rattle.snd_layout.specs.declared.codec.Codec.{Codec}
 use Rattle.snd_layout.specs.declared.codec.Codec.TheVariants.{U8, S8, S16, S24, S32, MuLaw, ALaw, Ima, Ms}
 use Rattle.snd_layout.specs.declared.kind.Kind.TheVariants.{Wave}
 use Rattle.snd_layout.specs.declared.piece.Piece.{Piece}
-use Rattle.snd_wave.specs.Heads.{IsLayoutIn, with_piece}
+use Rattle.snd_chunks.specs.Heads.{IsLayoutIn, with_piece}
 use Rattle.snd_wave.specs.Put.{closing_at, closing_behind, filler_at, filler_for, first_place, head_shape, wave_heads}
 use Rattle.snd_wave.specs.Relaid.{AreStanding, IsSmall, standing}
 use Rattle.snd_wave.specs.Values.{riff_size}

@@ -11,7 +11,7 @@ use Rattle.snd_fields.specs.declared.field.Order.{Order}
 use Rattle.snd_layout.specs.Params.{Parameters}
 use Rattle.snd_layout.specs.Shape.{Shape}
 use Rattle.snd_wave.specs.Changes.{CanChange, IsChanged, IsPlan, changed}
-use Rattle.snd_wave.specs.Heads.{Heads, IsHeadIn, with_piece}
+use Rattle.snd_chunks.specs.Heads.{Heads, IsHeadIn, with_piece}
 use Rattle.snd_wave.specs.declared.plan.Plan.{Plan}
 use Rattle.snd_wave.specs.declared.rest.Closing.{Closing}
 use Rattle.snd_wave.proofs.Relaying.{chunks-joined, length-joined}

@@ -5,7 +5,7 @@ use Rattle.snd_disk.specs.State.{IsMeant, State}
 use Rattle.snd_chunks.specs.Written.{NewChunk, chunk_bytes, chunks_bytes}
 use Rattle.snd_fields.specs.declared.field.Order.{Order}
 use Rattle.snd_layout.specs.declared.piece.Piece.{Piece}
-use Rattle.snd_wave.specs.Heads.{with_piece}
+use Rattle.snd_chunks.specs.Heads.{with_piece}
 use Rattle.snd_wave.specs.Relaid.{AreStanding, standing}
 use Rattle.snd_wave.specs.declared.plan.Plan.{Plan}
 use Rattle.snd_wave.specs.declared.rest.Closing.{Closing}

@@ -4,7 +4,6 @@ pub mod Parts
 pub mod Values
 pub mod Written
 pub mod Sealed
-pub mod Heads
 pub mod Put
 pub mod Relaid
 pub mod Changes

@@ -11,7 +11,7 @@ use Rattle.snd_layout.specs.Written.{written_format}
 use Rattle.snd_layout.specs.declared.codec.Codec.{Codec}
 use Rattle.snd_layout.specs.declared.kind.Kind.TheVariants.{Wave}
 use Rattle.snd_layout.specs.declared.piece.Piece.{Piece}
-use Rattle.snd_wave.specs.Heads.{Heads, IsHeadIn}
+use Rattle.snd_chunks.specs.Heads.{Heads, IsHeadIn}
 use Rattle.snd_wave.specs.Written.{MayBeMade, inner_at, inner_size, junk, made_shape, new_fact, side_at, wave_head}
 
 abbrev pub wave_heads : Heads

@@ -4,6 +4,7 @@
 -- and Data Techniques" 3.0 (Microsoft, 1994). The order of the chunks and the filler are this library's own rules.
 use Rattle.std.specs.Prelude.{◌≡◌, ℕ, ◌+◌, ◌-◌, ◌^◌, ◌<◌, ◌≤◌, Bool, true, false, not, ◌&&◌, List, [], ◌∷◌, ◌++◌, All, Option, None, Some, Ok, codes, drop, length, map, replicate, take, if◌then◌else◌}
 use Rattle.snd_chunks.specs.Chunks.{padded_end}
+use Rattle.snd_chunks.specs.Heads.{chunk_read}
 use Rattle.snd_chunks.specs.Written.{NewChunk, all_placed, chunks_bytes, head_bytes, pad, placed}
 use Rattle.snd_fields.specs.Field.{bytes_of}
 use Rattle.snd_fields.specs.declared.field.Order.TheVariants.{Little}
@@ -127,10 +128,6 @@ MadeReadsBack = (p : Parameters) (pieces : List NewChunk) (frames : ℕ) (bytes 
 -- and so does a head alone
 abbrev pub HeadReadsBack : Type 0
 HeadReadsBack = (p : Parameters) (pieces : List NewChunk) → MayBeMade p pieces 0 → wave_layout (wave_head p pieces) ≡ Ok (made_shape p pieces 0)
-
--- a piece of a file, with its body
-abbrev pub chunk_read : List ℕ → Piece → NewChunk
-chunk_read b piece = record { id = piece.id.0; body = take piece.len (drop piece.at b) }
 
 -- what is made holds its pieces and its data
 abbrev pub MadeHoldsAll : Type 0

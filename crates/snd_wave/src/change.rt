@@ -4,7 +4,7 @@ ghost use Rattle.std.specs.Prelude.{◌≡◌, IfErr, OnOk, is_some};
 ghost use Rattle.snd_disk.specs.Device.{AsksAtMost, GoesOnFrom, OnlyReadsOn, WritesAtMost};
 ghost use Rattle.snd_layout.specs.declared.error.PieceError.TheVariants.{Memory};
 ghost use Rattle.snd_wave.specs.Changes.{CanChange, IsChanged};
-ghost use Rattle.snd_wave.specs.Heads.{CountsPutting, new_piece};
+ghost use Rattle.snd_chunks.specs.Heads.{CountsPutting, new_piece};
 
 use crate::plan::Plan;
 use crate::rest::{Closing, rest_of};

@@ -6,7 +6,7 @@ ghost use Rattle.snd_layout.specs.Fit.{fit_refusal};
 ghost use Rattle.snd_layout.specs.Shape.{IsPlaced};
 ghost use Rattle.snd_layout.specs.declared.error.PieceError.TheVariants.{Memory};
 ghost use Rattle.snd_layout.specs.declared.kind.Kind.TheVariants.{Wave};
-ghost use Rattle.snd_wave.specs.Heads.{CountsPutting, HoldsHeadIn, PutsPieceIn, new_piece};
+ghost use Rattle.snd_chunks.specs.Heads.{CountsPutting, HoldsHeadIn, PutsPieceIn, new_piece};
 ghost use Rattle.snd_wave.specs.Put.{head_shape, wave_heads};
 ghost use Rattle.snd_wave.specs.Written.{MayBePiece};
 

@@ -3,7 +3,7 @@
 ghost use Rattle.std.specs.Prelude.{◌≡◌, ◌+◌, ◌^◌, ◌<◌, ◌≤◌, ◌==◌, All, IfOk, drop, if◌then◌else◌, length, slice_get};
 ghost use Rattle.snd_layout.specs.Shape.{IsPlaced};
 ghost use Rattle.snd_wave.specs.Changes.{Plans};
-ghost use Rattle.snd_wave.specs.Heads.{new_piece};
+ghost use Rattle.snd_chunks.specs.Heads.{new_piece};
 ghost use Rattle.snd_wave.specs.Relaid.{DoStand, IsSmall, behind_piece};
 
 use crate::laying::lay_pieces;

@@ -4,7 +4,7 @@ ghost use Rattle.std.specs.Prelude.{◌≡◌, ◌+◌, ◌≤◌, ◌++◌, IfO
 ghost use Rattle.snd_chunks.specs.Written.{chunk_bytes};
 ghost use Rattle.snd_disk.specs.Device.{AsksAtMost, IfOkTold, OnlyReadsOn};
 ghost use Rattle.snd_wave.specs.Changes.{rest_from};
-ghost use Rattle.snd_wave.specs.Heads.{CountsPutting, new_piece};
+ghost use Rattle.snd_chunks.specs.Heads.{CountsPutting, new_piece};
 
 use crate::plan::Plan;
 use crate::put::{put_all, put_size};

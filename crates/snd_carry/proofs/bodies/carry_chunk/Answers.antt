@@ -3,8 +3,7 @@ use Rattle.std.proofs.lemmas.List.{length-map}
 use Rattle.std.proofs.lemmas.Result.{on_ok_weaker}
 use Rattle.snd_fields.specs.Laws.{IsByte}
 use Rattle.snd_layout.specs.Shape.{Shape}
-use Rattle.snd_wave.specs.Heads.{new_piece}
-use Rattle.snd_wave.specs.Written.{chunk_read}
+use Rattle.snd_chunks.specs.Heads.{chunk_read, new_piece}
 use Rattle.snd_modes.specs.Handle.{known_of}
 use Rattle.snd_modes.specs.Pieces.{body_of}
 use Rattle.snd_modes.specs.Relaid.{pieces_held}

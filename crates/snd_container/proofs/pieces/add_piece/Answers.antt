@@ -2,7 +2,7 @@ use Rattle.std.proofs.Common.{ap, length, ◌∙◌}
 use Rattle.std.proofs.lemmas.Result.{on_ok_weaker}
 use Rattle.snd_container.proofs.Heads.{adds_behind}
 use Rattle.snd_layout.specs.Shape.{Shape}
-use Rattle.snd_wave.specs.Heads.{new_piece}
+use Rattle.snd_chunks.specs.Heads.{new_piece}
 use Rattle.snd_container.proofs.pieces.add_piece.Goals as goal
 
 pub returns-clause-added : goal.returns-clause-added

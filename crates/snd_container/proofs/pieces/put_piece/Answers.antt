@@ -3,7 +3,7 @@ use Rattle.std.proofs.lemmas.Result.{on_ok_weaker}
 use Rattle.snd_container.proofs.Heads.{holds_of_kind, puts_of_kind, rf64_says, svx_says, wave_says}
 use Rattle.snd_layout.specs.Shape.{Shape}
 use Rattle.snd_layout.specs.declared.kind.Kind.TheVariants.{Rf64, Svx, Wave}
-use Rattle.snd_wave.specs.Heads.{new_piece}
+use Rattle.snd_chunks.specs.Heads.{new_piece}
 use Rattle.snd_container.proofs.pieces.put_piece.Goals as goal
 
 pub returns-in-Wave-clause-put : goal.returns-in-Wave-clause-put

@@ -6,7 +6,7 @@ use Rattle.std.specs.List.{filter}
 use Rattle.std.specs.Prelude.{slice_get}
 use Rattle.snd_carry.specs.Carried.{is_carried}
 use Rattle.snd_layout.specs.declared.piece.Piece.{Piece}
-use Rattle.snd_wave.specs.Written.{chunk_read}
+use Rattle.snd_chunks.specs.Heads.{chunk_read}
 use Rattle.snd_metadata.specs.Chunks.{kept_pieces}
 use Rattle.snd_metadata.specs.Planned.{MayStand, bytes_planned, bytes_read, chunk_planned}
 use Rattle.snd_metadata.specs.declared.chunks.PlannedChunk.{PlannedChunk}

@@ -1,6 +1,6 @@
 use Rattle.std.proofs.Common.{◌≡◌, ◌≤◌, ℕ, List, All, length, map, take}
 use Rattle.snd_carry.specs.Carried.{body_bytes}
-use Rattle.snd_wave.specs.Written.{chunk_read}
+use Rattle.snd_chunks.specs.Heads.{chunk_read}
 use Rattle.snd_metadata.specs.Chunks.{kept_pieces}
 use Rattle.snd_metadata.specs.Planned.{MayStand, bytes_planned, chunk_planned}
 use Rattle.snd_metadata.proofs.chunks.kept_chunks.Given as goal

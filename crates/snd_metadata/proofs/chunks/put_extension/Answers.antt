@@ -4,7 +4,7 @@ use Rattle.std.specs.List.{position_or_len}
 use Rattle.std.specs.Prelude.{codes}
 use Rattle.snd_chunks.specs.Written.{NewChunk}
 use Rattle.snd_wave.proofs.ByteValues.{from_test}
-use Rattle.snd_wave.specs.Heads.{new_piece}
+use Rattle.snd_chunks.specs.Heads.{new_piece}
 use Rattle.snd_metadata.specs.Chunks.{is_extension, put_among}
 use Rattle.snd_metadata.specs.Planned.{MayStand, chunk_planned, names_extension, put_in}
 use Rattle.snd_metadata.specs.declared.chunks.PlannedChunk.{PlannedChunk}

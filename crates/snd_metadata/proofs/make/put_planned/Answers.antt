@@ -2,7 +2,7 @@ use Rattle.std.proofs.Common.{refl, subst, sym, ℕ, List, [], ◌∷◌, ◌++�
 use Rattle.snd_layout.specs.declared.piece.Piece.{Piece}
 use Rattle.snd_modes.specs.Handle.{known_of}
 use Rattle.snd_output.specs.Made.{IsChunk}
-use Rattle.snd_wave.specs.Heads.{new_piece}
+use Rattle.snd_chunks.specs.Heads.{new_piece}
 use Rattle.snd_metadata.specs.Making.{HasPut, PutsPlanned}
 use Rattle.snd_metadata.specs.Planned.{MayStand}
 use Rattle.snd_metadata.specs.declared.chunks.PlannedChunk.{PlannedChunk}

@@ -7,7 +7,7 @@ use Rattle.snd_layout.specs.Shape.{Shape}
 use Rattle.snd_layout.specs.declared.kind.Kind.TheVariants.{Rf64}
 use Rattle.snd_layout.specs.declared.piece.Piece.{Piece}
 use Rattle.snd_wave.specs.Changes.{IsPlan}
-use Rattle.snd_wave.specs.Heads.{IsHeadIn, with_piece}
+use Rattle.snd_chunks.specs.Heads.{IsHeadIn, with_piece}
 use Rattle.snd_rf64.specs.Put.{first_place, rf64_heads}
 use Rattle.snd_rf64.specs.Layout.{shape_at}
 use Rattle.snd_wave.specs.Relaid.{AreStanding}

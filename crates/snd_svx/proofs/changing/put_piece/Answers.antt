@@ -7,7 +7,7 @@ use Rattle.snd_layout.specs.Shape.{Shape}
 use Rattle.snd_layout.specs.declared.kind.Kind.TheVariants.{Svx}
 use Rattle.snd_layout.specs.declared.piece.Piece.{Piece}
 use Rattle.snd_wave.specs.Changes.{IsPlan}
-use Rattle.snd_wave.specs.Heads.{IsHeadIn, with_piece}
+use Rattle.snd_chunks.specs.Heads.{IsHeadIn, with_piece}
 use Rattle.snd_svx.specs.Layout.{shape_of}
 use Rattle.snd_svx.specs.Put.{closing_behind, svx_heads}
 use Rattle.snd_wave.specs.Relaid.{AreStanding}

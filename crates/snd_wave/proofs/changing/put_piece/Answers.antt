@@ -7,7 +7,7 @@ use Rattle.snd_layout.specs.Shape.{Shape}
 use Rattle.snd_layout.specs.declared.kind.Kind.TheVariants.{Wave}
 use Rattle.snd_layout.specs.declared.piece.Piece.{Piece}
 use Rattle.snd_wave.specs.Changes.{IsPlan}
-use Rattle.snd_wave.specs.Heads.{IsHeadIn, with_piece}
+use Rattle.snd_chunks.specs.Heads.{IsHeadIn, with_piece}
 use Rattle.snd_wave.specs.Put.{closing_behind, first_place, head_shape, wave_heads}
 use Rattle.snd_wave.specs.Relaid.{AreStanding}
 use Rattle.snd_wave.proofs.Putting.{closes, made_params, new_may, new_shape, stands, wave_form, wave_mark, wave_size, wave_split}

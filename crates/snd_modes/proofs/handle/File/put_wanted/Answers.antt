@@ -6,7 +6,7 @@ use Rattle.snd_container.specs.Sound.{fixed_of, layout_of}
 use Rattle.snd_layout.specs.Blocks.{is_adpcm}
 use Rattle.snd_layout.specs.Params.{AreParams, Parameters}
 use Rattle.snd_layout.specs.Shape.{KeepsRule, Shape, end}
-use Rattle.snd_wave.specs.Heads.{new_piece, with_piece}
+use Rattle.snd_chunks.specs.Heads.{new_piece, with_piece}
 use Rattle.snd_modes.specs.Handle.{known_of}
 use Rattle.snd_modes.specs.Heads.{holds_pieces}
 use Rattle.snd_modes.specs.Relaid.{pieces_held, put_to, shape_put}

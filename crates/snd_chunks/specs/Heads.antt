@@ -6,10 +6,15 @@ use Rattle.snd_layout.specs.Params.{Parameters}
 use Rattle.snd_layout.specs.Shape.{Shape}
 use Rattle.snd_layout.specs.declared.error.PieceError.{PieceError}
 use Rattle.snd_layout.specs.declared.error.PieceError.TheVariants.{DiskFault, Memory}
+use Rattle.snd_layout.specs.declared.piece.Piece.{Piece}
 
 -- a piece that is put
 abbrev pub new_piece : List ℕ → List ℕ → NewChunk
 new_piece id body = record { id = id; body = body }
+
+-- a piece of a file, with its body
+abbrev pub chunk_read : List ℕ → Piece → NewChunk
+chunk_read b piece = record { id = piece.id.0; body = take piece.len (drop piece.at b) }
 
 -- the pieces with another in the place of one, or behind them all
 abbrev pub with_piece : List NewChunk → ℕ → NewChunk → List NewChunk
