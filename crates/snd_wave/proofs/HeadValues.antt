@@ -31,7 +31,7 @@ two a r0 r x d0 d z at_r at_d is_r is_d same_r same_d =
     ap (λ (l : List ℕ). with_field l at_r r) (later ∙ apart) ∙ put_mid a r0 (x ++ d ++ z) r at_r is_r same_r ∙ back
 
 -- and a third between them
-three : (a r0 r x n0 n y d0 d z : List ℕ) (at_r at_n at_d : ℕ) → at_r ≡ length a → at_n ≡ length a + length r0 + length x → at_d ≡ length a + length r0 + length x + length n0 + length y → length r ≡ length r0 → length n ≡ length n0 → length d ≡ length d0
+pub three : (a r0 r x n0 n y d0 d z : List ℕ) (at_r at_n at_d : ℕ) → at_r ≡ length a → at_n ≡ length a + length r0 + length x → at_d ≡ length a + length r0 + length x + length n0 + length y → length r ≡ length r0 → length n ≡ length n0 → length d ≡ length d0
     → with_field (with_field (with_field (a ++ r0 ++ x ++ n0 ++ y ++ d0 ++ z) at_d d) at_r r) at_n n ≡ a ++ r ++ x ++ n ++ y ++ d ++ z
 three a r0 r x n0 n y d0 d z at_r at_n at_d is_r is_n is_d same_r same_n same_d =
     let apart : a ++ r0 ++ x ++ n0 ++ y ++ d0 ++ z ≡ a ++ r0 ++ (x ++ n0 ++ y) ++ d0 ++ z = simp append_assoc in

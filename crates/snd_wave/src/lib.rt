@@ -31,4 +31,4 @@ pub use plan::{Plan, plan_piece};
 pub use put::{put_all, put_chunk, put_number, put_pad, put_size};
 pub use reads::read_format;
 pub use rest::Closing;
-pub use values::{closing_bytes, inner_bytes, outer_bytes, room, side_bytes};
+pub use values::{closing_bytes, inner_bytes, outer_bytes, outer_to, room, side_bytes};
