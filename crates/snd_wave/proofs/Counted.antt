@@ -107,7 +107,6 @@ pub record StandsIn (b : List ℕ) (h : Shape) : Type 0 where
   pub fits : fit_refusal Wave h.params ≡ None
   pub kind : h.kind ≡ Wave
   pub known : h.unknown_length ≡ false
-  pub reserve : h.reserve ≡ None
 
 pub stands : (b : List ℕ) (h : Shape) → wave_layout b ≡ Ok h → StandsIn b h
 stands b h is =
@@ -123,7 +122,6 @@ stands b h is =
       fits = rw from.shape (format_fits (body_of b from.format) from.params from.params_are);
       kind = ap (λ (s : Shape). s.kind) from.shape;
       known = ap (λ (s : Shape). s.unknown_length) from.shape;
-      reserve = ap (λ (s : Shape). s.reserve) from.shape;
     }
   where
     by_part : (k : ℕ) (b : List ℕ) (p q : ℕ) (v : List ℕ) (j : ℕ) → j < k → q ≡ p → take k (drop p b) ≡ v → get_or b (q + j) 0 ≡ get_or v j 0
@@ -235,7 +233,7 @@ module _ (b x : List ℕ) (h : Shape) (n : ℕ) (may : MaySay b h n) (says : Has
         let then : StandsIn x h' = stands x h' is in
         by_parts h'.kind h.kind h'.params h.params h'.start h.start h'.frames n h'.declared (data_bytes h.params n) h'.inner h.inner h'.outer h.outer h'.side h.side h'.trailing h.trailing
         h'.unknown_length h.unknown_length h'.reserve h.reserve h'.pieces h.pieces agrees.kind agrees.params agrees.start frames declared agrees.inner agrees.outer agrees.side trailing
-        (then.known ∙ sym there.known) (then.reserve ∙ sym there.reserve) pieces
+        (then.known ∙ sym there.known) agrees.reserve pieces
 
 pub says_so : (b x : List ℕ) (h : Shape) (n : ℕ) → MaySay b h n → HasNew b h n x → wave_layout x ≡ Ok (counted_shape h n)
 says_so b x h n may says =
