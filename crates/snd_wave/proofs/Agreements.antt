@@ -87,7 +87,7 @@ behind_go (chunk ∷ chunks) = elim (cases_Bool (is_own chunk)) [
   | inr other ↦ rw other (behind_go chunks)
 ]
 
-before_is : (chunks after : List Chunk) → filter (λ (piece : Piece). not piece.after) (pieces_of false chunks ++ pieces_of true after) ≡ pieces_of false chunks
+pub before_is : (chunks after : List Chunk) → filter (λ (piece : Piece). not piece.after) (pieces_of false chunks ++ pieces_of true after) ≡ pieces_of false chunks
 before_is chunks after =
     filter-append (λ (piece : Piece). not piece.after) (pieces_of false chunks) (pieces_of true after)
     ∙ ap (λ (l : List Piece). l ++ filter (λ (piece : Piece). not piece.after) (pieces_of true after)) (before_stay chunks)

@@ -24,7 +24,7 @@ pub use change::change_head;
 pub use changing::put_piece;
 pub use closing::put_filler;
 pub use head::lay_head;
-pub use laws::{keeps_laws, made_files_read_back, reserved_files_read_back};
+pub use laws::{keeps_laws, late_chunks_read_back, made_files_read_back, reserved_files_read_back};
 pub use layout::open_layout;
 pub use parts::{Parts, parts_of};
 pub use pieces::add_pieces;
