@@ -138,6 +138,7 @@ rule_of Big size n p fits place words few ends known = record {
   data_end = omega (arith, ends);
   in_room = λ told. omega (arith, known told, words.bytes);
   declared_fits = omega (arith, words.bytes);
+  reserved = tt;
 }
 rule_of Little size n p fits place words few ends known = record {
   fits = fits;
@@ -152,6 +153,7 @@ rule_of Little size n p fits place words few ends known = record {
   data_end = omega (arith, ends);
   in_room = λ told. omega (arith, known told, words.bytes);
   declared_fits = omega (arith, words.bytes);
+  reserved = tt;
 }
 
 -- all of it

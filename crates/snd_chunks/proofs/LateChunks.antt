@@ -11,7 +11,7 @@ use Rattle.snd_layout.specs.Shape.{Shape}
 use Rattle.snd_layout.specs.declared.piece.Piece.{Piece}
 use Rattle.snd_chunks.specs.declared.chunk.Chunk.{Chunk}
 use Rattle.snd_chunks.specs.Chunks.{chunk_at, padded_end, tail}
-use Rattle.snd_chunks.specs.Late.{late_bytes, late_shape, piece_behind}
+use Rattle.snd_chunks.specs.Late.{late_bytes, late_from, late_shape, piece_behind}
 use Rattle.snd_chunks.specs.Written.{NewChunk, all_placed, chunk_bytes, chunks_bytes, placed}
 use Rattle.snd_chunks.proofs.Chains.{no_tail}
 use Rattle.snd_chunks.proofs.WrittenChunks.{has_first, has_head, has_others, head_written, length-chunk_bytes, length-chunks_bytes}
@@ -48,14 +48,17 @@ tail_written order b (suc most) p end (chunk ∷ chunks) are at within few has =
     rw (head, ends) (ap (λ (l : List Chunk). placed chunk.id p (length chunk.body) ∷ l) rest)
 
 -- The layout that such a walk gives is that of a file with late chunks.
-pub late_is : (c : Container) (h : Shape) (chunks : List NewChunk) (place : ℕ) (goes_on : Bool) (behind : List Piece) → h.trailing ≡ false → place ≡ closed_end c h h.frames
-    → goes_on ≡ nat_lt place (place + late_bytes chunks) → behind ≡ map piece_behind (all_placed place chunks) → record h { pieces = h.pieces ++ behind; trailing = goes_on } ≡ late_shape c h chunks
+late_by : (h : Shape) (chunks : List NewChunk) (place : ℕ) (goes_on : Bool) (behind : List Piece) → h.trailing ≡ false → goes_on ≡ nat_lt place (place + late_bytes chunks) → behind ≡ map piece_behind (all_placed place chunks)
+    → record h { pieces = h.pieces ++ behind; trailing = goes_on } ≡ late_from place h chunks
 unfolding all_placed
-late_is c h [] place goes_on behind free at goes are =
+late_by h [] place goes_on behind free goes are =
     let stops : goes_on ≡ h.trailing = goes ∙ le-ltb place (place + 0) (omega arith) ∙ sym free in
     let same : h.pieces ++ behind ≡ h.pieces = ap (λ (l : List Piece). h.pieces ++ l) are ∙ append-nil h.pieces in
     ap (λ (t : Bool). record h { pieces = h.pieces ++ behind; trailing = t }) stops ∙ ap (λ (l : List Piece). record h { pieces = l }) same
-late_is c h (chunk ∷ chunks) place goes_on behind free at goes are =
+late_by h (chunk ∷ chunks) place goes_on behind free goes are =
     let on : goes_on ≡ true = goes ∙ lt-ltb place (place + late_bytes (chunk ∷ chunks)) (omega arith) in
-    ap (λ (t : Bool). record h { pieces = h.pieces ++ behind; trailing = t }) on
-    ∙ ap (λ (l : List Piece). record h { pieces = h.pieces ++ l; trailing = true }) (are ∙ ap (λ n. map piece_behind (all_placed n (chunk ∷ chunks))) at)
+    ap (λ (t : Bool). record h { pieces = h.pieces ++ behind; trailing = t }) on ∙ ap (λ (l : List Piece). record h { pieces = h.pieces ++ l; trailing = true }) are
+
+pub late_is : (c : Container) (h : Shape) (chunks : List NewChunk) (place : ℕ) (goes_on : Bool) (behind : List Piece) → h.trailing ≡ false → place ≡ closed_end c h h.frames
+    → goes_on ≡ nat_lt place (place + late_bytes chunks) → behind ≡ map piece_behind (all_placed place chunks) → record h { pieces = h.pieces ++ behind; trailing = goes_on } ≡ late_shape c h chunks
+late_is c h chunks place goes_on behind free at goes are = late_by h chunks place goes_on behind free goes are ∙ ap (λ n. late_from n h chunks) at

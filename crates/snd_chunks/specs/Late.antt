@@ -40,11 +40,15 @@ outer_to h end = size_to h.outer (order_of h.kind) end
 abbrev pub piece_behind : Chunk → Piece
 piece_behind chunk = record { id = chunk.id; at = chunk.at; len = chunk.len; after = true }
 
+-- a layout with chunks that stand from a place on, behind the data
+abbrev pub late_from : ℕ → Shape → List NewChunk → Shape
+late_from place h [] = h
+late_from place h (chunk ∷ chunks) = record h { pieces = h.pieces ++ map piece_behind (all_placed place (chunk ∷ chunks)); trailing = true }
+
 -- The layout of a file that is closed with late chunks: they stand behind the others, from the place behind what closes the data
 -- on, and the file goes on behind its data.
 abbrev pub late_shape : Container → Shape → List NewChunk → Shape
-late_shape c h [] = h
-late_shape c h (chunk ∷ chunks) = record h { pieces = h.pieces ++ map piece_behind (all_placed (closed_end c h h.frames) (chunk ∷ chunks)); trailing = true }
+late_shape c h late = late_from (closed_end c h h.frames) h late
 
 -- Late chunks may be laid behind so many frames of a file that is made with these pieces: each may be a piece, there are at most
 -- 240 pieces with them, and with the data they have room in the head.

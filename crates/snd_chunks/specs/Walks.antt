@@ -22,6 +22,10 @@ pub record HasHeadAt (size place : ℕ) (chunk : Chunk) : Type 0 where
 abbrev pub EndsBy : ℕ → Chunk → Type 0
 EndsBy place chunk = chunk.at + chunk.len ≤ place
 
+-- the size of a chunk has four bytes
+abbrev pub IsShort : Chunk → Type 0
+IsShort chunk = chunk.len < 2 ^ 32
+
 -- the sound's chunk, to which a walk of at most so many chunks came that began at a place
 pub record IsSound (size from most : ℕ) (sound : Chunk) : Type 0 where
   pub within : sound.at ≤ size
@@ -29,9 +33,11 @@ pub record IsSound (size from most : ℕ) (sound : Chunk) : Type 0 where
   pub near : sound.at ≤ from + 8 + most * 2 ^ 33
   pub len : sound.len < 2 ^ 32
 
--- What holds of a walk up to the sound: its chunks end within the file, and before the head of the sound's chunk.
+-- What holds of a walk up to the sound: its chunks end within the file, and before the head of the sound's chunk, and their sizes
+-- have four bytes.
 pub record IsFront (size from most : ℕ) (f : Front) : Type 0 where
   pub whole : All (EndsBy size) f.chunks
+  pub short : All IsShort f.chunks
   pub before : (sound : Chunk) → f.ending ≡ AtSound sound → All (λ chunk. chunk.at + chunk.len + 8 ≤ sound.at) f.chunks
   pub sound : (sound : Chunk) → f.ending ≡ AtSound sound → IsSound size from most sound
 

@@ -93,6 +93,15 @@ is_kinds_start _ inner start = true
 abbrev pub IsPlaced : Piece → Type 0
 IsPlaced piece = piece.at + piece.len < 2 ^ 63
 
+-- A chunk that is reserved for 64-bit sizes, of so many bytes: it stands before all others of a WAVE file whose samples have a
+-- fixed size, and has room for them (EBU Tech 3306).
+pub record IsReserve (kind : Kind) (codec : Codec) (start len : ℕ) : Type 0 where
+  pub is_wave : kind ≡ Wave
+  pub fixed : is_adpcm codec ≡ false
+  pub least : 28 ≤ len
+  pub few : len < 2 ^ 32
+  pub before : 28 + len ≤ start
+
 -- what holds of every layout, whether or not a disk tells its contents
 pub record KeepsRule (s : Shape) : Type 0 where
   pub fits : fit_refusal s.kind s.params ≡ None
@@ -107,3 +116,4 @@ pub record KeepsRule (s : Shape) : Type 0 where
   pub data_end : end s s.frames + 8 ≤ 2 ^ 63
   pub in_room : s.unknown_length ≡ false → data_bytes s.params s.frames ≤ max (room s) s.declared
   pub declared_fits : s.declared < 2 ^ 63
+  pub reserved : IfSome s.reserve (IsReserve s.kind s.params.codec s.start)

@@ -50,6 +50,7 @@ counted_rule h n rule known ends stays =
       data_end = ends;
       in_room = λ open_end. (fits h.trailing refl).0;
       declared_fits = (fits h.trailing refl).1;
+      reserved = rule.reserved;
     }
   where
     by_end : (t : Bool) → h.trailing ≡ t → (data_bytes h.params n ≤ max (room h) (cond t h.declared (data_bytes h.params n))) × (cond t h.declared (data_bytes h.params n) < 2 ^ 63)

@@ -187,6 +187,7 @@ more_frames h n rule known ends grows = record {
   data_end = ends;
   in_room = λ open_end. ⊎_elim (λ same. subst (λ (m : ℕ). data_bytes h.params m ≤ max (room h) h.declared) (sym same) (rule.in_room known)) (λ few. omega (arith, few)) grows;
   declared_fits = rule.declared_fits;
+  reserved = rule.reserved;
 }
 
 module _ (file : List ℕ) (e : Editing) (ed : IsEdited file e) (xs : List ℤ) (may : MayWrite xs e.shape e.write_place) where

@@ -22,6 +22,7 @@ going_on_rule h t rule = record {
   data_end = rule.data_end;
   in_room = rule.in_room;
   declared_fits = rule.declared_fits;
+  reserved = rule.reserved;
 }
 
 pub lies_in : (b : List ℕ) (h : Shape) → All IsByte b → FileSays b h → LiesIn b h

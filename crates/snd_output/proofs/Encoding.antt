@@ -43,6 +43,7 @@ rule_for h n rule fits ends = record {
   data_end = ends;
   in_room = λ known. omega (arith, fits);
   declared_fits = rule.declared_fits;
+  reserved = rule.reserved;
 }
 
 module _ (kind : Kind) (p : Parameters) (pieces : List NewChunk) (xs : List ℤ) (e : Editing) (m : IsMaking kind p pieces xs e) (is : is_adpcm p.codec ≡ true) where

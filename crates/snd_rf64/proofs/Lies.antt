@@ -44,6 +44,7 @@ keeps_rule p start bytes sound trailing pieces good fits late ends few short pla
       data_end = omega (arith, held_all, ends);
       in_room = λ known. omega (arith, held_all, few);
       declared_fits = short;
+      reserved = tt;
     }
 
 -- the data begin early

@@ -1,6 +1,6 @@
 //! What the fields of a head say of a number of frames, and what closes their data.
 
-ghost use Rattle.std.specs.Prelude.{◌≡◌, ◌+◌, ◌≤◌, ◌++◌};
+ghost use Rattle.std.specs.Prelude.{◌≡◌, ◌+◌, ◌≤◌, ◌++◌, ◌-◌};
 ghost use Rattle.arrayvec.specs.ArrayVec.{array_vec_len};
 ghost use Rattle.snd_fields.specs.Field.{bytes_of};
 ghost use Rattle.snd_fields.specs.declared.field.Order.TheVariants.{Little};
@@ -73,6 +73,14 @@ pub fn outer_bytes(layout: &Layout, frames: u64) -> ArrayVec<u8, 64>
     let bytes = bytes_in(layout, frames);
     let end = layout.start + bytes + bytes % 2;
     number_bytes(end.saturating_sub(NOT_COUNTED))
+}
+
+/// What the size of the whole says of a file that ends at a place.
+pub fn outer_to(end: u64) -> ArrayVec<u8, 64>
+    requires { 8 ≤ end }
+    ensures { result.items ≡ bytes_of Little 8 (end - 8) }
+{
+    number_bytes(end - NOT_COUNTED)
 }
 
 /// What the count says that is not read.

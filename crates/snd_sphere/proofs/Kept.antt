@@ -223,6 +223,7 @@ shape_lies b p s long good fits some few within =
         data_end = omega (arith, bytes);
         in_room = λ known. omega (arith, bytes);
         declared_fits = omega arith;
+        reserved = tt;
       };
       within = long;
       held = omega (arith, bytes, long);

@@ -2,6 +2,7 @@ pub mod Agreements
 pub mod AllLaws
 pub mod Bodies
 pub mod FieldValues
+pub mod HeadValues
 pub mod Images
 pub mod LateFiles
 pub mod Layouts

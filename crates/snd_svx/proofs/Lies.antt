@@ -104,6 +104,7 @@ module _ (b : List ℕ) (header : Header) (chunk sound : Chunk) (bytes : All IsB
     data_end = omega (arith, count, sizes.near, sizes.few);
     in_room = λ known. omega (arith, count, sizes.few);
     declared_fits = omega arith;
+    reserved = tt;
   }
 
   lies : LiesIn b shape

@@ -40,22 +40,43 @@ svx_form p = codes "8SVX" ++ chunks_bytes Big (new_header p.rate 0 ∷ [])
 regrouped : (m s w h b f d : List ℕ) → (m ++ s ++ w) ++ (h ++ (b ++ f)) ++ d ≡ (m ++ s ++ (w ++ (h ++ []))) ++ (b ++ (f ++ d))
 regrouped m s w h b f d = simp (append_assoc, append-nil)
 
-header_size : (rate : ℕ) → length (chunk_bytes Big (new_header rate 0)) ≡ 28
+header_size : (rate frames : ℕ) → length (chunk_bytes Big (new_header rate frames)) ≡ 28
 unfolding chunk_bytes head_bytes
-header_size rate = refl
+header_size rate frames = refl
+
+-- where the data begin does not hang on the frames
+pub size_for : (p : Parameters) (pieces : List NewChunk) (frames : ℕ) → head_size p pieces ≡ 20 + length (chunks_bytes Big (chunks_before p pieces frames))
+size_for p pieces frames =
+    omega (
+      arith,
+      length-chunks_bytes Big (new_header p.rate 0) (pieces ++ filler p pieces),
+      length-chunks_bytes Big (new_header p.rate frames) (pieces ++ filler p pieces),
+      header_size p.rate 0,
+      header_size p.rate frames,
+    )
+
+pub length-head_for : (p : Parameters) (pieces : List NewChunk) (frames : ℕ) → length (head_for p pieces frames) ≡ head_size p pieces
+unfolding head_for
+length-head_for p pieces frames =
+    let n : ℕ = data_bytes p frames in
+    let s : ℕ = form_size (head_size p pieces) n in
+    let chunks : List ℕ = chunks_bytes Big (chunks_before p pieces frames) in
+    let top : length (form_head s) ≡ 12 = refl in
+    omega (
+      arith,
+      top,
+      size_for p pieces frames,
+      length-append (form_head s ++ chunks) (head_bytes Big (codes "BODY") n),
+      length-append (form_head s) chunks,
+      length-head_bytes Big (codes "BODY") n refl,
+    )
 
 pub length-head : (p : Parameters) (pieces : List NewChunk) → length (svx_head p pieces) ≡ head_size p pieces
-unfolding head_for
-length-head p pieces =
-    let n : ℕ = data_bytes p 0 in
-    let s : ℕ = form_size (head_size p pieces) n in
-    let chunks : List ℕ = chunks_bytes Big (chunks_before p pieces 0) in
-    let top : length (form_head s) ≡ 12 = refl in
-    omega (arith, top, length-append (form_head s ++ chunks) (head_bytes Big (codes "BODY") n), length-append (form_head s) chunks, length-head_bytes Big (codes "BODY") n refl)
+length-head p pieces = length-head_for p pieces 0
 
 -- where the data would begin without a filler
 start_is : (p : Parameters) (pieces : List NewChunk) → start_without_filler p pieces - 4 ≡ 40 + length (chunks_bytes Big pieces) + 8 - 4
-start_is p pieces = omega (arith, length-chunks_bytes Big (new_header p.rate 0) pieces, header_size p.rate)
+start_is p pieces = omega (arith, length-chunks_bytes Big (new_header p.rate 0) pieces, header_size p.rate 0)
 
 pub no_bytes_yet : (p : Parameters) → AreParams p → fit_refusal Svx p ≡ None → data_bytes p 0 ≡ 0
 no_bytes_yet p good fits = ap (λ (q : Parameters). data_bytes q 0) (is_voice p good fits).0

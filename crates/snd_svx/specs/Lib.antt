@@ -1,5 +1,6 @@
 pub mod Container
 pub mod Layout
+pub mod Made
 pub mod Parts
 pub mod Put
 pub mod Values

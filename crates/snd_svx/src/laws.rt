@@ -4,6 +4,7 @@ ghost use Rattle.snd_layout.specs.Container.{KeepsLaws};
 ghost use Rattle.snd_layout.specs.declared.kind.Kind.TheVariants.{Svx};
 ghost use Rattle.snd_chunks.specs.Late.{LateReadsBack};
 ghost use Rattle.snd_svx.specs.Container.{svx};
+ghost use Rattle.snd_svx.specs.Made.{HeadHasItsSize, HeadIsCounted, MadeHoldsAll, MadeReadsBack};
 ghost use Rattle.snd_svx.specs.Put.{HeadReadsBack, svx_heads};
 ghost use Rattle.snd_svx.specs.Written.{MayBePiece};
 
@@ -17,6 +18,17 @@ pub fn keeps_laws()
 #[tactic(auto, using(crate::proofs::Made::heads_read_back))]
 pub fn made_heads_read_back()
     ensures { HeadReadsBack }
+{}
+
+/// A file that is made, with any pieces that a file may keep and with frames whose data have room, has the
+/// layout that its head says, and holds its pieces and its data, which begin behind the head. A head that
+/// was made for no frames, and whose fields were brought up to a number of frames, is the head for so many.
+#[tactic(auto, using(crate::proofs::Made::made_reads_back, crate::proofs::Made::length_head_for, crate::proofs::HeadValues::head_is_counted))]
+pub fn made_files_read_back()
+    ensures layout { MadeReadsBack }
+    ensures holds { MadeHoldsAll }
+    ensures size { HeadHasItsSize }
+    ensures counted { HeadIsCounted }
 {}
 
 /// A file that is closed with chunks behind its data, and the size of the whole up to them, has these

@@ -106,6 +106,7 @@ record IsOf (b : List ℕ) (h : Shape) (s : Sound) (p : Parameters) : Type 0 whe
   outer : h.outer ≡ None
   side : h.side ≡ None
   pieces : h.pieces ≡ []
+  reserve : h.reserve ≡ None
 
 is_of : (b : List ℕ) (h : Shape) (t : Bool) (s : Sound) (p : Parameters) → record h { trailing = t } ≡ voc_shape b s p → IsOf b h s p
 is_of b h t s p is = record {
@@ -120,6 +121,7 @@ is_of b h t s p is = record {
   outer = ap (λ (g : Shape). g.outer) is;
   side = ap (λ (g : Shape). g.side) is;
   pieces = ap (λ (g : Shape). g.pieces) is;
+  reserve = ap (λ (g : Shape). g.reserve) is;
 }
 
 -- the layout of another file with the same parts
@@ -346,6 +348,7 @@ lies b h bytes_are is =
         data_end = omega (arith, few, start, f.start);
         in_room = λ known. omega (arith, few, f.stated);
         declared_fits = stated;
+        reserved = rw f.reserve tt;
       };
       within = omega (arith, f.start, st.there);
       held = omega (arith, few, f.start, st.there);

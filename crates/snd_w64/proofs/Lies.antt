@@ -48,7 +48,7 @@ lies_in b h bytes is =
     let holds : IsHeld (length b) h = rw from.shape (is_held _ from.sound (held (length b) from.sound) (length b) count refl refl refl refl good fits sound in_file) in
     record {
       params = rw from.shape good;
-      rule = rw from.shape (keeps_rule _ (fact_chunk (w64_front b).chunks) from.sound (held (length b) from.sound) (length b) count refl refl refl refl refl refl refl refl good fits
+      rule = rw from.shape (keeps_rule _ (fact_chunk (w64_front b).chunks) from.sound (held (length b) from.sound) (length b) count refl refl refl refl refl refl refl refl refl good fits
           (is_fact_of from.sound (fact_chunk (w64_front b).chunks) there.fact) sound short in_file);
       within = rw from.shape (omega (arith, sound.within));
       held = holds.sound;

@@ -97,9 +97,9 @@ side_rule p (Some fact) sound side is placed = elim (cases_Bool (is_adpcm p.code
 
 -- the layout that is made of parts which lie well keeps the rule of all layouts
 pub keeps_rule : (s : Shape) (fact : Option Chunk) (sound : Chunk) (bytes size : ℕ) (count : Option ℕ) → s.kind ≡ W64 → s.outer ≡ Some (record { at = 16; size = 8 })
-    → s.start ≡ sound.at → s.declared ≡ sound.len → s.frames ≡ frame_count s.params bytes count → s.inner ≡ inner_field s.params fact sound → s.side ≡ side_field s.params fact → s.pieces ≡ []
+    → s.start ≡ sound.at → s.declared ≡ sound.len → s.frames ≡ frame_count s.params bytes count → s.inner ≡ inner_field s.params fact sound → s.side ≡ side_field s.params fact → s.pieces ≡ [] → s.reserve ≡ None
     → AreParams s.params → fit_refusal W64 s.params ≡ None → IfSome fact (IsFact sound) → IsSound size sound → bytes ≤ sound.len → bytes ≤ reached size - sound.at → KeepsRule s
-keeps_rule s fact sound bytes size count kind outer start declared frames inner side pieces good fits placed is few held =
+keeps_rule s fact sound bytes size count kind outer start declared frames inner side pieces reserve good fits placed is few held =
     let inner_is = inner_rule s.params fact sound s.inner inner placed (omega (arith, is.behind)) in
     let side_is = side_rule s.params fact sound s.side side placed in
     let short : data_bytes s.params s.frames ≤ bytes = rw frames (counted_bytes s.params bytes count good fits) in
@@ -116,6 +116,7 @@ keeps_rule s fact sound bytes size count kind outer start declared frames inner 
       data_end = omega (arith, start, short, held, is.within);
       in_room = λ known. omega (arith, short, few, declared);
       declared_fits = omega (arith, declared, is.len);
+      reserved = rw reserve tt;
     }
 
 -- its data end within the file, and data for which it has room on a disk

@@ -19,7 +19,7 @@ use Rattle.snd_layout.specs.Format.{format_of}
 use Rattle.snd_layout.specs.Params.{Parameters}
 use Rattle.snd_layout.specs.Shape.{Shape}
 use Rattle.snd_layout.specs.declared.piece.Piece.{Piece}
-use Rattle.snd_wave.specs.Layout.{body_of, fact_chunk, format_chunk, front_refusal, has_id, inner_field, is_fact, is_joined, is_own, piece_of, pieces_of, side_field, wave_front, wave_shape, wave_tail}
+use Rattle.snd_wave.specs.Layout.{body_of, fact_chunk, format_chunk, front_refusal, has_id, inner_field, is_fact, is_joined, is_own, piece_of, pieces_of, reserve_of, side_field, wave_front, wave_shape, wave_tail}
 use Rattle.snd_wave.proofs.LayoutFacts.{LayoutsAgree, SameButNumbers, SameHead, is_among, is_number}
 use Rattle.snd_wave.proofs.Counts.{reached}
 use Rattle.snd_wave.proofs.Opens.{Opens, not_refused, opened, opens}
@@ -87,7 +87,7 @@ behind_go (chunk ∷ chunks) = elim (cases_Bool (is_own chunk)) [
   | inr other ↦ rw other (behind_go chunks)
 ]
 
-before_is : (chunks after : List Chunk) → filter (λ (piece : Piece). not piece.after) (pieces_of false chunks ++ pieces_of true after) ≡ pieces_of false chunks
+pub before_is : (chunks after : List Chunk) → filter (λ (piece : Piece). not piece.after) (pieces_of false chunks ++ pieces_of true after) ≡ pieces_of false chunks
 before_is chunks after =
     filter-append (λ (piece : Piece). not piece.after) (pieces_of false chunks) (pieces_of true after)
     ∙ ap (λ (l : List Piece). l ++ filter (λ (piece : Piece). not piece.after) (pieces_of true after)) (before_stay chunks)
@@ -105,6 +105,7 @@ says_same x y seen seen' p sound sound' chunks at = record {
   inner = rw chunks (inner_same p (fact_chunk seen.chunks) sound sound' at);
   outer = refl;
   side = rw chunks refl;
+  reserve = ap (reserve_of p) chunks;
   pieces = before_is seen'.chunks (wave_tail x seen' sound') ∙ ap (pieces_of false) chunks ∙ sym (before_is seen.chunks (wave_tail y seen sound));
 }
 

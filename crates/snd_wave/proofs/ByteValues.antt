@@ -16,7 +16,7 @@ use Rattle.snd_layout.specs.declared.field.Field.{Field}
 use Rattle.snd_wave.proofs.Relaying.{chunks-joined}
 use Rattle.snd_wave.specs.Container.{wave}
 use Rattle.snd_wave.specs.Values.{closing, count_bytes, inner_value, outer_value, riff_size, side_value}
-use Rattle.snd_wave.specs.Written.{chunks_before, filler, has_fact, head_for, head_size, junk, new_fact, new_format, riff_head, wave_head}
+use Rattle.snd_wave.specs.Written.{chunks_before, filler, has_fact, head_size, junk, new_fact, new_format, reserved_chunks, reserved_head, riff_head, wave_head}
 
 abbrev are_bytes : List ℕ → Bool
 are_bytes [] = true
@@ -90,13 +90,13 @@ fact_bytes true = two_chunks (record { id = codes "fact"; body = bytes_of Little
 fact_bytes false = All-nil IsByte
 
 before_bytes : (p : Parameters) → All IsByte (chunks_bytes Little (chunks_before p [] 0))
-unfolding chunks_before
+unfolding reserved_chunks
 before_bytes p =
     two_chunks (new_format p) (filler p [] ++ new_fact p.codec 0) (from_test (codes "fmt ") refl, format_bytes p)
     (subst (All IsByte) (sym (chunks-joined Little (filler p []) (new_fact p.codec 0))) (both (chunks_bytes Little (filler p [])) (chunks_bytes Little (new_fact p.codec 0)) (filler_bytes _) (fact_bytes (has_fact p.codec))))
 
 pub head_bytes_are : (p : Parameters) → All IsByte (wave_head p [])
-unfolding head_for riff_head head_bytes
+unfolding reserved_head riff_head head_bytes
 head_bytes_are p =
     let size = bytes_of Little 4 (riff_size (head_size p []) (data_bytes p 0)) in
     let bytes = bytes_of Little 4 (data_bytes p 0) in

@@ -28,7 +28,7 @@ head_laid heads old new h p may shape laid = record {
 pub plain_may : (p : Parameters) → AreParams p → fit_refusal Wave p ≡ None → MayBeMade p [] 0
 plain_may p good fits =
     let none : data_bytes p 0 ≡ 0 = no_bytes_yet p good fits in
-    record { params = good; fits = fits; pieces_are = All-nil MayBePiece; few = omega arith; in_room = omega (arith, none); counted = λ adpcm. omega arith }
+    record { params = good; fits = fits; pieces_are = All-nil MayBePiece; few = omega arith; in_room = omega (arith, none); counted = λ adpcm. omega arith; reserved = tt }
 
 pub plain_head_laid : (old new : State) (h : Shape) (p : Parameters) → AreParams p → fit_refusal Wave p ≡ None → h ≡ made_shape p [] 0 → HoldsJust (wave_head p []) old new → IsHeadOf new h p []
 plain_head_laid old new h p good fits shape laid = head_laid wave_heads old new h p (plain_may p good fits) shape laid

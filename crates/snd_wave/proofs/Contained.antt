@@ -45,7 +45,7 @@ says : (b : List ℕ) (h : Shape) → wave_layout b ≡ Ok h → Says wave b h
 says b h is = record { goes_on = h.trailing; told = is; same = inr refl }
 
 -- the end of what closes the data
-closed_by : (h : Shape) (n : ℕ) → closed_end wave h n ≡ padded_end h.start (data_bytes h.params n)
+pub closed_by : (h : Shape) (n : ℕ) → closed_end wave h n ≡ padded_end h.start (data_bytes h.params n)
 unfolding closing
 closed_by h n = ap (λ (m : ℕ). end h n + m) (length-replicate {A = ℕ} (data_bytes h.params n % 2) 0)
 
@@ -159,7 +159,7 @@ may_say b h n may =
 
 new_count_reads_back : NewCountReadsBack wave
 new_count_reads_back b x h n may keeps inner long ends =
-    says x (counted_shape h n) (says_so b x h n (may_say b h n may) (record { inner = inner; beside = keeps; long = omega (arith, long); ends = omega (arith, ends, closed_by h n) }))
+    says x (counted_shape h n) (says_so b x h n (may_say b h n may) (record { fields = record { inner = inner; beside = keeps; long = omega (arith, long) }; ends = omega (arith, ends, closed_by h n) }))
 
 same_outside_data_reads_back : SameOutsideDataReadsBack wave
 same_outside_data_reads_back b x h is good long same =

@@ -92,11 +92,15 @@ pub record MaySay (b : List ℕ) (h : Shape) (n : ℕ) : Type 0 where
   pub counted : is_adpcm h.params.codec ≡ true → (n < 2 ^ 32) × (h.inner.size ≡ 12)
 
 -- a file has, before its data, the bytes of another but in the three fields; the one that decides the count says so many frames,
--- and the whole ends by their data
-pub record HasNew (b : List ℕ) (h : Shape) (n : ℕ) (x : List ℕ) : Type 0 where
+-- whose data are there
+pub record HasFields (b : List ℕ) (h : Shape) (n : ℕ) (x : List ℕ) : Type 0 where
   pub inner : HasAt x h.inner.at (inner_value h n)
   pub beside : KeepsHead h b x
   pub long : h.start + data_bytes h.params n ≤ length x
+
+-- .. and the whole ends by them
+pub record HasNew (b : List ℕ) (h : Shape) (n : ℕ) (x : List ℕ) : Type 0 where
+  pub fields : HasFields b h n x
   pub ends : outer_end x ≤ padded_end h.start (data_bytes h.params n)
 
 -- what a layout says of its file: the identifier of the data stands before their size
@@ -107,7 +111,6 @@ pub record StandsIn (b : List ℕ) (h : Shape) : Type 0 where
   pub fits : fit_refusal Wave h.params ≡ None
   pub kind : h.kind ≡ Wave
   pub known : h.unknown_length ≡ false
-  pub reserve : h.reserve ≡ None
 
 pub stands : (b : List ℕ) (h : Shape) → wave_layout b ≡ Ok h → StandsIn b h
 stands b h is =
@@ -123,7 +126,6 @@ stands b h is =
       fits = rw from.shape (format_fits (body_of b from.format) from.params from.params_are);
       kind = ap (λ (s : Shape). s.kind) from.shape;
       known = ap (λ (s : Shape). s.unknown_length) from.shape;
-      reserve = ap (λ (s : Shape). s.reserve) from.shape;
     }
   where
     by_part : (k : ℕ) (b : List ℕ) (p q : ℕ) (v : List ℕ) (j : ℕ) → j < k → q ≡ p → take k (drop p b) ≡ v → get_or b (q + j) 0 ≡ get_or v j 0
@@ -163,13 +165,13 @@ all_before (piece ∷ pieces) all =
     kept_first (λ (p : Piece). not p.after) piece pieces (ap not here) ∙ ap (λ (l : List Piece). piece ∷ l) (all_before pieces (All-tail (λ (p : Piece). p.after ≡ false) piece pieces all))
 
 -- where a file does not go on behind its data, all pieces stand before them
-pieces_all : (b : List ℕ) (h : Shape) → wave_layout b ≡ Ok h → h.trailing ≡ false → pieces_before h ≡ h.pieces
+pub pieces_all : (b : List ℕ) (h : Shape) → wave_layout b ≡ Ok h → h.trailing ≡ false → pieces_before h ≡ h.pieces
 pieces_all b h is free =
     let late : nat_lt (padded_data_end h (length b)) (outer_end b) ≡ false = sym (trailing_is_stated b h is) ∙ free in
     all_before h.pieces (no_piece_behind b h is (ltb-false (padded_data_end h (length b)) (outer_end b) late))
 
-module _ (b x : List ℕ) (h : Shape) (n : ℕ) (may : MaySay b h n) (says : HasNew b h n x) (apart : FieldsStandApart h) (there : StandsIn b h) where
-  same : SameButNumbers h x b
+module _ (b x : List ℕ) (h : Shape) (n : ℕ) (may : MaySay b h n) (says : HasFields b h n x) (apart : FieldsStandApart h) (there : StandsIn b h) where
+  pub same : SameButNumbers h x b
   same i before none =
       let one = or_parts (is_in_some h.outer i || is_in_some h.side i || is_among h.inner.at 4 i) (is_among (h.start - 4) 4 i) none in
       let two = or_parts (is_in_some h.outer i || is_in_some h.side i) (is_among h.inner.at 4 i) one.0 in
@@ -192,7 +194,7 @@ module _ (b x : List ℕ) (h : Shape) (n : ℕ) (may : MaySay b h n) (says : Has
     numbers : (h'.declared ≡ number Little x (h'.start - 4) 4) × (h'.inner.size ≡ 12 → count_of x ≡ Some (number Little x h'.inner.at 4))
     numbers = numbers_stand_before x h' is
 
-    declared : h'.declared ≡ data_bytes h.params n
+    pub declared : h'.declared ≡ data_bytes h.params n
     declared = numbers.0 ∙ ap (λ k. number Little x (k - 4) 4) agrees.start ∙ size_read
 
     count : is_adpcm h.params.codec ≡ true → count_of x ≡ Some n
@@ -207,7 +209,7 @@ module _ (b x : List ℕ) (h : Shape) (n : ℕ) (may : MaySay b h n) (says : Has
         let blocks = div-mul-le_self h'.declared (block_align h'.params.channels h'.params.codec) in
         record { in_file = omega (arith, blocks, declared, agrees.start, says.long); on_disk = omega (arith, blocks, declared, agrees.start, may.on_disk) }
 
-    frames : h'.frames ≡ n
+    pub frames : h'.frames ≡ n
     frames =
         count_is_stated x h' is holds ∙ ap (λ (p : Parameters). frame_count_of p h'.declared) agrees.params ∙ ap (frame_count_of h.params) declared
         ∙ counted h.params n (count_of x) may.params there.fits count
@@ -215,34 +217,39 @@ module _ (b x : List ℕ) (h : Shape) (n : ℕ) (may : MaySay b h n) (says : Has
         frame_count_of : Parameters → ℕ → ℕ
         frame_count_of p bytes = frame_count p bytes (count_of x)
 
-    data_reach : padded_data_end h' (length x) ≡ padded_end h.start (data_bytes h.params n)
+    pub data_reach : padded_data_end h' (length x) ≡ padded_end h.start (data_bytes h.params n)
     data_reach =
         let all : min h'.declared (min (length x) (2 ^ 63 - 8) - h'.start) ≡ data_bytes h.params n = omega (arith, declared, agrees.start, says.long, may.on_disk) in
         ap (λ k. padded_end h'.start k) all ∙ ap (λ k. padded_end k (data_bytes h.params n)) agrees.start
 
-    ends : outer_end x ≤ padded_data_end h' (length x)
-    ends = omega (arith, data_reach, says.ends)
-
-    trailing : h'.trailing ≡ h.trailing
-    trailing = trailing_is_stated x h' is ∙ le-ltb (padded_data_end h' (length x)) (outer_end x) ends ∙ sym may.free
-
-    pieces : h'.pieces ≡ h.pieces
-    pieces = sym (all_before h'.pieces (no_piece_behind x h' is ends)) ∙ agrees.pieces ∙ pieces_all b h may.opened may.free
-
-    shape_is : h' ≡ counted_shape h n
+    -- the layout, by what stands behind the data
+    pub shape_by : (goes_on : Bool) (pieces : List Piece) → h'.trailing ≡ goes_on → h'.pieces ≡ pieces → h' ≡ record (counted_shape h n) { trailing = goes_on; pieces = pieces }
     unfolding shape_of_parts
-    shape_is =
+    shape_by goes_on pieces goes are =
         let then : StandsIn x h' = stands x h' is in
-        by_parts h'.kind h.kind h'.params h.params h'.start h.start h'.frames n h'.declared (data_bytes h.params n) h'.inner h.inner h'.outer h.outer h'.side h.side h'.trailing h.trailing
-        h'.unknown_length h.unknown_length h'.reserve h.reserve h'.pieces h.pieces agrees.kind agrees.params agrees.start frames declared agrees.inner agrees.outer agrees.side trailing
-        (then.known ∙ sym there.known) (then.reserve ∙ sym there.reserve) pieces
+        by_parts h'.kind h.kind h'.params h.params h'.start h.start h'.frames n h'.declared (data_bytes h.params n) h'.inner h.inner h'.outer h.outer h'.side h.side h'.trailing goes_on
+        h'.unknown_length h.unknown_length h'.reserve h.reserve h'.pieces pieces agrees.kind agrees.params agrees.start frames declared agrees.inner agrees.outer agrees.side goes
+        (then.known ∙ sym there.known) agrees.reserve are
+
+    module _ (stops : outer_end x ≤ padded_end h.start (data_bytes h.params n)) where
+      ends : outer_end x ≤ padded_data_end h' (length x)
+      ends = omega (arith, data_reach, stops)
+
+      trailing : h'.trailing ≡ h.trailing
+      trailing = trailing_is_stated x h' is ∙ le-ltb (padded_data_end h' (length x)) (outer_end x) ends ∙ sym may.free
+
+      pieces : h'.pieces ≡ h.pieces
+      pieces = sym (all_before h'.pieces (no_piece_behind x h' is ends)) ∙ agrees.pieces ∙ pieces_all b h may.opened may.free
+
+      shape_is : h' ≡ counted_shape h n
+      shape_is = shape_by h.trailing h.pieces trailing pieces
 
 pub says_so : (b x : List ℕ) (h : Shape) (n : ℕ) → MaySay b h n → HasNew b h n x → wave_layout x ≡ Ok (counted_shape h n)
 says_so b x h n may says =
     let apart : FieldsStandApart h = fields_are_apart b h may.opened in
     let there : StandsIn b h = stands b h may.opened in
-    let agreed = layouts_agree x b h may.opened (omega (arith, says.long)) (same b x h n may says apart there) in
-    agreed.1 ∙ ap (λ (s : Shape). Ok s) (shape_is b x h n may says apart there agreed.0 agreed.1 agreed.2)
+    let agreed = layouts_agree x b h may.opened (omega (arith, says.fields.long)) (same b x h n may says.fields apart there) in
+    agreed.1 ∙ ap (λ (s : Shape). Ok s) (shape_is b x h n may says.fields apart there agreed.0 agreed.1 agreed.2 says.ends)
 
 -- where the size of the whole is that of so many frames, the whole ends by their data
 pub outer_reaches : (x : List ℕ) (h : Shape) (n : ℕ) → 8 ≤ h.start → HasAt x 4 (outer_value h n) → outer_end x ≤ padded_end h.start (data_bytes h.params n)

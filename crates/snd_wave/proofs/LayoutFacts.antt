@@ -35,6 +35,7 @@ pub record SameHead (h h' : Shape) : Type 0 where
   pub inner : h'.inner ≡ h.inner
   pub outer : h'.outer ≡ h.outer
   pub side : h'.side ≡ h.side
+  pub reserve : h'.reserve ≡ h.reserve
   pub pieces : pieces_before h' ≡ pieces_before h
 
 -- Whatever the numbers are, the layout is there and says the same.

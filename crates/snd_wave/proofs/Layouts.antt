@@ -17,14 +17,14 @@ use Rattle.snd_layout.specs.declared.piece.Piece.{Piece}
 use Rattle.snd_layout.specs.declared.refusal.OpenRefusal.{OpenRefusal}
 use Rattle.snd_wave.specs.declared.ends.Ends.{Ends}
 use Rattle.snd_wave.specs.declared.parts.Parts.{Parts}
-use Rattle.snd_wave.specs.Layout.{body_of, fact_chunk, fact_count, front_refusal, is_fact, wave_front, wave_layout, with_format}
-use Rattle.snd_wave.specs.Parts.{AreParts, ArePlaced, IsFact, all_pieces, ends_of, shape_of, with_params}
+use Rattle.snd_wave.specs.Layout.{body_of, fact_chunk, fact_count, front_refusal, is_fact, reserve_of, wave_front, wave_layout, with_format}
+use Rattle.snd_wave.specs.Parts.{AreParts, ArePlaced, IsBefore, IsFact, all_pieces, ends_of, shape_of, with_params}
 
-pub built : (b : List ℕ) (front : Front) (parts : Parts) (p : Parameters) (r : Result Parameters OpenRefusal) (count : Option ℕ) (ends : Ends) (pieces : List Piece) (layout : Shape)
-    → r ≡ Ok p → count ≡ option_map (fact_count b) parts.fact → ends ≡ ends_of (length b) (number Little b 4 4) parts.sound → pieces ≡ all_pieces b front ends
-    → layout ≡ shape_of p parts count ends pieces → with_params b front parts r ≡ Ok layout
-built b front parts p r count ends pieces layout params counted ended found is =
-    rw params (ap (λ (s : Shape). Ok s) (sym (is ∙ rw (found, ended, counted) refl)))
+pub built : (b : List ℕ) (front : Front) (parts : Parts) (p : Parameters) (r : Result Parameters OpenRefusal) (count : Option ℕ) (ends : Ends) (reserve : Option ℕ) (pieces : List Piece) (layout : Shape)
+    → r ≡ Ok p → count ≡ option_map (fact_count b) parts.fact → ends ≡ ends_of (length b) (number Little b 4 4) parts.sound → reserve ≡ reserve_of p front.chunks → pieces ≡ all_pieces b front ends
+    → layout ≡ shape_of p parts count ends reserve pieces → with_params b front parts r ≡ Ok layout
+built b front parts p r count ends reserve pieces layout params counted ended reserved found is =
+    rw params (ap (λ (s : Shape). Ok s) (sym (is ∙ rw (found, ended, counted, reserved) refl)))
 
 fact_placed : (chunks : List Chunk) (sound : Chunk) (fact : Option Chunk) → fact ≡ fact_chunk chunks → All (λ chunk. chunk.at + chunk.len + 8 ≤ sound.at) chunks → IfSome fact (IsFact sound)
 fact_placed chunks sound None is before = tt
@@ -39,6 +39,9 @@ parts_placed size front parts is are = record {
   fact = fact_placed front.chunks parts.sound parts.fact are.fact (is.before parts.sound are.sound);
   sound = is.sound parts.sound are.sound;
 }
+
+pub all_before : (size : ℕ) (front : Front) (parts : Parts) → IsFront size 12 257 front → AreParts front parts → All (IsBefore parts.sound) front.chunks
+all_before size front parts is are = λ k d lt. record { ends = is.before parts.sound are.sound k d lt; short = is.short k d lt }
 
 pub same_ends : (size size' riff riff' : ℕ) (sound : Chunk) → size ≡ size' → riff ≡ riff' → ends_of size riff sound ≡ ends_of size' riff' sound
 same_ends size size' riff riff' sound s r = ap (λ n. ends_of n riff sound) s ∙ ap (λ n. ends_of size' n sound) r

@@ -4,6 +4,7 @@ pub mod Answered
 pub mod ByteValues
 pub mod Changed
 pub mod Contained
+pub mod LateFiles
 pub mod Counted
 pub mod Counts
 pub mod HeadValues

@@ -1,13 +1,13 @@
 -- What holds of the layout that a list of bytes gives.
-use Rattle.std.proofs.Common.{◌≡◌, refl, ℕ, ◌+◌, ◌*◌, ◌-◌, ◌^◌, ◌<◌, ◌≤◌, List, All, Option, None, Some, Ok, length, drop, arith}
+use Rattle.std.proofs.Common.{◌≡◌, refl, ℕ, ◌+◌, ◌*◌, ◌-◌, ◌^◌, ◌<◌, ◌≤◌, List, [], ◌∷◌, All, Option, None, Some, Ok, get_or, length, drop, arith}
 use Rattle.std.proofs.lemmas.Bool.{and_parts, leb-true}
-use Rattle.std.proofs.lemmas.List.Elements.{All-drop, All-take, All-weaker}
+use Rattle.std.proofs.lemmas.List.Elements.{All-cons, All-drop, All-nil, All-take, All-weaker}
 use Rattle.std.specs.Prelude.{IfSome, codes, nat_le, option_map}
-use Rattle.snd_chunks.proofs.Chains.{IsBetween, IsHead, Reaches, find_has, in_order, is_head}
+use Rattle.snd_chunks.proofs.Chains.{IsBetween, IsChain, IsHead, Reaches, find_has, in_order, is_head}
 use Rattle.snd_chunks.proofs.Stays.{chain_end, tail_ends}
 use Rattle.snd_chunks.specs.declared.chunk.Chunk.{Chunk}
 use Rattle.snd_chunks.specs.Chunks.{chunk_at}
-use Rattle.snd_chunks.specs.Walks.{EndsBy, IsSound}
+use Rattle.snd_chunks.specs.Walks.{EndsBy, IsShort, IsSound}
 use Rattle.snd_fields.proofs.Numbers.{number_fits}
 use Rattle.snd_fields.specs.Field.{number}
 use Rattle.snd_fields.specs.Laws.{IsByte}
@@ -22,11 +22,19 @@ use Rattle.snd_layout.specs.Shape.{IsPlaced, Shape}
 use Rattle.snd_layout.specs.declared.kind.Kind.TheVariants.{Wave}
 use Rattle.snd_wave.proofs.Counts.{reached}
 use Rattle.snd_wave.proofs.Opens.{Opens, opens}
-use Rattle.snd_wave.proofs.Shapes.{counted_bytes, keeps_rule, pieces_end}
+use Rattle.snd_wave.proofs.Shapes.{counted_bytes, keeps_rule, pieces_end, reserve_is}
 use Rattle.snd_wave.specs.Layout.{body_of, fact_chunk, fact_count, has_id, held, is_fact, outer_end, wave_front, wave_layout, wave_shape, wave_tail}
-use Rattle.snd_wave.specs.Parts.{IsFact}
+use Rattle.snd_wave.specs.Parts.{IsBefore, IsFact}
 
 -- ---- where the chunks lie
+
+-- the sizes of chunks have four bytes
+all_short : (b : List ℕ) (place last : ℕ) (chunks : List Chunk) → All IsByte b → IsChain (chunk_at Little b) (codes "data") (length b) place chunks last → All IsShort chunks
+all_short b place last [] bytes chain = All-nil IsShort
+all_short b place last (chunk ∷ chunks) bytes chain =
+    let head : IsHead Little b place chunk = is_head Little b place chunk chain.0.at in
+    let few : number Little b (place + 4) 4 < 2 ^ 32 = number_fits Little b (place + 4) 4 bytes in
+    All-cons IsShort chunk chunks (omega (arith, head.len, few)) (all_short b chunk.next last chunks bytes chain.1)
 
 fact_placed : (last : ℕ) (sound : Chunk) (chunks : List Chunk) (fact : Option Chunk) → fact_chunk chunks ≡ fact → All (IsBetween 12 last) chunks → sound.at ≡ last + 8 → IfSome fact (IsFact sound)
 fact_placed last sound chunks None found between at = tt
@@ -59,6 +67,11 @@ module _ (b : List ℕ) (p : Parameters) (sound : Chunk) (bytes : All IsByte b) 
   sound_is : IsSound (2 ^ 63) 12 257 sound
   sound_is = record { within = omega (arith, begins); behind = omega (arith, head.at, ordered.0); near = begins; len = size_few }
 
+  before_all : All (IsBefore sound) (wave_front b).chunks
+  before_all k d lt =
+      let between : IsBetween 12 reach.last (get_or (wave_front b).chunks k d) = ordered.1 k d lt in
+      record { ends = omega (arith, between.before, head.at); short = all_short b 12 reach.last (wave_front b).chunks bytes reach.chain k d lt }
+
   placed : All IsPlaced shape.pieces
   placed =
       let few : number Little b 4 4 < 2 ^ 32 = number_fits Little b 4 4 bytes in
@@ -78,7 +91,7 @@ module _ (b : List ℕ) (p : Parameters) (sound : Chunk) (bytes : All IsByte b) 
       let fact = fact_placed reach.last sound (wave_front b).chunks (fact_chunk (wave_front b).chunks) refl ordered.1 head.at in
       record {
         params = good;
-        rule = keeps_rule shape (fact_chunk (wave_front b).chunks) sound some (option_map (fact_count b) (fact_chunk (wave_front b).chunks)) refl refl refl refl refl refl refl good fits fact sound_is (omega arith) placed;
+        rule = keeps_rule shape (fact_chunk (wave_front b).chunks) sound some (option_map (fact_count b) (fact_chunk (wave_front b).chunks)) refl refl refl refl refl refl refl good fits fact sound_is (omega arith) (reserve_is p sound (wave_front b).chunks before_all) placed;
         within = omega (arith, head.within, head.at);
         held = omega (arith, counted_bytes p some (option_map (fact_count b) (fact_chunk (wave_front b).chunks)) good fits, head.within, head.at);
         room_ends = omega (arith, begins);

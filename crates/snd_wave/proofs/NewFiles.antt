@@ -9,7 +9,7 @@ use Rattle.snd_chunks.specs.Written.{all_placed}
 use Rattle.snd_wave.proofs.ByteValues.{head_bytes_are}
 use Rattle.snd_wave.proofs.Made.{head_reads_back, length-head_for, no_bytes_yet}
 use Rattle.snd_wave.specs.Container.{wave}
-use Rattle.snd_wave.specs.Written.{MayBeMade, MayBePiece, made_pieces, made_shape}
+use Rattle.snd_wave.specs.Written.{MayBeMade, MayBePiece, made_pieces, reserved_pieces, reserved_shape}
 
 no_pieces : (p : Parameters) → AreParams p → fit_refusal Wave p ≡ None → MayBeMade p [] 0
 no_pieces p good fits = record {
@@ -19,14 +19,15 @@ no_pieces p good fits = record {
   few = omega arith;
   in_room = let none : data_bytes p 0 ≡ 0 = no_bytes_yet p good fits in omega (arith, none);
   counted = λ adpcm. omega arith;
+  reserved = tt;
 }
 
 no_piece : (p : Parameters) → made_pieces p [] ≡ []
-unfolding made_pieces all_placed
+unfolding reserved_pieces all_placed
 no_piece p = refl
 
 pub is_new : (p : Parameters) → AreParams p → fit_refusal Wave p ≡ None → IsNew Wave wave p
-unfolding made_shape
+unfolding reserved_shape
 is_new p good fits = record {
   told = head_reads_back p [] (no_pieces p good fits);
   bytes = head_bytes_are p;

@@ -1,8 +1,9 @@
 -- The head that is written: its parts, and where they stand.
-use Rattle.std.proofs.Common.{◌≡◌, ◌⊎◌, ℕ, ◌+◌, ◌-◌, ◌/◌, ◌≤◌, List, [], ◌∷◌, ◌++◌, All, true, false, length, refl, inl, inr, arith, length-append}
+use Rattle.std.proofs.Common.{◌≡◌, ◌⊎◌, ℕ, ◌+◌, ◌-◌, ◌/◌, ◌≤◌, List, [], ◌∷◌, ◌++◌, All, Option, None, Some, true, false, length, refl, inl, inr, arith, length-append}
 use Rattle.std.proofs.lemmas.Bool.{cases_Bool, eq-eqb, or_parts}
+use Rattle.std.proofs.lemmas.List.{length-replicate}
 use Rattle.std.proofs.lemmas.List.Elements.{All-append, All-cons, All-nil, All-weaker}
-use Rattle.std.specs.Prelude.{codes, if◌then◌else◌}
+use Rattle.std.specs.Prelude.{codes, if◌then◌else◌, replicate}
 use Rattle.std.specs.Str.{bytes_eq}
 use Rattle.snd_chunks.proofs.WrittenChunks.{MayPrecede, length-chunk_bytes, length-chunks_bytes}
 use Rattle.snd_chunks.specs.Written.{NewChunk, chunk_bytes, chunks_bytes, head_bytes, placed}
@@ -15,7 +16,7 @@ use Rattle.snd_layout.specs.declared.codec.Codec.{Codec}
 use Rattle.snd_layout.specs.declared.codec.Codec.TheVariants.{U8, S8, S16, S24, S32, MuLaw, ALaw, Ima, Ms}
 use Rattle.snd_wave.proofs.Relaying.{length-joined}
 use Rattle.snd_wave.specs.Layout.{is_own}
-use Rattle.snd_wave.specs.Written.{MadeInOneSector, MayBePiece, chunks_before, filler, has_fact, head_size, inner_size, junk, new_fact, new_format, start_without_filler}
+use Rattle.snd_wave.specs.Written.{MadeInOneSector, MayBePiece, MayReserve, ReservedInOneSector, filler, has_fact, head_size, inner_size, junk, lead_end, lead_of, new_fact, new_format, reserved_chunks, reserved_filler, reserved_first, reserved_size, reserved_start, start_without_filler}
 
 -- a format has 16 to 50 bytes
 extension_few : (codec : Codec) → length (extension codec) ≤ 34
@@ -54,21 +55,31 @@ fact_precedes codec frames = elim (cases_Bool (has_fact codec)) [
   | inr other ↦ rw other (All-nil (MayPrecede (codes "data")))
 ]
 
-filler_precedes : (p : Parameters) (pieces : List NewChunk) → All (MayPrecede (codes "data")) (filler p pieces)
-filler_precedes p pieces = elim (cases_Bool (is_in_one_sector (start_without_filler p pieces - inner_size p.codec) (inner_size p.codec))) [
+lead_precedes : (r : Option ℕ) (codec : Codec) → MayReserve r codec → All (MayPrecede (codes "data")) (lead_of r)
+lead_precedes None codec may = All-nil (MayPrecede (codes "data"))
+lead_precedes (Some len) codec may =
+    All-cons (MayPrecede (codes "data")) _ [] (record { four = refl; few = omega (arith, may.0, length-replicate {A = ℕ} len 0); other = refl }) (All-nil (MayPrecede (codes "data")))
+
+filler_precedes : (r : Option ℕ) (p : Parameters) (pieces : List NewChunk) → All (MayPrecede (codes "data")) (reserved_filler r p pieces)
+filler_precedes r p pieces = elim (cases_Bool (is_in_one_sector (reserved_start r p pieces - inner_size p.codec) (inner_size p.codec))) [
   | inl is ↦ rw is (All-nil (MayPrecede (codes "data")))
   | inr other ↦ rw other (All-cons (MayPrecede (codes "data")) junk [] (record { four = refl; few = omega arith; other = refl }) (All-nil (MayPrecede (codes "data"))))
 ]
 
-pub all_precede : (p : Parameters) (pieces : List NewChunk) (frames : ℕ) → All MayBePiece pieces → All (MayPrecede (codes "data")) (chunks_before p pieces frames)
-unfolding chunks_before
-all_precede p pieces frames are =
-    All-cons (MayPrecede (codes "data")) (new_format p) _ (format_precedes p)
+pub all_precede : (r : Option ℕ) (p : Parameters) (pieces : List NewChunk) (frames : ℕ) → MayReserve r p.codec → All MayBePiece pieces → All (MayPrecede (codes "data")) (reserved_chunks r p pieces frames)
+unfolding reserved_chunks
+all_precede r p pieces frames may are =
+    All-append (MayPrecede (codes "data")) (lead_of r) _ (lead_precedes r p.codec may)
+    (All-cons (MayPrecede (codes "data")) (new_format p) _ (format_precedes p)
     (All-append (MayPrecede (codes "data")) pieces _ (All-weaker MayBePiece (MayPrecede (codes "data")) piece_precedes pieces are)
-    (All-append (MayPrecede (codes "data")) (filler p pieces) (new_fact p.codec frames) (filler_precedes p pieces) (fact_precedes p.codec frames)))
+    (All-append (MayPrecede (codes "data")) (reserved_filler r p pieces) (new_fact p.codec frames) (filler_precedes r p pieces) (fact_precedes p.codec frames))))
 
-filler_few : (p : Parameters) (pieces : List NewChunk) → length (filler p pieces) ≤ 1
-filler_few p pieces = elim (cases_Bool (is_in_one_sector (start_without_filler p pieces - inner_size p.codec) (inner_size p.codec))) [
+lead_few : (r : Option ℕ) → length (lead_of r) ≤ 1
+lead_few None = omega arith
+lead_few (Some len) = omega arith
+
+filler_few : (r : Option ℕ) (p : Parameters) (pieces : List NewChunk) → length (reserved_filler r p pieces) ≤ 1
+filler_few r p pieces = elim (cases_Bool (is_in_one_sector (reserved_start r p pieces - inner_size p.codec) (inner_size p.codec))) [
   | inl is ↦ rw is (omega arith)
   | inr other ↦ rw other (omega arith)
 ]
@@ -79,10 +90,18 @@ fact_few codec frames = elim (cases_Bool (has_fact codec)) [
   | inr other ↦ rw other (omega arith)
 ]
 
-pub chunks_few : (p : Parameters) (pieces : List NewChunk) (frames : ℕ) → length (chunks_before p pieces frames) ≤ length pieces + 3
-unfolding chunks_before
-chunks_few p pieces frames =
-    omega (arith, length-append pieces (filler p pieces ++ new_fact p.codec frames), length-append (filler p pieces) (new_fact p.codec frames), filler_few p pieces, fact_few p.codec frames)
+pub chunks_few : (r : Option ℕ) (p : Parameters) (pieces : List NewChunk) (frames : ℕ) → length (reserved_chunks r p pieces frames) ≤ length pieces + 4
+unfolding reserved_chunks
+chunks_few r p pieces frames =
+    omega (
+      arith,
+      length-append (lead_of r) (new_format p ∷ (pieces ++ (reserved_filler r p pieces ++ new_fact p.codec frames))),
+      length-append pieces (reserved_filler r p pieces ++ new_fact p.codec frames),
+      length-append (reserved_filler r p pieces) (new_fact p.codec frames),
+      lead_few r,
+      filler_few r p pieces,
+      fact_few p.codec frames,
+    )
 
 -- the bytes of joined chunks are joined
 pub bytes-append : (xs ys : List NewChunk) → length (chunks_bytes Little (xs ++ ys)) ≡ length (chunks_bytes Little xs) + length (chunks_bytes Little ys)
@@ -100,31 +119,76 @@ fact_bytes codec frames = elim (cases_Bool (has_fact codec)) [
   | inr other ↦ rw other refl
 ]
 
-filler_bytes : (p : Parameters) (pieces : List NewChunk) → is_in_one_sector (start_without_filler p pieces - inner_size p.codec) (inner_size p.codec) ≡ false → length (chunks_bytes Little (filler p pieces)) ≡ 16
-unfolding chunks_bytes chunk_bytes head_bytes
-filler_bytes p pieces other = rw other refl
-
-no_filler_bytes : (p : Parameters) (pieces : List NewChunk) → is_in_one_sector (start_without_filler p pieces - inner_size p.codec) (inner_size p.codec) ≡ true → length (chunks_bytes Little (filler p pieces)) ≡ 0
+-- the format stands behind the reservation
+pub lead_bytes : (r : Option ℕ) → 12 + length (chunks_bytes Little (lead_of r)) ≡ lead_end r
 unfolding chunks_bytes
-no_filler_bytes p pieces is = rw is refl
+lead_bytes None = refl
+lead_bytes (Some len) =
+    omega (
+      arith,
+      length-chunks_bytes Little (record { id = codes "JUNK"; body = replicate len 0 }) [],
+      length-chunk_bytes Little (record { id = codes "JUNK"; body = replicate len 0 }) 12 refl,
+      length-replicate {A = ℕ} len 0,
+    )
 
-pub size_is : (p : Parameters) (pieces : List NewChunk) (frames : ℕ) → head_size p pieces ≡ 20 + length (chunks_bytes Little (chunks_before p pieces frames))
-unfolding head_size chunks_before
-size_is p pieces frames =
-    omega (arith, bytes-append (new_format p ∷ pieces) (filler p pieces ++ new_fact p.codec 0), bytes-append (filler p pieces) (new_fact p.codec 0), bytes-append (new_format p ∷ pieces) (filler p pieces ++ new_fact p.codec frames), bytes-append (filler p pieces) (new_fact p.codec frames), fact_bytes p.codec 0, fact_bytes p.codec frames)
+-- a reservation that is made has 36 bytes, with its head
+pub lead_most : (r : Option ℕ) (codec : Codec) → MayReserve r codec → lead_end r ≤ 48
+lead_most None codec may = omega arith
+lead_most (Some len) codec may = omega (arith, may.0)
 
+filler_bytes : (r : Option ℕ) (p : Parameters) (pieces : List NewChunk) → is_in_one_sector (reserved_start r p pieces - inner_size p.codec) (inner_size p.codec) ≡ false
+    → length (chunks_bytes Little (reserved_filler r p pieces)) ≡ 16
+unfolding chunks_bytes chunk_bytes head_bytes
+filler_bytes r p pieces other = rw other refl
+
+no_filler_bytes : (r : Option ℕ) (p : Parameters) (pieces : List NewChunk) → is_in_one_sector (reserved_start r p pieces - inner_size p.codec) (inner_size p.codec) ≡ true
+    → length (chunks_bytes Little (reserved_filler r p pieces)) ≡ 0
+unfolding chunks_bytes
+no_filler_bytes r p pieces is = rw is refl
+
+module _ (r : Option ℕ) (p : Parameters) (pieces : List NewChunk) where
+  -- the bytes of the chunks before the data, by their parts
+  chunks_size : (frames : ℕ) → length (chunks_bytes Little (reserved_chunks r p pieces frames))
+      ≡ length (chunks_bytes Little (lead_of r ++ new_format p ∷ pieces)) + length (chunks_bytes Little (reserved_filler r p pieces)) + length (chunks_bytes Little (new_fact p.codec frames))
+  unfolding reserved_chunks
+  chunks_size frames =
+      omega (
+        arith,
+        bytes-append (lead_of r) (new_format p ∷ (pieces ++ (reserved_filler r p pieces ++ new_fact p.codec frames))),
+        bytes-append (lead_of r) (new_format p ∷ pieces),
+        bytes-append (new_format p ∷ pieces) (reserved_filler r p pieces ++ new_fact p.codec frames),
+        bytes-append (reserved_filler r p pieces) (new_fact p.codec frames),
+      )
+
+  pub size_is : (frames : ℕ) → reserved_size r p pieces ≡ 20 + length (chunks_bytes Little (reserved_chunks r p pieces frames))
+  unfolding reserved_size
+  size_is frames = omega (arith, chunks_size 0, chunks_size frames, fact_bytes p.codec 0, fact_bytes p.codec frames)
+
+  pub reserved_with : reserved_size r p pieces ≡ reserved_start r p pieces + length (chunks_bytes Little (reserved_filler r p pieces))
+  unfolding reserved_size reserved_start
+  reserved_with = omega (arith, chunks_size 0)
+
+  -- where the data would begin without a filler
+  pub start_is : reserved_start r p pieces ≡ reserved_first r p + length (chunks_bytes Little pieces) + 8 + length (chunks_bytes Little (new_fact p.codec 0))
+  unfolding reserved_start
+  start_is =
+      omega (
+        arith,
+        lead_bytes r,
+        bytes-append (lead_of r) (new_format p ∷ pieces),
+        length-chunks_bytes Little (new_format p) pieces,
+        length-chunk_bytes Little (new_format p) (lead_end r) refl,
+      )
+
+  size_some : 44 ≤ reserved_start r p pieces
+  size_some = omega (arith, start_is, lead_bytes r, format_size p)
+
+  pub size_least : 44 ≤ reserved_size r p pieces
+  size_least = omega (arith, reserved_with, size_some)
+
+-- .. in a head without a reservation
 pub size_with : (p : Parameters) (pieces : List NewChunk) → head_size p pieces ≡ start_without_filler p pieces + length (chunks_bytes Little (filler p pieces))
-unfolding head_size chunks_before start_without_filler
-size_with p pieces =
-    omega (arith, bytes-append (new_format p ∷ pieces) (filler p pieces ++ new_fact p.codec 0), bytes-append (filler p pieces) (new_fact p.codec 0))
-
-size_some : (p : Parameters) (pieces : List NewChunk) → 44 ≤ start_without_filler p pieces
-unfolding start_without_filler
-size_some p pieces =
-    omega (arith, length-chunks_bytes Little (new_format p) pieces, length-chunk_bytes Little (new_format p) 0 refl, format_size p)
-
-pub size_least : (p : Parameters) (pieces : List NewChunk) → 44 ≤ head_size p pieces
-size_least p pieces = omega (arith, size_with p pieces, size_some p pieces)
+size_with p pieces = reserved_with None p pieces
 
 inner_few : (codec : Codec) → (inner_size codec ≡ 4) ⊎ (inner_size codec ≡ 12)
 inner_few codec = elim (cases_Bool (is_adpcm codec)) [
@@ -137,13 +201,16 @@ moved at size some few apart =
     let ends : (at / 512 ≡ (at + size - 1) / 512) → ⊥ = λ same. absurd (let h = eq-eqb (at / 512) ((at + size - 1) / 512) same in cc) in
     eq-eqb ((at + 16) / 512) ((at + 16 + size - 1) / 512) (omega (arith, ends))
 
-pub made_in_one_sector : MadeInOneSector
-made_in_one_sector p pieces may = elim (cases_Bool (is_in_one_sector (start_without_filler p pieces - inner_size p.codec) (inner_size p.codec))) [
+pub reserved_in_one_sector : ReservedInOneSector
+reserved_in_one_sector r p pieces = elim (cases_Bool (is_in_one_sector (reserved_start r p pieces - inner_size p.codec) (inner_size p.codec))) [
   | inl is ↦
-      let size : head_size p pieces ≡ start_without_filler p pieces = omega (arith, size_with p pieces, no_filler_bytes p pieces is) in
+      let size : reserved_size r p pieces ≡ reserved_start r p pieces = omega (arith, reserved_with r p pieces, no_filler_bytes r p pieces is) in
       rw size is
   | inr other ↦
       let few : (4 ≤ inner_size p.codec) × (inner_size p.codec ≤ 12) = elim (inner_few p.codec) [ inl four ↦ (omega arith, omega arith) | inr twelve ↦ (omega arith, omega arith) ] in
-      let size : head_size p pieces - inner_size p.codec ≡ start_without_filler p pieces - inner_size p.codec + 16 = omega (arith, size_with p pieces, filler_bytes p pieces other, size_some p pieces, few) in
-      rw size (moved (start_without_filler p pieces - inner_size p.codec) (inner_size p.codec) (omega (arith, few)) (omega (arith, few)) other)
+      let size : reserved_size r p pieces - inner_size p.codec ≡ reserved_start r p pieces - inner_size p.codec + 16 = omega (arith, reserved_with r p pieces, filler_bytes r p pieces other, size_some r p pieces, few) in
+      rw size (moved (reserved_start r p pieces - inner_size p.codec) (inner_size p.codec) (omega (arith, few)) (omega (arith, few)) other)
 ]
+
+pub made_in_one_sector : MadeInOneSector
+made_in_one_sector p pieces may = reserved_in_one_sector None p pieces

@@ -1,9 +1,9 @@
 -- The head of a WAVE file into which a piece is put.
-use Rattle.std.proofs.Common.{◌≡◌, ℕ, ◌+◌, ◌-◌, ◌%◌, ◌<◌, ◌≤◌, List, [], ◌∷◌, ◌++◌, Bool, None, cond, true, false, length, refl, sym, ap, ◌∙◌, arith, length-append, append_assoc}
+use Rattle.std.proofs.Common.{◌≡◌, ℕ, ◌+◌, ◌-◌, ◌%◌, ◌<◌, ◌≤◌, List, [], ◌∷◌, ◌++◌, Bool, Option, None, Some, cond, true, false, length, refl, sym, ap, ◌∙◌, arith, length-append, append_assoc}
 use Rattle.std.proofs.lemmas.List.{append-nil}
 use Rattle.std.proofs.lemmas.List.Elements.{All-weaker}
-use Rattle.std.specs.Prelude.{codes, if◌then◌else◌, replicate}
-use Rattle.snd_chunks.proofs.WrittenChunks.{length-chunk_bytes, length-chunks_bytes}
+use Rattle.std.specs.Prelude.{IfSome, codes, if◌then◌else◌, replicate}
+use Rattle.snd_chunks.proofs.WrittenChunks.{length-chunk_bytes}
 use Rattle.snd_chunks.specs.Written.{NewChunk, chunk_bytes, chunks_bytes, head_bytes, pad}
 use Rattle.snd_fields.specs.Field.{bytes_of}
 use Rattle.snd_fields.specs.declared.field.Order.{Order}
@@ -11,19 +11,19 @@ use Rattle.snd_fields.specs.declared.field.Order.TheVariants.{Little}
 use Rattle.snd_layout.specs.Fit.{fit_refusal}
 use Rattle.snd_layout.specs.Params.{AreParams, Parameters, data_bytes}
 use Rattle.snd_layout.specs.Sector.{is_in_one_sector}
-use Rattle.snd_layout.specs.Shape.{Shape}
+use Rattle.snd_layout.specs.Shape.{IsReserve, Shape}
 use Rattle.snd_layout.specs.declared.codec.Codec.{Codec}
 use Rattle.snd_layout.specs.declared.codec.Codec.TheVariants.{U8, S8, S16, S24, S32, MuLaw, ALaw, Ima, Ms}
 use Rattle.snd_layout.specs.declared.kind.Kind.TheVariants.{Wave}
 use Rattle.snd_layout.specs.declared.piece.Piece.{Piece}
 use Rattle.snd_chunks.specs.Heads.{IsLayoutIn, with_piece}
-use Rattle.snd_wave.specs.Put.{closing_at, closing_behind, filler_at, filler_for, first_place, head_shape, wave_heads}
+use Rattle.snd_wave.specs.Put.{closing_at, closing_behind, filler_at, filler_for, first_place, head_shape, reserved_heads, wave_heads}
 use Rattle.snd_wave.specs.Relaid.{AreStanding, IsSmall, standing}
 use Rattle.snd_wave.specs.Values.{riff_size}
-use Rattle.snd_wave.specs.Written.{MayBeMade, MayBePiece, chunks_before, filler, has_fact, head_for, head_size, junk, made_pieces, made_shape, new_fact, new_format, plain_start, riff_head, start_without_filler, wave_head}
+use Rattle.snd_wave.specs.Written.{MayBeMade, MayBePiece, MayBeReserved, MayReserve, has_fact, junk, lead_end, lead_of, new_fact, new_format, plain_start, reserved_chunks, reserved_filler, reserved_first, reserved_head, reserved_pieces, reserved_shape, reserved_size, reserved_start, riff_head}
 use Rattle.snd_wave.specs.declared.rest.Closing.{Closing}
-use Rattle.snd_wave.proofs.Made.{length-head_for, no_bytes_yet}
-use Rattle.snd_wave.proofs.NewHeads.{fact_bytes, format_few, format_size}
+use Rattle.snd_wave.proofs.Made.{length-reserved_head, no_bytes_yet}
+use Rattle.snd_wave.proofs.NewHeads.{fact_bytes, format_few, format_size, lead_bytes, lead_most, start_is}
 use Rattle.snd_wave.proofs.Planning.{new_are, new_few}
 use Rattle.snd_wave.proofs.Relaying.{chunks-joined}
 use Rattle.snd_wave.proofs.Splits.{Closes, IsSplit}
@@ -76,6 +76,13 @@ first_by c r (Ms align per_block) = refl
 pub first_is : (p : Parameters) → plain_start p.codec - 8 - length (chunks_bytes Little (new_fact p.codec 0)) ≡ first_place p
 first_is p = first_by p.channels p.rate p.codec
 
+-- .. and behind the reservation
+pub first_with : (r : Option ℕ) (p : Parameters) (start fact lead : ℕ) → start ≡ plain_start p.codec → fact ≡ length (chunks_bytes Little (new_fact p.codec 0)) → lead + 12 ≡ lead_end r → start - 8 - fact + lead ≡ reserved_first r p
+first_with r p start fact lead at counted behind = omega (arith, first_is p, at, counted, behind)
+
+pub first_least : (r : Option ℕ) (p : Parameters) → 36 ≤ reserved_first r p
+first_least r p = omega (arith, format_size p, lead_bytes r)
+
 -- the count of no frames has 12 bytes, where there is one
 pub fact_there : (codec : Codec) (has : Bool) → has ≡ has_fact codec → has ≡ true → 12 ≡ length (chunks_bytes Little (new_fact codec 0))
 fact_there codec has is there = sym (fact_bytes codec 0 ∙ ap (λ (t : Bool). cond t 12 0) (sym is ∙ there))
@@ -97,63 +104,74 @@ wave_mark = codes "RIFF"
 abbrev pub wave_size : ℕ → List ℕ
 wave_size n = bytes_of Little 4 (riff_size n 0)
 
-abbrev pub wave_form : Parameters → List ℕ
-wave_form p = codes "WAVE" ++ chunks_bytes Little (new_format p ∷ [])
+abbrev pub wave_form : Option ℕ → Parameters → List ℕ
+wave_form r p = codes "WAVE" ++ chunks_bytes Little (lead_of r ++ new_format p ∷ [])
 
-regrouped : (r s w c y f n d : List ℕ) → (r ++ s ++ w) ++ (c ++ (y ++ (f ++ n))) ++ d ≡ (r ++ s ++ (w ++ (c ++ []))) ++ (y ++ (f ++ n ++ d))
-regrouped r s w c y f n d = simp (append_assoc, append-nil)
+regrouped : (s w l c y f n d : List ℕ) → (s ++ w) ++ (l ++ (c ++ (y ++ (f ++ n)))) ++ d ≡ (s ++ (w ++ (l ++ (c ++ [])))) ++ (y ++ (f ++ n ++ d))
+regrouped s w l c y f n d = simp (append_assoc, append-nil)
 
--- where the data would begin without a filler
-start_is : (p : Parameters) (pieces : List NewChunk) → start_without_filler p pieces ≡ first_place p + length (chunks_bytes Little pieces) + 8 + length (chunks_bytes Little (new_fact p.codec 0))
-unfolding start_without_filler
-start_is p pieces = omega (arith, length-chunks_bytes Little (new_format p) pieces, length-chunk_bytes Little (new_format p) 12 refl)
-
-module _ (p : Parameters) (good : AreParams p) (fits : fit_refusal Wave p ≡ None) where
+module _ (r : Option ℕ) (p : Parameters) (good : AreParams p) (fits : fit_refusal Wave p ≡ None) where
   none : data_bytes p 0 ≡ 0
   none = no_bytes_yet p good fits
 
-  chunks_are : (pieces f c : List NewChunk) → chunks_bytes Little (pieces ++ (f ++ c)) ≡ chunks_bytes Little pieces ++ (chunks_bytes Little f ++ chunks_bytes Little c)
-  chunks_are pieces f c = chunks-joined Little pieces (f ++ c) ∙ ap (λ (l : List ℕ). chunks_bytes Little pieces ++ l) (chunks-joined Little f c)
-
-  split_by : (pieces : List NewChunk) → wave_head p pieces ≡ (wave_mark ++ wave_size (head_size p pieces) ++ wave_form p) ++ (chunks_bytes Little pieces ++ closing_at p.codec (start_without_filler p pieces))
-  unfolding head_for riff_head chunks_before closing_at chunks_bytes
-  split_by pieces =
-      ap (λ (n : ℕ). riff_head (riff_size (head_size p pieces) n) ++ chunks_bytes Little (new_format p ∷ (pieces ++ (filler p pieces ++ new_fact p.codec 0))) ++ head_bytes Little (codes "data") n) none
-      ∙ ap (λ (l : List ℕ). riff_head (riff_size (head_size p pieces) 0) ++ (chunk_bytes Little (new_format p) ++ l) ++ head_bytes Little (codes "data") 0) (chunks_are pieces (filler p pieces) (new_fact p.codec 0))
-      ∙ regrouped wave_mark (wave_size (head_size p pieces)) (codes "WAVE") (chunk_bytes Little (new_format p)) (chunks_bytes Little pieces) (chunks_bytes Little (filler p pieces)) (chunks_bytes Little (new_fact p.codec 0)) (head_bytes Little (codes "data") 0)
-
-  split : (pieces : List NewChunk) → wave_head p pieces ≡ (wave_mark ++ wave_size (length (wave_head p pieces)) ++ wave_form p) ++ (chunks_bytes Little pieces ++ closing_behind p.codec (first_place p + length (chunks_bytes Little pieces)))
-  split pieces =
-      split_by pieces ∙ ap (λ (n : ℕ). (wave_mark ++ wave_size n ++ wave_form p) ++ (chunks_bytes Little pieces ++ closing_at p.codec (start_without_filler p pieces))) (sym (length-head_for p pieces 0))
-      ∙ ap (λ (n : ℕ). (wave_mark ++ wave_size (length (wave_head p pieces)) ++ wave_form p) ++ (chunks_bytes Little pieces ++ closing_at p.codec n)) (start_is p pieces)
-
-  begins : (n : ℕ) → length (wave_mark ++ wave_size n ++ wave_form p) ≡ first_place p
+  form_is : wave_form r p ≡ codes "WAVE" ++ (chunks_bytes Little (lead_of r) ++ (chunk_bytes Little (new_format p) ++ []))
   unfolding chunks_bytes
+  form_is = ap (λ (l : List ℕ). codes "WAVE" ++ l) (chunks-joined Little (lead_of r) (new_format p ∷ []))
+
+  chunks_are : (pieces f c : List NewChunk) → chunks_bytes Little (lead_of r ++ new_format p ∷ (pieces ++ (f ++ c)))
+      ≡ chunks_bytes Little (lead_of r) ++ (chunk_bytes Little (new_format p) ++ (chunks_bytes Little pieces ++ (chunks_bytes Little f ++ chunks_bytes Little c)))
+  unfolding chunks_bytes
+  chunks_are pieces f c =
+      chunks-joined Little (lead_of r) (new_format p ∷ (pieces ++ (f ++ c)))
+      ∙ ap (λ (l : List ℕ). chunks_bytes Little (lead_of r) ++ (chunk_bytes Little (new_format p) ++ l)) (chunks-joined Little pieces (f ++ c))
+      ∙ ap (λ (l : List ℕ). chunks_bytes Little (lead_of r) ++ (chunk_bytes Little (new_format p) ++ (chunks_bytes Little pieces ++ l))) (chunks-joined Little f c)
+
+  split_by : (pieces : List NewChunk) → reserved_head r p pieces 0
+      ≡ (wave_mark ++ wave_size (reserved_size r p pieces) ++ wave_form r p) ++ (chunks_bytes Little pieces ++ closing_at p.codec (reserved_start r p pieces))
+  unfolding reserved_head riff_head reserved_chunks closing_at
+  split_by pieces =
+      ap (λ (n : ℕ). riff_head (riff_size (reserved_size r p pieces) n) ++ chunks_bytes Little (lead_of r ++ new_format p ∷ (pieces ++ (reserved_filler r p pieces ++ new_fact p.codec 0))) ++ head_bytes Little (codes "data") n) none
+      ∙ ap (λ (l : List ℕ). riff_head (riff_size (reserved_size r p pieces) 0) ++ l ++ head_bytes Little (codes "data") 0) (chunks_are pieces (reserved_filler r p pieces) (new_fact p.codec 0))
+      ∙ regrouped (wave_mark ++ wave_size (reserved_size r p pieces)) (codes "WAVE") (chunks_bytes Little (lead_of r)) (chunk_bytes Little (new_format p)) (chunks_bytes Little pieces) (chunks_bytes Little (reserved_filler r p pieces)) (chunks_bytes Little (new_fact p.codec 0)) (head_bytes Little (codes "data") 0)
+      ∙ ap (λ (l : List ℕ). (wave_mark ++ wave_size (reserved_size r p pieces) ++ l) ++ (chunks_bytes Little pieces ++ closing_at p.codec (reserved_start r p pieces))) (sym form_is)
+
+  split : (pieces : List NewChunk) → reserved_head r p pieces 0
+      ≡ (wave_mark ++ wave_size (length (reserved_head r p pieces 0)) ++ wave_form r p) ++ (chunks_bytes Little pieces ++ closing_behind p.codec (reserved_first r p + length (chunks_bytes Little pieces)))
+  split pieces =
+      split_by pieces ∙ ap (λ (n : ℕ). (wave_mark ++ wave_size n ++ wave_form r p) ++ (chunks_bytes Little pieces ++ closing_at p.codec (reserved_start r p pieces))) (sym (length-reserved_head r p pieces 0))
+      ∙ ap (λ (n : ℕ). (wave_mark ++ wave_size (length (reserved_head r p pieces 0)) ++ wave_form r p) ++ (chunks_bytes Little pieces ++ closing_at p.codec n)) (start_is r p pieces)
+
+  begins : (n : ℕ) → length (wave_mark ++ wave_size n ++ wave_form r p) ≡ reserved_first r p
   begins n =
       omega (
         arith,
-        length-append wave_mark (wave_size n ++ wave_form p),
-        length-append (wave_size n) (wave_form p),
-        length-append (codes "WAVE") (chunks_bytes Little (new_format p ∷ [])),
+        length-append wave_mark (wave_size n ++ wave_form r p),
+        length-append (wave_size n) (wave_form r p),
+        ap length form_is,
+        length-append (codes "WAVE") (chunks_bytes Little (lead_of r) ++ (chunk_bytes Little (new_format p) ++ [])),
+        length-append (chunks_bytes Little (lead_of r)) (chunk_bytes Little (new_format p) ++ []),
         length-append (chunk_bytes Little (new_format p)) [],
-        length-chunk_bytes Little (new_format p) 12 refl,
+        length-chunk_bytes Little (new_format p) (lead_end r) refl,
+        lead_bytes r,
       )
 
-  pub wave_split : IsSplit wave_heads p Little (first_place p) wave_mark (wave_form p) wave_size (closing_behind p.codec)
+  pub wave_split : IsSplit (reserved_heads r) p Little (reserved_first r p) wave_mark (wave_form r p) wave_size (closing_behind p.codec)
   wave_split = record { split = split; first_is = begins; wide = λ m n. refl }
 
   -- the new layout
-  pub new_shape : (start : ℕ) (pieces : List NewChunk) (anew : List Piece) → start ≡ length (wave_head p pieces) → anew ≡ standing (first_place p) pieces → head_shape p start anew ≡ made_shape p pieces 0
-  unfolding made_shape made_pieces standing
+  pub new_shape : (start : ℕ) (pieces : List NewChunk) (anew : List Piece) → start ≡ length (reserved_head r p pieces 0) → anew ≡ standing (reserved_first r p) pieces → head_shape r p start anew ≡ reserved_shape r p pieces 0
+  unfolding reserved_shape reserved_pieces standing
   new_shape start pieces anew starts stand =
-      ap (λ (k : ℕ). head_shape p k anew) (starts ∙ length-head_for p pieces 0) ∙ ap (λ (l : List Piece). head_shape p (head_size p pieces) l) stand
-      ∙ ap (λ (n : ℕ). record (head_shape p (head_size p pieces) (made_pieces p pieces)) { declared = n }) (sym none)
+      ap (λ (k : ℕ). head_shape r p k anew) (starts ∙ length-reserved_head r p pieces 0) ∙ ap (λ (l : List Piece). head_shape r p (reserved_size r p pieces) l) stand
+      ∙ ap (λ (n : ℕ). record (head_shape r p (reserved_size r p pieces) (reserved_pieces r p pieces)) { declared = n }) (sym none)
 
-pub first_least : (p : Parameters) → 36 ≤ first_place p
-first_least p = omega (arith, format_size p)
+pub first_most : (r : Option ℕ) (p : Parameters) → MayReserve r p.codec → reserved_first r p ≤ 126
+first_most r p may = omega (arith, lead_most r p.codec may, format_few p)
 
-pub first_most : (p : Parameters) → first_place p ≤ 90
-first_most p = omega (arith, format_few p)
+-- what is reserved in the head of a file stands before its data
+pub reserve_stands : (r : Option ℕ) (p : Parameters) (start : ℕ) → MayReserve r p.codec → reserved_first r p + 8 ≤ start → IfSome r (IsReserve Wave p.codec start)
+reserve_stands None p start may behind = tt
+reserve_stands (Some len) p start may behind = record { is_wave = refl; fixed = may.1; least = omega (arith, may.0); few = omega (arith, may.0); before = omega (arith, behind) }
 
 -- how it is closed
 pub closes : (p q : Parameters) (end : ℕ) (close : Closing) → q ≡ p → end + 4096 ≤ 16777216 → close.order ≡ Little → close.bytes.items ≡ closing_behind q.codec end → length close.bytes.items ≤ 38 → close.size_at ≡ 4 → close.size.items ≡ bytes_of Little 4 (end + length close.bytes.items - 8)
@@ -170,17 +188,17 @@ piece_small piece is = record { four = is.four; few = is.few }
 pub small : (piece : NewChunk) → MayBePiece piece → IsSmall piece
 small piece is = piece_small piece is
 
-module _ (h : Shape) (p : Parameters) (pieces : List NewChunk) (is : IsLayoutIn wave_heads h p pieces) where
-  pub made_params : h.params ≡ p
-  unfolding made_shape
-  made_params = ap (λ (s : Shape). s.params) is.shape
+module _ (r : Option ℕ) (h : Shape) (p : Parameters) (pieces : List NewChunk) (is : IsLayoutIn (reserved_heads r) h p pieces) where
+  pub reserved_params : h.params ≡ p
+  unfolding reserved_shape
+  reserved_params = ap (λ (s : Shape). s.params) is.shape
 
-  pub stands : AreStanding (first_place p) h.pieces pieces
-  unfolding made_shape made_pieces standing
-  stands = record { small = All-weaker MayBePiece IsSmall piece_small pieces is.may.pieces_are; few = is.may.few; stand = ap (λ (s : Shape). s.pieces) is.shape }
+  pub reserved_stand : AreStanding (reserved_first r p) h.pieces pieces
+  unfolding reserved_shape reserved_pieces standing
+  reserved_stand = record { small = All-weaker MayBePiece IsSmall piece_small pieces is.may.pieces_are; few = is.may.few; stand = ap (λ (s : Shape). s.pieces) is.shape }
 
-  pub new_may : (place : ℕ) (piece : NewChunk) → MayBePiece piece → place ≤ length pieces → place < 240 → MayBeMade p (with_piece pieces place piece) 0
-  new_may place piece may within few =
+  pub reserved_may : (place : ℕ) (piece : NewChunk) → MayBePiece piece → place ≤ length pieces → place < 240 → MayBeReserved r p (with_piece pieces place piece) 0
+  reserved_may place piece may within few =
       let none : data_bytes p 0 ≡ 0 = no_bytes_yet p is.may.params is.may.fits in
       record {
         params = is.may.params;
@@ -189,4 +207,16 @@ module _ (h : Shape) (p : Parameters) (pieces : List NewChunk) (is : IsLayoutIn 
         few = new_few pieces place piece within few is.may.few;
         in_room = omega (arith, none);
         counted = λ adpcm. omega arith;
+        reserved = is.may.reserved;
       }
+
+-- .. of a head without a reservation
+module _ (h : Shape) (p : Parameters) (pieces : List NewChunk) (is : IsLayoutIn wave_heads h p pieces) where
+  pub made_params : h.params ≡ p
+  made_params = reserved_params None h p pieces is
+
+  pub stands : AreStanding (first_place p) h.pieces pieces
+  stands = reserved_stand None h p pieces is
+
+  pub new_may : (place : ℕ) (piece : NewChunk) → MayBePiece piece → place ≤ length pieces → place < 240 → MayBeMade p (with_piece pieces place piece) 0
+  new_may place piece may within few = reserved_may None h p pieces is place piece may within few

@@ -1,10 +1,10 @@
 -- What a layout owes, from plain facts.
-use Rattle.std.proofs.Common.{◌≡◌, ℕ, ◌+◌, ◌*◌, ◌-◌, ◌/◌, ◌<◌, ◌≤◌, ◌^◌, Bool, true, false, not, ◌&&◌, List, ◌++◌, All, Option, None, Some, refl, ◌∙◌, inl, inr, arith}
-use Rattle.std.proofs.lemmas.Bool.{and_parts, cases_Bool, eqb-true, leb-true}
-use Rattle.std.proofs.lemmas.List.Elements.{All-append, All-filter, All-map, All-weaker}
+use Rattle.std.proofs.Common.{◌≡◌, ℕ, ◌+◌, ◌*◌, ◌-◌, ◌/◌, ◌<◌, ◌≤◌, ◌^◌, Bool, true, false, not, ◌&&◌, List, [], ◌∷◌, ◌++◌, All, Option, None, Some, refl, ◌∙◌, inl, inr, arith}
+use Rattle.std.proofs.lemmas.Bool.{and_parts, cases_Bool, eqb-true, leb-true, not-true}
+use Rattle.std.proofs.lemmas.List.Elements.{All-append, All-filter, All-head, All-map, All-weaker}
 use Rattle.std.proofs.lemmas.Nat.{div-add-mod', div_below, mul-le}
 use Rattle.std.specs.List.{filter}
-use Rattle.std.specs.Prelude.{◌==◌, IfSome, IsTrue, nat_le}
+use Rattle.std.specs.Prelude.{◌==◌, IfSome, IsTrue, codes, nat_le}
 use Rattle.snd_chunks.specs.declared.chunk.Chunk.{Chunk}
 use Rattle.snd_chunks.specs.Walks.{EndsBy, IsSound}
 use Rattle.snd_layout.specs.declared.codec.Codec.{Codec}
@@ -14,11 +14,11 @@ use Rattle.snd_layout.specs.Blocks.{block_align, block_frames, is_adpcm, is_ima_
 use Rattle.snd_layout.specs.Fit.{fit_refusal}
 use Rattle.snd_layout.specs.Params.{AreParams, Parameters, block_refusal, data_bytes}
 use Rattle.snd_layout.specs.Opened.{EndsIn}
-use Rattle.snd_layout.specs.Shape.{IsPlaced, KeepsRule, Shape, is_inner_size, is_side_size}
+use Rattle.snd_layout.specs.Shape.{IsPlaced, IsReserve, KeepsRule, Shape, is_inner_size, is_side_size}
 use Rattle.snd_layout.specs.declared.field.Field.{Field}
 use Rattle.snd_layout.specs.declared.piece.Piece.{Piece}
-use Rattle.snd_wave.specs.Layout.{fact_place, frame_count, inner_field, is_joined, is_own, piece_of, pieces_of, side_field, whole_frames}
-use Rattle.snd_wave.specs.Parts.{IsFact}
+use Rattle.snd_wave.specs.Layout.{fact_place, frame_count, has_id, inner_field, is_joined, is_own, is_reserve, piece_of, pieces_of, reserve_of, side_field, whole_frames}
+use Rattle.snd_wave.specs.Parts.{IsBefore, IsFact}
 use Rattle.snd_layout.proofs.Frames.{blocks_have_frames, good_size}
 
 align_of : (channels rate : ℕ) (codec : Codec) → 1 ≤ channels → fit_refusal Wave (record { channels = channels; rate = rate; codec = codec }) ≡ None → block_refusal channels codec ≡ None → 1 ≤ block_align channels codec
@@ -109,11 +109,30 @@ side_rule p (Some fact) sound side is placed = elim (cases_Bool (is_adpcm p.code
       rw side_is (rw other refl, omega (arith, placed.count, placed.before))
 ]
 
+-- a reservation among chunks before the data stands before all others
+pub reserve_is : (p : Parameters) (sound : Chunk) (chunks : List Chunk) → All (IsBefore sound) chunks → IfSome (reserve_of p chunks) (IsReserve Wave p.codec sound.at)
+reserve_is p sound [] before = tt
+reserve_is p sound (chunk ∷ chunks) before = elim (cases_Bool (is_reserve p chunk)) [
+  | inl is ↦
+      let long = and_parts (not (is_adpcm p.codec) && (chunk.at == 20) && has_id (codes "JUNK") chunk) (nat_le 28 chunk.len) is in
+      let named = and_parts (not (is_adpcm p.codec) && (chunk.at == 20)) (has_id (codes "JUNK") chunk) long.0 in
+      let first = and_parts (not (is_adpcm p.codec)) (chunk.at == 20) named.0 in
+      let stands : IsBefore sound chunk = All-head (IsBefore sound) chunk chunks before in
+      rw is (record {
+        is_wave = refl;
+        fixed = not-true (is_adpcm p.codec) first.0;
+        least = leb-true 28 chunk.len long.1;
+        few = stands.short;
+        before = omega (arith, stands.ends, eqb-true chunk.at 20 first.1);
+      })
+  | inr other ↦ rw other tt
+]
+
 -- the layout that is made of parts which lie well keeps the rule of all layouts
 pub keeps_rule : (s : Shape) (fact : Option Chunk) (sound : Chunk) (held : ℕ) (count : Option ℕ) → s.kind ≡ Wave → s.outer ≡ Some (record { at = 4; size = 4 })
     → s.start ≡ sound.at → s.declared ≡ sound.len → s.frames ≡ frame_count s.params held count → s.inner ≡ inner_field s.params fact sound → s.side ≡ side_field s.params fact
-    → AreParams s.params → fit_refusal Wave s.params ≡ None → IfSome fact (IsFact sound) → IsSound (2 ^ 63) 12 257 sound → held ≤ sound.len → All IsPlaced s.pieces → KeepsRule s
-keeps_rule s fact sound held count kind outer start declared frames inner side good fits placed is few pieces =
+    → AreParams s.params → fit_refusal Wave s.params ≡ None → IfSome fact (IsFact sound) → IsSound (2 ^ 63) 12 257 sound → held ≤ sound.len → IfSome s.reserve (IsReserve Wave s.params.codec s.start) → All IsPlaced s.pieces → KeepsRule s
+keeps_rule s fact sound held count kind outer start declared frames inner side good fits placed is few reserve pieces =
     let inner_is = inner_rule s.params fact sound s.inner inner placed (omega (arith, is.behind)) in
     let side_is = side_rule s.params fact sound s.side side placed in
     let bytes : data_bytes s.params s.frames ≤ held = rw frames (counted_bytes s.params held count good fits) in
@@ -130,4 +149,5 @@ keeps_rule s fact sound held count kind outer start declared frames inner side g
       data_end = omega (arith, start, bytes, few, is.near, is.len);
       in_room = λ known. omega (arith, bytes, few, declared);
       declared_fits = omega (arith, declared, is.len);
+      reserved = rw kind reserve;
     }

@@ -106,6 +106,15 @@ piece_of after chunk = record { id = chunk.id; at = chunk.at; len = chunk.len; a
 abbrev pub pieces_of : Bool → List Chunk → List Piece
 pieces_of after chunks = map (piece_of after) (filter (λ chunk. not (is_own chunk)) chunks)
 
+-- The reservation: the chunk `JUNK` at place 12, which is kept free for 64-bit sizes (EBU Tech 3306), where the samples have a
+-- fixed size and it has room for them.
+abbrev pub is_reserve : Parameters → Chunk → Bool
+is_reserve p chunk = not (is_adpcm p.codec) && (chunk.at == 20) && has_id (codes "JUNK") chunk && nat_le 28 chunk.len
+
+abbrev pub reserve_of : Parameters → List Chunk → Option ℕ
+reserve_of p [] = None
+reserve_of p (chunk ∷ chunks) = if is_reserve p chunk then Some chunk.len else None
+
 -- The ends: the RIFF size and 8, or the file's end where that comes first; and the end of the data with its pad
 abbrev pub outer_end : List ℕ → ℕ
 outer_end b = min (length b) (number Little b 4 4 + 8)
@@ -129,7 +138,7 @@ wave_shape b f p sound = record {
   side = side_field p (fact_chunk f.chunks);
   trailing = nat_lt (data_end b sound) (outer_end b);
   unknown_length = false;
-  reserve = None;
+  reserve = reserve_of p f.chunks;
   pieces = pieces_of false f.chunks ++ pieces_of true (wave_tail b f sound);
 }
 

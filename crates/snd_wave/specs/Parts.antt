@@ -16,7 +16,7 @@ use Rattle.snd_layout.specs.declared.piece.Piece.{Piece}
 use Rattle.snd_layout.specs.declared.refusal.OpenRefusal.{OpenRefusal}
 use Rattle.snd_wave.specs.declared.ends.Ends.{Ends}
 use Rattle.snd_wave.specs.declared.parts.Parts.{Parts}
-use Rattle.snd_wave.specs.Layout.{body_of, fact_chunk, fact_count, pieces_of, format_chunk, frame_count, front_refusal, held, inner_field, side_field}
+use Rattle.snd_wave.specs.Layout.{body_of, fact_chunk, fact_count, pieces_of, format_chunk, frame_count, front_refusal, held, inner_field, reserve_of, side_field}
 
 -- the chunks that a walk up to the data found, where it is not refused
 pub record AreParts (front : Front) (parts : Parts) : Type 0 where
@@ -30,6 +30,11 @@ pub record AreParts (front : Front) (parts : Parts) : Type 0 where
 pub record IsFact (sound fact : Chunk) : Type 0 where
   pub count : 4 ≤ fact.len
   pub before : fact.at + fact.len + 8 ≤ sound.at
+
+-- a chunk that ends before the head of the data, and whose size has four bytes
+pub record IsBefore (sound chunk : Chunk) : Type 0 where
+  pub ends : chunk.at + chunk.len + 8 ≤ sound.at
+  pub short : chunk.len < 2 ^ 32
 
 -- where the parts lie in a file of so many bytes
 pub record ArePlaced (size : ℕ) (parts : Parts) : Type 0 where
@@ -46,9 +51,9 @@ ends_of size riff sound = record { held = held size sound; data_end = padded_end
 abbrev pub all_pieces : List ℕ → Front → Ends → List Piece
 all_pieces b front ends = pieces_of false front.chunks ++ pieces_of true (tail (chunk_at Little b) ends.outer_end (256 - length front.chunks) ends.data_end)
 
--- the shape that the parts, the count of the `fact`, the ends and the pieces give
-abbrev pub shape_of : Parameters → Parts → Option ℕ → Ends → List Piece → Shape
-shape_of p parts count ends pieces = record {
+-- the shape that the parts, the count of the `fact`, the ends, the reservation and the pieces give
+abbrev pub shape_of : Parameters → Parts → Option ℕ → Ends → Option ℕ → List Piece → Shape
+shape_of p parts count ends reserve pieces = record {
   kind = Wave;
   params = p;
   start = parts.sound.at;
@@ -59,14 +64,14 @@ shape_of p parts count ends pieces = record {
   side = side_field p parts.fact;
   trailing = nat_lt ends.data_end ends.outer_end;
   unknown_length = false;
-  reserve = None;
+  reserve = reserve;
   pieces = pieces;
 }
 
 -- the layout with these parts, where the format is not refused
 abbrev pub with_params : List ℕ → Front → Parts → Result Parameters OpenRefusal → Result Shape OpenRefusal
 with_params b front parts (Err refusal) = Err refusal
-with_params b front parts (Ok p) = Ok (shape_of p parts (option_map (fact_count b) parts.fact) (ends_of (length b) (number Little b 4 4) parts.sound) (all_pieces b front (ends_of (length b) (number Little b 4 4) parts.sound)))
+with_params b front parts (Ok p) = Ok (shape_of p parts (option_map (fact_count b) parts.fact) (ends_of (length b) (number Little b 4 4) parts.sound) (reserve_of p front.chunks) (all_pieces b front (ends_of (length b) (number Little b 4 4) parts.sound)))
 
 -- the layout with these parts, or why their format is refused
 abbrev pub layout_with : List ℕ → Front → Parts → Result Shape OpenRefusal

@@ -1,21 +1,23 @@
 -- Pieces that are put into a WAVE file that is made, before its first frame.
-use Rattle.std.specs.Prelude.{ℕ, ◌+◌, ◌-◌, false, List, [], ◌∷◌, ◌++◌, None, Some, codes, length, if◌then◌else◌}
+use Rattle.std.specs.Prelude.{ℕ, ◌+◌, ◌-◌, false, List, [], ◌∷◌, ◌++◌, Option, None, Some, codes, length, if◌then◌else◌}
 use Rattle.snd_disk.specs.State.{State}
-use Rattle.snd_chunks.specs.Chunks.{padded_end}
 use Rattle.snd_chunks.specs.Written.{NewChunk, chunks_bytes, head_bytes}
 use Rattle.snd_fields.specs.declared.field.Order.TheVariants.{Little}
 use Rattle.snd_layout.specs.Params.{Parameters}
 use Rattle.snd_layout.specs.Sector.{is_in_one_sector}
 use Rattle.snd_layout.specs.Shape.{Shape}
-use Rattle.snd_layout.specs.Written.{written_format}
 use Rattle.snd_layout.specs.declared.codec.Codec.{Codec}
 use Rattle.snd_layout.specs.declared.kind.Kind.TheVariants.{Wave}
 use Rattle.snd_layout.specs.declared.piece.Piece.{Piece}
 use Rattle.snd_chunks.specs.Heads.{Heads, IsHeadIn}
-use Rattle.snd_wave.specs.Written.{MayBeMade, inner_at, inner_size, junk, made_shape, new_fact, side_at, wave_head}
+use Rattle.snd_wave.specs.Written.{MayBeReserved, inner_at, inner_size, junk, new_fact, reserved_first, reserved_head, reserved_shape, side_at}
+
+-- the heads with a reservation, or with none
+abbrev pub reserved_heads : Option ℕ → Heads
+reserved_heads r = record { may = λ p pieces. MayBeReserved r p pieces 0; shape = λ p pieces. reserved_shape r p pieces 0; head = λ p pieces. reserved_head r p pieces 0 }
 
 abbrev pub wave_heads : Heads
-wave_heads = record { may = λ p pieces. MayBeMade p pieces 0; shape = λ p pieces. made_shape p pieces 0; head = wave_head }
+wave_heads = reserved_heads None
 
 abbrev pub IsHeadOf : State → Shape → Parameters → List NewChunk → Type 0
 IsHeadOf disk h p pieces = IsHeadIn wave_heads disk h p pieces
@@ -38,11 +40,11 @@ closing_behind codec end = closing_at codec (end + 8 + length (chunks_bytes Litt
 
 -- the place behind the format
 abbrev pub first_place : Parameters → ℕ
-first_place p = padded_end 20 (length (written_format p))
+first_place p = reserved_first None p
 
 -- what a head says without frames, whose data begin at a place
-abbrev pub head_shape : Parameters → ℕ → List Piece → Shape
-head_shape p start pieces = record {
+abbrev pub head_shape : Option ℕ → Parameters → ℕ → List Piece → Shape
+head_shape r p start pieces = record {
   kind = Wave;
   params = p;
   start = start;
@@ -53,6 +55,6 @@ head_shape p start pieces = record {
   side = side_at p.codec start;
   trailing = false;
   unknown_length = false;
-  reserve = None;
+  reserve = r;
   pieces = pieces;
 }

@@ -6,7 +6,7 @@ use Rattle.snd_layout.specs.Params.{Parameters}
 use Rattle.snd_layout.specs.Shape.{Shape}
 use Rattle.snd_layout.specs.declared.field.Field.{Field}
 use Rattle.snd_wave.specs.Values.{inner_value, outer_value, side_value}
-use Rattle.snd_wave.specs.Written.{head_for, made_shape, wave_head}
+use Rattle.snd_wave.specs.Written.{head_for, made_shape, reserved_head, reserved_shape, wave_head}
 
 -- bytes put into a field, where it is there
 abbrev pub put_in : Option Field → List ℕ → List ℕ → List ℕ
@@ -18,6 +18,10 @@ unfoldable pub with_values : List ℕ → Shape → ℕ → List ℕ
 with_values b h frames = put_in h.side (side_value h frames) (put_in h.outer (outer_value h frames) (with_field b h.inner.at (inner_value h frames)))
 
 -- A head into whose fields the values for so many frames were put is the head for so many frames, whatever stands behind it.
+abbrev pub ReservedHeadIsCounted : Type 0
+ReservedHeadIsCounted = (r : Option ℕ) (p : Parameters) (pieces : List NewChunk) (frames : ℕ) (behind : List ℕ) →
+    with_values (reserved_head r p pieces 0 ++ behind) (reserved_shape r p pieces 0) frames ≡ reserved_head r p pieces frames ++ behind
+
 abbrev pub HeadIsCounted : Type 0
 HeadIsCounted = (p : Parameters) (pieces : List NewChunk) (frames : ℕ) (behind : List ℕ) →
     with_values (wave_head p pieces ++ behind) (made_shape p pieces 0) frames ≡ head_for p pieces frames ++ behind

@@ -5,11 +5,12 @@ ghost use Rattle.arrayvec.specs.ArrayVec.{array_vec_len};
 ghost use Rattle.snd_chunks.specs.Written.{chunks_bytes};
 ghost use Rattle.snd_fields.specs.Field.{bytes_of};
 ghost use Rattle.snd_fields.specs.declared.field.Order.TheVariants.{Little};
-ghost use Rattle.snd_wave.specs.Put.{closing_behind, filler_for, first_place};
-ghost use Rattle.snd_wave.specs.Written.{new_fact};
+ghost use Rattle.snd_wave.specs.Put.{closing_behind, filler_for};
+ghost use Rattle.snd_wave.specs.Written.{new_fact, reserved_first};
 
 use crate::head::{has_fact, inner_of, plain_start, put_fact};
 use crate::put::{put_all, put_number, put_size};
+use crate::reserve::lead_size;
 use crate::rest::Closing;
 use arrayvec::ArrayVec;
 use snd_fields::Order;
@@ -34,13 +35,11 @@ fn fact_size(params: &Params) -> u64
 }
 
 /// The place behind the format.
-#[tactic(auto, using(crate::proofs::Putting::first_is))]
-pub(crate) fn first_place(params: &Params) -> u64
-    ensures place { result ≡ first_place params.now }
+pub(crate) fn first_place(params: &Params, reserve: Option<u32>) -> u64
+    ensures place { result ≡ reserved_first reserve params.now }
     ensures least { 36 ≤ result }
-    ensures most { result ≤ 90 }
 {
-    plain_start(params) - HEAD_SIZE - fact_size(params)
+    plain_start(params) - HEAD_SIZE - fact_size(params) + lead_size(reserve)
 }
 
 /// Puts the filler behind the others, a chunk `JUNK` of eight zeros, where a field would not lie in one

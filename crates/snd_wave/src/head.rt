@@ -1,6 +1,6 @@
 //! The head of a file that is made.
 
-ghost use Rattle.std.specs.Prelude.{◌≡◌, ◌+◌, ◌≤◌, ◌++◌, [], None, is_some, length, OnOk, IfErr, IfOk};
+ghost use Rattle.std.specs.Prelude.{◌≡◌, ◌+◌, ◌≤◌, ◌++◌, [], None, is_some, length, OnOk, IfErr, IfOk, IfSome};
 ghost use Rattle.snd_disk.specs.Device.{GoesOnFrom, WritesAtMost};
 ghost use Rattle.arrayvec.specs.ArrayVec.{array_vec_len};
 ghost use Rattle.snd_chunks.specs.Written.{chunks_bytes};
@@ -10,9 +10,10 @@ ghost use Rattle.snd_layout.specs.Laid.{HoldsJust, IsLayCause};
 ghost use Rattle.snd_layout.specs.Opened.{CountsOpening};
 ghost use Rattle.snd_layout.specs.declared.kind.Kind.TheVariants.{Wave};
 ghost use Rattle.snd_wave.specs.Put.{IsHeadOf};
-ghost use Rattle.snd_wave.specs.Written.{has_fact, inner_at, made_shape, new_fact, plain_start, side_at, wave_head};
+ghost use Rattle.snd_wave.specs.Written.{MayReserve, has_fact, inner_at, lead_of, made_shape, new_fact, plain_start, reserved_head, reserved_shape, side_at, wave_head};
 
 use crate::put::{put_all, put_chunk, put_number};
+use crate::reserve::{RESERVE_SIZE, lead_size};
 use arrayvec::ArrayVec;
 use snd_disk::Disk;
 use snd_layout::{Codec, Field, Kind, Layout, OpenError, Params, PieceList, put_fmt, write_whole};
@@ -27,7 +28,7 @@ pub(crate) fn has_fact(params: &Params) -> bool
     )
 }
 
-// Where the data begin.
+// Where the data begin in a file without pieces and without a reservation.
 pub(crate) fn plain_start(params: &Params) -> u64
     ensures value { result ≡ plain_start params.now.codec }
     ensures least { 44 ≤ result }
@@ -85,18 +86,34 @@ pub(crate) fn put_fact(into: &mut ArrayVec<u8, 128>, params: &Params)
     }
 }
 
-// The head of a file without pieces and frames.
-fn plain_head(params: &Params) -> ArrayVec<u8, 128>
-    requires { fit_refusal Wave params.now ≡ None }
-    ensures { result.items ≡ wave_head params.now [] }
+// Puts the reserved chunk behind the others, where there is one.
+fn put_lead(into: &mut ArrayVec<u8, 128>, reserve: Option<u32>)
+    requires room { array_vec_len into.old + 36 ≤ 128 }
+    requires size { IfSome reserve (λ len. len ≡ 28) }
+    ensures items { into.new.items ≡ into.old.items ++ chunks_bytes Little (lead_of reserve) }
+    ensures few { array_vec_len into.new ≤ array_vec_len into.old + 36 }
+{
+    if let Some(size) = reserve {
+        put_all(into, b"JUNK");
+        put_number(into, u64::from(size));
+        put_all(into, &[0; RESERVE_SIZE]);
+    }
+}
+
+// The head of a file without pieces and frames, with a reservation or with none.
+fn plain_head(params: &Params, reserve: Option<u32>) -> ArrayVec<u8, 128>
+    requires fits { fit_refusal Wave params.now ≡ None }
+    requires reserve { MayReserve reserve params.now.codec }
+    ensures { result.items ≡ reserved_head reserve params.now [] 0 }
 {
     params.are_good();
     let mut format = ArrayVec::new();
     put_fmt(*params, &mut format);
     let mut head = ArrayVec::new();
     put_all(&mut head, b"RIFF");
-    put_number(&mut head, plain_start(params) - 8);
+    put_number(&mut head, plain_start(params) + lead_size(reserve) - 8);
     put_all(&mut head, b"WAVE");
+    put_lead(&mut head, reserve);
     put_chunk(&mut head, b"fmt ", format.as_slice());
     put_fact(&mut head, params);
     put_all(&mut head, b"data");
@@ -105,12 +122,13 @@ fn plain_head(params: &Params) -> ArrayVec<u8, 128>
 }
 
 // What it says.
-fn plain_layout(alloc: Global, params: Params) -> Layout
-    requires { fit_refusal Wave params ≡ None }
-    ensures { result ≡ made_shape params [] 0 }
+fn plain_layout(alloc: Global, params: Params, reserve: Option<u32>) -> Layout
+    requires fits { fit_refusal Wave params ≡ None }
+    requires reserve { MayReserve reserve params.codec }
+    ensures { result ≡ reserved_shape reserve params [] 0 }
 {
     params.are_good();
-    let start = plain_start(&params);
+    let start = plain_start(&params) + lead_size(reserve);
     Layout {
         kind: Kind::Wave,
         params,
@@ -122,7 +140,7 @@ fn plain_layout(alloc: Global, params: Params) -> Layout
         side: side_of(&params, start),
         trailing: false,
         unknown_length: false,
-        reserve: None,
+        reserve,
         pieces: PieceList::new(alloc),
     }
 }
@@ -144,9 +162,9 @@ pub fn lay_head<D: Disk>(alloc: Global, disk: &mut D, params: Params) -> Result<
     ensures asked { (D.state disk.new).asked ≡ (D.state disk.old).asked }
 {
     params.are_good();
-    let head = plain_head(&params);
+    let head = plain_head(&params, None);
     match write_whole(disk, head.as_slice()) {
-        Ok(()) => Ok(plain_layout(alloc, params)),
+        Ok(()) => Ok(plain_layout(alloc, params, None)),
         Err(step) => Err(OpenError::DiskFault(step)),
     }
 }

@@ -6,16 +6,17 @@ ghost use Rattle.snd_chunks.specs.Walks.{CountsWalk, EndsBy, IsSound};
 ghost use Rattle.snd_layout.specs.Fit.{fit_refusal};
 ghost use Rattle.snd_layout.specs.Opened.{CountsOpening, EndsIn, OpensAs};
 ghost use Rattle.snd_layout.specs.Params.{data_bytes};
-ghost use Rattle.snd_layout.specs.Shape.{IsPlaced, end, room};
+ghost use Rattle.snd_layout.specs.Shape.{IsPlaced, IsReserve, end, room};
 ghost use Rattle.snd_layout.specs.declared.kind.Kind.TheVariants.{Wave};
 ghost use Rattle.snd_wave.specs.Layout.{wave_layout};
-ghost use Rattle.snd_wave.specs.Parts.{ArePlaced, IsFact, IsHeld, all_pieces, layout_with, shape_of};
+ghost use Rattle.snd_wave.specs.Parts.{ArePlaced, IsBefore, IsFact, IsHeld, all_pieces, layout_with, shape_of};
 
 use crate::ends::{Ends, ends_of, frame_count};
 use crate::fields::{inner_field, side_field};
 use crate::parts::{Parts, parts_of};
 use crate::pieces::add_pieces;
 use crate::reads::{read_count, read_format, read_number};
+use crate::reserve::reserve_of;
 use snd_chunks::{Front, WalkError, walk_front, walk_tail};
 use snd_disk::{Disk, Step};
 use snd_fields::{Id4, Order};
@@ -34,20 +35,22 @@ const DATA: Id4 = Id4(*b"data");
 /// The size of the whole.
 const RIFF_SIZE: Field = Field { at: 4, size: 4 };
 
-// The layout that the parts, the count of the `fact`, the ends and the pieces give.
+// The layout that the parts, the count of the `fact`, the ends, the reservation and the pieces give.
 fn layout_of(
     params: Params,
     parts: Parts,
     count: Option<u32>,
     ends: Ends,
+    reserve: Option<u32>,
     pieces: PieceList,
 ) -> Layout
     requires fits { fit_refusal Wave params ≡ None }
     requires fact { IfSome parts.fact (IsFact parts.sound) }
     requires sound { IsSound (2 ^ 63) 12 257 parts.sound }
     requires held { ends.held ≤ parts.sound.len }
+    requires reserve { IfSome reserve (IsReserve Wave params.codec parts.sound.at) }
     requires pieces { All IsPlaced pieces }
-    ensures value { result ≡ shape_of params parts count ends pieces }
+    ensures value { result ≡ shape_of params parts count ends reserve pieces }
     ensures short { data_bytes result.params result.frames ≤ ends.held }
 {
     params.are_good();
@@ -65,7 +68,7 @@ fn layout_of(
         side,
         trailing: ends.data_end < ends.outer_end,
         unknown_length: false,
-        reserve: None,
+        reserve,
         pieces,
     }
 }
@@ -114,6 +117,7 @@ fn layout_at<D: Disk>(
     requires size { size ≡ (D.state disk.old).size }
     requires whole { All (EndsBy size) front.now.chunks }
     requires placed { ArePlaced size parts }
+    requires before { All (IsBefore parts.sound) front.now.chunks }
     ensures told { OpensAs D.state disk.old (λ b. layout_with b front.now parts) result }
     ensures held { IfOk result (IsHeld size) }
     ensures faults { CountsOpening D.state disk.old disk.new result }
@@ -125,7 +129,8 @@ fn layout_at<D: Disk>(
     let riff = read_number(disk, RIFF_SIZE.at)?;
     let ends = ends_of(size, riff, parts.sound);
     let pieces = find_pieces(alloc, disk, size, front, ends)?;
-    Ok(layout_of(params, parts, count, ends, pieces))
+    let reserve = reserve_of(&params, front.chunks.as_slice());
+    Ok(layout_of(params, parts, count, ends, reserve, pieces))
 }
 
 // The layout of a file of this size, or why it is refused.

@@ -1,6 +1,6 @@
 //! What the fields of a head say of a number of frames, and what closes their data.
 
-ghost use Rattle.std.specs.Prelude.{◌≡◌, ◌+◌, ◌<◌, ◌^◌, None, true};
+ghost use Rattle.std.specs.Prelude.{◌≡◌, ◌+◌, ◌<◌, ◌^◌, None, true, ◌-◌, ◌≤◌};
 ghost use Rattle.snd_fields.specs.Field.{bytes_of};
 ghost use Rattle.snd_fields.specs.declared.field.Order.TheVariants.{Little};
 ghost use Rattle.snd_layout.specs.Blocks.{is_adpcm};
@@ -90,6 +90,14 @@ pub fn outer_bytes(layout: &Layout, frames: u64) -> ArrayVec<u8, 64>
 {
     let bytes = bytes_in(layout, frames);
     number_bytes(riff_size(layout.start, bytes))
+}
+
+/// What the size of the whole says of a file that ends at a place.
+pub fn outer_to(end: u64) -> ArrayVec<u8, 64>
+    requires { 8 ≤ end }
+    ensures { result.items ≡ bytes_of Little 4 (end - 8) }
+{
+    number_bytes(end - 8)
 }
 
 /// What the count says that is not read: nothing where there is none.

@@ -1,9 +1,10 @@
 use Rattle.std.proofs.Common.{◌≡◌, ◌∙◌, ◌+◌, ◌-◌, ◌≤◌, ◌%◌, ◌<◌, ◌++◌, ◌∷◌, [], length, rules, sym, arith}
 use Rattle.std.proofs.Math.Nat.{mod-lt}
+use Rattle.std.proofs.lemmas.List.Elements.{All-push}
 use Rattle.snd_disk.proofs.Chains.{only_reads_then}
 use Rattle.snd_chunks.specs.Chunks.{chunk_at}
 use Rattle.snd_chunks.specs.declared.front.Seen.TheVariants.{Sound, Whole, Nothing}
-use Rattle.snd_chunks.specs.Walks.{EndsBy, HasHeadAt, seen_of}
+use Rattle.snd_chunks.specs.Walks.{EndsBy, HasHeadAt, IsShort, seen_of}
 use Rattle.snd_chunks.proofs.Walks.{goes_on, ends_at_sound, ends_cut, ends_too_many, ends_grow, asked_more}
 use Rattle.snd_chunks.proofs.walk.walk_front.Goals as goal
 
@@ -41,6 +42,7 @@ loop-seen-preserved g c =
           (c.args.most - (c.loop-seen._seen + 1)) c.in-Whole.chunk seen (omega arith) (c.loop-seen.invariant.so_far b told));
       size = search rules;
       whole = rw pushed (ends_grow c.args.size c.args.size c.loop-seen.chunks c.in-Whole.chunk (omega arith) placed.1 c.loop-seen.invariant.whole);
+      short = rw pushed (All-push IsShort c.loop-seen.chunks c.in-Whole.chunk c.loop-seen.invariant.short placed.0.len);
       before = rw pushed (ends_grow c.loop-seen.place c.in-Whole.chunk.next c.loop-seen.chunks c.in-Whole.chunk later ends c.loop-seen.invariant.before);
       behind = omega (arith, c.loop-seen.invariant.behind);
       near = omega (arith, c.loop-seen.invariant.near, placed.0.at, placed.0.len, placed.0.next);

@@ -1,7 +1,7 @@
 use Rattle.std.proofs.Common.{◌≡◌, ◌+◌, ◌*◌, ◌-◌, ◌≤◌, ◌^◌, List, ℕ, Some, All, length}
 use Rattle.snd_disk.specs.State.{AtMost, OnlyReads}
 use Rattle.snd_chunks.specs.Chunks.{chunk_at, front}
-use Rattle.snd_chunks.specs.Walks.{EndsBy}
+use Rattle.snd_chunks.specs.Walks.{EndsBy, IsShort}
 use Rattle.snd_chunks.proofs.Walks.{after}
 use Rattle.snd_chunks.proofs.walk.walk_front.Given as goal
 
@@ -11,6 +11,7 @@ invariant-loop-seen g l = record {
       front (chunk_at l.order b) l.sound.0 (length b) l.most l.from ≡ after l.chunks (front (chunk_at l.order b) l.sound.0 (length b) (l.most - l._seen) l.place);
   size : l.size ≡ (g.D.Disk.state l.disk).size;
   whole : All (EndsBy l.size) l.chunks;
+  short : All IsShort l.chunks;
   before : All (EndsBy l.place) l.chunks;
   behind : l.from ≤ l.place;
   near : l.place ≤ l.from + l._seen * 2 ^ 33;

@@ -16,4 +16,5 @@ invariant_of-result c = record {
   data_end = search rules;
   in_room = λ known. omega (arith, no_bytes_yet c.args.params c.are_good.ensures c.requires.fits);
   declared_fits = search rules;
+  reserved = c.requires.reserve;
 }

@@ -2,11 +2,14 @@ use Rattle.std.proofs.Common.{rules, refl, sym}
 use Rattle.snd_wave.specs.Layout.{wave_layout}
 use Rattle.snd_wave.specs.Parts.{layout_with}
 use Rattle.snd_wave.proofs.Answered.{opens_on, refusal_found}
-use Rattle.snd_wave.proofs.Layouts.{layout_is, parts_placed, refusal_is, walked}
+use Rattle.snd_wave.proofs.Layouts.{all_before, layout_is, parts_placed, refusal_is, walked}
 use Rattle.snd_wave.proofs.layout.find_layout.Goals as goal
 
 pub layout_at-requires-clause-placed : goal.layout_at-requires-clause-placed
 layout_at-requires-clause-placed g c = parts_placed c.args.size c.in_ok-front.front c.in_ok-parts.parts c.in_ok-front.ensures.placed c.in_ok-parts.ensures.found
+
+pub layout_at-requires-clause-before : goal.layout_at-requires-clause-before
+layout_at-requires-clause-before g c = all_before c.args.size c.in_ok-front.front c.in_ok-parts.parts c.in_ok-front.ensures.placed c.in_ok-parts.ensures.found
 
 pub returns-in_err-parts-clause-told : goal.returns-in_err-parts-clause-told
 returns-in_err-parts-clause-told g c =
