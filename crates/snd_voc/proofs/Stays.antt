@@ -1,7 +1,7 @@
 -- A file that keeps what stands before its data keeps its walk and its format.
 use Rattle.std.proofs.Common.{◌≡◌, ◌⊎◌, ℕ, zero, suc, ◌+◌, ◌*◌, ◌<◌, ◌≤◌, ◌^◌, Bool, true, false, List, All, length, get_or, Option, None, Some, Ok, Err, refl, sym, ap, ◌∙◌, inl, inr, arith}
-use Rattle.std.proofs.lemmas.Bool.{cases_Bool, eqb-true, le-leb, le-ltb, ltb-false, or_parts}
-use Rattle.std.specs.Prelude.{◌==◌, ◌||◌, IfSome, Result, nat_le, nat_lt, if◌then◌else◌}
+use Rattle.std.proofs.lemmas.Bool.{cases_Bool, eqb-true, le-leb}
+use Rattle.std.specs.Prelude.{◌==◌, ◌||◌, IfSome, Result, nat_le, if◌then◌else◌}
 use Rattle.snd_fields.proofs.Numbers.{number_fits, number_same}
 use Rattle.snd_fields.specs.Laws.{IsByte}
 use Rattle.snd_fields.specs.Field.{number}
