@@ -196,6 +196,10 @@ REFUSED = [
      b"RIFF\0\0\0\0WAVE" + b"junk\0\0\0\0" * 256, "6 NoFormat"),
     ("257 chunks before the data",
      b"RIFF\0\0\0\0WAVE" + b"junk\0\0\0\0" * 257, "5 TooManyChunks"),
+    ("VOC, 256 blocks and a 257th whose head is cut",
+     b"Creative Voice File\x1a\x1a\0\n\x01)\x11" + b"\x05\0\0\0" * 256 + b"\x05\0", "5 TooManyChunks"),
+    ("VOC, 255 blocks and a 256th whose head is cut",
+     b"Creative Voice File\x1a\x1a\0\n\x01)\x11" + b"\x05\0\0\0" * 255 + b"\x05\0", "7 NoData"),
 ]
 
 # the body of a format chunk, and its codec, channels, rate, the bytes of a block and the frames that a block holds

@@ -153,7 +153,8 @@ VOC, ONE, TEXT = kinds.VOC, voc_block(1, b"\x83\0\x80"), voc_block(5, b"text\0")
 for what, data, number in (
     ("25 bytes", VOC[:25], 3), ("a header of 25 bytes", VOC[:20] + struct.pack("<HHH", 25, 0x114, 0x111F) + nine(), 4), ("another check", VOC[:20] + struct.pack("<HHH", 26, 0x10A, 0x111F) + nine(), 4),
     ("another check, and nothing behind", VOC[:24] + b"\0\0", 4), ("257 blocks, and nothing behind", VOC + TEXT * 257, 5),
-    ("256 blocks and one that is cut", VOC + TEXT * 256 + TEXT[:-1], 5), ("a block of type 9 with 11 bytes", VOC + voc_block(9, bytes(11)) + bytes(20), 6), ("a block of type 1 with 1 byte", VOC + voc_block(1, b"\x83") + bytes(20), 6),
+    ("256 blocks and one that is cut", VOC + TEXT * 256 + TEXT[:-1], 5), ("256 blocks and a type alone", VOC + TEXT * 256 + b"\x05", 5), ("256 blocks and a head that is cut", VOC + TEXT * 256 + b"\x05\1\0", 5),
+    ("256 blocks and nothing behind", VOC + TEXT * 256, 7), ("256 blocks and a terminator", VOC + TEXT * 256 + b"\0", 7), ("255 blocks and a head that is cut", VOC + TEXT * 255 + b"\x05\1\0", 7), ("a block of type 9 with 11 bytes", VOC + voc_block(9, bytes(11)) + bytes(20), 6), ("a block of type 1 with 1 byte", VOC + voc_block(1, b"\x83") + bytes(20), 6),
     ("a lone type 9", VOC + b"\x09", 6), ("a lone type 1", VOC + b"\x01", 6), ("a head of type 9 that is cut", VOC + nine(0, 12, 3, 1, b"")[:15], 6), ("a head of type 1 that is cut", VOC + ONE[:5], 6),
     ("a type 8 of 3 bytes", VOC + eight(cut=3) + ONE, 6), ("two of type 8, the last of 3 bytes", VOC + eight() + eight(cut=3) + ONE, 6), ("nothing behind the header", VOC, 7), ("a terminator", VOC + b"\0", 7),
     ("blocks and a terminator", VOC + TEXT + eight() + b"\0" + nine(), 7), ("a block that runs past the end", VOC + TEXT[:-1], 7), ("a type alone", VOC + b"\x05", 7),

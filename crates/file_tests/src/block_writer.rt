@@ -1,7 +1,7 @@
 //! Whole sounds, written in odd pieces, against the blocks that other programs write of them.
 
 ghost use Rattle.std.specs.Prelude.{◌<◌, ◌≤◌, ◌^◌, All, IsTrue, OnOk};
-ghost use Rattle.snd_adpcm.specs.Frames.{Is16Bit};
+ghost use Rattle.snd_ima_adpcm.specs.Frames.{Is16Bit};
 ghost use Rattle.snd_blocks.specs.Calls.{AreBlocks};
 ghost use Rattle.snd_block_writer.specs.Writing.{block_end, next_place, place_after};
 ghost use Rattle.file_tests.specs.Uses.{PutsSound, sound_end};

@@ -5,8 +5,8 @@ use Rattle.std.proofs.Math.Nat.{add-mul-div_right, mul-div_left, zero-div}
 use Rattle.std.proofs.lemmas.Grind.{flat_map-append}
 use Rattle.std.proofs.lemmas.List.{append-nil, length-append, length-drop, length-take-le, take_all}
 use Rattle.std.proofs.lemmas.List.Folds.{list_any-append}
-use Rattle.snd_adpcm.specs.Blocks.{bytes_of_blocks}
-use Rattle.snd_adpcm.specs.Ima.{Indices}
+use Rattle.snd_ima_adpcm.specs.Blocks.{bytes_of_blocks}
+use Rattle.snd_ima_adpcm.specs.Ima.{Indices}
 use Rattle.snd_layout.specs.declared.codec.Codec.{Codec}
 use Rattle.snd_layout.specs.declared.codec.Codec.TheVariants.{Ima, Ms}
 use Rattle.snd_layout.specs.Blocks.{block_align, block_frames}

@@ -3,7 +3,7 @@ use Rattle.std.proofs.Common.{◌≡◌, ◌∙◌, sym, ap, subst, inl, inr, �
 use Rattle.std.proofs.Math.Nat.{mod-eq_of_lt, mod_self, zero-mod}
 use Rattle.std.proofs.lemmas.Bool.{cases_lt}
 use Rattle.std.proofs.lemmas.List.{length-replicate}
-use Rattle.snd_adpcm.specs.Blocks.{filled}
+use Rattle.snd_ima_adpcm.specs.Blocks.{filled}
 use Rattle.snd_disk.specs.Bytes.{over}
 use Rattle.snd_disk.specs.State.{IsWritten, State}
 use Rattle.snd_layout.specs.Blocks.{block_align}

@@ -2,8 +2,8 @@
 use Rattle.std.proofs.Common.{◌≡◌, ◌⊎◌, ◌∙◌, refl, sym, ap, inl, inr, ℕ, ℤ, ◌+◌, ◌*◌, ◌/◌, ◌<◌, ◌≤◌, List, [], ◌++◌, length, take, drop, max, append_assoc, arith}
 use Rattle.std.proofs.Math.Nat.{add-mul-div_right, div-eq_of_lt, div-eq_of_lt-le, lt-div-mul-add}
 use Rattle.std.proofs.lemmas.List.{append-nil, drop_all, drop-append-le, drop-drop, length-append, length-drop, take_all}
-use Rattle.snd_adpcm.specs.Blocks.{bytes_of_blocks}
-use Rattle.snd_adpcm.specs.Ima.{Indices}
+use Rattle.snd_ima_adpcm.specs.Blocks.{bytes_of_blocks}
+use Rattle.snd_ima_adpcm.specs.Ima.{Indices}
 use Rattle.snd_layout.specs.Blocks.{block_align}
 use Rattle.snd_layout.specs.Params.{Parameters}
 use Rattle.snd_blocks.specs.Calls.{AreBlocks}

@@ -4,9 +4,10 @@ use Rattle.std.proofs.Math.Nat.{div-add-mod, div-div-eq-div-mul, div-eq_of_lt-le
 use Rattle.std.proofs.lemmas.Nat.{le-div}
 use Rattle.std.proofs.lemmas.List.{length-append, length-take-le, places, same_lists, take-take, take_all, take_at}
 use Rattle.std.proofs.lemmas.List.Elements.{All-nil}
-use Rattle.snd_adpcm.proofs.CodedBytes.{ima_data_bytes, ms_data_bytes}
-use Rattle.snd_adpcm.specs.Blocks.{filled}
-use Rattle.snd_adpcm.specs.Frames.{Is16Bit}
+use Rattle.snd_ima_adpcm.proofs.Lemmas.{ima_data_bytes}
+use Rattle.snd_ms_adpcm.proofs.Lemmas.{ms_data_bytes}
+use Rattle.snd_ima_adpcm.specs.Blocks.{filled}
+use Rattle.snd_ima_adpcm.specs.Frames.{Is16Bit}
 use Rattle.snd_disk.specs.Bytes.{over}
 use Rattle.snd_fields.specs.Laws.{IsByte}
 use Rattle.snd_layout.specs.Blocks.{block_align, block_frames}

@@ -1,7 +1,7 @@
 -- The blocks of a list in two parts.
 use Rattle.std.proofs.Common.{◌≡◌, ◌∙◌, refl, sym, ap, ℕ, ℤ, zero, suc, ◌+◌, ◌*◌, ◌≤◌, List, ◌++◌, length, take, drop, append_assoc, arith}
 use Rattle.std.proofs.lemmas.List.{drop-append-le, drop-drop, length-append, length-drop, length-take-le, take-append-le}
-use Rattle.snd_adpcm.specs.Blocks.{Rule, bytes_of_blocks}
+use Rattle.snd_ima_adpcm.specs.Blocks.{Rule, bytes_of_blocks}
 use Rattle.snd_block_writer.specs.Writing.{carried}
 
 module _ {State : Type 0} (rule : Rule State) (n : ℕ) where

@@ -3,9 +3,9 @@ use Rattle.std.proofs.Common.{◌≡◌, ◌∙◌, refl, sym, ap, inl, inr, ℕ
 use Rattle.std.proofs.Math.Nat.{div-add-mod, div-mul-le_self, mod-eq-sub-div-mul, mod-eq_of_lt, mod-lt, mod_self, mul-div_left, mul-mod_left, zero-div}
 use Rattle.std.proofs.lemmas.List.{append-nil, length-append, length-drop, length-replicate, length-take-le, take-append-drop, take_all}
 use Rattle.std.proofs.lemmas.Bool.{cases_lt}
-use Rattle.snd_adpcm.specs.Blocks.{Rule, bytes_of_blocks, bytes_of_list, filled}
-use Rattle.snd_adpcm.specs.Ima.{Indices}
-use Rattle.snd_adpcm.specs.Laws.{ms_rule}
+use Rattle.snd_ima_adpcm.specs.Blocks.{Rule, bytes_of_blocks, bytes_of_list, filled}
+use Rattle.snd_ima_adpcm.specs.Ima.{Indices}
+use Rattle.snd_ms_adpcm.specs.Laws.{ms_rule}
 use Rattle.snd_disk.specs.Bytes.{over}
 use Rattle.snd_disk.specs.State.{IsWritten, State}
 use Rattle.snd_layout.specs.declared.codec.Codec.{Codec}

@@ -5,10 +5,10 @@ use Rattle.std.proofs.Math.Nat.{add-mul-div_right, div-eq_of_lt}
 use Rattle.std.proofs.lemmas.List.{drop_all}
 use Rattle.std.proofs.lemmas.Bool.{and_parts, leb-true}
 use Rattle.snd_fields.specs.Blocks.{is_ms_align, ms_samples_per_block}
-use Rattle.snd_adpcm.specs.Blocks.{bytes_of_blocks}
-use Rattle.snd_adpcm.specs.Ima.{Indices}
-use Rattle.snd_adpcm.specs.Laws.{ms_rule}
-use Rattle.snd_adpcm.specs.Microsoft.{IsMsBlock, ms_bytes}
+use Rattle.snd_ima_adpcm.specs.Blocks.{bytes_of_blocks}
+use Rattle.snd_ima_adpcm.specs.Ima.{Indices}
+use Rattle.snd_ms_adpcm.specs.Laws.{ms_rule}
+use Rattle.snd_ms_adpcm.specs.Microsoft.{IsMsBlock, ms_bytes}
 use Rattle.snd_layout.specs.declared.codec.Codec.{Codec}
 use Rattle.snd_layout.specs.declared.codec.Codec.TheVariants.{Ms}
 use Rattle.snd_layout.specs.Blocks.{block_align, block_frames}

@@ -1,6 +1,6 @@
 -- How the calls of a writer leave it and the disk. `start` is the place where the data begin.
 use Rattle.std.specs.Prelude.{ℕ, ℤ, ◌+◌, ◌*◌, ◌/◌, List, ◌++◌}
-use Rattle.snd_adpcm.specs.Blocks.{filled}
+use Rattle.snd_ima_adpcm.specs.Blocks.{filled}
 use Rattle.snd_disk.specs.Bytes.{over}
 use Rattle.snd_disk.specs.Device.{Tells, WritesAtMost}
 use Rattle.snd_disk.specs.State.{IsWritten, State}

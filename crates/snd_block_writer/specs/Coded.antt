@@ -1,6 +1,7 @@
 -- The data bytes of ADPCM numbers, which stand frame by frame, and the frames that are read from these.
 use Rattle.std.specs.Prelude.{ℕ, ℤ, ◌*◌, ◌/◌, List, [], length, take, drop}
-use Rattle.snd_adpcm.specs.Laws.{ima_data, ms_data}
+use Rattle.snd_ima_adpcm.specs.Laws.{ima_data}
+use Rattle.snd_ms_adpcm.specs.Laws.{ms_data}
 use Rattle.snd_layout.specs.declared.codec.Codec.{Codec}
 use Rattle.snd_layout.specs.declared.codec.Codec.TheVariants.{Ima, Ms}
 use Rattle.snd_layout.specs.Blocks.{block_frames}

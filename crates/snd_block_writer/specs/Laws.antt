@@ -1,6 +1,6 @@
 -- The laws of blocks that are written.
 use Rattle.std.specs.Prelude.{◌≡◌, ℕ, ℤ, ◌*◌, ◌/◌, ◌%◌, false, List, All, ◌++◌, length, take}
-use Rattle.snd_adpcm.specs.Frames.{Is16Bit}
+use Rattle.snd_ima_adpcm.specs.Frames.{Is16Bit}
 use Rattle.snd_disk.specs.Bytes.{over}
 use Rattle.snd_fields.specs.Laws.{IsByte}
 use Rattle.snd_layout.specs.Blocks.{block_frames}

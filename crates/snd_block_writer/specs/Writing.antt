@@ -1,9 +1,9 @@
 -- What a writer of blocks knows between two calls.
 use Rattle.std.specs.Prelude.{◌≡◌, ◌⊎◌, ℕ, ℤ, pos, zero, suc, ◌+◌, ◌-◌, ◌*◌, ◌/◌, ◌%◌, ◌<◌, ◌≤◌, All, List, [], ◌++◌, length, take, drop, replicate}
-use Rattle.snd_adpcm.specs.Blocks.{Rule, bytes_of_blocks}
-use Rattle.snd_adpcm.specs.Frames.{Is16Bit}
-use Rattle.snd_adpcm.specs.Ima.{Indices, ima_bytes, ima_next_indices}
-use Rattle.snd_adpcm.specs.Microsoft.{ms_bytes}
+use Rattle.snd_ima_adpcm.specs.Blocks.{Rule, bytes_of_blocks}
+use Rattle.snd_ima_adpcm.specs.Frames.{Is16Bit}
+use Rattle.snd_ima_adpcm.specs.Ima.{Indices, ima_bytes, ima_next_indices}
+use Rattle.snd_ms_adpcm.specs.Microsoft.{ms_bytes}
 use Rattle.snd_layout.specs.declared.codec.Codec.{Codec}
 use Rattle.snd_layout.specs.declared.codec.Codec.TheVariants.{Ima, Ms}
 use Rattle.snd_layout.specs.Blocks.{block_align}

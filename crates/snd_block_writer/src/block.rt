@@ -1,18 +1,19 @@
 //! One block, made of its numbers, and put on a disk.
 
 ghost use Rattle.std.specs.Prelude.{◌≡◌, ◌+◌, ◌-◌, ◌*◌, ◌<◌, ◌≤◌, ◌^◌, ◌++◌, All, OnOk, [], length, pos, replicate};
-ghost use Rattle.snd_adpcm.specs.Frames.{Is16Bit};
+ghost use Rattle.snd_ima_adpcm.specs.Frames.{Is16Bit};
 ghost use Rattle.snd_disk.specs.Device.{CountsOn};
 ghost use Rattle.snd_disk.specs.State.{IsWritten};
 ghost use Rattle.snd_layout.specs.Blocks.{block_align};
 ghost use Rattle.snd_blocks.specs.Calls.{AreBlocks};
-ghost use Rattle.snd_adpcm.specs.Blocks.{bytes_of_blocks};
+ghost use Rattle.snd_ima_adpcm.specs.Blocks.{bytes_of_blocks};
 ghost use Rattle.snd_block_writer.specs.Coded.{block_numbers};
 ghost use Rattle.snd_block_writer.specs.Puts.{Puts};
 ghost use Rattle.snd_block_writer.specs.Writing.{IsOneOrFour, carried, rule_of};
 
 use arrayvec::ArrayVec;
-use snd_adpcm::{ImaWriter, MsWriter};
+use snd_ima_adpcm::ImaWriter;
+use snd_ms_adpcm::MsWriter;
 use snd_disk::{Disk, Failed, Step};
 use snd_layout::{Codec, Params};
 

@@ -1,7 +1,7 @@
 //! A writer of blocks.
 
 ghost use Rattle.std.specs.Prelude.{◌≡◌, ◌+◌, ◌<◌, ◌≤◌, ◌^◌, All, OnOk, [], length, true};
-ghost use Rattle.snd_adpcm.specs.Frames.{Is16Bit};
+ghost use Rattle.snd_ima_adpcm.specs.Frames.{Is16Bit};
 ghost use Rattle.snd_disk.specs.Device.{CountsOn, WritesAtMost};
 ghost use Rattle.snd_layout.specs.Blocks.{is_adpcm};
 ghost use Rattle.snd_blocks.specs.Calls.{AreBlocks};
@@ -11,7 +11,7 @@ ghost use Rattle.snd_block_writer.specs.Writing.{IsOneOrFour, IsPart, KeepsRule,
 
 use crate::block::{encode_blocks, fill_up, put_block, write_bytes};
 use arrayvec::ArrayVec;
-use snd_adpcm::ImaWriter;
+use snd_ima_adpcm::ImaWriter;
 use snd_blocks::is_fourfold;
 use snd_disk::{Disk, Step};
 use snd_layout::Params;

@@ -4,8 +4,8 @@ use Rattle.std.proofs.Math.Nat.{add-mul, mul-le-mul_right}
 use Rattle.std.proofs.lemmas.List.{take_all}
 use Rattle.std.specs.Prelude.{OnOk, is_ok}
 use Rattle.snd_fields.specs.Blocks.{is_ms_align, ms_samples_per_block}
-use Rattle.snd_adpcm.specs.Four.{AreSamples, part}
-use Rattle.snd_adpcm.specs.Microsoft.{is_bad_ms_block, ms_block}
+use Rattle.snd_ms_adpcm.specs.Four.{AreSamples, part}
+use Rattle.snd_ms_adpcm.specs.Microsoft.{is_bad_ms_block, ms_block}
 use Rattle.snd_layout.specs.declared.codec.Codec.{Codec}
 use Rattle.snd_layout.specs.declared.codec.Codec.TheVariants.{U8, S8, S16, S24, S32, MuLaw, ALaw, Ima, Ms}
 use Rattle.snd_layout.specs.Blocks.{block_align, block_frames}

@@ -1,7 +1,7 @@
 -- The blocks that were read last.
 use Rattle.std.specs.Prelude.{ℕ, ℤ, ◌+◌, ◌-◌, ◌*◌, ◌<◌, ◌≤◌, List, All, length}
-use Rattle.snd_adpcm.specs.Four.{part}
-use Rattle.snd_adpcm.specs.Frames.{Is16Bit}
+use Rattle.snd_ms_adpcm.specs.Four.{part}
+use Rattle.snd_ima_adpcm.specs.Frames.{Is16Bit}
 use Rattle.snd_disk.specs.Device.{Tells}
 use Rattle.snd_disk.specs.State.{State}
 use Rattle.snd_layout.specs.Blocks.{block_frames}

@@ -1,7 +1,7 @@
 -- Blocks that are taken four at a time, and, for the proofs alone, the samples of four that are decoded together.
 use Rattle.std.specs.Prelude.{◌≡◌, ℕ, ℤ, ◌+◌, ◌*◌, ◌<◌, ◌≤◌, List, All, length}
-use Rattle.snd_adpcm.specs.Four.{AreSamples, part}
-use Rattle.snd_adpcm.specs.Frames.{Is16Bit}
+use Rattle.snd_ms_adpcm.specs.Four.{AreSamples, part}
+use Rattle.snd_ima_adpcm.specs.Frames.{Is16Bit}
 use Rattle.snd_layout.specs.declared.codec.Codec.{Codec}
 use Rattle.snd_layout.specs.declared.codec.Codec.TheVariants.{Ms}
 use Rattle.snd_layout.specs.Blocks.{block_align, block_frames}

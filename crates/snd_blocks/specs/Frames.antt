@@ -2,8 +2,8 @@
 -- no numbers, where a good frame has one for each channel.
 use Rattle.std.specs.Prelude.{◌≡◌, ℕ, ℤ, ◌/◌, Bool, true, false, List, [], ◌∷◌, length, take, drop, replicate, if◌then◌else◌}
 use Rattle.std.specs.List.{flat_map, list_any}
-use Rattle.snd_adpcm.specs.Ima.{ima_block, is_bad_ima_block}
-use Rattle.snd_adpcm.specs.Microsoft.{is_bad_ms_block, ms_block}
+use Rattle.snd_ima_adpcm.specs.Ima.{ima_block, is_bad_ima_block}
+use Rattle.snd_ms_adpcm.specs.Microsoft.{is_bad_ms_block, ms_block}
 use Rattle.snd_layout.specs.declared.codec.Codec.{Codec}
 use Rattle.snd_layout.specs.declared.codec.Codec.TheVariants.{Ima, Ms}
 use Rattle.snd_layout.specs.Blocks.{block_align, block_frames}

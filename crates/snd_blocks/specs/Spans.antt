@@ -1,6 +1,6 @@
 -- Which of some wanted frames stand in which block.
 use Rattle.std.specs.Prelude.{◌≡◌, ℕ, ℤ, ◌+◌, ◌-◌, ◌*◌, List, All, min, max, take}
-use Rattle.snd_adpcm.specs.Frames.{Is16Bit}
+use Rattle.snd_ima_adpcm.specs.Frames.{Is16Bit}
 use Rattle.snd_layout.specs.Blocks.{block_frames}
 use Rattle.snd_layout.specs.Shape.{Shape}
 use Rattle.snd_pcm.specs.Groups.{first_groups}

@@ -1,7 +1,7 @@
 //! One block, read from a disk.
 
 ghost use Rattle.std.specs.Prelude.{◌≡◌, ◌+◌, ◌*◌, ◌<◌, ◌≤◌, ◌^◌, ◌↔◌, All, IsErr, IsTrue, OnOk, false, length, true};
-ghost use Rattle.snd_adpcm.specs.Frames.{Is16Bit};
+ghost use Rattle.snd_ima_adpcm.specs.Frames.{Is16Bit};
 ghost use Rattle.snd_disk.specs.Device.{AsksAtMost, IfOkTold, OnlyReadsOn};
 ghost use Rattle.snd_layout.specs.Blocks.{block_align, block_frames, is_adpcm};
 ghost use Rattle.snd_layout.specs.Params.{AreParams};
@@ -12,7 +12,8 @@ ghost use Rattle.snd_blocks.specs.Frames.{block_samples, is_bad_block};
 use crate::buffer::MOST_BYTES;
 use crate::error::BlockError;
 use arrayvec::ArrayVec;
-use snd_adpcm::{BadBlock, ImaBlock, MsBlock};
+use snd_ima_adpcm::{BadBlock, ImaBlock};
+use snd_ms_adpcm::MsBlock;
 use snd_disk::{Disk, fill};
 use snd_layout::{Codec, Layout, Params};
 

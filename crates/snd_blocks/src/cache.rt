@@ -1,7 +1,7 @@
 //! The blocks that were read last.
 
 ghost use Rattle.std.specs.Prelude.{◌≡◌, ◌+◌, ◌-◌, ◌*◌, ◌<◌, ◌≤◌, All, IfOk, IsErr, IsTrue, OnOk, length, max, true, ℕ};
-ghost use Rattle.snd_adpcm.specs.Frames.{Is16Bit};
+ghost use Rattle.snd_ima_adpcm.specs.Frames.{Is16Bit};
 ghost use Rattle.snd_disk.specs.Device.{OnlyReadsOn};
 ghost use Rattle.snd_layout.specs.Blocks.{block_frames, is_adpcm};
 ghost use Rattle.snd_layout.specs.Shape.{end};
@@ -14,7 +14,7 @@ use crate::buffer::BlockCache;
 use crate::error::BlockError;
 use crate::fetch::{Fetched, decode_fetched, fetch_with};
 use crate::four::decode_four;
-use snd_adpcm::BadBlock;
+use snd_ima_adpcm::BadBlock;
 use snd_disk::Disk;
 use snd_layout::Layout;
 

@@ -3,7 +3,7 @@
 ghost use Rattle.std.specs.Prelude.{◌≡◌};
 ghost use Rattle.snd_blocks.specs.declared.error.BlockError.TheVariants as block;
 
-use snd_adpcm::BadBlock;
+use snd_ima_adpcm::BadBlock;
 use snd_disk::Step;
 use thiserror::Error;
 

@@ -1,7 +1,7 @@
 //! The bytes of blocks, read as many at a time as there is room for.
 
 ghost use Rattle.std.specs.Prelude.{◌≡◌, ◌-◌, ◌*◌, ◌<◌, ◌≤◌, ◌↔◌, All, IfOk, IsErr, IsTrue, List, OnOk, length, max, true, ℕ};
-ghost use Rattle.snd_adpcm.specs.Frames.{Is16Bit};
+ghost use Rattle.snd_ima_adpcm.specs.Frames.{Is16Bit};
 ghost use Rattle.snd_disk.specs.Device.{CountsOn, OnlyReadsOn, Tells};
 ghost use Rattle.snd_layout.specs.Blocks.{block_frames, is_adpcm};
 ghost use Rattle.snd_layout.specs.Shape.{end};
@@ -13,7 +13,7 @@ ghost use Rattle.snd_blocks.specs.Frames.{block_samples};
 use crate::block::{align_of, decode, keeps_blocks, place_of};
 use crate::buffer::MOST_BYTES;
 use arrayvec::ArrayVec;
-use snd_adpcm::BadBlock;
+use snd_ima_adpcm::BadBlock;
 use snd_disk::{Disk, Step, fill};
 use snd_layout::Layout;
 

@@ -1,3 +1,5 @@
+pub mod Answered
+pub mod Codecs
 pub mod Formats
 pub mod Frames
 pub mod Replaced

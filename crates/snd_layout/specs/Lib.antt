@@ -3,6 +3,7 @@ pub mod Container
 pub mod Fit
 pub mod Format
 pub mod Laid
+pub mod Made
 pub mod Names
 pub mod Opened
 pub mod Params

@@ -1,6 +1,6 @@
 //! What a sound file says of itself: its kind, its parameters and its layout, and why it is refused.
-//! Nothing here reads a file, nothing but `write_whole` writes one, and nothing allocates but the list of
-//! pieces.
+//! Nothing here reads a file, nothing but `write_whole` and `lay_made` writes one, and nothing allocates
+//! but the list of pieces.
 #![tactic(auto)]
 
 mod codec;
@@ -12,8 +12,10 @@ mod kind;
 mod laws;
 mod laying;
 mod layout;
+mod made;
 mod params;
 mod piece;
+mod put;
 mod refusal;
 mod written;
 
@@ -25,7 +27,9 @@ pub use kind::Kind;
 pub use laws::written_format_reads_back;
 pub use laying::write_whole;
 pub use layout::Layout;
+pub use made::lay_made;
 pub use params::Params;
 pub use piece::{Piece, PieceList};
+pub use put::{put_all, put_long, put_number};
 pub use refusal::OpenRefusal;
 pub use written::put_fmt;

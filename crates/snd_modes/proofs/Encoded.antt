@@ -10,7 +10,7 @@ use Rattle.snd_disk.specs.Runs.{HasAt}
 use Rattle.snd_blocks.specs.Calls.{AreBlocks, HasForm}
 use Rattle.snd_blocks.specs.Sound.{frames_in}
 use Rattle.snd_blocks.proofs.Counted.{frames_are_in_blocks}
-use Rattle.snd_adpcm.specs.Frames.{Is16Bit}
+use Rattle.snd_ima_adpcm.specs.Frames.{Is16Bit}
 use Rattle.std.proofs.lemmas.List.Elements.{All-nil}
 use Rattle.snd_block_writer.specs.Coded.{block_numbers, coded, kept, whole, whole_blocks}
 use Rattle.snd_block_writer.specs.Writing.{StandsFor, Writing}

@@ -4,7 +4,7 @@ use Rattle.std.proofs.Math.Nat.{div-add-mod, mul-mod_left}
 use Rattle.std.proofs.lemmas.Bool.{cases_lt}
 use Rattle.std.proofs.lemmas.List.{length-append}
 use Rattle.std.proofs.lemmas.List.Elements.{All-append}
-use Rattle.snd_adpcm.specs.Frames.{Is16Bit}
+use Rattle.snd_ima_adpcm.specs.Frames.{Is16Bit}
 use Rattle.snd_blocks.proofs.Counted.{frames_are_in_blocks}
 use Rattle.snd_blocks.specs.Calls.{AreBlocks}
 use Rattle.snd_blocks.specs.Sound.{frames_in}

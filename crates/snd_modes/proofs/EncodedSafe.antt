@@ -5,7 +5,7 @@ use Rattle.std.proofs.lemmas.Bool.{cases_lt}
 use Rattle.std.proofs.lemmas.List.{length-append, places}
 use Rattle.std.proofs.lemmas.List.Elements.{All-take}
 use Rattle.snd_blocks.specs.Sound.{decode}
-use Rattle.snd_adpcm.specs.Frames.{Is16Bit}
+use Rattle.snd_ima_adpcm.specs.Frames.{Is16Bit}
 use Rattle.snd_block_writer.proofs.Kept.{coded_are_bytes}
 use Rattle.snd_block_writer.proofs.Partly.{over_has}
 use Rattle.snd_block_writer.proofs.Standing.{coded_more}

@@ -1,7 +1,7 @@
 -- The ranges of codecs.
 use Rattle.std.proofs.Common.{◌≡◌, ◌∙◌, sym, subst, refl, ℤ, true, List, All, Some}
 use Rattle.std.proofs.lemmas.List.Elements.{All-weaker}
-use Rattle.snd_adpcm.specs.Frames.{Is16Bit}
+use Rattle.snd_ima_adpcm.specs.Frames.{Is16Bit}
 use Rattle.snd_container.specs.Fixed.{InRange}
 use Rattle.snd_container.specs.Sound.{fixed_of}
 use Rattle.snd_container.specs.declared.fixed.Fixed.{Fixed}

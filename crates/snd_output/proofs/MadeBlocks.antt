@@ -2,7 +2,7 @@
 use Rattle.std.proofs.Common.{◌≡◌, ◌∙◌, ap, ℕ, ℤ, ◌*◌, ◌/◌, ◌<◌, ◌≤◌, List, [], ◌++◌, length, take, arith}
 use Rattle.std.proofs.Math.Nat.{div-mul-le_self, le-div_iff_mul-le, mul-le-mul_right, zero-div}
 use Rattle.std.proofs.lemmas.List.{length-append, length-take}
-use Rattle.snd_adpcm.specs.Blocks.{filled}
+use Rattle.snd_ima_adpcm.specs.Blocks.{filled}
 use Rattle.snd_blocks.specs.Calls.{AreBlocks}
 use Rattle.snd_block_writer.specs.Coded.{block_numbers, coded, whole, whole_blocks}
 use Rattle.snd_block_writer.proofs.Decoded.{some_channel}

@@ -1,7 +1,7 @@
 -- A file that keeps what stands before its data keeps its walk and its format.
 use Rattle.std.proofs.Common.{◌≡◌, ◌⊎◌, ℕ, zero, suc, ◌+◌, ◌*◌, ◌<◌, ◌≤◌, ◌^◌, Bool, true, false, List, All, length, get_or, Option, None, Some, Ok, Err, refl, sym, ap, ◌∙◌, inl, inr, arith}
-use Rattle.std.proofs.lemmas.Bool.{cases_Bool, eqb-true, le-leb, le-ltb, ltb-false, or_parts}
-use Rattle.std.specs.Prelude.{◌==◌, ◌||◌, IfSome, Result, nat_le, nat_lt, if◌then◌else◌}
+use Rattle.std.proofs.lemmas.Bool.{cases_Bool, eqb-true, le-leb}
+use Rattle.std.specs.Prelude.{◌==◌, ◌||◌, IfSome, Result, nat_le, if◌then◌else◌}
 use Rattle.snd_fields.proofs.Numbers.{number_fits, number_same}
 use Rattle.snd_fields.specs.Laws.{IsByte}
 use Rattle.snd_fields.specs.Field.{number}
@@ -27,50 +27,46 @@ is_sound kind = (kind == 1) || (kind == 9)
 abbrev is_leading : ℕ → Bool
 is_leading kind = (kind == 2) || (kind == 3) || (kind == 6) || (kind == 7)
 
-seen_found : (k len place end kind : ℕ) → seen_of k len place end ≡ Found kind → (is_sound k ≡ true) × (kind ≡ k)
-seen_found k len place end kind is = elim (cases_Bool (is_sound k)) [
+seen_found : (k len place kind : ℕ) → seen_of k len place ≡ Found kind → (is_sound k ≡ true) × (kind ≡ k)
+seen_found k len place kind is = elim (cases_Bool (is_sound k)) [
   | inl one ↦ (one, let h = rw one at is in cc)
   | inr other ↦ elim (cases_Bool (is_leading k)) [
     | inl two ↦ absurd (let h = rw (other, two) at is in cc)
-    | inr three ↦ elim (cases_Bool ((k == 0) || nat_lt end (place + 4))) [
+    | inr three ↦ elim (cases_Bool (k == 0)) [
       | inl four ↦ absurd (let h = rw (other, three, four) at is in cc)
       | inr five ↦ absurd (let h = rw (other, three, five) at is in cc)
     ]
   ]
 ]
 
-seen_found_too : (k len place end kind : ℕ) → is_sound k ≡ true → kind ≡ k → seen_of k len place end ≡ Found kind
-seen_found_too k len place end kind one is = rw (one, is) refl
+seen_found_too : (k len place kind : ℕ) → is_sound k ≡ true → kind ≡ k → seen_of k len place ≡ Found kind
+seen_found_too k len place kind one is = rw (one, is) refl
 
-record IsPassed (k len place end : ℕ) (block : Block) : Type 0 where
+record IsPassed (k len place : ℕ) (block : Block) : Type 0 where
   not_sound : is_sound k ≡ false
   not_leading : is_leading k ≡ false
   not_end : (k == 0) ≡ false
-  within : place + 4 ≤ end
   is : record { kind = k; at = place + 4; len = len } ≡ block
 
-seen_passed : (k len place end : ℕ) (block : Block) → seen_of k len place end ≡ Passed block → IsPassed k len place end block
-seen_passed k len place end block is = elim (cases_Bool (is_sound k)) [
+seen_passed : (k len place : ℕ) (block : Block) → seen_of k len place ≡ Passed block → IsPassed k len place block
+seen_passed k len place block is = elim (cases_Bool (is_sound k)) [
   | inl one ↦ absurd (let h = rw one at is in cc)
   | inr other ↦ elim (cases_Bool (is_leading k)) [
     | inl two ↦ absurd (let h = rw (other, two) at is in cc)
-    | inr three ↦ elim (cases_Bool ((k == 0) || nat_lt end (place + 4))) [
+    | inr three ↦ elim (cases_Bool (k == 0)) [
       | inl four ↦ absurd (let h = rw (other, three, four) at is in cc)
       | inr five ↦ record {
         not_sound = other;
         not_leading = three;
-        not_end = (or_parts (k == 0) (nat_lt end (place + 4)) five).0;
-        within = ltb-false end (place + 4) (or_parts (k == 0) (nat_lt end (place + 4)) five).1;
+        not_end = five;
         is = let h = rw (other, three, five) at is in cc;
       }
     ]
   ]
 ]
 
-seen_passed_too : (k len place end end' : ℕ) (block : Block) → IsPassed k len place end block → place + 4 ≤ end' → seen_of k len place end' ≡ Passed block
-seen_passed_too k len place end end' block p within =
-    let test : nat_lt end' (place + 4) ≡ false = le-ltb end' (place + 4) within in
-    rw (p.not_sound, p.not_leading, p.not_end, test) (ap (λ (t : Block). Passed t) p.is)
+seen_passed_too : (k len place : ℕ) (block : Block) → IsPassed k len place block → seen_of k len place ≡ Passed block
+seen_passed_too k len place block p = rw (p.not_sound, p.not_leading, p.not_end) (ap (λ (t : Block). Passed t) p.is)
 
 -- a block ends by a place
 abbrev pub EndsBy : ℕ → Option Block → Type 0
@@ -120,13 +116,13 @@ suc_passed x n place last block is within =
 module _ (x b : List ℕ) (sound : Sound) (same : SameUpTo (sound.at + 1) x b) (within : sound.at + 1 ≤ length x) where
   found_walks : (n place kind : ℕ) (last : Option Block) → seen b place ≡ Found kind → record { kind = kind; at = place; extension = last } ≡ sound → ((seen x place ≡ Found kind) → walk x n place last ≡ Ok sound) → Walks x b n place last sound
   found_walks n place kind last seen_is sound_is new =
-      let f = seen_found (get_or b place 0) (size_at b place) place (length b) kind seen_is in
+      let f = seen_found (get_or b place 0) (size_at b place) place kind seen_is in
       let at_is : place ≡ sound.at = ap (λ (s : Sound). s.at) sound_is in
       let kind_is : kind ≡ sound.kind = ap (λ (s : Sound). s.kind) sound_is in
       let extension_is : last ≡ sound.extension = ap (λ (s : Sound). s.extension) sound_is in
       let byte : get_or x place 0 ≡ get_or b place 0 = same place (omega (arith, at_is)) in
       let sound_too : is_sound (get_or x place 0) ≡ true = ap is_sound byte ∙ f.0 in
-      let seen_x : seen x place ≡ Found kind = seen_found_too (get_or x place 0) (size_at x place) place (length x) kind sound_too (f.1 ∙ sym byte) in
+      let seen_x : seen x place ≡ Found kind = seen_found_too (get_or x place 0) (size_at x place) place kind sound_too (f.1 ∙ sym byte) in
       record {
         new = new seen_x;
         later = omega (arith, at_is);
@@ -152,14 +148,13 @@ module _ (x b : List ℕ) (sound : Sound) (same : SameUpTo (sound.at + 1) x b) (
     | inl ends ↦
         let on : walk b n (block.at + block.len) (remembered block last) ≡ Ok sound = rw ends at is in
         let further : Walks x b n (block.at + block.len) (remembered block last) sound = rest (block.at + block.len) (remembered block last) on in
-        let p : IsPassed (get_or b place 0) (size_at b place) place (length b) block = seen_passed (get_or b place 0) (size_at b place) place (length b) block seen_is in
+        let p : IsPassed (get_or b place 0) (size_at b place) place block = seen_passed (get_or b place 0) (size_at b place) place block seen_is in
         let at_is : place + 4 ≡ block.at = ap (λ (t : Block). t.at) p.is in
         let len_is : size_at b place ≡ block.len = ap (λ (t : Block). t.len) p.is in
         let byte : get_or x place 0 ≡ get_or b place 0 = same place (omega (arith, at_is, further.later)) in
         let size : size_at x place ≡ size_at b place = number_before (sound.at + 1) (place + 1) 3 x b same (omega (arith, at_is, further.later)) in
         let seen_x : seen x place ≡ Passed block =
-        ap (λ k. seen_of k (size_at x place) place (length x)) byte ∙ ap (λ k. seen_of (get_or b place 0) k place (length x)) size
-        ∙ seen_passed_too (get_or b place 0) (size_at b place) place (length b) (length x) block p (omega (arith, at_is, further.later, within)) in
+        ap (λ k. seen_of k (size_at x place) place) byte ∙ ap (λ k. seen_of (get_or b place 0) k place) size ∙ seen_passed_too (get_or b place 0) (size_at b place) place block p in
         record {
           new = suc_passed x n place last block seen_x (omega (arith, further.later, within)) ∙ further.new;
           later = omega (arith, at_is, further.later);

@@ -16,11 +16,11 @@ use Rattle.snd_voc.specs.declared.blocks.Seen.TheVariants.{Found, Refused, Passe
 use Rattle.snd_voc.specs.declared.blocks.Sound.{Sound}
 
 -- what a head that was read says
-pub look_is : (b h : List ℕ) (place size len : ℕ) (r : Seen) → AgreesFrom b place 4 h → size ≡ length b → len ≡ number Little h 1 3 → r ≡ seen_of (get_or h 0 0) len place size → r ≡ seen b place
-look_is b h place size len r same whole counted is =
+pub look_is : (b h : List ℕ) (place len : ℕ) (r : Seen) → AgreesFrom b place 4 h → len ≡ number Little h 1 3 → r ≡ seen_of (get_or h 0 0) len place → r ≡ seen b place
+look_is b h place len r same counted is =
     let kind : get_or h 0 0 ≡ get_or b place 0 = same 0 (omega arith) ∙ ap (λ k. get_or b k 0) (omega arith) in
     let number_is : len ≡ size_at b place = counted ∙ number_at b h place 4 1 3 same (omega arith) in
-    is ∙ ap (λ k. seen_of k len place size) kind ∙ ap (λ k. seen_of (get_or b place 0) k place size) number_is ∙ ap (seen_of (get_or b place 0) (size_at b place) place) whole
+    is ∙ ap (λ k. seen_of k len place) kind ∙ ap (λ k. seen_of (get_or b place 0) k place) number_is
 
 module _ (b : List ℕ) (place : ℕ) (last : Option Block) where
   pub last_found : (kind : ℕ) → Found kind ≡ seen b place → walk b 0 place last ≡ Ok (record { kind = kind; at = place; extension = last })

@@ -35,18 +35,18 @@ abbrev pub size_at : List ℕ → ℕ → ℕ
 size_at b place = number Little b (place + 1) 3
 
 -- What the walk sees where a block has this type and size: sound without or with a format of its own, 1 and 9; sound that goes
--- on, silence, and repeats, 2, 3, 6 and 7, which do not come first; the end, 0; or a block that is passed over, whose head is
--- all in the file.
-abbrev pub seen_of : ℕ → ℕ → ℕ → ℕ → Seen
-seen_of kind len place end =
+-- on, silence, and repeats, 2, 3, 6 and 7, which do not come first; the end, 0; or a block that is passed over, of which the
+-- file may hold a part alone.
+abbrev pub seen_of : ℕ → ℕ → ℕ → Seen
+seen_of kind len place =
     if (kind == 1) || (kind == 9) then Found kind
     else (if (kind == 2) || (kind == 3) || (kind == 6) || (kind == 7) then Refused LeadingBlock
-    else (if (kind == 0) || nat_lt end (place + 4) then Refused NoData
+    else (if kind == 0 then Refused NoData
     else Passed (record { kind = kind; at = place + 4; len = len })))
 
 -- at the file's end as at type 0
 abbrev pub seen : List ℕ → ℕ → Seen
-seen b place = seen_of (get_or b place 0) (size_at b place) place (length b)
+seen b place = seen_of (get_or b place 0) (size_at b place) place
 
 -- the last block of type 8 counts
 abbrev pub remembered : Block → Option Block → Option Block
@@ -57,7 +57,8 @@ from_seen (Found kind) place last rest = Ok (record { kind = kind; at = place; e
 from_seen (Refused refusal) place last rest = Err refusal
 from_seen (Passed block) place last rest = rest block
 
--- the walk from a place on, over at most n blocks, each of which ends by the end of the file
+-- The walk from a place on, over at most n blocks, each of which ends by the end of the file. One block more is too many,
+-- whether or not the file holds it whole.
 unfoldable pub walk : List ℕ → ℕ → ℕ → Option Block → Result Sound OpenRefusal
 walk b zero place last = from_seen (seen b place) place last (λ block. Err TooManyChunks)
 walk b (suc n) place last =

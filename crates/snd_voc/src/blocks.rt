@@ -30,7 +30,7 @@ pub(crate) enum Seen {
     Found(u8),
     /// What no file has there.
     Refused(OpenRefusal),
-    /// A block that is passed over, which may run past the file's end.
+    /// A block that is passed over, whose head or body may run past the file's end.
     Passed(Block),
 }
 
@@ -43,16 +43,16 @@ pub(crate) struct Sound {
 }
 
 // What a walk sees where a block has this type and size.
-fn seen_of(kind: u8, len: u32, place: u64, end: u64) -> Seen
+fn seen_of(kind: u8, len: u32, place: u64) -> Seen
     requires { place + 4 < 2 ^ 63 }
-    ensures value { result ≡ seen_of kind len place end }
+    ensures value { result ≡ seen_of kind len place }
     ensures placed { IsSeen place result }
 {
     if kind == 1 || kind == 9 {
         Seen::Found(kind)
     } else if kind == 2 || kind == 3 || kind == 6 || kind == 7 {
         Seen::Refused(OpenRefusal::LeadingBlock)
-    } else if kind == 0 || end < place + HEAD_SIZE {
+    } else if kind == 0 {
         Seen::Refused(OpenRefusal::NoData)
     } else {
         Seen::Passed(Block {
@@ -71,9 +71,8 @@ fn remembered(block: Block, last: Option<Block>) -> Option<Block>
 }
 
 // Looks at one place of the walk.
-fn look<D: Disk>(disk: &mut D, place: u64, size: u64) -> Result<Seen, Step>
-    requires size { size ≡ (D.state disk.old).size }
-    requires place { place + 4 < 2 ^ 63 }
+fn look<D: Disk>(disk: &mut D, place: u64) -> Result<Seen, Step>
+    requires { place + 4 < 2 ^ 63 }
     ensures told { IfOkTold D.state disk.old result (λ b found. found ≡ seen b place) }
     ensures placed { IfOk result (IsSeen place) }
     ensures faults { CountsOn D.state disk.old disk.new result }
@@ -82,7 +81,7 @@ fn look<D: Disk>(disk: &mut D, place: u64, size: u64) -> Result<Seen, Step>
 {
     let mut head = [0; HEAD_SIZE as usize];
     read_from(disk, place, &mut head)?;
-    Ok(seen_of(head[0], u24_at(&head, 1, Order::Little), place, size))
+    Ok(seen_of(head[0], u24_at(&head, 1, Order::Little), place))
 }
 
 // Looks at the last place of the walk, where no further block is passed over.
@@ -90,10 +89,8 @@ fn look_last<D: Disk>(
     disk: &mut D,
     place: u64,
     extension: Option<Block>,
-    size: u64,
 ) -> Result<Sound, OpenError>
-    requires size { size ≡ (D.state disk.old).size }
-    requires place { place + 4 < 2 ^ 63 }
+    requires { place + 4 < 2 ^ 63 }
     ensures told { OpensAs D.state disk.old (λ b. walk b 0 place extension) result }
     ensures kind { IfOk result (λ sound. IsSeen place (Found sound.kind)) }
     ensures at { IfOk result (λ sound. sound.at ≡ place) }
@@ -102,7 +99,7 @@ fn look_last<D: Disk>(
     ensures reads { OnlyReadsOn D.state D.may_leave D.left_between disk.old disk.new }
     ensures asked { AsksAtMost D.state 4 disk.old disk.new }
 {
-    match look(disk, place, size)? {
+    match look(disk, place)? {
         Seen::Found(kind) => Ok(Sound {
             kind,
             at: place,
@@ -133,7 +130,7 @@ pub(crate) fn find_sound<D: Disk>(
     let mut place = from;
     let mut extension = None;
     for _passed in 0..most {
-        match look(disk, place, size)? {
+        match look(disk, place)? {
             Seen::Found(kind) => {
                 return Ok(Sound {
                     kind,
@@ -152,5 +149,5 @@ pub(crate) fn find_sound<D: Disk>(
             }
         }
     }
-    look_last(disk, place, extension, size)
+    look_last(disk, place, extension)
 }

@@ -1,9 +1,9 @@
 use Rattle.std.proofs.Common.{rules, ◌≡◌, ◌∙◌, ap, sym, subst, refl, ◌+◌, ◌-◌, ◌*◌, ◌/◌, ◌<◌, ◌≤◌, ℕ, ℤ, All, List, ◌++◌, drop, length, take, arith}
 use Rattle.std.proofs.lemmas.List.{length-drop, length-take-le, take_at}
 use Rattle.snd_fields.specs.Blocks.{ms_samples_per_block}
-use Rattle.snd_adpcm.specs.Four.{AreSamples, part}
-use Rattle.snd_adpcm.specs.Frames.{Is16Bit}
-use Rattle.snd_adpcm.specs.Microsoft.{ms_numbers}
+use Rattle.snd_ms_adpcm.specs.Four.{AreSamples, part}
+use Rattle.snd_ima_adpcm.specs.Frames.{Is16Bit}
+use Rattle.snd_ms_adpcm.specs.Microsoft.{ms_numbers}
 use Rattle.snd_layout.specs.Blocks.{block_align, block_frames}
 use Rattle.snd_layout.specs.Shape.{Shape}
 use Rattle.snd_blocks.specs.Fetching.{block_among}

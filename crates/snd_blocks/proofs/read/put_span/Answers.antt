@@ -1,6 +1,6 @@
 use Rattle.std.proofs.Common.{rules, ◌≡◌, sym, subst, ◌+◌, ◌*◌, ◌++◌, All, List, drop, take, ℕ, ℤ, arith}
 use Rattle.std.proofs.lemmas.List.Elements.{All-append, All-drop, All-take}
-use Rattle.snd_adpcm.specs.Frames.{Is16Bit}
+use Rattle.snd_ima_adpcm.specs.Frames.{Is16Bit}
 use Rattle.snd_layout.specs.Blocks.{block_frames}
 use Rattle.snd_pcm.specs.Groups.{first_groups}
 use Rattle.snd_blocks.specs.Calls.{block_at}

@@ -1,5 +1,5 @@
 use Rattle.std.proofs.Common.{◌≡◌, ◌-◌, ◌*◌, ◌≤◌, ℕ, List, All, max, take}
-use Rattle.snd_adpcm.specs.Frames.{Is16Bit}
+use Rattle.snd_ima_adpcm.specs.Frames.{Is16Bit}
 use Rattle.snd_disk.specs.Device.{AsksAtMost, OnlyReadsOn, Tells}
 use Rattle.snd_layout.specs.Blocks.{block_align, block_frames}
 use Rattle.snd_blocks.specs.Cache.{AreKept, Caches, bytes_cached}

@@ -1,0 +1,12 @@
+pub mod BlockCounts
+pub mod BlockLaws
+pub mod CodedBytes
+pub mod Coding
+pub mod ImaCodes
+pub mod ImaWritten
+pub mod Lemmas
+pub mod Numbers
+pub mod Pairs
+pub mod Pushes
+pub mod Reached
+pub mod Steps

@@ -1,0 +1,10 @@
+pub mod BlockCounts
+pub mod BlockLaws
+pub mod CodedBytes
+pub mod Four
+pub mod LaneCodes
+pub mod Lemmas
+pub mod MsCodes
+pub mod MsWritten
+pub mod Numbers
+pub mod Quotients

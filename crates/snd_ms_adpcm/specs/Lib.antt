@@ -1,0 +1,5 @@
+pub mod Four
+pub mod Lanes
+pub mod Laws
+pub mod Microsoft
+pub mod States
