@@ -1,5 +1,6 @@
 pub mod Formats
 pub mod Frames
+pub mod Public
 pub mod Replaced
 pub mod RoundTrips
 pub mod StatedFormats

@@ -2,6 +2,7 @@ pub mod Blocks
 pub mod Container
 pub mod Fit
 pub mod Format
+pub mod Kinds
 pub mod Laid
 pub mod Names
 pub mod Opened

@@ -12,6 +12,7 @@ mod kind;
 mod laws;
 mod laying;
 mod layout;
+mod own;
 mod params;
 mod piece;
 mod refusal;
