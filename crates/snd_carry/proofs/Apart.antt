@@ -15,7 +15,7 @@ use Rattle.snd_layout.specs.Shape.{Shape}
 use Rattle.snd_layout.specs.declared.kind.Kind.{Kind}
 use Rattle.snd_layout.specs.declared.kind.Kind.TheVariants.{Wave, Rf64, W64, Au, Dns, Voc, Svx, Sphere}
 use Rattle.snd_layout.specs.declared.piece.Piece.{Piece}
-use Rattle.snd_modes.specs.Heads.{holds_meta}
+use Rattle.snd_layout.specs.Kinds.{holds_meta}
 use Rattle.snd_rf64.proofs.Opens.{opens as rf64_opens, reached as rf64_reached}
 use Rattle.snd_rf64.specs.Layout.{data_end as rf64_data_end, outer_end as rf64_outer_end, rf64_front, rf64_layout, rf64_tail}
 use Rattle.snd_wave.proofs.Opens.{opens as wave_opens}

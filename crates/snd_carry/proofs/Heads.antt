@@ -14,13 +14,13 @@ use Rattle.snd_sphere.specs.Written.{made_shape as sphere_shape}
 use Rattle.snd_svx.specs.Written.{made_shape as svx_shape}
 use Rattle.snd_voc.specs.Written.{made_shape as voc_shape}
 use Rattle.snd_w64.specs.Written.{made_shape as w64_shape}
-use Rattle.snd_chunks.specs.Heads.{new_piece, with_piece}
+use Rattle.snd_chunks.specs.Heads.{new_piece, with_piece, outline, blank, blanks}
 use Rattle.snd_wave.specs.Written.{made_shape as wave_shape}
 use Rattle.snd_modes.specs.Handle.{Known}
-use Rattle.snd_modes.specs.Heads.{holds_meta}
+use Rattle.snd_layout.specs.Kinds.{holds_meta}
 use Rattle.snd_modes.specs.PieceCalls.{known_put}
-use Rattle.snd_modes.specs.Relaid.{outline, shape_put, shape_with}
-use Rattle.snd_modes.proofs.Blanks.{blank, blanks, blanks_blanks, blanks_with}
+use Rattle.snd_modes.specs.Relaid.{shape_put, shape_with}
+use Rattle.snd_chunks.proofs.Blanks.{blanks_blanks, blanks_with}
 use Rattle.snd_output.proofs.Carried.{laws_of, says_of}
 use Rattle.snd_carry.specs.Carrying.{known_with}
 

@@ -15,8 +15,9 @@ use Rattle.snd_layout.specs.declared.kind.Kind.{Kind}
 use Rattle.snd_layout.specs.declared.kind.Kind.TheVariants.{Wave, Rf64, W64, Au, Dns, Voc, Svx, Sphere}
 use Rattle.snd_modes.specs.Editing.{Editing}
 use Rattle.snd_modes.specs.Handle.{IsFresh, Known}
-use Rattle.snd_modes.specs.Heads.{holds_meta}
-use Rattle.snd_modes.specs.Relaid.{outline, shape_with}
+use Rattle.snd_layout.specs.Kinds.{holds_meta}
+use Rattle.snd_modes.specs.Relaid.{shape_with}
+use Rattle.snd_chunks.specs.Heads.{outline}
 use Rattle.snd_output.proofs.Carried.{says_of}
 use Rattle.snd_output.specs.Appended.{HasRoom, MayAppend, left_in, numbers_left}
 use Rattle.snd_output.specs.Widths.{change_numbers, joined}

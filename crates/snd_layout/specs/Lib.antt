@@ -1,5 +1,6 @@
 pub mod Blocks
 pub mod Container
+pub mod Filled
 pub mod Fit
 pub mod Format
 pub mod Kinds

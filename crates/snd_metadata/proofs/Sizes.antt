@@ -17,7 +17,7 @@ use Rattle.snd_layout.specs.declared.codec.Codec.TheVariants.{Ima, Ms}
 use Rattle.snd_layout.specs.declared.kind.Kind.{Kind}
 use Rattle.snd_layout.specs.declared.kind.Kind.TheVariants.{Wave, Rf64, W64, Au, Dns, Voc, Svx, Sphere}
 use Rattle.snd_layout.specs.declared.piece.Piece.{Piece}
-use Rattle.snd_modes.specs.Heads.{holds_meta}
+use Rattle.snd_layout.specs.Kinds.{holds_meta}
 use Rattle.snd_modes.specs.Relaid.{shape_with}
 use Rattle.snd_room.specs.Room.{Take}
 use Rattle.snd_metadata.specs.Planned.{MayStand, chunk_planned, outline_planned, sizes_planned}

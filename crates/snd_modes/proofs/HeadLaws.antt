@@ -10,9 +10,9 @@ use Rattle.snd_layout.specs.Params.{Parameters, data_bytes}
 use Rattle.snd_layout.specs.Shape.{KeepsRule, Shape, end, room}
 use Rattle.snd_layout.specs.declared.kind.Kind.{Kind}
 use Rattle.snd_patch.specs.Sealed.{with_fields}
-use Rattle.snd_chunks.specs.Heads.{Heads, IsHeadIn, chunk_read, with_piece}
-use Rattle.snd_modes.specs.Relaid.{head_with, outline, shape_put}
-use Rattle.snd_modes.proofs.Blanks.{blank, blanks, blanks_blanks, blanks_with}
+use Rattle.snd_chunks.specs.Heads.{Heads, IsHeadIn, chunk_read, with_piece, outline, blank, blanks}
+use Rattle.snd_modes.specs.Relaid.{head_with, shape_put}
+use Rattle.snd_chunks.proofs.Blanks.{blanks_blanks, blanks_with}
 
 -- a layout without frames, whose disk holds nothing but the head, with the fields of no frames
 pub record IsBareHead (disk : State) (h : Shape) : Type 0 where

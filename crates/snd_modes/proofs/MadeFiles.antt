@@ -20,10 +20,10 @@ use Rattle.snd_modes.specs.Pacing.{HasPlaceFor}
 use Rattle.snd_modes.specs.Updating.{updating_of}
 use Rattle.snd_w64.specs.Written.{made_shape as w64_made}
 use Rattle.snd_wave.specs.Written.{made_shape as wave_made}
-use Rattle.snd_modes.proofs.BlockBytes.{few_channels, is_held}
+use Rattle.snd_layout.proofs.Public.{few_channels, is_held, blocks_held}
 use Rattle.snd_modes.proofs.EditedFiles.{first_keeps, updated_is_edited}
 use Rattle.snd_modes.proofs.Encoded.{given_none}
-use Rattle.snd_modes.proofs.EncodedPlaces.{blocks_held, may_encode}
+use Rattle.snd_modes.proofs.EncodedPlaces.{may_encode}
 use Rattle.snd_modes.proofs.NewFiles.{begins_new, is_new}
 use Rattle.snd_modes.proofs.Opened.{update_ok}
 use Rattle.snd_modes.proofs.Rooms.{not_adpcm}

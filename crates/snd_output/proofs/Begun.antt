@@ -23,7 +23,7 @@ use Rattle.snd_modes.specs.Edits.{coded}
 use Rattle.snd_modes.specs.Laws.{IsEdited, IsEncoded}
 use Rattle.snd_modes.specs.Making.{making_of}
 use Rattle.snd_modes.specs.Relaid.{head_with, shape_with}
-use Rattle.snd_modes.proofs.BlockBytes.{few_channels, is_held}
+use Rattle.snd_layout.proofs.Public.{few_channels, is_held}
 use Rattle.snd_modes.proofs.FixedFrames.{is_fixed}
 use Rattle.snd_modes.proofs.MadeFiles.{made_is_edited, made_is_encoded}
 use Rattle.snd_modes.proofs.NewFiles.{making_ok, making_refused, never_refused}

@@ -29,15 +29,15 @@ use Rattle.snd_chunks.specs.Heads.{chunk_read}
 use Rattle.snd_wave.specs.Written.{MayBePiece, chunks_before, filler, has_fact, head_for, head_size, inner_size, junk, made_pieces, made_shape, new_fact, new_format, riff_head, start_without_filler, wave_head}
 use Rattle.snd_modes.specs.Editing.{Editing, first_editing}
 use Rattle.snd_modes.specs.Edits.{coded}
-use Rattle.snd_modes.specs.Heads.{holds_meta}
+use Rattle.snd_layout.specs.Kinds.{holds_meta}
 use Rattle.snd_modes.specs.Laws.{IsEncoded}
 use Rattle.snd_modes.specs.Pacing.{HasPlaceFor}
 use Rattle.snd_modes.specs.Relaid.{head_with, shape_with}
 use Rattle.snd_modes.specs.Updating.{updating_of}
-use Rattle.snd_modes.proofs.BlockBytes.{few_channels, is_held}
+use Rattle.snd_layout.proofs.Public.{few_channels, is_held, blocks_held}
 use Rattle.snd_modes.proofs.EditedFiles.{first_keeps, updated_is_edited}
 use Rattle.snd_modes.proofs.Encoded.{given_none}
-use Rattle.snd_modes.proofs.EncodedPlaces.{blocks_held, may_encode}
+use Rattle.snd_modes.proofs.EncodedPlaces.{may_encode}
 use Rattle.snd_modes.proofs.FileRules.{lies_in}
 use Rattle.snd_modes.proofs.NewFiles.{begins_new}
 use Rattle.snd_modes.proofs.HeadLaws.{HeadLaws, SaysNone}

@@ -2,9 +2,12 @@ pub mod Layouts
 pub mod Opens
 pub mod Stays
 pub mod Counted
+pub mod HeadsOfBytes
+pub mod KeptHeads
 pub mod KeptPieces
 pub mod Lies
 pub mod Made
 pub mod NewFiles
+pub mod PieceBodies
 pub mod Putting
 pub mod Contained

@@ -7,7 +7,9 @@ pub mod Contained
 pub mod Counted
 pub mod Counts
 pub mod HeadValues
+pub mod HeadsOfBytes
 pub mod Images
+pub mod KeptHeads
 pub mod KeptPieces
 pub mod LayoutFacts
 pub mod Layouts
@@ -17,6 +19,7 @@ pub mod MadeParts
 pub mod NewFiles
 pub mod NewHeads
 pub mod Opens
+pub mod PieceBodies
 pub mod PlainHeads
 pub mod Planning
 pub mod Putting

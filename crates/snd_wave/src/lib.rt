@@ -23,7 +23,7 @@ pub use change::change_head;
 pub use changing::put_piece;
 pub use closing::put_filler;
 pub use head::lay_head;
-pub use laws::{keeps_laws, made_files_read_back};
+pub use laws::{keeps_head_laws, keeps_laws, made_files_read_back};
 pub use layout::open_layout;
 pub use parts::{Parts, parts_of};
 pub use pieces::add_pieces;

@@ -1,26 +1,19 @@
 -- Bytes put over a head that holds them already.
 use Rattle.std.proofs.Common.{◌≡◌, ◌∙◌, ap, sym, refl, ℕ, ◌+◌, ◌-◌, ◌≤◌, List, [], ◌++◌, Option, None, Some, option_map, length, take, drop, replicate, arith}
-use Rattle.std.specs.Prelude.{IfSome}
 use Rattle.std.proofs.lemmas.List.{append-nil, places, same_lists, take-append-drop}
 use Rattle.snd_chunks.proofs.WrittenChunks.{has_part}
 use Rattle.snd_disk.specs.Bytes.{over}
 use Rattle.snd_disk.specs.Runs.{HasAt}
 use Rattle.snd_disk.proofs.Lists.{length-over}
 use Rattle.snd_fields.specs.Field.{with_field}
-use Rattle.snd_layout.specs.Shape.{EndsBy}
 use Rattle.snd_layout.specs.declared.field.Field.{Field}
-use Rattle.snd_patch.specs.Sealed.{over_field}
-use Rattle.snd_wave.specs.Sealed.{put_in}
+use Rattle.snd_layout.specs.Filled.{over_field}
 
 -- within a list there are no zeros between
 pub over_within : (b : List ℕ) (at : ℕ) (s : List ℕ) → at ≤ length b → over b at s ≡ with_field b at s
 over_within b at s fits =
     let none : at - length b ≡ 0 = omega (arith, fits) in
     ap (λ (k : ℕ). take at b ++ replicate k 0 ++ s ++ drop (at + length s) b) none ∙ ap (λ (l : List ℕ). l ++ s ++ drop (at + length s) b) (append-nil (take at b))
-
-pub field_within : (field : Option Field) (b v : List ℕ) (start : ℕ) → IfSome field (EndsBy start) → start ≤ length b → over_field field b v ≡ put_in field v b
-field_within None b v start ends long = refl
-field_within (Some f) b v start ends long = over_within b f.at v (omega (arith, ends, long))
 
 pub field_longer : (field : Option Field) (b v : List ℕ) → length b ≤ length (over_field field b v)
 field_longer None b v = omega arith

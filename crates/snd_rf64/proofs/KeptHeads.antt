@@ -1,39 +1,41 @@
 -- The heads of RF64 files keep the laws of heads.
-use Rattle.std.proofs.Common.{◌≡◌, ◌∙◌, ap, sym, subst, refl, ℕ, ◌+◌, ◌-◌, ◌≤◌, ◌^◌, false, List, [], ◌++◌, Ok, length, take, get_or, arith, length-append}
-use Rattle.std.specs.Prelude.{map}
+use Rattle.std.proofs.Common.{◌≡◌, ◌∙◌, ap, sym, subst, refl, ⊎_elim, ℕ, ◌+◌, ◌-◌, ◌≤◌, ◌^◌, false, true, List, None, [], ◌++◌, Ok, length, take, get_or, arith, length-append}
+use Rattle.std.proofs.Props.{props}
+use mathlib.Core.Sum.{⊎_set}
+use Rattle.std.specs.Prelude.{All, map}
 use Rattle.std.proofs.lemmas.List.{length-map}
 use Rattle.std.proofs.lemmas.List.Elements.{All-weaker}
 use Rattle.snd_chunks.proofs.WrittenChunks.{has_left, has_right, length-all_placed, length-chunks_bytes}
 use Rattle.snd_chunks.specs.Chunks.{padded_end}
 use Rattle.snd_chunks.specs.Written.{NewChunk, chunks_bytes, pad}
-use Rattle.snd_container.proofs.EveryKind.{of_kind}
-use Rattle.snd_container.proofs.Marks.{kind_of_marks}
-use Rattle.snd_container.specs.Recognised.{recognised}
-use Rattle.snd_container.specs.Sound.{layout_of}
-use Rattle.snd_container.specs.Values.{closing}
 use Rattle.snd_disk.specs.Runs.{HasAt}
 use Rattle.snd_fields.specs.Field.{bytes_of}
 use Rattle.snd_fields.specs.declared.field.Order.TheVariants.{Little}
-use Rattle.snd_layout.specs.Params.{Parameters, data_bytes}
+use Rattle.snd_layout.proofs.Public.{blocks_held, is_held}
+use Rattle.snd_layout.specs.Blocks.{is_adpcm}
+use Rattle.snd_layout.specs.Fit.{fit_refusal}
+use Rattle.snd_layout.specs.Params.{AreParams, Parameters, data_bytes}
+use Rattle.snd_layout.specs.declared.piece.Piece.{Piece}
 use Rattle.snd_layout.specs.Shape.{KeepsRule, Shape, room}
 use Rattle.snd_layout.specs.Written.{written_format}
 use Rattle.snd_layout.specs.declared.kind.Kind.TheVariants.{Rf64}
-use Rattle.snd_patch.specs.Sealed.{with_fields}
 use Rattle.snd_wave.specs.Layout.{piece_of}
-use Rattle.snd_chunks.specs.Heads.{chunk_read}
+use Rattle.snd_chunks.specs.Heads.{blank, blanks, chunk_read, outline}
 use Rattle.snd_wave.specs.Written.{MayBePiece, new_format}
 use Rattle.snd_wave.proofs.Made.{no_bytes_yet}
 use Rattle.snd_rf64.specs.Layout.{shape_at}
 use Rattle.snd_rf64.specs.Put.{data_head, first_place, rf64_heads}
 use Rattle.snd_rf64.specs.Values as rf64
 use Rattle.snd_rf64.specs.Written.{MayBeMade, head_size, made_pieces, made_shape, rf64_head, top}
+use Rattle.snd_rf64.proofs.HeadsOfBytes.{rf64_is}
+use Rattle.snd_rf64.proofs.PieceBodies.{rf64_fits}
 use Rattle.snd_rf64.proofs.Counted.{fits_wave}
 use Rattle.snd_rf64.proofs.Made.{length-head, size_is}
 use Rattle.snd_rf64.proofs.Putting.{heads_read_back, rf64_form, rf64_mark, rf64_size, rf64_split}
-use Rattle.snd_modes.specs.Relaid.{outline}
-use Rattle.snd_modes.proofs.Blanks.{all_length, all_stand, blank, blanks, blanks_keep, outlines_standing, pieces_read, same_length}
-use Rattle.snd_modes.proofs.HeadBytes.{three_stay}
-use Rattle.snd_modes.proofs.HeadLaws.{HeadLaws, SaysNone}
+use Rattle.snd_chunks.proofs.Blanks.{all_before, all_length, all_stand, blanks_keep, outlines_standing, pieces_read, same_length}
+use Rattle.snd_chunks.proofs.HeadBytes.{three_stay}
+use Rattle.snd_rf64.specs.Container.{rf64 as rf64_container}
+use Rattle.snd_chunks.specs.HeadLaws.{IsPieceOf, KeepsHeadLaws, KeepsMetaLaws, KeepsPieceLaws, SaysNone, with_values_of}
 
 size_same : (p : Parameters) (cs : List NewChunk) → head_size p (blanks cs) ≡ head_size p cs
 unfolding head_size
@@ -119,7 +121,7 @@ module _ (p : Parameters) (pieces : List NewChunk) (may : MayBeMade p pieces) wh
   unfolding made_shape rf64.side_value
   side_is = refl
 
-  fields_stay : with_fields head laid 0 ≡ head
+  fields_stay : with_values_of rf64_container head laid 0 ≡ head
   unfolding made_shape
   fields_stay =
       let outer = rf64.outer_value laid 0 in
@@ -128,7 +130,7 @@ module _ (p : Parameters) (pieces : List NewChunk) (may : MayBeMade p pieces) wh
       three_stay head inner outer side 28 20 36 (omega (arith, long, ap length inner_is)) (subst (HasAt head 28) (sym inner_is) inner_there) (omega (arith, long, ap length outer_is)) (subst (HasAt head 20) (sym outer_is) outer_there)
       (omega (arith, long, ap length side_is)) (subst (HasAt head 36) (sym side_is) side_there)
 
-  no_closing : closing laid 0 ≡ []
+  no_closing : rf64_container.closing laid 0 ≡ []
   unfolding made_shape rf64.closing
   no_closing = ap pad none
 
@@ -140,7 +142,7 @@ module _ (p : Parameters) (pieces : List NewChunk) (may : MayBeMade p pieces) wh
   unfolding made_shape made_pieces
   count_is = length-map (_) (piece_of false) ∙ length-all_placed _ pieces
 
-  says : SaysNone Rf64 p laid head
+  says : SaysNone Rf64 rf64_container p laid head
   unfolding made_shape
   says = record {
     kind_is = refl;
@@ -166,21 +168,53 @@ module _ (p : Parameters) (pieces : List NewChunk) (may : MayBeMade p pieces) wh
       pieces_read Little head (first_place p) pieces (All-weaker MayBePiece (λ (c : NewChunk). length c.id ≡ 4) four pieces may.pieces_are) chunks_there
       (omega (arith, ap length ((rf64_split p).split pieces), length-append front behind, length-append (chunks_bytes Little pieces) data_head, (rf64_split p).first_is (length head)))
 
-  is_known : recognised (take 40 head) ≡ Ok Rf64
-  unfolding rf64_head top
-  is_known = kind_of_marks Rf64 (take 40 head) refl
-
-  opens : layout_of head ≡ Ok laid
+  opens : rf64_container.layout head ≡ Ok laid
   unfolding made_shape
-  opens = of_kind head laid is_known (heads_read_back p pieces may)
+  opens = heads_read_back p pieces may
 
-pub rf64_laws : HeadLaws Rf64 rf64_heads
-rf64_laws = record {
+-- ---- with any chunks
+
+may_each : (piece : NewChunk) → IsPieceOf Rf64 piece → MayBePiece piece
+may_each piece is = record { four = is.four; other = is.other; few = is.few }
+
+may_with : (p : Parameters) (pieces : List NewChunk) → AreParams p → fit_refusal Rf64 p ≡ None → All (IsPieceOf Rf64) pieces → length pieces ≤ 240 → MayBeMade p pieces
+may_with p pieces good fits are few = record { params = good; fits = fits; pieces_are = All-weaker (IsPieceOf Rf64) MayBePiece may_each pieces are; few = few }
+
+may_once : (p : Parameters) (pieces : List NewChunk) → IsProp (MayBeMade p pieces)
+may_once p pieces = hlevel (props, ⊎_set)
+
+stand_before : (p : Parameters) (pieces : List NewChunk) → All (λ (piece : Piece). piece.after ≡ false) (made_shape p pieces).pieces
+unfolding made_shape made_pieces
+stand_before p pieces = all_before _
+
+-- it holds no blocks
+is_joined : (p : Parameters) (pieces : List NewChunk) → fit_refusal Rf64 p ≡ None → is_adpcm p.codec ≡ true → 12 ≤ (made_shape p pieces).inner.size
+is_joined p pieces fits is = absurd (⊎_elim (λ wave. cc) (λ w64. cc) (blocks_held Rf64 p.channels p.codec is (is_held Rf64 p fits)))
+
+piece_laws : KeepsPieceLaws Rf64 rf64_container rf64_heads
+piece_laws = record {
+  may = may_with;
+  may_once = may_once;
   says = says;
-  read = reads_pieces;
   opens = opens;
+  read = reads_pieces;
   outlined = outlines_made;
+  before = stand_before;
   blank_may = blanks_made;
   blank_shape = shape_same;
   blank_size = λ p pieces. length-head p (blanks pieces) ∙ size_same p pieces ∙ sym (length-head p pieces);
+}
+
+pub keeps_head_laws : KeepsHeadLaws Rf64 rf64_container rf64_heads
+unfolding made_shape
+keeps_head_laws = record {
+  kind_is = λ p pieces. refl;
+  params_are = λ p pieces. refl;
+  frames = λ p pieces. refl;
+  free = λ p pieces. refl;
+  joined = is_joined;
+  bare_head = λ p. refl;
+  bare_shape = λ p. refl;
+  pieces = λ holds. piece_laws;
+  meta = λ holds. record { bytes = rf64_is; bodies = rf64_fits };
 }

@@ -1,37 +1,37 @@
 -- The heads of 8SVX files keep the laws of heads.
-use Rattle.std.proofs.Common.{◌≡◌, ◌∙◌, ap, sym, subst, refl, ℕ, ◌+◌, ◌-◌, ◌≤◌, ◌^◌, false, List, [], ◌∷◌, ◌++◌, Ok, length, take, get_or, arith, length-append}
-use Rattle.std.specs.Prelude.{codes, if◌then◌else◌, map, replicate}
+use Rattle.std.proofs.Common.{◌≡◌, ◌∙◌, ap, sym, subst, refl, ⊎_elim, ℕ, ◌+◌, ◌-◌, ◌≤◌, ◌^◌, false, true, List, None, [], ◌∷◌, ◌++◌, Ok, length, take, get_or, arith, length-append}
+use Rattle.std.proofs.Props.{props}
+use mathlib.Core.Sum.{⊎_set}
+use Rattle.std.specs.Prelude.{All, codes, if◌then◌else◌, map, replicate}
 use Rattle.std.proofs.lemmas.List.{length-map}
 use Rattle.std.proofs.lemmas.List.Elements.{All-weaker}
 use Rattle.snd_chunks.proofs.WrittenChunks.{has_body, has_first, has_left, has_right, length-all_placed, length-chunks_bytes}
 use Rattle.snd_chunks.specs.Chunks.{padded_end}
 use Rattle.snd_chunks.specs.Written.{NewChunk, chunks_bytes, head_bytes, pad}
-use Rattle.snd_container.proofs.EveryKind.{of_kind}
-use Rattle.snd_container.proofs.Marks.{kind_of_marks}
-use Rattle.snd_container.specs.Recognised.{recognised}
-use Rattle.snd_container.specs.Sound.{layout_of}
-use Rattle.snd_container.specs.Values.{closing}
 use Rattle.snd_disk.specs.Runs.{HasAt}
 use Rattle.snd_fields.specs.Field.{bytes_of}
 use Rattle.snd_fields.specs.declared.field.Order.TheVariants.{Big}
-use Rattle.snd_layout.specs.Params.{Parameters, data_bytes}
+use Rattle.snd_layout.proofs.Public.{blocks_held, is_held}
+use Rattle.snd_layout.specs.Blocks.{is_adpcm}
+use Rattle.snd_layout.specs.Fit.{fit_refusal}
+use Rattle.snd_layout.specs.Params.{AreParams, Parameters, data_bytes}
+use Rattle.snd_layout.specs.declared.piece.Piece.{Piece}
 use Rattle.snd_layout.specs.Sector.{is_in_one_sector}
 use Rattle.snd_layout.specs.Shape.{KeepsRule, Shape, room}
 use Rattle.snd_layout.specs.declared.kind.Kind.TheVariants.{Svx}
-use Rattle.snd_patch.specs.Sealed.{with_fields}
 use Rattle.snd_wave.specs.Layout.{piece_of}
 use Rattle.snd_wave.proofs.Relaying.{length-joined}
-use Rattle.snd_chunks.specs.Heads.{chunk_read}
+use Rattle.snd_chunks.specs.Heads.{blank, blanks, chunk_read, outline}
 use Rattle.snd_svx.specs.Layout.{shape_of}
 use Rattle.snd_svx.specs.Put.{closing_behind, svx_heads}
 use Rattle.snd_svx.specs.Values as svx
 use Rattle.snd_svx.specs.Written.{MayBeMade, MayBePiece, chunks_before, filler, form_head, head_for, head_size, junk, made_pieces, made_shape, new_header, start_without_filler, svx_head}
 use Rattle.snd_svx.proofs.Made.{heads_read_back}
 use Rattle.snd_svx.proofs.Putting.{length-head, no_bytes_yet, svx_form, svx_mark, svx_size, svx_split}
-use Rattle.snd_modes.specs.Relaid.{outline}
-use Rattle.snd_modes.proofs.Blanks.{all_length, all_stand, blank, blanks, blanks_keep, outlines_standing, pieces_read, same_length}
-use Rattle.snd_modes.proofs.HeadBytes.{three_stay}
-use Rattle.snd_modes.proofs.HeadLaws.{HeadLaws, SaysNone}
+use Rattle.snd_chunks.proofs.Blanks.{all_before, all_length, all_stand, blanks_keep, outlines_standing, pieces_read, same_length}
+use Rattle.snd_chunks.proofs.HeadBytes.{three_stay}
+use Rattle.snd_svx.specs.Container.{svx as svx_container}
+use Rattle.snd_chunks.specs.HeadLaws.{IsPieceOf, KeepsHeadLaws, KeepsPieceLaws, SaysNone, with_values_of}
 
 start_same : (p : Parameters) (cs : List NewChunk) → start_without_filler p (blanks cs) ≡ start_without_filler p cs
 start_same p cs = omega (arith, length-chunks_bytes Big (new_header p.rate 0) (blanks cs), length-chunks_bytes Big (new_header p.rate 0) cs, all_length Big cs)
@@ -149,7 +149,7 @@ module _ (p : Parameters) (pieces : List NewChunk) (may : MayBeMade p pieces) wh
   unfolding made_shape svx.side_value
   side_is = refl
 
-  fields_stay : with_fields head laid 0 ≡ head
+  fields_stay : with_values_of svx_container head laid 0 ≡ head
   unfolding made_shape
   fields_stay =
       let outer = svx.outer_value laid 0 in
@@ -159,7 +159,7 @@ module _ (p : Parameters) (pieces : List NewChunk) (may : MayBeMade p pieces) wh
       three_stay head inner outer side (head_size p pieces - 4) 4 20 (omega (arith, long, length-head p pieces, four, ap length inner_is)) (subst (HasAt head (head_size p pieces - 4)) (sym inner_is) inner_there)
       (omega (arith, long, ap length outer_is)) (subst (HasAt head 4) (sym outer_is) outer_there) (omega (arith, long, ap length side_is)) (subst (HasAt head 20) (sym side_is) side_there)
 
-  no_closing : closing laid 0 ≡ []
+  no_closing : svx_container.closing laid 0 ≡ []
   unfolding made_shape svx.closing
   no_closing = ap pad none
 
@@ -171,7 +171,7 @@ module _ (p : Parameters) (pieces : List NewChunk) (may : MayBeMade p pieces) wh
   unfolding made_shape
   count_is = length-map (_) (piece_of false) ∙ length-all_placed _ pieces
 
-  says : SaysNone Svx p laid head
+  says : SaysNone Svx svx_container p laid head
   unfolding made_shape
   says = record {
     kind_is = refl;
@@ -203,21 +203,53 @@ module _ (p : Parameters) (pieces : List NewChunk) (may : MayBeMade p pieces) wh
         (svx_split p may.params may.fits).first_is (length head),
       ))
 
-  is_known : recognised (take 40 head) ≡ Ok Svx
-  unfolding head_for
-  is_known = kind_of_marks Svx (take 40 head) refl
-
-  opens : layout_of head ≡ Ok laid
+  opens : svx_container.layout head ≡ Ok laid
   unfolding made_shape
-  opens = of_kind head laid is_known (heads_read_back p pieces may)
+  opens = heads_read_back p pieces may
 
-pub svx_laws : HeadLaws Svx svx_heads
-svx_laws = record {
+-- ---- with any chunks
+
+may_each : (piece : NewChunk) → IsPieceOf Svx piece → MayBePiece piece
+may_each piece is = record { four = is.four; other = is.other; few = is.few }
+
+may_with : (p : Parameters) (pieces : List NewChunk) → AreParams p → fit_refusal Svx p ≡ None → All (IsPieceOf Svx) pieces → length pieces ≤ 240 → MayBeMade p pieces
+may_with p pieces good fits are few = record { params = good; fits = fits; pieces_are = All-weaker (IsPieceOf Svx) MayBePiece may_each pieces are; few = few }
+
+may_once : (p : Parameters) (pieces : List NewChunk) → IsProp (MayBeMade p pieces)
+may_once p pieces = hlevel (props, ⊎_set)
+
+stand_before : (p : Parameters) (pieces : List NewChunk) → All (λ (piece : Piece). piece.after ≡ false) (made_shape p pieces 0).pieces
+unfolding made_shape
+stand_before p pieces = all_before _
+
+-- it holds no blocks
+is_joined : (p : Parameters) (pieces : List NewChunk) → fit_refusal Svx p ≡ None → is_adpcm p.codec ≡ true → 12 ≤ (made_shape p pieces 0).inner.size
+is_joined p pieces fits is = absurd (⊎_elim (λ wave. cc) (λ w64. cc) (blocks_held Svx p.channels p.codec is (is_held Svx p fits)))
+
+piece_laws : KeepsPieceLaws Svx svx_container svx_heads
+piece_laws = record {
+  may = may_with;
+  may_once = may_once;
   says = says;
-  read = reads_pieces;
   opens = opens;
+  read = reads_pieces;
   outlined = outlines_made;
+  before = stand_before;
   blank_may = blanks_made;
   blank_shape = shape_same;
   blank_size = λ p pieces. length-head p (blanks pieces) ∙ size_same p pieces ∙ sym (length-head p pieces);
+}
+
+pub keeps_head_laws : KeepsHeadLaws Svx svx_container svx_heads
+unfolding made_shape
+keeps_head_laws = record {
+  kind_is = λ p pieces. refl;
+  params_are = λ p pieces. refl;
+  frames = λ p pieces. refl;
+  free = λ p pieces. refl;
+  joined = is_joined;
+  bare_head = λ p. refl;
+  bare_shape = λ p. refl;
+  pieces = λ holds. piece_laws;
+  meta = λ holds. absurd (cc);
 }

@@ -5,21 +5,17 @@ use Rattle.std.proofs.lemmas.List.{length-append, length-replicate, map-append, 
 use Rattle.std.proofs.lemmas.List.Elements.{All-cons, All-head, All-nil, All-tail}
 use Rattle.snd_disk.specs.Runs.{HasAt}
 use Rattle.snd_chunks.specs.Chunks.{padded_end}
+use Rattle.snd_chunks.specs.declared.chunk.Chunk.{Chunk}
 use Rattle.snd_chunks.specs.Written.{NewChunk, all_placed, chunk_bytes, chunks_bytes, head_bytes, pad}
 use Rattle.snd_chunks.proofs.WrittenChunks.{has_body, has_first, has_others, has_part, length-chunk_bytes, length-chunks_bytes}
 use Rattle.snd_fields.specs.Field.{bytes_of}
 use Rattle.snd_fields.specs.declared.field.Order.{Order}
 use Rattle.snd_layout.specs.declared.piece.Piece.{Piece}
-use Rattle.snd_chunks.specs.Heads.{chunk_read, with_piece}
-use Rattle.snd_wave.specs.Layout.{piece_of}
-use Rattle.snd_modes.specs.Relaid.{outline}
+use Rattle.snd_chunks.specs.Heads.{blank, blanks, chunk_read, outline, with_piece}
 
--- a chunk of the same length, of zeros
-unfoldable pub blank : NewChunk → NewChunk
-blank c = record { id = c.id; body = replicate (length c.body) 0 }
-
-abbrev pub blanks : List NewChunk → List NewChunk
-blanks cs = map blank cs
+-- a chunk that stands before the data, as a piece
+abbrev standing : Chunk → Piece
+standing c = record { id = c.id; at = c.at; len = c.len; after = false }
 
 blank_blank : (c : NewChunk) → blank (blank c) ≡ blank c
 unfolding blank
@@ -51,15 +47,20 @@ pub all_length : (order : Order) (cs : List NewChunk) → length (chunks_bytes o
 all_length order [] = refl
 all_length order (c ∷ cs) = omega (arith, length-chunks_bytes order (blank c) (blanks cs), length-chunks_bytes order c cs, one_length order c, all_length order cs)
 
-pub all_stand : (q : ℕ) (cs : List NewChunk) → map (piece_of false) (all_placed q (blanks cs)) ≡ map (piece_of false) (all_placed q cs)
+pub all_stand : (q : ℕ) (cs : List NewChunk) → map standing (all_placed q (blanks cs)) ≡ map standing (all_placed q cs)
 unfolding all_placed blank
 all_stand q [] = refl
 all_stand q (c ∷ cs) =
-    ap (λ (k : ℕ). record { id = record { 0 = c.id }; at = q + 8; len = k; after = false } ∷ map (piece_of false) (all_placed (padded_end (q + 8) k) (blanks cs))) (length-replicate (length c.body) 0)
+    ap (λ (k : ℕ). record { id = record { 0 = c.id }; at = q + 8; len = k; after = false } ∷ map standing (all_placed (padded_end (q + 8) k) (blanks cs))) (length-replicate (length c.body) 0)
     ∙ ap (λ (l : List Piece). record { id = record { 0 = c.id }; at = q + 8; len = length c.body; after = false } ∷ l) (all_stand (padded_end (q + 8) (length c.body)) cs)
 
+-- they all stand before the data
+pub all_before : (cs : List Chunk) → All (λ (piece : Piece). piece.after ≡ false) (map standing cs)
+all_before [] = All-nil (λ (piece : Piece). piece.after ≡ false)
+all_before (c ∷ cs) = All-cons (λ (piece : Piece). piece.after ≡ false) (standing c) (map standing cs) refl (all_before cs)
+
 -- a layout knows a piece by its outline
-pub outlines_standing : (q : ℕ) (cs : List NewChunk) → map outline (map (piece_of false) (all_placed q cs)) ≡ blanks cs
+pub outlines_standing : (q : ℕ) (cs : List NewChunk) → map outline (map standing (all_placed q cs)) ≡ blanks cs
 unfolding all_placed blank
 outlines_standing q [] = refl
 outlines_standing q (c ∷ cs) = ap (λ (l : List NewChunk). blank c ∷ l) (outlines_standing (padded_end (q + 8) (length c.body)) cs)
@@ -82,7 +83,7 @@ blanks_with cs place piece =
 
 -- chunks that stand in a file, one behind the other, are read back
 pub pieces_read : (order : Order) (b : List ℕ) (place : ℕ) (pieces : List NewChunk) → All (λ (c : NewChunk). length c.id ≡ 4) pieces → HasAt b place (chunks_bytes order pieces) → place + length (chunks_bytes order pieces) ≤ length b
-    → map (chunk_read b) (map (piece_of false) (all_placed place pieces)) ≡ pieces
+    → map (chunk_read b) (map standing (all_placed place pieces)) ≡ pieces
 unfolding all_placed
 pieces_read order b place [] are has within = refl
 pieces_read order b place (piece ∷ pieces) are has within =
@@ -93,5 +94,5 @@ pieces_read order b place (piece ∷ pieces) are has within =
     has_part (length piece.body) b (place + 8) piece.body refl (omega (arith, within, all, next)) (has_body order b place piece four (has_first order b place piece pieces has)) in
     let others = pieces_read order b (padded_end (place + 8) (length piece.body)) pieces (All-tail (λ (c : NewChunk). length c.id ≡ 4) piece pieces are)
     (has_others order b place (padded_end (place + 8) (length piece.body)) piece pieces (sym next) has) (omega (arith, within, all, next)) in
-    ap (λ (l : List ℕ). (record { id = piece.id; body = l }) ∷ map (chunk_read b) (map (piece_of false) (all_placed (padded_end (place + 8) (length piece.body)) pieces))) body
+    ap (λ (l : List ℕ). (record { id = piece.id; body = l }) ∷ map (chunk_read b) (map standing (all_placed (padded_end (place + 8) (length piece.body)) pieces))) body
     ∙ ap (λ (l : List NewChunk). piece ∷ l) others

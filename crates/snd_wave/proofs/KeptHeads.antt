@@ -1,39 +1,47 @@
 -- The heads of WAVE files keep the laws of heads.
-use Rattle.std.proofs.Common.{◌≡◌, ◌∙◌, ap, sym, subst, refl, ℕ, ◌+◌, ◌≤◌, ◌^◌, false, List, [], ◌++◌, ◌∷◌, Some, None, Ok, ◌-◌, length, take, arith}
-use Rattle.std.specs.Prelude.{if◌then◌else◌, map}
+use Rattle.std.proofs.Common.{◌≡◌, ◌∙◌, ap, sym, subst, refl, ℕ, ◌+◌, ◌≤◌, ◌^◌, false, true, List, [], ◌++◌, ◌∷◌, Some, None, Ok, ◌-◌, length, take, arith}
+use Rattle.std.proofs.Props.{props}
+use mathlib.Core.Sum.{⊎_set}
+use Rattle.std.specs.Prelude.{All, IfSome, Option, if◌then◌else◌, map}
 use Rattle.std.proofs.lemmas.List.{append-nil, length-map}
+use Rattle.std.proofs.lemmas.List.Elements.{All-weaker}
 use Rattle.snd_chunks.specs.Chunks.{padded_end}
 use Rattle.snd_chunks.specs.Written.{NewChunk, chunks_bytes, pad}
 use Rattle.snd_chunks.proofs.WrittenChunks.{length-all_placed, length-chunks_bytes}
-use Rattle.snd_container.proofs.EveryKind.{of_kind}
-use Rattle.snd_container.proofs.Marks.{kind_of_marks}
-use Rattle.snd_container.specs.Recognised.{recognised}
-use Rattle.snd_container.specs.Sound.{layout_of}
-use Rattle.snd_container.specs.Values.{closing}
 use Rattle.snd_disk.specs.Bytes.{over}
 use Rattle.snd_disk.proofs.Lists.{length-over}
 use Rattle.snd_fields.specs.declared.field.Order.TheVariants.{Little}
-use Rattle.snd_layout.specs.Params.{Parameters, data_bytes}
+use Rattle.snd_layout.specs.Blocks.{is_adpcm}
+use Rattle.snd_layout.specs.Fit.{fit_refusal}
+use Rattle.snd_layout.specs.Params.{AreParams, Parameters, data_bytes}
 use Rattle.snd_layout.specs.Sector.{is_in_one_sector}
-use Rattle.snd_layout.specs.Shape.{KeepsRule, Shape, room}
+use Rattle.snd_layout.specs.Shape.{EndsBy, KeepsRule, Shape, room}
 use Rattle.snd_layout.specs.Written.{written_format}
+use Rattle.snd_layout.specs.declared.field.Field.{Field}
 use Rattle.snd_layout.specs.declared.kind.Kind.TheVariants.{Wave}
 use Rattle.snd_layout.specs.declared.piece.Piece.{Piece}
-use Rattle.snd_patch.specs.Sealed.{over_field, with_fields}
+use Rattle.snd_layout.specs.Filled.{over_field}
 use Rattle.snd_wave.specs.Layout.{piece_of}
 use Rattle.snd_wave.specs.Put.{wave_heads}
 use Rattle.snd_wave.specs.Sealed.{put_in, with_values}
 use Rattle.snd_wave.specs.Values as wave
-use Rattle.snd_chunks.specs.Heads.{chunk_read}
+use Rattle.snd_chunks.specs.Heads.{blank, blanks, chunk_read, outline}
 use Rattle.snd_wave.specs.Written.{MayBeMade, MayBePiece, head_for, head_size, inner_at, inner_size, junk, made_pieces, made_shape, new_format, riff_head, side_at, start_without_filler, wave_head, wave_made}
+use Rattle.snd_wave.proofs.HeadsOfBytes.{wave_is}
+use Rattle.snd_wave.proofs.PieceBodies.{wave_fits}
 use Rattle.snd_wave.proofs.HeadValues.{head_is_counted}
 use Rattle.snd_wave.proofs.Made.{head_reads_back, length-head_for, no_bytes_yet}
 use Rattle.snd_wave.proofs.MadeParts.{made_holds_all}
 use Rattle.snd_wave.proofs.NewHeads.{size_with}
-use Rattle.snd_modes.specs.Relaid.{outline}
-use Rattle.snd_modes.proofs.Blanks.{all_length, all_stand, blank, blanks, blanks_keep, outlines_standing, same_length}
-use Rattle.snd_modes.proofs.HeadBytes.{field_longer, field_within, over_within}
-use Rattle.snd_modes.proofs.HeadLaws.{HeadLaws, SaysNone}
+use Rattle.snd_chunks.proofs.Blanks.{all_before, all_length, all_stand, blanks_keep, outlines_standing, same_length}
+use Rattle.snd_chunks.proofs.HeadBytes.{field_longer, over_within}
+use Rattle.snd_wave.specs.Container.{wave as wave_container}
+use Rattle.snd_chunks.specs.HeadLaws.{IsPieceOf, KeepsHeadLaws, KeepsMetaLaws, KeepsPieceLaws, SaysNone, with_values_of}
+
+-- bytes put into a field, which lie within a head
+field_within : (field : Option Field) (b v : List ℕ) (start : ℕ) → IfSome field (EndsBy start) → start ≤ length b → over_field field b v ≡ put_in field v b
+field_within None b v start ends long = refl
+field_within (Some f) b v start ends long = over_within b f.at v (omega (arith, ends, long))
 
 module _ (p : Parameters) where
   start_same : (cs : List NewChunk) → start_without_filler p (blanks cs) ≡ start_without_filler p cs
@@ -109,7 +117,7 @@ module _ (p : Parameters) (pieces : List NewChunk) where
   unfolding made_shape
   pieces_are = refl
 
-  no_closing : data_bytes p 0 ≡ 0 → closing laid 0 ≡ []
+  no_closing : data_bytes p 0 ≡ 0 → wave_container.closing laid 0 ≡ []
   unfolding made_shape wave.closing
   no_closing none = ap pad none
 
@@ -122,7 +130,7 @@ module _ (p : Parameters) (pieces : List NewChunk) where
   count_is = length-map (_) (piece_of false) ∙ length-all_placed _ pieces
 
   -- the values that are put are those that the head holds
-  puts_values : (b : List ℕ) → KeepsRule laid → laid.start ≤ length b → with_fields b laid 0 ≡ with_values b laid 0
+  puts_values : (b : List ℕ) → KeepsRule laid → laid.start ≤ length b → with_values_of wave_container b laid 0 ≡ with_values b laid 0
   unfolding made_shape with_values
   puts_values b rule long =
       let inner = wave.inner_value laid 0 in
@@ -139,10 +147,10 @@ module _ (p : Parameters) (pieces : List NewChunk) where
   holds_values : with_values head laid 0 ≡ head
   holds_values = subst (λ (l : List ℕ). with_values l laid 0 ≡ l) (append-nil head) (head_is_counted p pieces 0 [])
 
-  fields_stay : KeepsRule laid → with_fields head laid 0 ≡ head
+  fields_stay : KeepsRule laid → with_values_of wave_container head laid 0 ≡ head
   fields_stay rule = puts_values head rule (omega (arith, start_is, length-head_for p pieces 0)) ∙ holds_values
 
-  says : MayBeMade p pieces 0 → SaysNone Wave p laid head
+  says : MayBeMade p pieces 0 → SaysNone Wave wave_container p laid head
   unfolding made_shape
   says may =
       let none : data_bytes p 0 ≡ 0 = no_bytes_yet p may.params may.fits in
@@ -169,21 +177,62 @@ module _ (p : Parameters) (pieces : List NewChunk) where
       ap (map (chunk_read head)) pieces_are
       ∙ subst (λ (l : List ℕ). map (chunk_read l) (made_pieces p pieces) ≡ pieces) whole (made_holds_all p pieces 0 [] may (sym none)).0
 
-  is_known : recognised (take 40 head) ≡ Ok Wave
-  unfolding head_for riff_head
-  is_known = kind_of_marks Wave (take 40 head) refl
-
-  opens : MayBeMade p pieces 0 → layout_of head ≡ Ok laid
+  opens : MayBeMade p pieces 0 → wave_container.layout head ≡ Ok laid
   unfolding made_shape
-  opens may = of_kind head laid is_known (head_reads_back p pieces may)
+  opens may = head_reads_back p pieces may
 
-pub wave_laws : HeadLaws Wave wave_heads
-wave_laws = record {
+-- ---- with any chunks
+
+may_each : (piece : NewChunk) → IsPieceOf Wave piece → MayBePiece piece
+may_each piece is = record { four = is.four; other = is.other; few = is.few }
+
+may_with : (p : Parameters) (pieces : List NewChunk) → AreParams p → fit_refusal Wave p ≡ None → All (IsPieceOf Wave) pieces → length pieces ≤ 240 → MayBeMade p pieces 0
+may_with p pieces good fits are few =
+    let none : data_bytes p 0 ≡ 0 = no_bytes_yet p good fits in
+    record {
+      params = good;
+      fits = fits;
+      pieces_are = All-weaker (IsPieceOf Wave) MayBePiece may_each pieces are;
+      few = few;
+      in_room = omega (arith, none);
+      counted = λ blocks. omega arith;
+    }
+
+may_once : (p : Parameters) (pieces : List NewChunk) → IsProp (MayBeMade p pieces 0)
+may_once p pieces = hlevel (props, ⊎_set)
+
+stand_before : (p : Parameters) (pieces : List NewChunk) → All (λ (piece : Piece). piece.after ≡ false) (made_shape p pieces 0).pieces
+unfolding made_shape made_pieces
+stand_before p pieces = all_before _
+
+is_joined : (p : Parameters) (pieces : List NewChunk) → is_adpcm p.codec ≡ true → 12 ≤ (made_shape p pieces 0).inner.size
+unfolding made_shape
+is_joined p pieces blocks = rw blocks (omega arith)
+
+piece_laws : KeepsPieceLaws Wave wave_container wave_heads
+piece_laws = record {
+  may = may_with;
+  may_once = may_once;
   says = says;
-  read = reads_pieces;
   opens = opens;
+  read = reads_pieces;
   outlined = outlines_made;
+  before = stand_before;
   blank_may = blanks_made;
   blank_shape = shape_same;
   blank_size = λ p pieces. length-head_for p (blanks pieces) 0 ∙ size_same p pieces ∙ sym (length-head_for p pieces 0);
+}
+
+pub keeps_head_laws : KeepsHeadLaws Wave wave_container wave_heads
+unfolding made_shape
+keeps_head_laws = record {
+  kind_is = λ p pieces. refl;
+  params_are = λ p pieces. refl;
+  frames = λ p pieces. refl;
+  free = λ p pieces. refl;
+  joined = λ p pieces fits blocks. is_joined p pieces blocks;
+  bare_head = λ p. refl;
+  bare_shape = λ p. refl;
+  pieces = λ holds. piece_laws;
+  meta = λ holds. record { bytes = wave_is; bodies = wave_fits };
 }
