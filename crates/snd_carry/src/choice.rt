@@ -9,7 +9,7 @@ ghost use Rattle.snd_carry.specs.Carried.{TakesBytes, carried_pieces, is_carried
 
 use snd_layout::{Kind, Piece, PieceList};
 use snd_modes::may_be_piece;
-use snd_room::chunk_size;
+use snd_container::chunk_size;
 
 /// The most bytes of the body of a chunk that is carried.
 const MOST_BYTES: u64 = 65536;

@@ -60,10 +60,11 @@ pub record KeepsPieceLaws (kind : Kind) (c : Container) (heads : Heads) : Type 0
   pub blank_shape : (p : Parameters) (pieces : List NewChunk) → heads.shape p (blanks pieces) ≡ heads.shape p pieces
   pub blank_size : (p : Parameters) (pieces : List NewChunk) → length (heads.head p (blanks pieces)) ≡ length (heads.head p pieces)
 
--- .. and of a kind with texts and fields: its heads are of bytes, and the bodies of the chunks of any file are no more bytes than it
-pub record KeepsMetaLaws (c : Container) (heads : Heads) : Type 0 where
+-- .. and of a kind with texts and fields: its heads are of bytes, and the bodies of the chunks of any file of the kind
+-- are no more bytes than it
+pub record KeepsMetaLaws (kind : Kind) (c : Container) (heads : Heads) : Type 0 where
   pub bytes : (p : Parameters) (pieces : List NewChunk) → All IsOfBytes pieces → All IsByte (heads.head p pieces)
-  pub bodies : (b : List ℕ) (h : Shape) → c.layout b ≡ Ok h → sum_by (λ (piece : Piece). piece.len) h.pieces ≤ length b
+  pub bodies : (b : List ℕ) (h : Shape) → c.layout b ≡ Ok h → h.kind ≡ kind → sum_by (λ (piece : Piece). piece.len) h.pieces ≤ length b
 
 -- all of them, the first ones with any list of chunks
 pub record KeepsHeadLaws (kind : Kind) (c : Container) (heads : Heads) : Type 0 where
@@ -75,4 +76,4 @@ pub record KeepsHeadLaws (kind : Kind) (c : Container) (heads : Heads) : Type 0 
   pub bare_head : (p : Parameters) → heads.head p [] ≡ c.head p
   pub bare_shape : (p : Parameters) → heads.shape p [] ≡ c.made p
   pub pieces : holds_pieces kind ≡ true → KeepsPieceLaws kind c heads
-  pub meta : holds_meta kind ≡ true → KeepsMetaLaws c heads
+  pub meta : holds_meta kind ≡ true → KeepsMetaLaws kind c heads

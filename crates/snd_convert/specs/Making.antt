@@ -24,7 +24,7 @@ use Rattle.snd_output.specs.Made.{IsMaking}
 use Rattle.snd_output.specs.declared.stop.Stop.{Stop}
 use Rattle.snd_tools.specs.Shelves.{HasFiles, IsDone}
 use Rattle.snd_tools.specs.declared.answer.Answer.{Answer}
-use Rattle.snd_room.specs.Room.{Take}
+use Rattle.snd_container.specs.Room.{Take}
 use Rattle.snd_words.specs.declared.convert.Conversion.{Conversion}
 use Rattle.snd_convert.specs.Convert.{carries, chunks_for, done_by_plan, file_made, is_full, made_if_good, made_of, numbers_for}
 use Rattle.snd_convert.specs.Plan.{Planned, planned}

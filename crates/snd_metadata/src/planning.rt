@@ -23,7 +23,7 @@ use snd_container::fit;
 use snd_disk::Disk;
 use snd_lines::Refusal;
 use snd_modes::{File, Read};
-use snd_room::room_with;
+use snd_container::room_with;
 use snd_words::MetadataSettings;
 use std::alloc::Global;
 

@@ -9,7 +9,8 @@ use Rattle.snd_fields.specs.Laws.{IsByte}
 use Rattle.snd_fields.specs.declared.field.Order.TheVariants.{Little}
 use Rattle.snd_layout.specs.Params.{Parameters}
 use Rattle.snd_rf64.specs.Written as rf64
-use Rattle.snd_wave.proofs.ByteValues.{both, from_test, number_bytes, three}
+use Rattle.snd_wave.proofs.ByteValues.{both, number_bytes, three}
+use Rattle.snd_fields.proofs.Tested.{from_test}
 use Rattle.snd_wave.proofs.HeadsOfBytes.{all_chunks, format_is}
 use Rattle.snd_wave.specs.Written.{new_format}
 

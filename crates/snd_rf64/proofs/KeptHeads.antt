@@ -216,5 +216,5 @@ keeps_head_laws = record {
   bare_head = λ p. refl;
   bare_shape = λ p. refl;
   pieces = λ holds. piece_laws;
-  meta = λ holds. record { bytes = rf64_is; bodies = rf64_fits };
+  meta = λ holds. record { bytes = rf64_is; bodies = λ b h laid is. rf64_fits b h laid };
 }

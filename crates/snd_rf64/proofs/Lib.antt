@@ -1,5 +1,6 @@
 pub mod Layouts
 pub mod Opens
+pub mod Starts
 pub mod Stays
 pub mod Counted
 pub mod HeadsOfBytes

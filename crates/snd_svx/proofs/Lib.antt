@@ -12,3 +12,4 @@ pub mod Opens
 pub mod PlainHeads
 pub mod Putting
 pub mod Sizes
+pub mod Starts

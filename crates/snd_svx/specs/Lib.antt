@@ -2,5 +2,6 @@ pub mod Container
 pub mod Layout
 pub mod Parts
 pub mod Put
+pub mod Start
 pub mod Values
 pub mod Written

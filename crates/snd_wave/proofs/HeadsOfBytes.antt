@@ -1,5 +1,5 @@
 -- The head that is made with chunks of bytes is of bytes.
-use Rattle.std.proofs.Common.{refl, Bool, true, false, cond, List, [], ◌∷◌, ◌++◌, All, arith}
+use Rattle.std.proofs.Common.{refl, ◌-◌, Bool, true, false, cond, List, [], ◌∷◌, ◌++◌, All, arith}
 use Rattle.std.proofs.lemmas.List.Elements.{All-append, All-cons, All-head, All-nil, All-replicate, All-tail}
 use Rattle.std.specs.Prelude.{codes}
 use Rattle.snd_chunks.specs.HeadLaws.{IsOfBytes}
@@ -10,7 +10,8 @@ use Rattle.snd_fields.specs.declared.field.Order.TheVariants.{Little}
 use Rattle.snd_layout.proofs.StatedFormats.{format_bytes}
 use Rattle.snd_layout.specs.Params.{Parameters, data_bytes}
 use Rattle.snd_layout.specs.Sector.{is_in_one_sector}
-use Rattle.snd_wave.proofs.ByteValues.{both, from_test, number_bytes, three, two_chunks}
+use Rattle.snd_wave.proofs.ByteValues.{both, number_bytes, three, two_chunks}
+use Rattle.snd_fields.proofs.Tested.{from_test}
 use Rattle.snd_wave.specs.Values.{riff_size}
 use Rattle.snd_wave.specs.Written.{chunks_before, filler, has_fact, head_for, head_size, inner_size, junk, new_fact, new_format, riff_head, start_without_filler, wave_head}
 

@@ -234,5 +234,5 @@ keeps_head_laws = record {
   bare_head = λ p. refl;
   bare_shape = λ p. refl;
   pieces = λ holds. piece_laws;
-  meta = λ holds. record { bytes = wave_is; bodies = wave_fits };
+  meta = λ holds. record { bytes = wave_is; bodies = λ b h laid is. wave_fits b h laid };
 }

@@ -28,4 +28,5 @@ pub mod Shapes
 pub mod Sizes
 pub mod Splits
 pub mod Standing
+pub mod Starts
 pub mod Widths

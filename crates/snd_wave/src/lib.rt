@@ -16,6 +16,7 @@ mod plan;
 mod put;
 mod reads;
 mod rest;
+mod start;
 mod steps;
 mod values;
 
@@ -31,4 +32,5 @@ pub use plan::{Plan, plan_piece};
 pub use put::{put_all, put_chunk, put_number, put_pad, put_size};
 pub use reads::read_format;
 pub use rest::Closing;
+pub use start::{filled_start, start_with};
 pub use values::{closing_bytes, inner_bytes, outer_bytes, room, side_bytes};

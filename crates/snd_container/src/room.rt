@@ -2,9 +2,8 @@
 
 ghost use Rattle.std.specs.Prelude.{◌≡◌, ◌≤◌, None};
 ghost use Rattle.snd_layout.specs.Fit.{fit_refusal};
-ghost use Rattle.snd_room.specs.Room.{HasRoom};
+ghost use Rattle.snd_container.specs.Room.{HasRoom};
 
-use crate::start::{rf64_start, svx_start, w64_start, wave_start};
 use snd_layout::{Kind, Params};
 
 /// Where data end at most in a RIFF and in an IFF file.
@@ -26,10 +25,10 @@ pub fn room_with(kind: Kind, params: Params, chunks: u64) -> u64
 {
     params.are_good();
     match kind {
-        Kind::Wave => MOST_END - wave_start(params.codec, chunks),
-        Kind::Rf64 => MOST_LONG_END - rf64_start(params.codec, chunks),
-        Kind::Svx => MOST_END - svx_start(chunks),
-        Kind::W64 => MOST_LONG_END - w64_start(params.codec),
+        Kind::Wave => MOST_END - snd_wave::start_with(params.codec, chunks),
+        Kind::Rf64 => MOST_LONG_END - snd_rf64::start_with(params.codec, chunks),
+        Kind::Svx => MOST_END - snd_svx::start_with(chunks),
+        Kind::W64 => MOST_LONG_END - snd_w64::start_with(params.codec),
         Kind::Au | Kind::Dns => (1 << 32) - 2,
         Kind::Voc => (1 << 24) - 13,
         Kind::Sphere => MOST_COUNTED * u64::from(params.block_align()),

@@ -4,7 +4,7 @@ use Rattle.snd_chunks.proofs.WrittenChunks.{length-chunk_bytes, length-chunks_by
 use Rattle.snd_chunks.specs.Written.{chunks_bytes}
 use Rattle.snd_fields.specs.declared.field.Order.{Order}
 use Rattle.snd_wave.proofs.Relaying.{length-joined}
-use Rattle.snd_room.specs.Room.{AddsBytes, chunk_size}
+use Rattle.snd_container.specs.Room.{AddsBytes, chunk_size}
 
 no_bytes : (order : Order) → length (chunks_bytes order []) ≡ 0
 unfolding chunks_bytes

@@ -1,7 +1,7 @@
 //! The bytes that a chunk takes.
 
 ghost use Rattle.std.specs.Prelude.{◌≡◌, ◌+◌, ◌<◌, ◌^◌};
-ghost use Rattle.snd_room.specs.Room.{AddsBytes, chunk_size};
+ghost use Rattle.snd_container.specs.Room.{AddsBytes, chunk_size};
 
 /// The head of a chunk: its identifier and its size.
 const HEAD_SIZE: u64 = 8;

@@ -12,7 +12,10 @@ use Rattle.snd_svx.specs.Written.{made_shape as svx_shape}
 use Rattle.snd_voc.specs.Written.{made_shape as voc_shape}
 use Rattle.snd_w64.specs.Written.{made_shape as w64_shape, start_of}
 use Rattle.snd_wave.specs.Written.{made_shape as wave_shape}
-use Rattle.snd_room.specs.Room.{BeginsRf64, BeginsSvx, BeginsWave, HasRoom}
+use Rattle.snd_container.specs.Room.{HasRoom}
+use Rattle.snd_rf64.specs.Start.{BeginsWith as BeginsRf64}
+use Rattle.snd_svx.specs.Start.{BeginsWith as BeginsSvx}
+use Rattle.snd_wave.specs.Start.{BeginsWith as BeginsWave}
 
 -- a kind that is known
 pub as_known : (kind known : Kind) (p : Parameters) (bytes n : ℕ) → kind ≡ known → HasRoom known p bytes n → HasRoom kind p bytes n
