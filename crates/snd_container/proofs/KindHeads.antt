@@ -20,10 +20,11 @@ use Rattle.snd_svx.specs.Written.{head_for as svx_head_for, svx_head}
 use Rattle.snd_voc.specs.Written.{made_shape as voc_shape}
 use Rattle.snd_w64.specs.Written.{made_shape as w64_shape}
 use Rattle.snd_wave.proofs.KeptHeads.{keeps_head_laws as wave_laws}
+use Rattle.snd_wave.proofs.PlainShapes.{plain_is}
 use Rattle.snd_wave.specs.Written.{head_for as wave_head_for, riff_head, wave_head}
 use Rattle.snd_container.proofs.EveryKind.{known, of_kind}
 use Rattle.snd_container.proofs.Marks.{kind_of_marks}
-use Rattle.snd_container.specs.HeadLaws.{KeepAllHeadLaws, OthersMayBePut}
+use Rattle.snd_container.specs.HeadLaws.{KeepAllHeadLaws, OthersMayBePut, PlainWaveIsKnown}
 use Rattle.snd_container.specs.Kinds.{container_of}
 use Rattle.snd_container.specs.Put.{heads_of}
 use Rattle.snd_container.specs.Recognised.{recognised}
@@ -211,3 +212,8 @@ others_may_be_put Dns piece holds is = absurd (cc)
 others_may_be_put Voc piece holds is = absurd (cc)
 others_may_be_put Svx piece holds is = record { four = is.four; other = is.other; few = is.few }
 others_may_be_put Sphere piece holds is = absurd (cc)
+
+-- ---- a plain WAVE file
+
+pub plain_wave_is_known : PlainWaveIsKnown
+plain_wave_is_known p same = plain_is p same

@@ -1,5 +1,5 @@
 -- Laws of kinds, which crates above use.
-use Rattle.std.proofs.Common.{◌≡◌, ◌⊎◌, ◌∙◌, ap, refl, inl, inr, ℕ, ◌≤◌, true, false, List, None}
+use Rattle.std.proofs.Common.{◌≡◌, ◌⊎◌, ◌∙◌, ap, refl, inl, inr, ℕ, ◌≤◌, true, false, List, None, length, lit≤}
 use Rattle.std.proofs.lemmas.Bool.{and_parts, cases_Bool, leb-true, or_cases, or_parts}
 use Rattle.std.proofs.lemmas.Slice.Eq.{bytes_eq-Decides}
 use Rattle.std.specs.Str.{bytes_eq}
@@ -8,6 +8,7 @@ use Rattle.snd_fields.specs.declared.field.Order.TheVariants.{Little}
 use Rattle.snd_layout.specs.Blocks.{is_adpcm}
 use Rattle.snd_layout.specs.Fit.{fit_refusal, is_kinds_rate, is_pair}
 use Rattle.snd_layout.specs.Kinds.{holds_meta, holds_pieces, is_meta_id, is_own_id, is_reserved, is_wave, is_wave_own, order_of}
+use Rattle.snd_layout.specs.Names.{kind_name}
 use Rattle.snd_layout.specs.Params.{Parameters}
 use Rattle.snd_layout.specs.declared.codec.Codec.{Codec}
 use Rattle.snd_layout.specs.declared.codec.Codec.TheVariants.{Ima, Ms}
@@ -133,3 +134,15 @@ is_held kind p fits = elim (cases_Bool (is_pair kind p.channels p.codec)) [
     | inr not_played ↦ absurd (let h = rw not_played at fits in cc)
   ]
 ]
+
+-- ---- names
+
+pub short_kind : (kind : Kind) → length (kind_name kind) ≤ 16
+short_kind Wave = lit≤ tt
+short_kind Rf64 = lit≤ tt
+short_kind W64 = lit≤ tt
+short_kind Au = lit≤ tt
+short_kind Dns = lit≤ tt
+short_kind Voc = lit≤ tt
+short_kind Svx = lit≤ tt
+short_kind Sphere = lit≤ tt

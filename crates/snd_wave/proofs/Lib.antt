@@ -21,6 +21,7 @@ pub mod NewHeads
 pub mod Opens
 pub mod PieceBodies
 pub mod PlainHeads
+pub mod PlainShapes
 pub mod Planning
 pub mod Putting
 pub mod Relaying
