@@ -6,7 +6,7 @@ use Rattle.snd_disk.specs.Shelf.{Files}
 use Rattle.snd_layout.specs.Shape.{Shape}
 use Rattle.snd_layout.specs.declared.refusal.OpenRefusal.{OpenRefusal}
 use Rattle.snd_meta.specs.Info.{Entry}
-use Rattle.snd_modes.specs.Heads.{holds_meta}
+use Rattle.snd_layout.specs.Kinds.{holds_meta}
 use Rattle.snd_tags.specs.Found.{texts_of}
 use Rattle.snd_tags.specs.declared.error.TagError.{TagError}
 use Rattle.snd_lines.specs.declared.refusal.Refusal.TheVariants.{MissingFile, Open}

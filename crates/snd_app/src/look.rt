@@ -5,14 +5,13 @@ ghost use Rattle.snd_disk.specs.Device.{AsksAtMost, IfOkTold, OnlyReadsOn};
 ghost use Rattle.snd_disk.specs.Shelf.{KeepsFiles};
 ghost use Rattle.snd_disk.specs.Shelves.{KeepsFileImages};
 ghost use Rattle.snd_container.specs.Sound.{layout_of};
-ghost use Rattle.snd_modes.specs.Heads.{holds_meta};
 ghost use Rattle.snd_output.specs.Ends.{CountsStop};
 ghost use Rattle.snd_app.specs.Look.{IfOkFiles, OnlyLooks};
 ghost use Rattle.snd_app.specs.Outcome.{found_in, found_of, shown_texts};
 
 use snd_container::open_layout;
 use snd_disk::{Disk, Shelf, ShelfFault};
-use snd_layout::{Kind, Layout, OpenError, OpenRefusal};
+use snd_layout::{Layout, OpenError, OpenRefusal};
 use snd_meta::InfoList;
 use snd_modes::GetError;
 use snd_output::Stop;
@@ -40,13 +39,6 @@ impl Found {
     }
 }
 
-// Whether the texts of files of a kind are shown.
-fn shows_texts(kind: Kind) -> bool
-    ensures { result ≡ holds_meta kind }
-{
-    matches!(kind, Kind::Wave | Kind::Rf64)
-}
-
 // The texts of a file that are shown.
 fn shown_texts<D: Disk>(alloc: Global, disk: &mut D, layout: &Layout) -> Result<InfoList, Stop>
     ensures shown { IfOkTold D.state disk.old result (λ b texts. texts ≡ shown_texts b layout.now) }
@@ -54,7 +46,7 @@ fn shown_texts<D: Disk>(alloc: Global, disk: &mut D, layout: &Layout) -> Result<
     ensures reads { OnlyReadsOn D.state D.may_leave D.left_between disk.old disk.new }
     ensures asked { AsksAtMost D.state 81920 disk.old disk.new }
 {
-    if !shows_texts(layout.kind) {
+    if !layout.kind.holds_meta() {
         return Ok(InfoList::new(alloc));
     }
     match texts_on(alloc, disk, layout) {

@@ -3,49 +3,27 @@ use Rattle.std.proofs.Common.{◌≡◌, ◌∙◌, ap, sym, refl, ℕ, ◌+◌,
 use Rattle.std.proofs.lemmas.List.{length-map, length-replicate, map-append, places, same_lists}
 use Rattle.std.specs.Prelude.{map, replicate}
 use Rattle.snd_chunks.specs.Written.{NewChunk}
+use Rattle.snd_container.proofs.Public.{head_laws}
 use Rattle.snd_container.specs.Made.{new_shape}
 use Rattle.snd_layout.specs.Params.{Parameters}
 use Rattle.snd_layout.specs.Shape.{Shape}
 use Rattle.snd_layout.specs.declared.kind.Kind.{Kind}
-use Rattle.snd_layout.specs.declared.kind.Kind.TheVariants.{Wave, Rf64, W64, Au, Dns, Voc, Svx, Sphere}
 use Rattle.snd_layout.specs.declared.piece.Piece.{Piece}
-use Rattle.snd_rf64.specs.Written.{made_shape as rf64_shape}
-use Rattle.snd_sphere.specs.Written.{made_shape as sphere_shape}
-use Rattle.snd_svx.specs.Written.{made_shape as svx_shape}
-use Rattle.snd_voc.specs.Written.{made_shape as voc_shape}
-use Rattle.snd_w64.specs.Written.{made_shape as w64_shape}
-use Rattle.snd_chunks.specs.Heads.{new_piece, with_piece}
-use Rattle.snd_wave.specs.Written.{made_shape as wave_shape}
+use Rattle.snd_chunks.specs.Heads.{new_piece, with_piece, outline, blank, blanks}
 use Rattle.snd_modes.specs.Handle.{Known}
-use Rattle.snd_modes.specs.Heads.{holds_meta}
+use Rattle.snd_layout.specs.Kinds.{holds_meta}
 use Rattle.snd_modes.specs.PieceCalls.{known_put}
-use Rattle.snd_modes.specs.Relaid.{outline, shape_put, shape_with}
-use Rattle.snd_modes.proofs.Blanks.{blank, blanks, blanks_blanks, blanks_with}
+use Rattle.snd_modes.specs.Relaid.{shape_put, shape_with}
+use Rattle.snd_chunks.proofs.Blanks.{blanks_blanks, blanks_with}
 use Rattle.snd_output.proofs.Carried.{laws_of, says_of}
 use Rattle.snd_carry.specs.Carrying.{known_with}
 
 -- the kind and the parameters of a file as it is made
 pub new_kind : (kind : Kind) (p : Parameters) → (new_shape kind p).kind ≡ kind
-unfolding wave_shape rf64_shape w64_shape voc_shape svx_shape sphere_shape
-new_kind Wave p = refl
-new_kind Rf64 p = refl
-new_kind W64 p = refl
-new_kind Au p = refl
-new_kind Dns p = refl
-new_kind Voc p = refl
-new_kind Svx p = refl
-new_kind Sphere p = refl
+new_kind kind p = sym (ap (λ (h : Shape). h.kind) ((head_laws kind).bare_shape p)) ∙ (head_laws kind).kind_is p []
 
 pub new_params : (kind : Kind) (p : Parameters) → (new_shape kind p).params ≡ p
-unfolding wave_shape rf64_shape w64_shape voc_shape svx_shape sphere_shape
-new_params Wave p = refl
-new_params Rf64 p = refl
-new_params W64 p = refl
-new_params Au p = refl
-new_params Dns p = refl
-new_params Voc p = refl
-new_params Svx p = refl
-new_params Sphere p = refl
+new_params kind p = sym (ap (λ (h : Shape). h.params) ((head_laws kind).bare_shape p)) ∙ (head_laws kind).params_are p []
 
 -- ---- the outlines of chunks
 

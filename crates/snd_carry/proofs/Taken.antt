@@ -13,10 +13,9 @@ use Rattle.snd_disk.specs.State.{AtMost}
 use Rattle.snd_fields.specs.declared.field.Order.TheVariants.{Little}
 use Rattle.snd_layout.specs.Opened.{EndsIn}
 use Rattle.snd_layout.specs.declared.piece.Piece.{Piece}
-use Rattle.snd_room.specs.Room.{chunk_size}
-use Rattle.snd_chunks.specs.Heads.{chunk_read}
-use Rattle.snd_modes.specs.Heads.{is_wave_own}
-use Rattle.snd_modes.specs.Relaid.{outline}
+use Rattle.snd_container.specs.Room.{chunk_size}
+use Rattle.snd_chunks.specs.Heads.{chunk_read, outline}
+use Rattle.snd_layout.specs.Kinds.{is_wave_own}
 use Rattle.snd_carry.specs.Carried.{TakesBytes, body_bytes, carried_pieces, is_carried}
 
 -- one more behind others that are fewer than n, and one behind n

@@ -2,7 +2,7 @@
 use Rattle.std.specs.Prelude.{◌≡◌, ℕ, ◌≤◌, List, Ok, length, true}
 use Rattle.snd_container.specs.Sound.{layout_of}
 use Rattle.snd_layout.specs.Shape.{Shape}
-use Rattle.snd_modes.specs.Heads.{holds_meta}
+use Rattle.snd_layout.specs.Kinds.{holds_meta}
 use Rattle.snd_carry.specs.Carried.{body_bytes, carried_pieces}
 
 -- so that in a WAVE or RF64 file they have no more bytes in all than the file

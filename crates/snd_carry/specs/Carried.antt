@@ -6,7 +6,7 @@ use Rattle.snd_fields.specs.declared.field.Order.TheVariants.{Little}
 use Rattle.snd_layout.specs.Opened.{EndsIn}
 use Rattle.snd_layout.specs.declared.piece.Piece.{Piece}
 use Rattle.snd_chunks.specs.Heads.{chunk_read}
-use Rattle.snd_modes.specs.Heads.{is_wave_own}
+use Rattle.snd_layout.specs.Kinds.{is_wave_own}
 
 -- a piece with a body of at most 65536 bytes, which is none of the chunks that a file has of its own
 abbrev pub is_carried : Piece → Bool

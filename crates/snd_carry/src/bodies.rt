@@ -5,12 +5,12 @@ ghost use Rattle.snd_disk.specs.Device.{AsksAtMost, GoesOnFrom, OnlyReadsOn, Wri
 ghost use Rattle.snd_fields.specs.Laws.{IsByte};
 ghost use Rattle.snd_modes.specs.Chunks.{HoldsPut, StandsAsOpened};
 ghost use Rattle.snd_modes.specs.Handle.{IfOkStanding, StandsAfter, disk_of, known_of, loan_of};
-ghost use Rattle.snd_modes.specs.Heads.{holds_meta, is_wave_own};
+ghost use Rattle.snd_layout.specs.Kinds.{holds_meta, is_wave_own};
 ghost use Rattle.snd_modes.specs.Outcomes.{AsksNothing, TellsOn};
 ghost use Rattle.snd_modes.specs.PieceCalls.{IsUntouched, known_put};
 ghost use Rattle.snd_modes.specs.Pieces.{body_of};
-ghost use Rattle.snd_modes.specs.Relaid.{added_to, outline};
-ghost use Rattle.snd_chunks.specs.Heads.{new_piece};
+ghost use Rattle.snd_modes.specs.Relaid.{added_to};
+ghost use Rattle.snd_chunks.specs.Heads.{outline, new_piece};
 ghost use Rattle.snd_output.specs.Ends.{BreaksByFault, CountsOneOf, CountsStop, IsUnchanged};
 ghost use Rattle.snd_carry.specs.Carried.{is_carried};
 ghost use Rattle.snd_carry.specs.Carrying.{CarriesOne, HoldsChunk, HoldsOne};

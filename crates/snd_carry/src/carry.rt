@@ -3,7 +3,7 @@
 ghost use Rattle.std.specs.Prelude.{◌≡◌, None, OnOk, true};
 ghost use Rattle.snd_disk.specs.Device.{GoesOnFrom, OnlyReadsOn, WritesAtMost};
 ghost use Rattle.snd_modes.specs.Handle.{IsFresh, StandsAfter, disk_of, known_of, loan_of};
-ghost use Rattle.snd_modes.specs.Heads.{holds_meta};
+ghost use Rattle.snd_layout.specs.Kinds.{holds_meta};
 ghost use Rattle.snd_modes.specs.Outcomes.{AsksNothing, TellsOn};
 ghost use Rattle.snd_output.specs.Ends.{BreaksByFault, CountsOneOf, IsUnchanged};
 ghost use Rattle.snd_carry.specs.Carried.{carried_pieces};

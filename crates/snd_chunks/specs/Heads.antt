@@ -1,5 +1,5 @@
 -- Heads of files that are made, with pieces and without frames, and pieces that are put into them.
-use Rattle.std.specs.Prelude.{◌≡◌, ℕ, ◌+◌, ◌≤◌, List, ◌∷◌, ◌++◌, Result, Ok, Err, Some, drop, length, take}
+use Rattle.std.specs.Prelude.{◌≡◌, ℕ, ◌+◌, ◌≤◌, List, ◌∷◌, ◌++◌, Result, Ok, Err, Some, drop, length, map, replicate, take}
 use Rattle.snd_disk.specs.State.{Rises, State}
 use Rattle.snd_chunks.specs.Written.{NewChunk}
 use Rattle.snd_layout.specs.Params.{Parameters}
@@ -15,6 +15,17 @@ new_piece id body = record { id = id; body = body }
 -- a piece of a file, with its body
 abbrev pub chunk_read : List ℕ → Piece → NewChunk
 chunk_read b piece = record { id = piece.id.0; body = take piece.len (drop piece.at b) }
+
+-- a chunk with the identifier and the length of a piece: a layout knows no more of it
+abbrev pub outline : Piece → NewChunk
+outline piece = record { id = piece.id.0; body = replicate piece.len 0 }
+
+-- a chunk of the same length, of zeros
+unfoldable pub blank : NewChunk → NewChunk
+blank c = record { id = c.id; body = replicate (length c.body) 0 }
+
+abbrev pub blanks : List NewChunk → List NewChunk
+blanks cs = map blank cs
 
 -- the pieces with another in the place of one, or behind them all
 abbrev pub with_piece : List NewChunk → ℕ → NewChunk → List NewChunk

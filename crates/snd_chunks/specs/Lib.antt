@@ -1,4 +1,5 @@
 pub mod Chunks
+pub mod HeadLaws
 pub mod Heads
 pub mod Late
 pub mod Opening

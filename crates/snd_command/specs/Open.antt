@@ -5,7 +5,8 @@ use Rattle.snd_fields.specs.Decimal.{decimal}
 use Rattle.snd_layout.specs.declared.kind.Kind.{Kind}
 use Rattle.snd_command.specs.declared.tables.CodecWord.{CodecWord}
 use Rattle.snd_command.specs.Forms.{is_name, ident}
-use Rattle.snd_command.specs.Tables.{kind_of, codec_of, named}
+use Rattle.snd_layout.specs.Kinds.{kind_named}
+use Rattle.snd_command.specs.Tables.{codec_of, named}
 use Rattle.snd_command.specs.Said.{Said}
 
 -- `info`, `close`, `trim`, `update`: nothing stands behind them
@@ -25,7 +26,7 @@ created (Some kind) (Some codec) (Some channels) (Some rate) name = if is_name n
 created kind codec channels rate name = None
 
 abbrev pub create_said : List (List ℕ) → Option Said
-create_said (kind ∷ codec ∷ channels ∷ rate ∷ name ∷ []) = created (kind_of kind) (codec_of codec) (decimal channels) (decimal rate) name
+create_said (kind ∷ codec ∷ channels ∷ rate ∷ name ∷ []) = created (kind_named kind) (codec_of codec) (decimal channels) (decimal rate) name
 create_said args = None
 
 -- `get chunks`, `get strings`, `get bext`, `get cues`, `get chunk ID`

@@ -2,10 +2,8 @@
 use Rattle.std.specs.Prelude.{ℕ, Bool, true, false, List, [], ◌∷◌, Option, None, Some, codes, find, if◌then◌else◌}
 use Rattle.std.specs.Str.{bytes_eq}
 use Rattle.snd_fields.specs.declared.field.Order.TheVariants.{Little, Big}
-use Rattle.snd_layout.specs.Names.{codec_name, kind_name}
+use Rattle.snd_layout.specs.Names.{codec_name}
 use Rattle.snd_layout.specs.declared.codec.Codec.TheVariants as printed
-use Rattle.snd_layout.specs.declared.kind.Kind.{Kind}
-use Rattle.snd_layout.specs.declared.kind.Kind.TheVariants.{Wave, Rf64, W64, Au, Dns, Voc, Svx, Sphere}
 use Rattle.snd_meta.specs.declared.bext.BextKey.{BextKey}
 use Rattle.snd_meta.specs.declared.bext.BextKey.TheVariants as bext
 use Rattle.snd_meta.specs.declared.info.InfoKey.{InfoKey}
@@ -20,13 +18,6 @@ use Rattle.snd_taps.specs.declared.tap.TapKind.TheVariants.{Peak, Clips, Energy}
 abbrev pub named : {T : Type 0} → List ℕ → List (List ℕ × T) → Option T
 named word [] = None
 named word (row ∷ rows) = if bytes_eq word row.0 then Some row.1 else named word rows
-
-abbrev pub kinds : List Kind
-kinds = Wave ∷ Rf64 ∷ W64 ∷ Au ∷ Dns ∷ Voc ∷ Svx ∷ Sphere ∷ []
-
--- the kind that is printed so
-abbrev pub kind_of : List ℕ → Option Kind
-kind_of word = find (λ kind. bytes_eq word (kind_name kind)) kinds
 
 -- the codec that is printed so, whatever its blocks
 abbrev pub codec_of : List ℕ → Option CodecWord

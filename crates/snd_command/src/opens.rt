@@ -7,9 +7,10 @@ ghost use Rattle.snd_command.specs.Words.{words};
 
 use crate::forms::{ident, is_name};
 use crate::line_command::LineCommand;
-use crate::tables::{codec_of, kind_of};
+use crate::tables::codec_of;
 use crate::words::{five_words, next_word, one_word, two_words};
 use snd_fields::decimal;
+use snd_layout::Kind;
 
 // `info`, `close`, `trim`, `update`, each with nothing behind it; each arm returns, as in `parse_command`
 pub fn parse_bare<'a>(verb: &'a [u8], args: &'a [u8]) -> Option<LineCommand<'a, 'static>>
@@ -50,7 +51,7 @@ pub fn parse_create(args: &[u8]) -> Option<LineCommand<'_, 'static>>
     ensures { option_map line_said result ≡ create_said (words args.now) }
 {
     let (kind, codec, channels, rate, name) = five_words(args)?;
-    let kind = kind_of(kind)?;
+    let kind = Kind::named(kind)?;
     let codec = codec_of(codec)?;
     let channels = decimal(channels)?;
     let rate = decimal(rate)?;

@@ -1,24 +1,11 @@
 //! The words that name something.
 
 ghost use Rattle.std.specs.Prelude.{◌≡◌};
-ghost use Rattle.snd_command.specs.Tables.{bext_of, codec_of, info_of, kind_of, switch_of, tap_of};
+ghost use Rattle.snd_command.specs.Tables.{bext_of, codec_of, info_of, switch_of, tap_of};
 
 use snd_fields::Order;
-use snd_layout::Kind;
 use snd_meta::{BextKey, InfoKey};
 use snd_taps::TapKind;
-
-/// Every kind of sound file.
-const KINDS: [Kind; 8] = [
-    Kind::Wave,
-    Kind::Rf64,
-    Kind::W64,
-    Kind::Au,
-    Kind::Dns,
-    Kind::Voc,
-    Kind::Svx,
-    Kind::Sphere,
-];
 
 /// Every kind of tap.
 const TAPS: [TapKind; 3] = [TapKind::Peak, TapKind::Clips, TapKind::Energy];
@@ -44,16 +31,6 @@ pub enum CodecWord {
     Ima,
     /// `ms`: Microsoft ADPCM.
     Ms,
-}
-
-/// The kind that a word names.
-pub fn kind_of(word: &[u8]) -> Option<Kind>
-    ensures { result ≡ kind_of word.now }
-{
-    KINDS
-        .iter()
-        .copied()
-        .find(|kind| word == kind.name().as_bytes())
 }
 
 /// The codec that a word names.

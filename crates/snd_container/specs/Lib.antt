@@ -1,8 +1,10 @@
 pub mod Fixed
+pub mod HeadLaws
 pub mod Kinds
 pub mod Laws
 pub mod Made
 pub mod Put
 pub mod Recognised
+pub mod Room
 pub mod Sound
 pub mod Values

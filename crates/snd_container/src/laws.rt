@@ -2,6 +2,7 @@
 //! contract is the laws.
 
 ghost use Rattle.snd_container.specs.Fixed.{BytesAreKept, KeptNumbersStay, NumbersAreKept};
+ghost use Rattle.snd_container.specs.HeadLaws.{KeepAllHeadLaws, OthersMayBePut, PlainWaveIsKnown};
 ghost use Rattle.snd_container.specs.Laws.{KeepAllLaws};
 
 /// What the containers owe the layers above, for files of every kind. Where the field that decides the
@@ -13,6 +14,17 @@ ghost use Rattle.snd_container.specs.Laws.{KeepAllLaws};
 #[tactic(auto, using(crate::proofs::EveryKind::keep_all_laws))]
 pub fn keep_all_laws()
     ensures { KeepAllLaws }
+{}
+
+/// What the containers owe the layers above of the heads of new files, with any further chunks and without
+/// frames: what such a head says and holds, that it is read back with its chunks, and that its layout hangs
+/// on their identifiers and lengths alone. Where files of a kind are given chunks, any that is not a file's
+/// own may be put. A new WAVE file of 16 bits without further chunks has its data at 44.
+#[tactic(auto, using(crate::proofs::KindHeads::keep_all_head_laws, crate::proofs::KindHeads::others_may_be_put, crate::proofs::KindHeads::plain_wave_is_known))]
+pub fn keep_all_head_laws()
+    ensures heads { KeepAllHeadLaws }
+    ensures others { OthersMayBePut }
+    ensures plain { PlainWaveIsKnown }
 {}
 
 /// Samples that are written stand for the numbers that their codec keeps: a linear one keeps each, a law

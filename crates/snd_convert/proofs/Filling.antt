@@ -9,9 +9,10 @@ use Rattle.snd_layout.specs.Shape.{Shape}
 use Rattle.snd_layout.specs.declared.kind.Kind.{Kind}
 use Rattle.snd_modes.specs.Editing.{Editing}
 use Rattle.snd_modes.specs.Handle.{Known}
-use Rattle.snd_modes.specs.Heads.{holds_meta}
+use Rattle.snd_layout.specs.Kinds.{holds_meta}
 use Rattle.snd_modes.specs.Making.{making_of}
-use Rattle.snd_modes.specs.Relaid.{outline, shape_with}
+use Rattle.snd_modes.specs.Relaid.{shape_with}
+use Rattle.snd_chunks.specs.Heads.{outline}
 use Rattle.snd_output.proofs.Begun.{begun_is_making, new_says}
 use Rattle.snd_output.proofs.Carried.{carried_is_making, says_of}
 use Rattle.snd_output.specs.Made.{AreChunks, IsMaking, made_with}

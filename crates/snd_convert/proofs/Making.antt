@@ -11,16 +11,18 @@ use Rattle.snd_layout.specs.Opened.{EndsIn}
 use Rattle.snd_layout.specs.Params.{AreParams, Parameters}
 use Rattle.snd_layout.specs.Shape.{Shape}
 use Rattle.snd_layout.specs.declared.codec.Codec.{Codec}
+use Rattle.snd_layout.proofs.Public.{meta_order}
 use Rattle.snd_layout.specs.declared.kind.Kind.{Kind}
-use Rattle.snd_layout.specs.declared.kind.Kind.TheVariants.{Wave, Rf64, W64, Au, Dns, Voc, Svx, Sphere}
+use Rattle.snd_fields.specs.declared.field.Order.{Order}
 use Rattle.snd_modes.specs.Editing.{Editing}
 use Rattle.snd_modes.specs.Handle.{IsFresh, Known}
-use Rattle.snd_modes.specs.Heads.{holds_meta}
-use Rattle.snd_modes.specs.Relaid.{outline, shape_with}
+use Rattle.snd_layout.specs.Kinds.{holds_meta}
+use Rattle.snd_modes.specs.Relaid.{shape_with}
+use Rattle.snd_chunks.specs.Heads.{outline}
 use Rattle.snd_output.proofs.Carried.{says_of}
 use Rattle.snd_output.specs.Appended.{HasRoom, MayAppend, left_in, numbers_left}
 use Rattle.snd_output.specs.Widths.{change_numbers, joined}
-use Rattle.snd_room.specs.Room.{Take}
+use Rattle.snd_container.specs.Room.{Take}
 use Rattle.snd_convert.specs.Convert.{carries, numbers_for}
 use Rattle.snd_convert.specs.Making.{is_full_by, known_filled, outlines_for}
 use Rattle.snd_convert.specs.Plan.{Planned}
@@ -66,14 +68,7 @@ module _ (plan : Planned) (from from' to to' : Known) (good : AreParams plan.par
 
 -- where the chunks of a file go, those of both kinds are counted in one order of bytes, and no chunks take no bytes
 pub little_take : (kind : Kind) (bytes : ℕ) (chunks : List NewChunk) → holds_meta kind ≡ true → length (chunks_bytes Little chunks) ≡ bytes → Take kind bytes chunks
-little_take Wave bytes chunks meta take = take
-little_take Rf64 bytes chunks meta take = take
-little_take W64 bytes chunks meta take = absurd (cc)
-little_take Au bytes chunks meta take = absurd (cc)
-little_take Dns bytes chunks meta take = absurd (cc)
-little_take Voc bytes chunks meta take = absurd (cc)
-little_take Svx bytes chunks meta take = absurd (cc)
-little_take Sphere bytes chunks meta take = absurd (cc)
+little_take kind bytes chunks meta take = ap (λ (order : Order). length (chunks_bytes order chunks)) (meta_order kind meta) ∙ take
 
 pub none_take : (kind : Kind) → Take kind 0 []
 unfolding chunks_bytes

@@ -15,15 +15,16 @@ use Rattle.snd_modes.specs.declared.handle.File.{File}
 use Rattle.snd_modes.specs.declared.mode.Mode.{Ghosts as ModeGhosts}
 use Rattle.snd_modes.specs.Editing.{Editing, first_editing}
 use Rattle.snd_modes.specs.Handle.{Known, Stands, disk_of, known_of}
-use Rattle.snd_modes.specs.Heads.{holds_meta}
+use Rattle.snd_layout.specs.Kinds.{holds_meta}
 use Rattle.snd_modes.specs.Making.{making_of}
-use Rattle.snd_modes.specs.Relaid.{outline, shape_with}
+use Rattle.snd_modes.specs.Relaid.{shape_with}
+use Rattle.snd_chunks.specs.Heads.{outline}
 use Rattle.snd_output.specs.Ends.{IfChanged}
 use Rattle.snd_output.specs.Made.{IsMaking}
 use Rattle.snd_output.specs.declared.stop.Stop.{Stop}
 use Rattle.snd_tools.specs.Shelves.{HasFiles, IsDone}
 use Rattle.snd_tools.specs.declared.answer.Answer.{Answer}
-use Rattle.snd_room.specs.Room.{Take}
+use Rattle.snd_container.specs.Room.{Take}
 use Rattle.snd_words.specs.declared.convert.Conversion.{Conversion}
 use Rattle.snd_convert.specs.Convert.{carries, chunks_for, done_by_plan, file_made, is_full, made_if_good, made_of, numbers_for}
 use Rattle.snd_convert.specs.Plan.{Planned, planned}

@@ -1,13 +1,12 @@
 -- What a file becomes that is converted: its kind and its parameters. These are this library's own rules.
-use Rattle.std.specs.Prelude.{ℕ, Bool, true, false, Option, Some, None, Result, Ok, Err, unwrap_or, if◌then◌else◌}
+use Rattle.std.specs.Prelude.{ℕ, Option, Some, None, Result, Ok, Err, unwrap_or, if◌then◌else◌}
 use Rattle.snd_fields.specs.declared.field.Order.{Order}
-use Rattle.snd_fields.specs.declared.field.Order.TheVariants.{Little, Big}
 use Rattle.snd_layout.specs.Fit.{fit_refusal}
+use Rattle.snd_layout.specs.Kinds.{eight_bits, holds_order, kind_in, own_order}
 use Rattle.snd_layout.specs.Params.{Parameters, params_of}
 use Rattle.snd_layout.specs.declared.codec.Codec.{Codec}
 use Rattle.snd_layout.specs.declared.codec.Codec.TheVariants as codec
 use Rattle.snd_layout.specs.declared.kind.Kind.{Kind}
-use Rattle.snd_layout.specs.declared.kind.Kind.TheVariants.{Au, Dns, Svx, Sphere}
 use Rattle.snd_layout.specs.declared.refusal.OpenRefusal.{OpenRefusal}
 use Rattle.snd_layout.specs.declared.refusal.OpenRefusal.TheVariants.{BadPair}
 use Rattle.snd_modes.specs.Blocks.{ima_made, ms_made}
@@ -15,34 +14,6 @@ use Rattle.snd_output.specs.Codecs.{codec_like}
 use Rattle.snd_words.specs.Asked.{Converting}
 use Rattle.snd_words.specs.declared.convert.CodecChoice.{CodecChoice}
 use Rattle.snd_words.specs.declared.convert.CodecChoice.TheVariants as choice
-
--- an AU with the lowest byte first is a kind of its own
-abbrev pub kind_in : Option Order → Kind → Kind
-kind_in (Some Little) Au = Dns
-kind_in order kind = kind
-
--- the order of the bytes of a sample in a kind, where none is asked for
-abbrev pub own_order : Kind → Order
-own_order Au = Big
-own_order Svx = Big
-own_order kind = Little
-
-abbrev pub is_same_order : Order → Order → Bool
-is_same_order Little Little = true
-is_same_order Big Big = true
-is_same_order one other = false
-
--- SPHERE holds either order, and each other kind its own alone, whatever the codec
-abbrev pub holds_order : Kind → Option Order → Bool
-holds_order Sphere order = true
-holds_order kind order = is_same_order (unwrap_or order (own_order kind)) (own_order kind)
-
--- the codec of 8 bits that a kind holds: with a sign in AU and 8SVX
-abbrev pub eight_bits : Kind → Codec
-eight_bits Au = codec.S8
-eight_bits Dns = codec.S8
-eight_bits Svx = codec.S8
-eight_bits kind = codec.U8
 
 -- the codec of the same class in a kind
 abbrev pub same_class : Kind → Order → ℕ → ℕ → Codec → Codec

@@ -4,7 +4,6 @@ ghost use Rattle.std.specs.Prelude.{◌≡◌, ◌≤◌, [], None, OnOk};
 ghost use Rattle.snd_inputs.specs.Copying.{CopiesInto};
 ghost use Rattle.snd_layout.specs.Params.{AreParams};
 ghost use Rattle.snd_modes.specs.Handle.{IsFresh, StandsAfter, known_of};
-ghost use Rattle.snd_modes.specs.Heads.{holds_meta};
 ghost use Rattle.snd_modes.specs.Outcomes.{AsksNothing};
 ghost use Rattle.snd_modes.specs.Relaid.{shape_with};
 ghost use Rattle.snd_output.specs.Ends.{IsUnchanged};
@@ -19,17 +18,11 @@ use snd_modes::{File, Read};
 use snd_output::{Making, Stop};
 use std::alloc::Global;
 
-fn holds_meta(kind: Kind) -> bool
-    ensures { result ≡ holds_meta kind }
-{
-    matches!(kind, Kind::Wave | Kind::Rf64)
-}
-
 // Whether the chunks of a file of one kind go into one of another.
 fn carries(to: Kind, from: Kind) -> bool
     ensures { result ≡ carries to from }
 {
-    holds_meta(to) && holds_meta(from)
+    to.holds_meta() && from.holds_meta()
 }
 
 // How many bytes they take in the head of what is made.

@@ -25,7 +25,7 @@ use snd_layout::{Kind, Layout};
 use snd_lines::Refusal;
 use snd_modes::{File, Read, open_laid};
 use snd_output::Stop;
-use snd_room::room_with;
+use snd_container::room_with;
 use snd_tools::Answer;
 use snd_words::{Conversion, kind_by_suffix};
 use std::alloc::Global;

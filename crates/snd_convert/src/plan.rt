@@ -3,7 +3,7 @@
 ghost use Rattle.std.specs.Prelude.{◌≡◌, None, IfOk};
 ghost use Rattle.snd_layout.specs.Fit.{fit_refusal};
 ghost use Rattle.snd_layout.specs.Params.{params_of};
-ghost use Rattle.snd_convert.specs.Plan.{chosen, codec_in, eight_bits, fitted, holds_order, kind_in, own_order, planned, same_class};
+ghost use Rattle.snd_convert.specs.Plan.{chosen, codec_in, fitted, planned, same_class};
 ghost use Rattle.snd_convert.specs.Planning.{asked_of, plan_by};
 
 use snd_container::fit;
@@ -20,45 +20,12 @@ pub(crate) struct Plan {
     pub params: Params,
 }
 
-fn kind_in(order: Option<Order>, kind: Kind) -> Kind
-    ensures { result ≡ kind_in order kind }
-{
-    match (order, kind) {
-        (Some(Order::Little), Kind::Au) => Kind::Dns,
-        _ => kind,
-    }
-}
-
-fn own_order(kind: Kind) -> Order
-    ensures { result ≡ own_order kind }
-{
-    match kind {
-        Kind::Au | Kind::Svx => Order::Big,
-        Kind::Wave | Kind::Rf64 | Kind::W64 | Kind::Dns | Kind::Voc | Kind::Sphere => Order::Little,
-    }
-}
-
-fn holds_order(kind: Kind, order: Option<Order>) -> bool
-    ensures { result ≡ holds_order kind order }
-{
-    kind == Kind::Sphere || order.unwrap_or(own_order(kind)) == own_order(kind)
-}
-
-fn eight_bits(kind: Kind) -> Codec
-    ensures { result ≡ eight_bits kind }
-{
-    match kind {
-        Kind::Au | Kind::Dns | Kind::Svx => Codec::S8,
-        Kind::Wave | Kind::Rf64 | Kind::W64 | Kind::Voc | Kind::Sphere => Codec::U8,
-    }
-}
-
 // The codec of the same class in a kind.
 fn same_class(kind: Kind, order: Order, channels: u64, rate: u64, from: Codec) -> Codec
     ensures { result ≡ same_class kind order channels rate from }
 {
     match from {
-        Codec::U8 | Codec::S8 => eight_bits(kind),
+        Codec::U8 | Codec::S8 => kind.eight_bits(),
         Codec::S16(_) => Codec::S16(order),
         Codec::S24(_) => Codec::S24(order),
         Codec::S32(_) => Codec::S32(order),
@@ -113,7 +80,7 @@ fn plan_in(
 {
     let params = Params::new(u64::from(channels), rate, codec)?;
     fit(kind, params)?;
-    if !holds_order(kind, order) {
+    if !kind.holds_order(order) {
         return Err(OpenRefusal::BadPair);
     }
     Ok(Plan { kind, params })
@@ -132,8 +99,8 @@ pub(crate) fn plan_of(
     ensures fits { IfOk result (λ plan. fit_refusal plan.kind plan.params ≡ None) }
     ensures channels { IfOk result (λ plan. plan.params.channels ≡ from.channels) }
 {
-    let kind = kind_in(conversion.order, kind);
-    let order = conversion.order.unwrap_or(own_order(kind));
+    let kind = kind.in_order(conversion.order);
+    let order = conversion.order.unwrap_or(kind.own_order());
     let rate = conversion.rate.unwrap_or(u64::from(from.rate));
     let channels = u64::from(from.channels);
     let codec = codec_in(conversion.codec, kind, order, channels, rate, from.codec);

@@ -8,7 +8,7 @@ use Rattle.snd_layout.specs.Blocks.{block_align}
 use Rattle.snd_layout.specs.Params.{Parameters, data_bytes}
 use Rattle.snd_layout.specs.declared.kind.Kind.{Kind}
 use Rattle.snd_modes.proofs.SoundFrames.{linear_frames}
-use Rattle.snd_room.specs.Room.{Take}
+use Rattle.snd_container.specs.Room.{Take}
 
 -- no chunks take no bytes
 pub none_take : (kind : Kind) → Take kind 0 []

@@ -12,7 +12,8 @@ use Rattle.snd_layout.specs.declared.codec.Codec.TheVariants.{U8, S8, S16, S24, 
 use Rattle.snd_layout.specs.declared.kind.Kind.{Kind}
 use Rattle.snd_layout.specs.declared.kind.Kind.TheVariants.{Wave}
 use Rattle.snd_modes.proofs.EncodedPlaces.{data_more, room_for}
-use Rattle.snd_inputs.specs.Rooms.{exceeds, is_past_count, is_wave}
+use Rattle.snd_inputs.specs.Rooms.{exceeds, is_past_count}
+use Rattle.snd_layout.specs.Kinds.{is_wave}
 use Rattle.snd_inputs.proofs.Formed.{keeps_blocks}
 
 -- a block has a byte and a frame at least

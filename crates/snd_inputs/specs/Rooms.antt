@@ -1,18 +1,14 @@
 -- Whether the head of a file that is to be made has room for frames.
-use Rattle.std.specs.Prelude.{ℕ, ◌^◌, Bool, true, false, ◌&&◌, ◌||◌, [], nat_le, nat_lt}
+use Rattle.std.specs.Prelude.{ℕ, ◌^◌, Bool, ◌&&◌, ◌||◌, [], nat_le, nat_lt}
 use Rattle.snd_layout.specs.Blocks.{is_adpcm}
+use Rattle.snd_layout.specs.Kinds.{is_wave}
 use Rattle.snd_layout.specs.Params.{Parameters, data_bytes}
 use Rattle.snd_layout.specs.Shape.{room as room_of}
 use Rattle.snd_layout.specs.declared.codec.Codec.{Codec}
 use Rattle.snd_layout.specs.declared.kind.Kind.{Kind}
-use Rattle.snd_layout.specs.declared.kind.Kind.TheVariants.{Wave}
 use Rattle.snd_modes.specs.Relaid.{shape_with}
 
 -- a WAVE file counts the frames of ADPCM with 32 bits
-abbrev pub is_wave : Kind → Bool
-is_wave Wave = true
-is_wave kind = false
-
 abbrev pub is_past_count : Kind → Codec → ℕ → Bool
 is_past_count kind codec frames = is_adpcm codec && is_wave kind && nat_le (2 ^ 32) frames
 

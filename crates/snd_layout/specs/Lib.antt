@@ -1,7 +1,9 @@
 pub mod Blocks
 pub mod Container
+pub mod Filled
 pub mod Fit
 pub mod Format
+pub mod Kinds
 pub mod Laid
 pub mod Made
 pub mod Names

@@ -13,6 +13,7 @@ mod laws;
 mod laying;
 mod layout;
 mod made;
+mod own;
 mod params;
 mod piece;
 mod put;

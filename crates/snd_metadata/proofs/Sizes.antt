@@ -14,12 +14,13 @@ use Rattle.snd_layout.specs.Params.{Parameters, data_bytes}
 use Rattle.snd_layout.specs.Shape.{Shape, room}
 use Rattle.snd_layout.specs.declared.codec.Codec.{Codec}
 use Rattle.snd_layout.specs.declared.codec.Codec.TheVariants.{Ima, Ms}
+use Rattle.snd_layout.proofs.Public.{meta_order}
 use Rattle.snd_layout.specs.declared.kind.Kind.{Kind}
-use Rattle.snd_layout.specs.declared.kind.Kind.TheVariants.{Wave, Rf64, W64, Au, Dns, Voc, Svx, Sphere}
+use Rattle.snd_fields.specs.declared.field.Order.{Order}
 use Rattle.snd_layout.specs.declared.piece.Piece.{Piece}
-use Rattle.snd_modes.specs.Heads.{holds_meta}
+use Rattle.snd_layout.specs.Kinds.{holds_meta}
 use Rattle.snd_modes.specs.Relaid.{shape_with}
-use Rattle.snd_room.specs.Room.{Take}
+use Rattle.snd_container.specs.Room.{Take}
 use Rattle.snd_metadata.specs.Planned.{MayStand, chunk_planned, outline_planned, sizes_planned}
 use Rattle.snd_metadata.specs.declared.chunks.PlannedChunk.{PlannedChunk}
 use Rattle.snd_metadata.specs.declared.chunks.PlannedChunk.TheVariants.{Given, Kept}
@@ -67,14 +68,7 @@ chunks_take b pieces plan ends may = sizes_are (chunk_planned b) plan (λ k d lt
 
 -- in a file of a kind with such chunks
 pub little_take : (kind : Kind) (bytes : ℕ) (chunks : List NewChunk) → holds_meta kind ≡ true → length (chunks_bytes Little chunks) ≡ bytes → Take kind bytes chunks
-little_take Wave bytes chunks meta take = take
-little_take Rf64 bytes chunks meta take = take
-little_take W64 bytes chunks meta take = absurd (cc)
-little_take Au bytes chunks meta take = absurd (cc)
-little_take Dns bytes chunks meta take = absurd (cc)
-little_take Voc bytes chunks meta take = absurd (cc)
-little_take Svx bytes chunks meta take = absurd (cc)
-little_take Sphere bytes chunks meta take = absurd (cc)
+little_take kind bytes chunks meta take = ap (λ (order : Order). length (chunks_bytes order chunks)) (meta_order kind meta) ∙ take
 
 -- ---- what a head has room for
 

@@ -9,7 +9,7 @@ use Rattle.snd_layout.specs.Shape.{Shape}
 use Rattle.snd_modes.specs.declared.handle.File.{File}
 use Rattle.snd_modes.specs.declared.mode.Mode.{Ghosts as ModeGhosts}
 use Rattle.snd_modes.specs.Handle.{known_of}
-use Rattle.snd_modes.specs.Heads.{holds_meta}
+use Rattle.snd_layout.specs.Kinds.{holds_meta}
 
 -- the bodies of the further chunks of a file: none of a kind that has no such chunks
 abbrev pub bodies_in : Shape → ℕ

@@ -10,10 +10,9 @@ use Rattle.snd_layout.specs.Blocks.{is_adpcm}
 use Rattle.snd_layout.specs.Fit.{fit_refusal}
 use Rattle.snd_layout.specs.Shape.{Shape}
 use Rattle.snd_layout.specs.declared.piece.Piece.{Piece}
-use Rattle.snd_modes.specs.Heads.{holds_meta, is_wave_own}
-use Rattle.snd_modes.specs.Relaid.{outline}
-use Rattle.snd_room.specs.Room.{chunk_size}
-use Rattle.snd_chunks.specs.Heads.{chunk_read, new_piece}
+use Rattle.snd_layout.specs.Kinds.{holds_meta, is_wave_own}
+use Rattle.snd_chunks.specs.Heads.{outline, chunk_read, new_piece}
+use Rattle.snd_container.specs.Room.{chunk_size}
 use Rattle.snd_metadata.specs.declared.chunks.PlannedChunk.{PlannedChunk}
 use Rattle.snd_metadata.specs.declared.chunks.PlannedChunk.TheVariants.{Given, Kept}
 use Rattle.snd_metadata.specs.Chunks.{kept_chunks, with_extension}

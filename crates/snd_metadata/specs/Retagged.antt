@@ -15,7 +15,7 @@ use Rattle.snd_meta.specs.Broadcast.{Broadcast, bext_body, blank}
 use Rattle.snd_meta.specs.Info.{Entry, info_body}
 use Rattle.snd_modes.specs.declared.error.GetError.TheVariants as get
 use Rattle.snd_modes.specs.Editing.{Editing}
-use Rattle.snd_modes.specs.Heads.{holds_meta}
+use Rattle.snd_layout.specs.Kinds.{holds_meta}
 use Rattle.snd_modes.specs.Relaid.{shape_with}
 use Rattle.snd_output.specs.Made.{made_file}
 use Rattle.snd_output.specs.Widths.{joined}

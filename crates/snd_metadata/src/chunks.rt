@@ -11,7 +11,7 @@ use snd_carry::is_carried;
 use snd_fields::Id4;
 use snd_layout::{Piece, PieceList};
 use snd_output::Stop;
-use snd_room::chunk_size;
+use snd_container::chunk_size;
 use std::alloc::Global;
 
 /// The chunks of the input that are kept at most: two more may be added.

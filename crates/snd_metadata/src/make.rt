@@ -6,7 +6,7 @@ ghost use Rattle.snd_inputs.specs.Copying.{AsksToCopy, CopiesInto, CountsFileAnd
 ghost use Rattle.snd_inputs.specs.Opening.{IsUnread};
 ghost use Rattle.snd_modes.specs.Handle.{IsFresh, StandsAfter, disk_of, known_of, loan_of};
 ghost use Rattle.snd_layout.specs.Params.{AreParams};
-ghost use Rattle.snd_modes.specs.Heads.{holds_meta};
+ghost use Rattle.snd_layout.specs.Kinds.{holds_meta};
 ghost use Rattle.snd_modes.specs.Outcomes.{AsksNothing};
 ghost use Rattle.snd_modes.specs.PieceCalls.{IsUntouched};
 ghost use Rattle.snd_output.specs.Ends.{IsUnchanged};

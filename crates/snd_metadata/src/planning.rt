@@ -5,7 +5,7 @@ ghost use Rattle.snd_disk.specs.Device.{AsksAtMost};
 ghost use Rattle.snd_layout.specs.Blocks.{is_adpcm};
 ghost use Rattle.snd_layout.specs.Fit.{fit_refusal};
 ghost use Rattle.snd_modes.specs.Handle.{codec_of, disk_of, known_of};
-ghost use Rattle.snd_modes.specs.Heads.{holds_meta};
+ghost use Rattle.snd_layout.specs.Kinds.{holds_meta};
 ghost use Rattle.snd_words.specs.Stated.{IsStated};
 ghost use Rattle.snd_metadata.specs.Judged.{HasRoom};
 ghost use Rattle.snd_metadata.specs.Looking.{Looks, judging};
@@ -21,18 +21,11 @@ use crate::places::chunks_of;
 use crate::settings::summary_of;
 use snd_container::fit;
 use snd_disk::Disk;
-use snd_layout::Kind;
 use snd_lines::Refusal;
 use snd_modes::{File, Read};
-use snd_room::room_with;
+use snd_container::room_with;
 use snd_words::MetadataSettings;
 use std::alloc::Global;
-
-fn holds_meta(kind: Kind) -> bool
-    ensures { result ≡ holds_meta kind }
-{
-    matches!(kind, Kind::Wave | Kind::Rf64)
-}
 
 // Whether the head of a file with these chunks has no room for the data of an open file.
 fn is_full<D: Disk>(plan: &[PlannedChunk], file: &File<'_, D, Read>) -> bool
@@ -83,7 +76,7 @@ pub(crate) fn plan_of<D: Disk>(
     ensures looks { Looks D.Disk file.old file.new (judging result) }
     ensures asked { AsksAtMost D.state 148480 (disk_of file.old) (disk_of file.new) }
 {
-    if !holds_meta(file.kind()) {
+    if !file.kind().holds_meta() {
         return Err(Halt::Input(Refusal::NoChunks));
     }
     if file.params().codec.is_adpcm() {

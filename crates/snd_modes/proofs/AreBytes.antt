@@ -11,7 +11,8 @@ use Rattle.snd_fields.specs.Laws.{IsByte}
 use Rattle.snd_layout.specs.Params.{data_bytes}
 use Rattle.snd_layout.specs.Shape.{Shape, end}
 use Rattle.snd_layout.specs.declared.field.Field.{Field}
-use Rattle.snd_patch.specs.Sealed.{closed, over_closing, over_field, patched, sealed, shrunk, with_fewer, with_fields, with_inner, with_others}
+use Rattle.snd_patch.specs.Sealed.{closed, over_closing, patched, sealed, shrunk, with_fewer, with_fields, with_inner, with_others}
+use Rattle.snd_layout.specs.Filled.{over_field}
 use Rattle.snd_container.proofs.FixedSamples.{count_of_bytes}
 use Rattle.snd_container.specs.declared.fixed.Fixed.{Fixed}
 use Rattle.snd_modes.specs.Editing.{Editing}

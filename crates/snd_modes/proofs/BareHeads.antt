@@ -10,9 +10,10 @@ use Rattle.snd_layout.specs.Params.{data_bytes}
 use Rattle.snd_layout.specs.Shape.{KeepsRule, Shape, end}
 use Rattle.snd_patch.specs.Sealed.{closed, counted, over_closing, patched, sealed, sealed_size, with_fewer, with_fields}
 use Rattle.snd_modes.specs.Edits.{closed_behind, coded, count_written, cut_off, over_data, sealed_where, written_bytes, written_shape}
-use Rattle.snd_modes.specs.Heads.{HasHead, holds_pieces}
+use Rattle.snd_modes.specs.Heads.{HasHead}
+use Rattle.snd_layout.specs.Kinds.{holds_pieces}
 use Rattle.snd_modes.specs.Writing.{closed_size}
-use Rattle.snd_modes.proofs.HeadBytes.{option_same, over_nothing}
+use Rattle.snd_chunks.proofs.HeadBytes.{option_same, over_nothing}
 use Rattle.snd_modes.proofs.KindHeads.{bare_head, head_same}
 use Rattle.snd_modes.proofs.HeadLaws.{IsBareHead}
 

@@ -7,9 +7,8 @@ use Rattle.snd_fields.specs.Blocks.{is_ima_align, is_ms_align, ima_samples_per_b
 use Rattle.snd_layout.specs.declared.codec.Codec.{Codec}
 use Rattle.snd_layout.specs.declared.codec.Codec.TheVariants.{U8, S8, S16, S24, S32, MuLaw, ALaw, Ima, Ms}
 use Rattle.snd_layout.specs.declared.kind.Kind.{Kind}
-use Rattle.snd_layout.specs.declared.kind.Kind.TheVariants.{Wave, W64, Voc, Svx}
 use Rattle.snd_layout.specs.Blocks.{block_align, block_frames, is_adpcm, is_ima_block, is_ms_block}
-use Rattle.snd_layout.specs.Fit.{fit_refusal, is_kinds_rate, is_pair}
+use Rattle.snd_layout.proofs.Public.{few_channels, is_held}
 use Rattle.snd_layout.specs.Params.{AreParams, Parameters, block_refusal, data_bytes, size_refusal}
 use Rattle.snd_layout.specs.Shape.{KeepsRule, Shape}
 use Rattle.snd_layout.proofs.Frames.{good_size, ima_frames, ms_frames}
@@ -23,27 +22,6 @@ pub record IsBlockSize (channels align per_block : ℕ) : Type 0 where
   pub numbers : per_block * channels ≤ 2 * align
 
 -- ---- blocks have one channel or two
-
-pub is_held : (kind : Kind) (p : Parameters) → fit_refusal kind p ≡ None → is_pair kind p.channels p.codec ≡ true
-is_held kind p fits = elim (cases_Bool (is_pair kind p.channels p.codec)) [
-  | inl held ↦ held
-  | inr other ↦ elim (cases_Bool (is_kinds_rate kind p.rate)) [
-    | inl plays ↦ absurd (let h = rw (plays, other) at fits in cc)
-    | inr not_played ↦ absurd (let h = rw not_played at fits in cc)
-  ]
-]
-
-pub few_channels : (kind : Kind) (channels : ℕ) (codec : Codec) → is_adpcm codec ≡ true → is_pair kind channels codec ≡ true → channels ≤ 2
-few_channels Wave channels (Ima align per_block) is held = leb-true channels 2 held
-few_channels Wave channels (Ms align per_block) is held = leb-true channels 2 held
-few_channels W64 channels (Ima align per_block) is held = leb-true channels 2 held
-few_channels W64 channels (Ms align per_block) is held = leb-true channels 2 held
-few_channels Voc channels codec is held = leb-true channels 2 (and_parts (nat_le channels 2) _ held).0
-few_channels Svx channels (Ima align per_block) is held = absurd (let h = (and_parts (nat_le channels 1) false held).1 in cc)
-few_channels Svx channels (Ms align per_block) is held = absurd (let h = (and_parts (nat_le channels 1) false held).1 in cc)
-few_channels _ channels (Ima align per_block) is held = absurd (cc)
-few_channels _ channels (Ms align per_block) is held = absurd (cc)
-few_channels _ channels _ is held = absurd (cc)
 
 one_or_two : (n : ℕ) → 1 ≤ n → n ≤ 2 → (n ≡ 1) ⊎ (n ≡ 2)
 one_or_two n some most = grind arith

@@ -31,7 +31,7 @@ use Rattle.snd_modes.proofs.EditedSteps.{more_frames}
 use Rattle.snd_modes.proofs.Encoded.{blocks_read, frames_of, frames_where, frames_whole, held_where, holds_sealed, in_blocks, whole_bytes, whole_even}
 use Rattle.snd_modes.proofs.EncodedPlaces.{data_more, may_encode, whole_least}
 use Rattle.snd_modes.proofs.EncodedState.{holds_where, whole_reaches}
-use Rattle.snd_modes.proofs.HeadBytes.{over_stays}
+use Rattle.snd_chunks.proofs.HeadBytes.{over_stays}
 use Rattle.snd_modes.proofs.Ranges.{are_16_bits}
 use Rattle.snd_modes.proofs.SealedFrames.{sealed_decoded}
 

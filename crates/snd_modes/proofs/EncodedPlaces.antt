@@ -16,10 +16,11 @@ use Rattle.snd_layout.specs.declared.codec.Codec.{Codec}
 use Rattle.snd_layout.specs.declared.codec.Codec.TheVariants.{Ima, Ms}
 use Rattle.snd_layout.specs.declared.field.Field.{Field}
 use Rattle.snd_layout.specs.declared.kind.Kind.{Kind}
-use Rattle.snd_layout.specs.declared.kind.Kind.TheVariants.{Wave, W64, Voc, Svx}
+use Rattle.snd_layout.specs.declared.kind.Kind.TheVariants.{Wave, W64}
 use Rattle.snd_modes.specs.Encoding.{whole_frames}
 use Rattle.snd_modes.specs.Pacing.{HasPlaceFor, KeepsPace}
-use Rattle.snd_modes.proofs.BlockBytes.{block_sizes, few_channels, is_held, numbers_in}
+use Rattle.snd_modes.proofs.BlockBytes.{block_sizes, numbers_in}
+use Rattle.snd_layout.proofs.Public.{blocks_held, few_channels, is_held}
 
 -- ---- numbers
 
@@ -117,18 +118,6 @@ module _ (h : Shape) (form : AreBlocks h.params) where
         ap (λ (m : ℕ). h.start + m) (bytes ∙ sym (whole_data h.params w.blocks form.some_frames) ∙ ap (data_bytes h.params) (sym blocks))
 
 -- ---- room
-
--- two kinds hold blocks
-pub blocks_held : (kind : Kind) (channels : ℕ) (codec : Codec) → is_adpcm codec ≡ true → is_pair kind channels codec ≡ true → (kind ≡ Wave) ⊎ (kind ≡ W64)
-blocks_held Wave channels codec is held = inl refl
-blocks_held W64 channels codec is held = inr refl
-blocks_held Voc channels (Ima align per_block) is held = absurd (let h = (and_parts (nat_le channels 2) false held).1 in cc)
-blocks_held Voc channels (Ms align per_block) is held = absurd (let h = (and_parts (nat_le channels 2) false held).1 in cc)
-blocks_held Svx channels (Ima align per_block) is held = absurd (let h = (and_parts (nat_le channels 1) false held).1 in cc)
-blocks_held Svx channels (Ms align per_block) is held = absurd (let h = (and_parts (nat_le channels 1) false held).1 in cc)
-blocks_held _ channels (Ima align per_block) is held = absurd (cc)
-blocks_held _ channels (Ms align per_block) is held = absurd (cc)
-blocks_held _ channels _ is held = absurd (cc)
 
 -- whose heads have room for fewer than 2 ^ 62 bytes behind the start
 room_of : (kind : Kind) (p : Parameters) (start : ℕ) (inner : Field) → (kind ≡ Wave) ⊎ (kind ≡ W64)

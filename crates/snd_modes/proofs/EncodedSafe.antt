@@ -40,8 +40,8 @@ use Rattle.snd_modes.proofs.EditedSteps.{more_frames}
 use Rattle.snd_modes.proofs.Giving.{last_given}
 use Rattle.snd_modes.proofs.Encoded.{whole_bytes}
 use Rattle.snd_modes.proofs.EncodedFiles.{all_frames, count_then, counted_whole, even_given, even_whole, given_then, no_fewer, numbers_then, put_again, put_before, put_held, put_read, put_room, put_says, room_given, room_whole, whole_within}
-use Rattle.snd_modes.proofs.EncodedPlaces.{blocks_held, data_more}
-use Rattle.snd_modes.proofs.BlockBytes.{is_held}
+use Rattle.snd_modes.proofs.EncodedPlaces.{data_more}
+use Rattle.snd_layout.proofs.Public.{blocks_held, is_held}
 use Rattle.snd_modes.proofs.ImageFields.{old_before, old_some_before, old_some_through, old_through}
 use Rattle.snd_modes.proofs.ImageLayouts.{closed_declared, closed_more, declared_more, inner_whole, new_count, outer_whole, reach_new, reach_sized, still_holds}
 use Rattle.snd_modes.proofs.Overwritten.{data_stay}

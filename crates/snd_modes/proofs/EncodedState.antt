@@ -24,7 +24,7 @@ use Rattle.snd_modes.specs.Encoding.{HoldsEncoded, counting, counting_whole, enc
 use Rattle.snd_modes.specs.Handle.{HoldsBlocks, IsGiven, Known, Stands, disk_of, known_of, writer_of}
 use Rattle.snd_modes.specs.WriteCalls.{end_written}
 use Rattle.snd_modes.proofs.Encoded.{blocks_read_where, frames_of, frames_where, frames_whole, held_where, whole_bytes}
-use Rattle.snd_modes.proofs.HeadBytes.{over_stays}
+use Rattle.snd_chunks.proofs.HeadBytes.{over_stays}
 
 -- what holds of a layout that counts some frames, also once the head says so
 pub holds_where : (automatic : Bool) (ys : List ℤ) (b : List ℕ) (h : Shape) (n place : ℕ) → h.frames ≡ n → HoldsBlocks ys b h place → HoldsBlocks ys b (written_shape automatic h n) place

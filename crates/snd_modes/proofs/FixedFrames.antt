@@ -25,7 +25,7 @@ use Rattle.snd_layout.specs.declared.codec.Codec.TheVariants.{Ima, Ms}
 use Rattle.snd_layout.specs.declared.kind.Kind.{Kind}
 use Rattle.snd_modes.specs.Caching.{CachesIn}
 use Rattle.snd_modes.specs.Reading.{HasFrames}
-use Rattle.snd_modes.proofs.BlockBytes.{few_channels, is_held}
+use Rattle.snd_layout.proofs.Public.{few_channels, is_held}
 use Rattle.snd_modes.proofs.Opening.{count_decoded}
 use Rattle.snd_modes.proofs.Rooms.{not_adpcm}
 

@@ -1,18 +1,19 @@
--- What the heads of a kind keep, with any pieces and without frames, and what follows of a disk that holds nothing but one.
+-- What follows of a disk that holds nothing but the head of a file that is made.
 use Rattle.std.proofs.Common.{◌≡◌, ◌∙◌, ap, sym, subst, refl, ℕ, ◌+◌, ◌≤◌, ◌^◌, false, List, [], Option, None, Some, Ok, length, arith}
 use Rattle.std.specs.Prelude.{map}
 use Rattle.snd_chunks.specs.Written.{NewChunk}
 use Rattle.snd_container.specs.Put.{heads_of}
 use Rattle.snd_container.specs.Sound.{layout_of}
-use Rattle.snd_container.specs.Values.{closing}
+use Rattle.snd_container.specs.Values.{any, closing}
 use Rattle.snd_disk.specs.State.{State}
 use Rattle.snd_layout.specs.Params.{Parameters, data_bytes}
 use Rattle.snd_layout.specs.Shape.{KeepsRule, Shape, end, room}
 use Rattle.snd_layout.specs.declared.kind.Kind.{Kind}
 use Rattle.snd_patch.specs.Sealed.{with_fields}
-use Rattle.snd_chunks.specs.Heads.{Heads, IsHeadIn, chunk_read, with_piece}
-use Rattle.snd_modes.specs.Relaid.{head_with, outline, shape_put}
-use Rattle.snd_modes.proofs.Blanks.{blank, blanks, blanks_blanks, blanks_with}
+use Rattle.snd_chunks.specs.HeadLaws.{KeepsPieceLaws, SaysNone}
+use Rattle.snd_chunks.specs.Heads.{Heads, IsHeadIn, blank, blanks, chunk_read, outline, with_piece}
+use Rattle.snd_modes.specs.Relaid.{head_with, shape_put}
+use Rattle.snd_chunks.proofs.Blanks.{blanks_blanks, blanks_with}
 
 -- a layout without frames, whose disk holds nothing but the head, with the fields of no frames
 pub record IsBareHead (disk : State) (h : Shape) : Type 0 where
@@ -34,31 +35,6 @@ pub record IsPut (old new : State) (h h' : Shape) (place : ℕ) (piece : NewChun
   pub bytes : (b x : List ℕ) → old.contents ≡ Some b → new.contents ≡ Some x → x ≡ head_with h.kind h.params (with_piece (map (chunk_read b) h.pieces) place piece)
   pub held : (b x : List ℕ) → old.contents ≡ Some b → new.contents ≡ Some x → map (chunk_read x) h'.pieces ≡ with_piece (map (chunk_read b) h.pieces) place piece
 
--- what a head says
-pub record SaysNone (kind : Kind) (p : Parameters) (h : Shape) (head : List ℕ) : Type 0 where
-  pub kind_is : h.kind ≡ kind
-  pub params_are : h.params ≡ p
-  pub frames : h.frames ≡ 0
-  pub free : h.trailing ≡ false
-  pub known : h.unknown_length ≡ false
-  pub declared : h.declared ≡ data_bytes p 0
-  pub no_bytes : data_bytes p 0 ≡ 0
-  pub start : h.start ≡ length head
-  pub unclosed : closing h 0 ≡ []
-  pub room_ends : KeepsRule h → h.start + room h + 8 ≤ 2 ^ 63
-  pub few : length h.pieces ≤ 240
-  pub fields : KeepsRule h → with_fields head h 0 ≡ head
-
--- what all of them keep: what they say, that they are read back with their pieces, and that a layout hangs on the outlines of the pieces alone
-pub record HeadLaws (kind : Kind) (heads : Heads) : Type 0 where
-  pub says : (p : Parameters) (pieces : List NewChunk) → heads.may p pieces → SaysNone kind p (heads.shape p pieces) (heads.head p pieces)
-  pub read : (p : Parameters) (pieces : List NewChunk) → heads.may p pieces → map (chunk_read (heads.head p pieces)) (heads.shape p pieces).pieces ≡ pieces
-  pub opens : (p : Parameters) (pieces : List NewChunk) → heads.may p pieces → layout_of (heads.head p pieces) ≡ Ok (heads.shape p pieces)
-  pub outlined : (p : Parameters) (pieces : List NewChunk) → map outline (heads.shape p pieces).pieces ≡ blanks pieces
-  pub blank_may : (p : Parameters) (pieces : List NewChunk) → heads.may p pieces → heads.may p (blanks pieces)
-  pub blank_shape : (p : Parameters) (pieces : List NewChunk) → heads.shape p (blanks pieces) ≡ heads.shape p pieces
-  pub blank_size : (p : Parameters) (pieces : List NewChunk) → length (heads.head p (blanks pieces)) ≡ length (heads.head p pieces)
-
 -- the pieces of a head, as its disk tells them: where it tells nothing, of the same lengths
 abbrev pub told_pieces : Option (List ℕ) → Shape → List NewChunk
 told_pieces None h = map outline h.pieces
@@ -67,7 +43,7 @@ told_pieces (Some b) h = map (chunk_read b) h.pieces
 pub same_in : (heads : Heads) (old new : State) (h : Shape) (p : Parameters) (pieces : List NewChunk) → new.size ≡ old.size → new.contents ≡ old.contents → IsHeadIn heads old h p pieces → IsHeadIn heads new h p pieces
 same_in heads old new h p pieces size contents is = record { laid = is.laid; size = size ∙ is.size; contents = λ b told. is.contents b (sym contents ∙ told) }
 
-module _ (kind : Kind) (laws : HeadLaws kind (heads_of kind)) where
+module _ (kind : Kind) (laws : KeepsPieceLaws kind (any kind) (heads_of kind)) where
   abbrev shape : Parameters → List NewChunk → Shape
   shape p pieces = (heads_of kind).shape p pieces
 
@@ -75,7 +51,7 @@ module _ (kind : Kind) (laws : HeadLaws kind (heads_of kind)) where
   head p pieces = (heads_of kind).head p pieces
 
   -- what the disk of such a head holds
-  bare : (disk : State) (p : Parameters) (h : Shape) (b : List ℕ) → SaysNone kind p h b → KeepsRule h → disk.size ≡ length b → ((x : List ℕ) → disk.contents ≡ Some x → x ≡ b) → IsBareHead disk h
+  bare : (disk : State) (p : Parameters) (h : Shape) (b : List ℕ) → SaysNone kind (any kind) p h b → KeepsRule h → disk.size ≡ length b → ((x : List ℕ) → disk.contents ≡ Some x → x ≡ b) → IsBareHead disk h
   bare disk p h b says rule size contents =
       let none : data_bytes h.params 0 ≡ 0 = ap (λ (q : Parameters). data_bytes q 0) says.params_are ∙ says.no_bytes in
       record {

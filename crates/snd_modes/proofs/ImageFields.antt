@@ -5,6 +5,7 @@ use Rattle.snd_container.proofs.EveryKind.{apart}
 use Rattle.snd_container.proofs.Widths.{inner_value_fits, outer_value_fits, side_value_fits}
 use Rattle.snd_container.specs.Laws.{FileSays}
 use Rattle.snd_layout.specs.Container.{FitsField}
+use Rattle.snd_layout.specs.Filled.{over_field}
 use Rattle.snd_container.specs.Values.{inner_value, outer_value, side_value}
 use Rattle.snd_disk.specs.Runs.{HasAt, IsInOneSector}
 use Rattle.snd_layout.specs.Shape.{EndsBy, KeepsRule, Shape}
@@ -12,7 +13,7 @@ use Rattle.snd_layout.specs.declared.field.Field.{Field}
 use Rattle.snd_patch.proofs.Lists.{field_length}
 use Rattle.snd_patch.proofs.Wholes.{apart_back, put_new, then_new}
 use Rattle.snd_patch.specs.Images.{AllLieApart, HasNew, HasOld, IsOldOrNew}
-use Rattle.snd_patch.specs.Sealed.{over_field, with_fewer, with_others}
+use Rattle.snd_patch.specs.Sealed.{with_fewer, with_others}
 
 -- a layout but for its frames and the declared length
 abbrev pub recounted : Shape → ℕ → ℕ → Shape

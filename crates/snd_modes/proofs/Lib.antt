@@ -2,7 +2,6 @@ pub mod AreBytes
 pub mod AtRest
 pub mod BareHeads
 pub mod BlockBytes
-pub mod Blanks
 pub mod BlocksUnderWay
 pub mod BytesRead
 pub mod CarriedOut
@@ -23,7 +22,6 @@ pub mod GivenBytes
 pub mod Giving
 pub mod FixedFrames
 pub mod FramesPut
-pub mod HeadBytes
 pub mod HeadLaws
 pub mod HeadProps
 pub mod ImageFields
@@ -45,7 +43,6 @@ pub mod PutBlocks
 pub mod PutHeads
 pub mod Ranges
 pub mod ReadBodies
-pub mod Rf64Heads
 pub mod Rooms
 pub mod Runs
 pub mod SafeCuts
@@ -57,6 +54,4 @@ pub mod SealedFrames
 pub mod SealedHeads
 pub mod Sealing
 pub mod SoundFrames
-pub mod SvxHeads
 pub mod TestedSamples
-pub mod WaveHeads

@@ -1,7 +1,8 @@
 -- A file that is made is one that may be opened to be updated.
-use Rattle.std.proofs.Common.{◌≡◌, ◌∙◌, ap, sym, subst, refl, ⊎_elim, ◌≤◌, true, false, All, Option, None, Some, Ok, arith}
+use Rattle.std.proofs.Common.{◌≡◌, ◌∙◌, ap, sym, subst, refl, ⊎_elim, ◌≤◌, true, false, [], All, Option, None, Some, Ok, arith}
 use Rattle.std.specs.Prelude.{Result, is_none}
 use Rattle.snd_container.proofs.EveryKind.{made}
+use Rattle.snd_container.proofs.Public.{head_laws}
 use Rattle.snd_container.specs.Made.{new_file, new_shape}
 use Rattle.snd_container.specs.Sound.{fixed_of}
 use Rattle.snd_fields.specs.Laws.{IsByte}
@@ -10,20 +11,18 @@ use Rattle.snd_blocks.specs.Calls.{AreBlocks}
 use Rattle.snd_layout.specs.Blocks.{is_adpcm}
 use Rattle.snd_layout.specs.Fit.{fit_refusal}
 use Rattle.snd_layout.specs.Params.{AreParams, Parameters}
+use Rattle.snd_layout.specs.Shape.{Shape}
 use Rattle.snd_layout.specs.declared.kind.Kind.{Kind}
-use Rattle.snd_layout.specs.declared.kind.Kind.TheVariants.{W64, Wave}
 use Rattle.snd_layout.specs.declared.refusal.OpenRefusal.{OpenRefusal}
 use Rattle.snd_modes.specs.Editing.{Editing, first_editing}
 use Rattle.snd_modes.specs.Laws.{IsEncoded, MadeIsEdited, MadeIsEncoded, MadeIsUpdated}
 use Rattle.snd_modes.specs.Making.{making_as, making_of}
 use Rattle.snd_modes.specs.Pacing.{HasPlaceFor}
 use Rattle.snd_modes.specs.Updating.{updating_of}
-use Rattle.snd_w64.specs.Written.{made_shape as w64_made}
-use Rattle.snd_wave.specs.Written.{made_shape as wave_made}
-use Rattle.snd_modes.proofs.BlockBytes.{few_channels, is_held}
+use Rattle.snd_layout.proofs.Public.{few_channels, is_held}
 use Rattle.snd_modes.proofs.EditedFiles.{first_keeps, updated_is_edited}
 use Rattle.snd_modes.proofs.Encoded.{given_none}
-use Rattle.snd_modes.proofs.EncodedPlaces.{blocks_held, may_encode}
+use Rattle.snd_modes.proofs.EncodedPlaces.{may_encode}
 use Rattle.snd_modes.proofs.NewFiles.{begins_new, is_new}
 use Rattle.snd_modes.proofs.Opened.{update_ok}
 use Rattle.snd_modes.proofs.Rooms.{not_adpcm}
@@ -53,20 +52,9 @@ made_is_edited kind p e good linear is =
 
 -- ---- files of ADPCM
 
--- the count and the data size are one field in the two kinds that hold blocks
-wave_joined : (p : Parameters) → is_adpcm p.codec ≡ true → 12 ≤ (new_shape Wave p).inner.size
-unfolding wave_made
-wave_joined p blocks = rw blocks (omega arith)
-
-w64_joined : (p : Parameters) → is_adpcm p.codec ≡ true → 12 ≤ (new_shape W64 p).inner.size
-unfolding w64_made
-w64_joined p blocks = rw blocks (omega arith)
-
+-- the count and the data size are one field where a kind holds blocks
 new_joined : (kind : Kind) (p : Parameters) → fit_refusal kind p ≡ None → is_adpcm p.codec ≡ true → 12 ≤ (new_shape kind p).inner.size
-new_joined kind p fits blocks = ⊎_elim
-    (λ wave. subst (λ (k : Kind). 12 ≤ (new_shape k p).inner.size) (sym wave) (wave_joined p blocks))
-    (λ w64. subst (λ (k : Kind). 12 ≤ (new_shape k p).inner.size) (sym w64) (w64_joined p blocks))
-    (blocks_held kind p.channels p.codec blocks (is_held kind p fits))
+new_joined kind p fits blocks = subst (λ (h : Shape). 12 ≤ h.inner.size) ((head_laws kind).bare_shape p) ((head_laws kind).joined p [] fits blocks)
 
 encoded_first : (kind : Kind) (p : Parameters) → AreParams p → fit_refusal kind p ≡ None → is_adpcm p.codec ≡ true → IsEncoded (new_file kind p) (first_editing (new_file kind p) (new_shape kind p))
 encoded_first kind p good fits blocks =

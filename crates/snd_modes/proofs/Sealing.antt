@@ -9,7 +9,8 @@ use Rattle.snd_layout.specs.declared.field.Field.{Field}
 use Rattle.snd_layout.specs.declared.kind.Kind.{Kind}
 use Rattle.snd_layout.specs.declared.kind.Kind.TheVariants.{Voc}
 use Rattle.snd_container.specs.Values.{closed_end, outer_value, side_value}
-use Rattle.snd_patch.specs.Sealed.{closed, grown, over_closing, over_field, patched, sealed, with_fewer, with_fields, with_inner}
+use Rattle.snd_patch.specs.Sealed.{closed, grown, over_closing, patched, sealed, with_fewer, with_fields, with_inner}
+use Rattle.snd_layout.specs.Filled.{over_field}
 use Rattle.snd_patch.specs.Steps.{Updates}
 use Rattle.snd_container.specs.Sound.{fixed_of}
 use Rattle.snd_container.specs.Fixed.{byte_count, samples_bytes}

@@ -11,7 +11,7 @@ use Rattle.snd_modes.specs.declared.mode.Mode.{Ghosts as ModeGhosts}
 use Rattle.snd_modes.specs.declared.wanted.Wanted.{Wanted}
 use Rattle.snd_modes.specs.Editing.{Editing}
 use Rattle.snd_modes.specs.Handle.{Known, StandsAfter, disk_of}
-use Rattle.snd_modes.specs.Heads.{holds_meta, holds_pieces, is_reserved}
+use Rattle.snd_layout.specs.Kinds.{holds_meta, holds_pieces, is_reserved}
 use Rattle.snd_modes.specs.Relaid.{place_named, shape_put}
 
 -- a chunk that is added, that is carried from another file, and one that takes the place of another

@@ -1,13 +1,12 @@
 -- How a chunk that is put into a file changes an editing state: its head is laid anew.
-use Rattle.std.specs.Prelude.{ℕ, List, length, map, replicate}
+use Rattle.std.specs.Prelude.{ℕ, List, length, map}
 use Rattle.std.specs.List.{position_or_len}
 use Rattle.snd_chunks.specs.Written.{NewChunk}
 use Rattle.snd_layout.specs.Params.{Parameters}
 use Rattle.snd_layout.specs.Shape.{Shape}
 use Rattle.snd_layout.specs.declared.kind.Kind.{Kind}
-use Rattle.snd_layout.specs.declared.piece.Piece.{Piece}
 use Rattle.snd_container.specs.Put.{heads_of}
-use Rattle.snd_chunks.specs.Heads.{chunk_read, new_piece, with_piece}
+use Rattle.snd_chunks.specs.Heads.{chunk_read, new_piece, outline, with_piece}
 use Rattle.snd_modes.specs.Editing.{Editing}
 use Rattle.snd_modes.specs.Pieces.{has_name}
 
@@ -17,10 +16,6 @@ head_with kind p pieces = (heads_of kind).head p pieces
 
 abbrev pub shape_with : Kind → Parameters → List NewChunk → Shape
 shape_with kind p pieces = (heads_of kind).shape p pieces
-
--- a chunk with the identifier and the length of a piece: a layout knows no more of it
-abbrev pub outline : Piece → NewChunk
-outline piece = record { id = piece.id.0; body = replicate piece.len 0 }
 
 -- a layout with a chunk put at a place of the list, or behind them all
 abbrev pub shape_put : ℕ → NewChunk → Shape → Shape

@@ -10,7 +10,7 @@ ghost use Rattle.snd_patch.specs.Steps.{StillTells};
 ghost use Rattle.snd_chunks.specs.Heads.{CountsPutting, new_piece};
 ghost use Rattle.snd_modes.specs.Chunks.{HoldsPut, StandsAsOpened};
 ghost use Rattle.snd_modes.specs.Handle.{disk_of, known_of, loan_of};
-ghost use Rattle.snd_modes.specs.Heads.{holds_pieces, is_meta_id, is_own_id};
+ghost use Rattle.snd_layout.specs.Kinds.{holds_pieces, is_meta_id, is_own_id};
 ghost use Rattle.snd_modes.specs.Outcomes.{AsksNothing, TellsOn};
 ghost use Rattle.snd_modes.specs.PieceCalls.{AddLeaves, CopyLeaves, CountsPut, IsPutRefusal, MayPut, PutLeaves, ReplaceLeaves, StandsPut};
 ghost use Rattle.snd_modes.specs.Relaid.{added_to, place_named, put_to, replaced_to};
@@ -18,7 +18,7 @@ ghost use Rattle.snd_modes.specs.Relaid.{added_to, place_named, put_to, replaced
 use crate::frames::keeps_rules;
 use crate::handle::File;
 use crate::mode::CanMake;
-use crate::wanted::{Wanted, holds_meta, holds_pieces, is_reserved, place_named};
+use crate::wanted::{Wanted, place_named};
 use snd_container::put_piece;
 use snd_disk::Disk;
 use snd_fields::Id4;
@@ -85,8 +85,8 @@ impl<'d, D: Disk, M: CanMake> File<'d, D, M> {
     {
         let kind = self.layout.kind;
         let wanted = Wanted {
-            reserved: is_reserved(kind, id),
-            held: holds_pieces(kind),
+            reserved: kind.is_reserved(id),
+            held: kind.holds_pieces(),
             len: body.len(),
             place: self.layout.pieces.len(),
         };
@@ -111,7 +111,7 @@ impl<'d, D: Disk, M: CanMake> File<'d, D, M> {
     {
         let wanted = Wanted {
             reserved: false,
-            held: holds_pieces(self.layout.kind),
+            held: self.layout.kind.holds_pieces(),
             len: body.len(),
             place: self.layout.pieces.len(),
         };
@@ -141,7 +141,7 @@ impl<'d, D: Disk, M: CanMake> File<'d, D, M> {
     {
         let wanted = Wanted {
             reserved: false,
-            held: holds_meta(self.layout.kind),
+            held: self.layout.kind.holds_meta(),
             len: body.len(),
             place: place_named(&self.layout, id),
         };

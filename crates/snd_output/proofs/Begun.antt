@@ -16,14 +16,14 @@ use Rattle.snd_layout.specs.Opened.{IsCause}
 use Rattle.snd_layout.specs.declared.error.OpenError.{OpenError}
 use Rattle.snd_layout.specs.declared.error.OpenError.TheVariants.{DiskFault, Memory, Refused}
 use Rattle.snd_layout.specs.declared.kind.Kind.{Kind}
-use Rattle.snd_layout.specs.declared.kind.Kind.TheVariants.{Wave, Rf64, W64, Au, Dns, Voc, Svx, Sphere}
 use Rattle.snd_layout.specs.declared.refusal.OpenRefusal.{OpenRefusal}
 use Rattle.snd_modes.specs.Editing.{Editing, first_editing}
 use Rattle.snd_modes.specs.Edits.{coded}
 use Rattle.snd_modes.specs.Laws.{IsEdited, IsEncoded}
 use Rattle.snd_modes.specs.Making.{making_of}
 use Rattle.snd_modes.specs.Relaid.{head_with, shape_with}
-use Rattle.snd_modes.proofs.BlockBytes.{few_channels, is_held}
+use Rattle.snd_container.proofs.Public.{head_laws}
+use Rattle.snd_layout.proofs.Public.{few_channels, is_held}
 use Rattle.snd_modes.proofs.FixedFrames.{is_fixed}
 use Rattle.snd_modes.proofs.MadeFiles.{made_is_edited, made_is_encoded}
 use Rattle.snd_modes.proofs.NewFiles.{making_ok, making_refused, never_refused}
@@ -36,24 +36,10 @@ use Rattle.snd_output.proofs.Bytes.{coded_none}
 
 -- the head of a new file is the one without chunks
 pub new_head : (kind : Kind) (p : Parameters) → new_file kind p ≡ head_with kind p []
-new_head Wave p = refl
-new_head Rf64 p = refl
-new_head W64 p = refl
-new_head Au p = refl
-new_head Dns p = refl
-new_head Voc p = refl
-new_head Svx p = refl
-new_head Sphere p = refl
+new_head kind p = sym ((head_laws kind).bare_head p)
 
 pub new_says : (kind : Kind) (p : Parameters) → new_shape kind p ≡ shape_with kind p []
-new_says Wave p = refl
-new_says Rf64 p = refl
-new_says W64 p = refl
-new_says Au p = refl
-new_says Dns p = refl
-new_says Voc p = refl
-new_says Svx p = refl
-new_says Sphere p = refl
+new_says kind p = sym ((head_laws kind).bare_shape p)
 
 module _ (kind : Kind) (p : Parameters) (good : AreParams p) (fits : fit_refusal kind p ≡ None) where
   abbrev head : List ℕ

@@ -13,10 +13,11 @@ use Rattle.snd_container.specs.Sound.{fixed_of}
 use Rattle.snd_container.specs.Values.{closed_end, closing, inner_value, outer_value, side_value}
 use Rattle.snd_container.specs.declared.fixed.Fixed.{Fixed}
 use Rattle.snd_layout.specs.Container.{FitsField}
+use Rattle.snd_layout.specs.Filled.{over_field}
 use Rattle.snd_layout.specs.Params.{Parameters, data_bytes}
 use Rattle.snd_layout.specs.Shape.{EndsBy, KeepsRule, Shape, end}
 use Rattle.snd_layout.specs.declared.field.Field.{Field}
-use Rattle.snd_patch.specs.Sealed.{closed, over_closing, over_field, with_fields, with_inner}
+use Rattle.snd_patch.specs.Sealed.{closed, over_closing, with_fields, with_inner}
 use Rattle.snd_modes.specs.Edits.{coded, coded_as}
 use Rattle.snd_modes.proofs.Sealing.{length-coded}
 use Rattle.snd_modes.proofs.SoundFrames.{linear_bytes}

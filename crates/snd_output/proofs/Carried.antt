@@ -1,71 +1,51 @@
 -- A file into which chunks were carried is one that is being made.
-use Rattle.std.proofs.Common.{◌≡◌, ◌∙◌, ap, sym, subst, refl, inr, ⊎_elim, ℕ, ℤ, ◌-◌, ◌≤◌, Bool, true, false, cond, List, [], ◌∷◌, ◌++◌, All, None, Ok, length, map, arith}
+use Rattle.std.proofs.Common.{◌≡◌, ◌∙◌, ap, sym, subst, refl, inr, ℕ, ℤ, ◌≤◌, Bool, true, false, List, [], ◌∷◌, ◌++◌, All, None, Ok, drop, length, map, take, arith}
 use Rattle.std.proofs.lemmas.List.{append-nil, nil_from_length}
-use Rattle.std.proofs.lemmas.List.Elements.{All-append, All-cons, All-head, All-nil, All-replicate, All-tail, All-weaker}
-use Rattle.std.specs.Prelude.{codes, is_none}
-use Rattle.snd_chunks.specs.Chunks.{padded_end}
-use Rattle.snd_chunks.specs.Written.{NewChunk, all_placed, chunks_bytes, head_bytes}
-use Rattle.snd_chunks.specs.declared.chunk.Chunk.{Chunk}
+use Rattle.std.proofs.lemmas.List.Elements.{All-head, All-tail, All-weaker}
+use Rattle.std.specs.Prelude.{is_none}
+use Rattle.snd_chunks.specs.HeadLaws.{IsOfBytes, IsPieceOf, KeepsPieceLaws, SaysNone}
+use Rattle.snd_chunks.specs.Written.{NewChunk}
+use Rattle.snd_container.proofs.Public.{head_laws}
 use Rattle.snd_container.specs.Put.{heads_of}
+use Rattle.snd_container.specs.Values.{any}
 use Rattle.snd_container.specs.Sound.{Kept, fixed_of, kept_of, layout_of}
-use Rattle.snd_fields.specs.Field.{bytes_of}
 use Rattle.snd_fields.specs.Laws.{IsByte}
-use Rattle.snd_fields.specs.declared.field.Order.TheVariants.{Little}
 use Rattle.snd_layout.specs.Blocks.{is_adpcm}
 use Rattle.snd_layout.specs.Fit.{fit_refusal}
 use Rattle.snd_layout.specs.Params.{AreParams, Parameters, data_bytes}
-use Rattle.snd_layout.specs.Sector.{is_in_one_sector}
 use Rattle.snd_layout.specs.Shape.{Shape, end}
-use Rattle.snd_layout.specs.Written.{written_format}
 use Rattle.snd_layout.specs.declared.kind.Kind.{Kind}
-use Rattle.snd_layout.specs.declared.kind.Kind.TheVariants.{Wave, Rf64, W64, Au, Dns, Voc, Svx, Sphere}
-use Rattle.snd_rf64.specs.Written as rf64
-use Rattle.snd_layout.proofs.StatedFormats.{format_bytes}
-use Rattle.snd_wave.proofs.ByteValues.{both, from_test, number_bytes, three, two_chunks}
-use Rattle.snd_wave.proofs.Made.{no_bytes_yet}
-use Rattle.snd_wave.specs.Layout.{piece_of}
-use Rattle.snd_wave.specs.Values.{riff_size}
+use Rattle.snd_layout.specs.declared.piece.Piece.{Piece}
 use Rattle.snd_chunks.specs.Heads.{chunk_read}
-use Rattle.snd_wave.specs.Written.{MayBePiece, chunks_before, filler, has_fact, head_for, head_size, inner_size, junk, made_pieces, made_shape, new_fact, new_format, riff_head, start_without_filler, wave_head}
 use Rattle.snd_modes.specs.Editing.{Editing, first_editing}
 use Rattle.snd_modes.specs.Edits.{coded}
-use Rattle.snd_modes.specs.Heads.{holds_meta}
+use Rattle.snd_layout.specs.Kinds.{holds_meta}
 use Rattle.snd_modes.specs.Laws.{IsEncoded}
 use Rattle.snd_modes.specs.Pacing.{HasPlaceFor}
 use Rattle.snd_modes.specs.Relaid.{head_with, shape_with}
 use Rattle.snd_modes.specs.Updating.{updating_of}
-use Rattle.snd_modes.proofs.BlockBytes.{few_channels, is_held}
+use Rattle.snd_layout.proofs.Public.{few_channels, is_held, meta_holds, meta_own}
 use Rattle.snd_modes.proofs.EditedFiles.{first_keeps, updated_is_edited}
 use Rattle.snd_modes.proofs.Encoded.{given_none}
-use Rattle.snd_modes.proofs.EncodedPlaces.{blocks_held, may_encode}
+use Rattle.snd_modes.proofs.EncodedPlaces.{may_encode}
 use Rattle.snd_modes.proofs.FileRules.{lies_in}
 use Rattle.snd_modes.proofs.NewFiles.{begins_new}
-use Rattle.snd_modes.proofs.HeadLaws.{HeadLaws, SaysNone}
 use Rattle.snd_block_writer.proofs.Parameters.{are_blocks}
 use Rattle.snd_block_writer.proofs.Standing.{none_coded}
 use Rattle.snd_blocks.specs.Calls.{AreBlocks}
 use Rattle.snd_blocks.specs.Sound.{frames_in}
 use Rattle.snd_modes.proofs.FixedFrames.{count_opened, is_fixed}
 use Rattle.snd_modes.proofs.PutHeads.{begins_again}
-use Rattle.snd_modes.proofs.Rf64Heads.{rf64_laws}
-use Rattle.snd_modes.proofs.WaveHeads.{wave_laws}
 use Rattle.snd_output.specs.Laws.{CarriedIsMaking}
 use Rattle.snd_output.specs.Made.{AreChunks, HoldsBlocks, HoldsNumbers, IsChunk, IsMaking, closing_so_far, frame_count, kept_chunk, made_with}
 use Rattle.snd_output.proofs.Begun.{may_make}
 use Rattle.snd_output.proofs.MadeBlocks.{none_whole}
 use Rattle.snd_output.proofs.Bytes.{coded_none}
 
--- ---- the heads of WAVE and RF64 files
+-- ---- the heads of files with texts and fields
 
-pub laws_of : (kind : Kind) → holds_meta kind ≡ true → HeadLaws kind (heads_of kind)
-laws_of Wave meta = wave_laws
-laws_of Rf64 meta = rf64_laws
-laws_of W64 meta = absurd (cc)
-laws_of Au meta = absurd (cc)
-laws_of Dns meta = absurd (cc)
-laws_of Voc meta = absurd (cc)
-laws_of Svx meta = absurd (cc)
-laws_of Sphere meta = absurd (cc)
+pub laws_of : (kind : Kind) → holds_meta kind ≡ true → KeepsPieceLaws kind (any kind) (heads_of kind)
+laws_of kind meta = (head_laws kind).pieces (meta_holds kind meta)
 
 -- what their layouts say of any chunks
 pub record SaysOf (kind : Kind) (p : Parameters) (h : Shape) : Type 0 where
@@ -75,128 +55,30 @@ pub record SaysOf (kind : Kind) (p : Parameters) (h : Shape) : Type 0 where
   pub free : h.trailing ≡ false
 
 pub says_of : (kind : Kind) (p : Parameters) (pieces : List NewChunk) → holds_meta kind ≡ true → SaysOf kind p (shape_with kind p pieces)
-unfolding made_shape rf64.made_shape
-says_of Wave p pieces meta = record { kind_is = refl; params = refl; frames = refl; free = refl }
-says_of Rf64 p pieces meta = record { kind_is = refl; params = refl; frames = refl; free = refl }
-says_of W64 p pieces meta = absurd (cc)
-says_of Au p pieces meta = absurd (cc)
-says_of Dns p pieces meta = absurd (cc)
-says_of Voc p pieces meta = absurd (cc)
-says_of Svx p pieces meta = absurd (cc)
-says_of Sphere p pieces meta = absurd (cc)
+says_of kind p pieces meta =
+    let laws = head_laws kind in
+    record { kind_is = laws.kind_is p pieces; params = laws.params_are p pieces; frames = laws.frames p pieces; free = laws.free p pieces }
 
 -- they may be made with such chunks
-may_each : (piece : NewChunk) → IsChunk piece → MayBePiece piece
-may_each piece is = is.may
+may_each : (kind : Kind) → holds_meta kind ≡ true → (piece : NewChunk) → IsChunk piece → IsPieceOf kind piece
+may_each kind meta piece is = record { four = is.four; other = meta_own kind piece.id meta ∙ is.other; few = is.few }
 
 may_with : (kind : Kind) (p : Parameters) (pieces : List NewChunk) → holds_meta kind ≡ true → AreParams p → fit_refusal kind p ≡ None → AreChunks pieces → (heads_of kind).may p pieces
-may_with Wave p pieces meta good fits are =
-    let none : data_bytes p 0 ≡ 0 = no_bytes_yet p good fits in
-    record {
-      params = good;
-      fits = fits;
-      pieces_are = All-weaker IsChunk MayBePiece may_each pieces are.each;
-      few = are.few;
-      in_room = omega (arith, none);
-      counted = λ blocks. omega arith;
-    }
-may_with Rf64 p pieces meta good fits are = record { params = good; fits = fits; pieces_are = All-weaker IsChunk MayBePiece may_each pieces are.each; few = are.few }
-may_with W64 p pieces meta good fits are = absurd (cc)
-may_with Au p pieces meta good fits are = absurd (cc)
-may_with Dns p pieces meta good fits are = absurd (cc)
-may_with Voc p pieces meta good fits are = absurd (cc)
-may_with Svx p pieces meta good fits are = absurd (cc)
-may_with Sphere p pieces meta good fits are = absurd (cc)
+may_with kind p pieces meta good fits are = (laws_of kind meta).may p pieces good fits (All-weaker IsChunk (IsPieceOf kind) (may_each kind meta) pieces are.each) are.few
 
 -- ---- they are of bytes
 
-abbrev AreBytes : NewChunk → Type 0
-AreBytes chunk = All IsByte chunk.id × All IsByte chunk.body
-
-all_chunks : (chunks : List NewChunk) → All AreBytes chunks → All IsByte (chunks_bytes Little chunks)
-unfolding chunks_bytes
-all_chunks [] are = All-nil IsByte
-all_chunks (chunk ∷ chunks) are = two_chunks chunk chunks (All-head AreBytes chunk chunks are) (all_chunks chunks (All-tail AreBytes chunk chunks are))
-
-format_is : (p : Parameters) → AreBytes (new_format p)
-format_is p = (from_test (codes "fmt ") refl, format_bytes p)
-
-filler_is : (t : Bool) → All AreBytes (cond t [] (junk ∷ []))
-filler_is true = All-nil AreBytes
-filler_is false = All-cons AreBytes junk [] (from_test (codes "JUNK") refl, All-replicate IsByte 8 0 (omega arith)) (All-nil AreBytes)
-
-abbrev fact : NewChunk
-fact = record { id = codes "fact"; body = bytes_of Little 4 0 }
-
-fact_is : (t : Bool) → All AreBytes (cond t (fact ∷ []) [])
-fact_is true = All-cons AreBytes fact [] (from_test (codes "fact") refl, number_bytes 4 0) (All-nil AreBytes)
-fact_is false = All-nil AreBytes
-
-before_is : (p : Parameters) (pieces : List NewChunk) → All AreBytes pieces → All AreBytes (chunks_before p pieces 0)
-unfolding chunks_before
-before_is p pieces are =
-    All-cons AreBytes (new_format p) (pieces ++ (filler p pieces ++ new_fact p.codec 0)) (format_is p)
-    (All-append AreBytes pieces (filler p pieces ++ new_fact p.codec 0) are
-    (All-append AreBytes (filler p pieces) (new_fact p.codec 0) (filler_is (is_in_one_sector (start_without_filler p pieces - inner_size p.codec) (inner_size p.codec))) (fact_is (has_fact p.codec))))
-
-wave_is : (p : Parameters) (pieces : List NewChunk) → All AreBytes pieces → All IsByte (wave_head p pieces)
-unfolding head_for riff_head head_bytes
-wave_is p pieces are =
-    let size = bytes_of Little 4 (riff_size (head_size p pieces) (data_bytes p 0)) in
-    let bytes = bytes_of Little 4 (data_bytes p 0) in
-    three (codes "RIFF" ++ size ++ codes "WAVE") (chunks_bytes Little (chunks_before p pieces 0)) (codes "data" ++ bytes)
-    (three (codes "RIFF") size (codes "WAVE") (from_test (codes "RIFF") refl) (number_bytes 4 (riff_size (head_size p pieces) (data_bytes p 0))) (from_test (codes "WAVE") refl))
-    (all_chunks (chunks_before p pieces 0) (before_is p pieces are))
-    (both (codes "data") bytes (from_test (codes "data") refl) (number_bytes 4 (data_bytes p 0)))
-
-top_is : (size : ℕ) → All IsByte (rf64.top size)
-unfolding rf64.top
-top_is size =
-    let form = codes "RF64" ++ bytes_of Little 4 rf64.no_size ++ codes "WAVE" in
-    let first = form ++ codes "ds64" ++ bytes_of Little 4 28 in
-    let zeros = bytes_of Little 8 0 in
-    both (first ++ bytes_of Little 8 size ++ zeros ++ zeros) (bytes_of Little 4 0)
-    (three (first ++ bytes_of Little 8 size) zeros zeros
-    (both first (bytes_of Little 8 size)
-    (three form (codes "ds64") (bytes_of Little 4 28) (three (codes "RF64") (bytes_of Little 4 rf64.no_size) (codes "WAVE") (from_test (codes "RF64") refl) (number_bytes 4 rf64.no_size) (from_test (codes "WAVE") refl))
-    (from_test (codes "ds64") refl) (number_bytes 4 28))
-    (number_bytes 8 size))
-    (number_bytes 8 0) (number_bytes 8 0))
-    (number_bytes 4 0)
-
-rf64_is : (p : Parameters) (pieces : List NewChunk) → All AreBytes pieces → All IsByte (rf64.rf64_head p pieces)
-unfolding rf64.rf64_head head_bytes
-rf64_is p pieces are =
-    three (rf64.top (rf64.head_size p pieces - 8)) (chunks_bytes Little (rf64.chunks_before p pieces)) (codes "data" ++ bytes_of Little 4 rf64.no_size)
-    (top_is (rf64.head_size p pieces - 8)) (all_chunks (rf64.chunks_before p pieces) (All-cons AreBytes (new_format p) pieces (format_is p) are))
-    (both (codes "data") (bytes_of Little 4 rf64.no_size) (from_test (codes "data") refl) (number_bytes 4 rf64.no_size))
-
-bytes_each : (piece : NewChunk) → IsChunk piece → AreBytes piece
+bytes_each : (piece : NewChunk) → IsChunk piece → IsOfBytes piece
 bytes_each piece is = (is.id, is.body)
 
 head_is : (kind : Kind) (p : Parameters) (pieces : List NewChunk) → holds_meta kind ≡ true → AreChunks pieces → All IsByte (head_with kind p pieces)
-head_is Wave p pieces meta are = wave_is p pieces (All-weaker IsChunk AreBytes bytes_each pieces are.each)
-head_is Rf64 p pieces meta are = rf64_is p pieces (All-weaker IsChunk AreBytes bytes_each pieces are.each)
-head_is W64 p pieces meta are = absurd (cc)
-head_is Au p pieces meta are = absurd (cc)
-head_is Dns p pieces meta are = absurd (cc)
-head_is Voc p pieces meta are = absurd (cc)
-head_is Svx p pieces meta are = absurd (cc)
-head_is Sphere p pieces meta are = absurd (cc)
+head_is kind p pieces meta are = ((head_laws kind).meta meta).bytes p pieces (All-weaker IsChunk IsOfBytes bytes_each pieces are.each)
 
 -- ---- of ADPCM
 
 -- the count and the data size are one field
-is_joined : (kind : Kind) (p : Parameters) (pieces : List NewChunk) → holds_meta kind ≡ true → fit_refusal kind p ≡ None → is_adpcm p.codec ≡ true → 12 ≤ (shape_with kind p pieces).inner.size
-unfolding made_shape
-is_joined Wave p pieces meta fits is = rw is (omega arith)
-is_joined Rf64 p pieces meta fits is = absurd (⊎_elim (λ wave. cc) (λ w64. cc) (blocks_held Rf64 p.channels p.codec is (is_held Rf64 p fits)))
-is_joined W64 p pieces meta fits is = absurd (cc)
-is_joined Au p pieces meta fits is = absurd (cc)
-is_joined Dns p pieces meta fits is = absurd (cc)
-is_joined Voc p pieces meta fits is = absurd (cc)
-is_joined Svx p pieces meta fits is = absurd (cc)
-is_joined Sphere p pieces meta fits is = absurd (cc)
+is_joined : (kind : Kind) (p : Parameters) (pieces : List NewChunk) → fit_refusal kind p ≡ None → is_adpcm p.codec ≡ true → 12 ≤ (shape_with kind p pieces).inner.size
+is_joined kind p pieces fits is = (head_laws kind).joined p pieces fits is
 
 -- a head whose layout has no frames is a file of ADPCM that is made
 encoded_head : (head : List ℕ) (says : Shape) → is_adpcm says.params.codec ≡ true → AreBlocks says.params → All IsByte head → layout_of head ≡ Ok says
@@ -221,21 +103,15 @@ encoded_with head says blocks form bytes told none free known joined =
 
 -- ---- they stand before the data
 
-kept_standing : (b : List ℕ) (chunks : List Chunk) → map (kept_of b) (map (piece_of false) chunks) ≡ map kept_chunk (map (chunk_read b) (map (piece_of false) chunks))
-kept_standing b [] = refl
-kept_standing b (chunk ∷ chunks) = ap (λ (l : List Kept). kept_of b (piece_of false chunk) ∷ l) (kept_standing b chunks)
+kept_standing : (b : List ℕ) (pieces : List Piece) → All (λ (piece : Piece). piece.after ≡ false) pieces → map (kept_of b) pieces ≡ map kept_chunk (map (chunk_read b) pieces)
+kept_standing b [] before = refl
+kept_standing b (piece ∷ pieces) before =
+    ap (λ (t : Bool). record { id = piece.id.0; body = take piece.len (drop piece.at b); after = t } ∷ map (kept_of b) pieces) (All-head (λ (q : Piece). q.after ≡ false) piece pieces before)
+    ∙ ap (λ (l : List Kept). kept_chunk (chunk_read b piece) ∷ l) (kept_standing b pieces (All-tail (λ (q : Piece). q.after ≡ false) piece pieces before))
 
 kept_pieces : (kind : Kind) (p : Parameters) (pieces : List NewChunk) (b : List ℕ) → holds_meta kind ≡ true
     → map (kept_of b) (shape_with kind p pieces).pieces ≡ map kept_chunk (map (chunk_read b) (shape_with kind p pieces).pieces)
-unfolding made_shape made_pieces rf64.made_shape rf64.made_pieces
-kept_pieces Wave p pieces b meta = kept_standing b (all_placed (padded_end 20 (length (written_format p))) pieces)
-kept_pieces Rf64 p pieces b meta = kept_standing b (all_placed (padded_end 56 (length (written_format p))) pieces)
-kept_pieces W64 p pieces b meta = absurd (cc)
-kept_pieces Au p pieces b meta = absurd (cc)
-kept_pieces Dns p pieces b meta = absurd (cc)
-kept_pieces Voc p pieces b meta = absurd (cc)
-kept_pieces Svx p pieces b meta = absurd (cc)
-kept_pieces Sphere p pieces b meta = absurd (cc)
+kept_pieces kind p pieces b meta = kept_standing b (shape_with kind p pieces).pieces ((laws_of kind meta).before p pieces)
 
 -- ---- the file
 
@@ -252,7 +128,7 @@ module _ (kind : Kind) (p : Parameters) (pieces : List NewChunk) (meta : holds_m
   may : (heads_of kind).may p pieces
   may = may_with kind p pieces meta good fits are
 
-  said : SaysNone kind p says head
+  said : SaysNone kind (any kind) p says head
   said = (laws_of kind meta).says p pieces may
 
   no_frames : 0 ≡ frame_count p []
@@ -290,7 +166,7 @@ module _ (kind : Kind) (p : Parameters) (pieces : List NewChunk) (meta : holds_m
         form = form;
         told = record { goes_on = says.trailing; told = (laws_of kind meta).opens p pieces may; same = inr refl };
         encoded = encoded_with head says (ap (λ (q : Parameters). is_adpcm q.codec) said.params_are ∙ is) (subst AreBlocks (sym said.params_are) form)
-            (head_is kind p pieces meta are) ((laws_of kind meta).opens p pieces may) said.frames said.free said.known (is_joined kind p pieces meta fits is);
+            (head_is kind p pieces meta are) ((laws_of kind meta).opens p pieces may) said.frames said.free said.known (is_joined kind p pieces fits is);
         given = refl;
         shape = ap (λ (n : ℕ). record says { frames = n }) (said.frames ∙ sym (none_whole p form));
         bytes = sym (append-nil head) ∙ ap (λ (l : List ℕ). head ++ l) (sym (none_coded p form));

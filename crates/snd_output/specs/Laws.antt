@@ -8,7 +8,7 @@ use Rattle.snd_layout.specs.declared.kind.Kind.{Kind}
 use Rattle.snd_modes.specs.Editing.{Editing}
 use Rattle.snd_modes.specs.Edits.{sealed_to, written_to}
 use Rattle.snd_modes.specs.Encoding.{MayEncode, encoded_to, encoded_whole}
-use Rattle.snd_modes.specs.Heads.{holds_meta}
+use Rattle.snd_layout.specs.Kinds.{holds_meta}
 use Rattle.snd_modes.specs.Making.{making_of}
 use Rattle.snd_modes.specs.WriteCalls.{MayWrite}
 use Rattle.snd_output.specs.Made.{AreChunks, IsMaking, made_file, made_sound, made_with}

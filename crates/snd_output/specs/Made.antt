@@ -8,12 +8,12 @@ use Rattle.snd_container.specs.Sound.{Kept, Sound, kept_numbers, kept_of}
 use Rattle.snd_container.specs.Values.{closing}
 use Rattle.snd_fields.specs.Laws.{IsByte}
 use Rattle.snd_layout.specs.Blocks.{is_adpcm}
+use Rattle.snd_layout.specs.Kinds.{is_wave_own}
 use Rattle.snd_layout.specs.Params.{Parameters}
 use Rattle.snd_layout.specs.Shape.{Shape}
 use Rattle.snd_layout.specs.declared.kind.Kind.{Kind}
 use Rattle.snd_pcm.specs.Groups.{groups}
 use Rattle.snd_patch.specs.Sealed.{with_fields}
-use Rattle.snd_wave.specs.Written.{MayBePiece}
 use Rattle.snd_modes.specs.Editing.{Editing}
 use Rattle.snd_modes.specs.Edits.{coded}
 use Rattle.snd_modes.specs.Laws.{IsEdited, IsEncoded}
@@ -97,7 +97,9 @@ made_with kind p pieces = record {
 
 -- a chunk of bytes that a WAVE or RF64 file may keep beside its sound, and chunks with which such a file may be made
 pub record IsChunk (piece : NewChunk) : Type 0 where
-  pub may : MayBePiece piece
+  pub four : length piece.id ≡ 4
+  pub other : is_wave_own piece.id ≡ false
+  pub few : length piece.body ≤ 65536
   pub id : All IsByte piece.id
   pub body : All IsByte piece.body
 

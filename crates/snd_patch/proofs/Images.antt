@@ -9,11 +9,12 @@ use Rattle.snd_layout.specs.Params.{data_bytes}
 use Rattle.snd_layout.specs.Shape.{KeepsRule, Shape}
 use Rattle.snd_layout.specs.declared.field.Field.{Field}
 use Rattle.snd_layout.specs.Container.{FitsField}
+use Rattle.snd_layout.specs.Filled.{over_field}
 use Rattle.snd_container.specs.Values.{inner_value, outer_value, side_value}
 use Rattle.snd_container.proofs.Widths.{inner_value_fits, outer_value_fits, side_value_fits}
 use Rattle.snd_patch.specs.Images.{AllLieApart, HasNew, HasOld, IsGrowing, IsShrinking, IsUpdating}
 use Rattle.snd_patch.specs.Laws.{CountsFromTo, GrowsFromTo, ShrinksFromTo}
-use Rattle.snd_patch.specs.Sealed.{held_field, held_others, over_field, with_fewer, with_fields, with_inner, with_others}
+use Rattle.snd_patch.specs.Sealed.{held_field, held_others, with_fewer, with_fields, with_inner, with_others}
 use Rattle.snd_patch.proofs.Lists.{field_length}
 use Rattle.snd_patch.proofs.Places.{inner_is_field, outer_is_field, side_is_field}
 use Rattle.snd_patch.proofs.Wholes.{apart_back, itself_old, itself_whole, new_from, old_from, put_beside, put_new, put_whole, then_new, then_old, then_whole, whole_from}

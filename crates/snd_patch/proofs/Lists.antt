@@ -10,10 +10,11 @@ use Rattle.snd_layout.specs.Params.{data_bytes}
 use Rattle.snd_layout.specs.Shape.{EndsBy, KeepsRule, Shape, end}
 use Rattle.snd_layout.specs.declared.field.Field.{Field}
 use Rattle.snd_layout.specs.Container.{FitsField}
+use Rattle.snd_layout.specs.Filled.{over_field}
 use Rattle.snd_container.specs.Values.{closed_end, closing, inner_value, outer_value, side_value}
 use Rattle.snd_container.proofs.Widths.{inner_value_fits, outer_value_fits, side_value_fits}
 use Rattle.snd_patch.specs.Laws.{GrownKeeps, GrownLength, OrderIsFree, SealedKeeps, SealedLength, ShrunkKeeps, ShrunkLength}
-use Rattle.snd_patch.specs.Sealed.{LieApart, SameBesideFields, closed, over_closing, over_field, patched, with_fewer, with_fields, with_inner, with_others}
+use Rattle.snd_patch.specs.Sealed.{LieApart, SameBesideFields, closed, over_closing, patched, with_fewer, with_fields, with_inner, with_others}
 use Rattle.snd_patch.specs.Steps.{IsFieldOf}
 use Rattle.snd_patch.proofs.Bytes.{over_beside, take_before}
 use Rattle.snd_patch.proofs.Places.{field_outside, inner_outside, outer_is_field, side_is_field}

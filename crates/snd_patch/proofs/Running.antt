@@ -8,7 +8,8 @@ use Rattle.snd_disk.proofs.Sources.{made_front}
 use Rattle.snd_layout.specs.declared.field.Field.{Field}
 use Rattle.snd_layout.specs.Shape.{Shape}
 use Rattle.snd_patch.specs.Images.{held_closing}
-use Rattle.snd_patch.specs.Sealed.{closed, held_field, over_closing, over_field}
+use Rattle.snd_patch.specs.Sealed.{closed, held_field, over_closing}
+use Rattle.snd_layout.specs.Filled.{over_field}
 use Rattle.snd_container.specs.Values.{closed_end}
 
 -- the same field with the same bytes

@@ -6,8 +6,9 @@ use Rattle.snd_disk.proofs.Sources.{byte_from}
 use Rattle.snd_layout.specs.Shape.{EndsBy, Shape}
 use Rattle.snd_layout.specs.declared.field.Field.{Field}
 use Rattle.snd_layout.specs.Container.{FitsField, is_in_fields}
+use Rattle.snd_layout.specs.Filled.{over_field}
 use Rattle.snd_patch.specs.Images.{HasNew, HasOld, IsOldOrNew}
-use Rattle.snd_patch.specs.Sealed.{LieApart, over_field}
+use Rattle.snd_patch.specs.Sealed.{LieApart}
 use Rattle.snd_patch.specs.Steps.{IsFieldOf}
 use Rattle.snd_patch.proofs.Bytes.{over_beside}
 use Rattle.snd_patch.proofs.Places.{beside_field}

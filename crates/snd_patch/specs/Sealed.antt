@@ -7,12 +7,8 @@ use Rattle.snd_layout.specs.Params.{data_bytes}
 use Rattle.snd_layout.specs.Shape.{Shape, end}
 use Rattle.snd_layout.specs.declared.field.Field.{Field}
 use Rattle.snd_layout.specs.Container.{is_in_fields}
+use Rattle.snd_layout.specs.Filled.{over_field}
 use Rattle.snd_container.specs.Values.{closed_end, closing, inner_value, outer_value, side_value}
-
--- b with bytes in a field, where it is there
-abbrev pub over_field : Option Field → List ℕ → List ℕ → List ℕ
-over_field None b bytes = b
-over_field (Some field) b bytes = over b field.at bytes
 
 -- what is held on the way: nothing more where the field is not there
 abbrev pub held_field : Option Field → List ℕ → List ℕ → List (List ℕ)

@@ -6,8 +6,9 @@ ghost use Rattle.snd_disk.specs.Runs.{Since};
 ghost use Rattle.snd_disk.specs.State.{Keeps};
 ghost use Rattle.snd_layout.specs.Shape.{EndsBy, Shape, end};
 ghost use Rattle.snd_layout.specs.Container.{FitsField};
+ghost use Rattle.snd_layout.specs.Filled.{over_field};
 ghost use Rattle.snd_patch.specs.Images.{LeavesGrowing, LeavesLowered, held_closing};
-ghost use Rattle.snd_patch.specs.Sealed.{closed, held_field, held_others, over_closing, over_field, with_fewer, with_fields, with_inner, with_others};
+ghost use Rattle.snd_patch.specs.Sealed.{closed, held_field, held_others, over_closing, with_fewer, with_fields, with_inner, with_others};
 ghost use Rattle.snd_container.specs.Values.{closed_end};
 ghost use Rattle.snd_patch.specs.Steps.{Becomes, IsFieldOf, KeepsSize, MayCount, Runs, Updates};
 

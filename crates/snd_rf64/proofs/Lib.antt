@@ -1,11 +1,15 @@
 pub mod Layouts
 pub mod Opens
+pub mod Starts
 pub mod Stays
 pub mod Counted
+pub mod HeadsOfBytes
+pub mod KeptHeads
 pub mod KeptPieces
 pub mod Lies
 pub mod Made
 pub mod NewFiles
+pub mod PieceBodies
 pub mod Putting
 pub mod Contained
 pub mod LateFiles

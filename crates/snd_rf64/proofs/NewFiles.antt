@@ -16,7 +16,8 @@ use Rattle.snd_layout.specs.declared.codec.Codec.TheVariants.{U8, S8, S16, S24, 
 use Rattle.snd_layout.specs.declared.kind.Kind.TheVariants.{Rf64}
 use Rattle.snd_layout.specs.declared.piece.Piece.{Piece}
 use Rattle.snd_layout.proofs.StatedFormats.{format_bytes}
-use Rattle.snd_wave.proofs.ByteValues.{both, from_test, number_bytes, three, two_chunks}
+use Rattle.snd_wave.proofs.ByteValues.{both, number_bytes, three, two_chunks}
+use Rattle.snd_fields.proofs.Tested.{from_test}
 use Rattle.snd_wave.specs.Written.{MayBePiece, new_format}
 use Rattle.snd_rf64.specs.Container.{rf64}
 use Rattle.snd_rf64.specs.Layout.{shape_at}

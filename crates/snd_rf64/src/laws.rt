@@ -1,5 +1,6 @@
 //! The laws of RF64 files, proved of every file. The functions do nothing: their contracts are the laws.
 
+ghost use Rattle.snd_chunks.specs.HeadLaws.{KeepsHeadLaws};
 ghost use Rattle.snd_layout.specs.Container.{KeepsLaws};
 ghost use Rattle.snd_layout.specs.declared.kind.Kind.TheVariants.{Rf64};
 ghost use Rattle.snd_chunks.specs.Late.{LateReadsBack};
@@ -12,6 +13,12 @@ ghost use Rattle.snd_rf64.specs.Put.{HeadReadsBack, rf64_heads};
 /// nothing else; its pieces stay; and what is made reads back.
 pub fn keeps_laws()
     ensures { KeepsLaws Rf64 rf64 }
+{}
+
+/// The heads of new RF64 files, with any further chunks and without frames, keep the laws of heads.
+#[tactic(auto, using(crate::proofs::KeptHeads::keeps_head_laws))]
+pub fn keeps_head_laws()
+    ensures { KeepsHeadLaws Rf64 rf64 rf64_heads }
 {}
 
 /// A head that is made, with any pieces that a file may keep, has the layout that it says.

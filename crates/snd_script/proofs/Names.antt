@@ -3,10 +3,10 @@ use Rattle.std.proofs.Common.{◌≤◌, length, lit≤}
 use Rattle.snd_fields.specs.declared.field.Order.TheVariants.{Little, Big}
 use Rattle.snd_layout.specs.declared.codec.Codec.{Codec}
 use Rattle.snd_layout.specs.declared.codec.Codec.TheVariants.{U8, S8, S16, S24, S32, MuLaw, ALaw, Ima, Ms}
-use Rattle.snd_layout.specs.declared.kind.Kind.{Kind}
-use Rattle.snd_layout.specs.declared.kind.Kind.TheVariants.{Wave, Rf64, W64, Au, Dns, Voc, Svx, Sphere}
 use Rattle.snd_layout.specs.declared.refusal.OpenRefusal.{OpenRefusal}
 use Rattle.snd_layout.specs.declared.refusal.OpenRefusal.TheVariants as chunk
+use Rattle.snd_layout.proofs.Public.{short_kind as short}
+use Rattle.snd_layout.specs.declared.kind.Kind.{Kind}
 use Rattle.snd_layout.specs.Names.{codec_name, kind_name, refusal_name as open_name}
 use Rattle.snd_lines.specs.declared.refusal.Refusal.{Refusal}
 use Rattle.snd_lines.specs.declared.refusal.Refusal.TheVariants.{Open, AdpcmUpdate, UnknownLength, PartFrame, SampleRange, SeekRange, TrailingData, ContainerFull, Straddle, FramesWritten, ReservedChunk, NoChunks, ChunkTooLarge, AutoOn, AdpcmSeek, NoSuchChunk, BadBlock, BadCommand, LineTooLong, NotOpen, AlreadyOpen, WrongMode, SameName, MixedParams, NotMono, UnknownSuffix, MissingFile, BadInfo, BadCue, BadBext, TextTooLong, Pinned, NoSuchTap, TapOn}
@@ -16,14 +16,7 @@ use Rattle.snd_taps.specs.declared.tap.TapKind.{TapKind}
 use Rattle.snd_taps.specs.declared.tap.TapKind.TheVariants.{Peak, Clips, Energy}
 
 pub short_kind : (kind : Kind) → length (kind_name kind) ≤ 16
-short_kind Wave = lit≤ tt
-short_kind Rf64 = lit≤ tt
-short_kind W64 = lit≤ tt
-short_kind Au = lit≤ tt
-short_kind Dns = lit≤ tt
-short_kind Voc = lit≤ tt
-short_kind Svx = lit≤ tt
-short_kind Sphere = lit≤ tt
+short_kind kind = short kind
 
 pub short_codec : (codec : Codec) → length (codec_name codec) ≤ 16
 short_codec U8 = lit≤ tt

@@ -16,7 +16,7 @@ use Rattle.snd_layout.specs.declared.error.PieceError.TheVariants as piece_error
 use Rattle.snd_layout.specs.declared.refusal.OpenRefusal.TheVariants.{TooManyChunks}
 use Rattle.snd_modes.specs.Editing.{Editing}
 use Rattle.snd_modes.specs.Handle.{Known, Stands, disk_of, known_of, loan_of}
-use Rattle.snd_modes.specs.Heads.{holds_meta, holds_pieces, is_reserved}
+use Rattle.snd_layout.specs.Kinds.{holds_meta, holds_pieces, is_reserved}
 use Rattle.snd_modes.specs.PieceCalls.{AddLeaves, AddsTooMany, CountsPut, IsPutRefusal, IsUntouched, MayPut, StandsPut, to_add, to_replace}
 use Rattle.snd_modes.specs.Relaid.{added_to, place_named, replaced_to}
 use Rattle.snd_modes.specs.declared.handle.File.{File}

@@ -10,7 +10,7 @@ use Rattle.snd_layout.specs.Shape.{Shape, room}
 use Rattle.snd_layout.specs.declared.codec.Codec.{Codec}
 use Rattle.snd_layout.specs.declared.codec.Codec.TheVariants.{U8, S8, S16, S24, S32, MuLaw, ALaw, Ima, Ms}
 use Rattle.snd_layout.specs.declared.kind.Kind.{Kind}
-use Rattle.snd_layout.specs.declared.kind.Kind.TheVariants.{Wave, Rf64, W64, Au, Dns, Voc, Svx, Sphere}
+use Rattle.snd_layout.proofs.Public.{wave_only}
 use Rattle.snd_modes.specs.Encoding.{MayEncode}
 use Rattle.snd_modes.specs.Handle.{Known}
 use Rattle.snd_modes.specs.Pacing.{HasRoomToEncode}
@@ -19,7 +19,8 @@ use Rattle.snd_modes.specs.WriteCalls.{AreFrames, MayCut, MayTrim, MayWrite, end
 use Rattle.snd_container.specs.Fixed.{InRange, range_form}
 use Rattle.snd_container.specs.declared.fixed.Fixed.{Fixed}
 use Rattle.snd_pcm.specs.Pcm.{high, low}
-use Rattle.snd_script.specs.Rules.{are_between, auto_refusal, blocks_refusal, encode_refusal, form_of, growth_refusal, is_between, is_voc, is_wave, lacks_room, refused_if, trim_refusal, truncate_refusal, write_refusal}
+use Rattle.snd_script.specs.Rules.{are_between, auto_refusal, blocks_refusal, encode_refusal, form_of, growth_refusal, is_between, is_voc, lacks_room, refused_if, trim_refusal, truncate_refusal, write_refusal}
+use Rattle.snd_layout.specs.Kinds.{is_wave}
 use Rattle.snd_lines.specs.declared.refusal.Refusal.{Refusal}
 use Rattle.snd_lines.specs.declared.refusal.Refusal.TheVariants.{PartFrame, SampleRange, SeekRange, TrailingData, ContainerFull, Straddle}
 
@@ -151,16 +152,6 @@ encode_frames : (xs : List ℤ) (h : Shape) (place : ℕ) → AreFrames xs h →
 encode_frames xs h place are =
     not_refused (nat_lt 0 (length xs % h.params.channels)) PartFrame _ (no_rest _ are.whole)
     ∙ not_refused (not (are_between (fixed_of h.params.codec) xs)) SampleRange _ (are_fit h.params.codec xs are.in_range)
-
-wave_only : (kind : Kind) → is_wave kind ≡ true → kind ≡ Wave
-wave_only Wave is = refl
-wave_only Rf64 is = absurd (cc)
-wave_only W64 is = absurd (cc)
-wave_only Au is = absurd (cc)
-wave_only Dns is = absurd (cc)
-wave_only Voc is = absurd (cc)
-wave_only Svx is = absurd (cc)
-wave_only Sphere is = absurd (cc)
 
 -- there is room where neither test fails, and none where one does
 has_room : (to : ℕ) (h : Shape) → lacks_room to h ≡ false → HasRoomToEncode h to

@@ -15,7 +15,7 @@ use Rattle.snd_layout.specs.Shape.{Shape, room}
 use Rattle.snd_layout.specs.declared.codec.Codec.{Codec}
 use Rattle.snd_layout.specs.declared.codec.Codec.TheVariants as codec
 use Rattle.snd_layout.specs.declared.kind.Kind.{Kind}
-use Rattle.snd_layout.specs.declared.kind.Kind.TheVariants.{Voc, Wave}
+use Rattle.snd_layout.specs.declared.kind.Kind.TheVariants.{Voc}
 use Rattle.snd_layout.specs.declared.piece.Piece.{Piece}
 use Rattle.snd_layout.specs.declared.refusal.OpenRefusal.TheVariants.{TooManyChunks}
 use Rattle.snd_meta.specs.Broadcast.{field_size}
@@ -32,7 +32,7 @@ use Rattle.snd_modes.specs.Edits.{automatic_to, moved_write_to, sealed_to, trimm
 use Rattle.snd_modes.specs.Blocks.{ima_made, ms_made}
 use Rattle.snd_modes.specs.Encoding.{encoded_to, known_encoded}
 use Rattle.snd_modes.specs.Handle.{Known}
-use Rattle.snd_modes.specs.Heads.{holds_meta, holds_pieces, is_reserved}
+use Rattle.snd_layout.specs.Kinds.{holds_meta, holds_pieces, is_reserved, is_wave}
 use Rattle.snd_modes.specs.PieceCalls.{known_put}
 use Rattle.snd_modes.specs.Pieces.{first_piece}
 use Rattle.snd_modes.specs.Relaid.{added_to, place_named, replaced_to}
@@ -103,10 +103,6 @@ write_refusal xs place h =
 
 -- numbers are given behind so many frames, to be made blocks: the head has no room for all blocks, or the count of a WAVE file
 -- none for the number of the frames
-abbrev pub is_wave : Kind → Bool
-is_wave Wave = true
-is_wave kind = false
-
 abbrev pub lacks_room : ℕ → Shape → Bool
 lacks_room to h = nat_lt (room h) (data_bytes h.params to) || (is_wave h.kind && nat_le (2 ^ 32) to)
 

@@ -4,6 +4,7 @@ pub mod Bodies
 pub mod FieldValues
 pub mod HeadValues
 pub mod Images
+pub mod KeptHeads
 pub mod LateFiles
 pub mod Layouts
 pub mod Lies
@@ -13,3 +14,4 @@ pub mod Opens
 pub mod PlainHeads
 pub mod Putting
 pub mod Sizes
+pub mod Starts

@@ -3,5 +3,6 @@ pub mod Layout
 pub mod Made
 pub mod Parts
 pub mod Put
+pub mod Start
 pub mod Values
 pub mod Written

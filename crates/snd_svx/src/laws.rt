@@ -1,5 +1,6 @@
 //! The laws of 8SVX files' layouts, proved of every file.
 
+ghost use Rattle.snd_chunks.specs.HeadLaws.{KeepsHeadLaws};
 ghost use Rattle.snd_layout.specs.Container.{KeepsLaws};
 ghost use Rattle.snd_layout.specs.declared.kind.Kind.TheVariants.{Svx};
 ghost use Rattle.snd_chunks.specs.Late.{LateReadsBack};
@@ -12,6 +13,12 @@ ghost use Rattle.snd_svx.specs.Written.{MayBePiece};
 /// its contract is the laws.
 pub fn keeps_laws()
     ensures { KeepsLaws Svx svx }
+{}
+
+/// The heads of new 8SVX files, with any further chunks and without frames, keep the laws of heads.
+#[tactic(auto, using(crate::proofs::KeptHeads::keeps_head_laws))]
+pub fn keeps_head_laws()
+    ensures { KeepsHeadLaws Svx svx svx_heads }
 {}
 
 /// A head that is made, with any pieces that a file may keep, has the layout that it says.

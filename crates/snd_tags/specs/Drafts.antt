@@ -15,7 +15,7 @@ use Rattle.snd_modes.specs.declared.handle.File.{File}
 use Rattle.snd_modes.specs.declared.mode.Mode.{Ghosts as ModeGhosts}
 use Rattle.snd_modes.specs.Editing.{Editing}
 use Rattle.snd_modes.specs.Handle.{Known, Stands, disk_of, known_of}
-use Rattle.snd_modes.specs.Heads.{holds_meta}
+use Rattle.snd_layout.specs.Kinds.{holds_meta}
 use Rattle.snd_modes.specs.PieceCalls.{IsPutRefusal, IsUntouched, MayPut, known_put, to_replace}
 use Rattle.snd_modes.specs.Pieces.{body_of, first_piece}
 use Rattle.snd_modes.specs.Relaid.{place_named, replaced_to}

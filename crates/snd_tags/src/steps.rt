@@ -2,7 +2,7 @@
 
 ghost use Rattle.std.specs.Prelude.{◌≡◌, IfErr, IfOk, OnOk, true};
 ghost use Rattle.snd_modes.specs.Handle.{IfOkStanding};
-ghost use Rattle.snd_modes.specs.Heads.{is_meta_id};
+ghost use Rattle.snd_layout.specs.Kinds.{is_meta_id};
 ghost use Rattle.snd_tags.specs.Drafts.{body_held};
 ghost use Rattle.snd_tags.specs.Steps.{FailsToRead, IsShort, Puts, Reads, bytes_in};
 

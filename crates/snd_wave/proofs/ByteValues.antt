@@ -1,10 +1,11 @@
 -- The values of fields are bytes, and the head that is made is of bytes.
-use Rattle.std.proofs.Common.{◌≡◌, sym, subst, refl, ℕ, ◌%◌, Bool, true, false, cond, ◌&&◌, List, [], ◌∷◌, ◌++◌, All, Option, None, Some, length, arith}
-use Rattle.std.proofs.lemmas.Bool.{and_parts, cond_both, ltb-true}
+use Rattle.std.proofs.Common.{◌≡◌, sym, subst, refl, ℕ, ◌%◌, Bool, true, false, cond, List, [], ◌∷◌, ◌++◌, All, Option, None, Some, length, arith}
+use Rattle.std.proofs.lemmas.Bool.{cond_both}
 use Rattle.std.proofs.lemmas.List.Elements.{All-append, All-cons, All-nil, All-replicate}
-use Rattle.std.specs.Prelude.{◌==◌, codes, nat_lt}
+use Rattle.std.specs.Prelude.{◌==◌, codes}
 use Rattle.snd_chunks.specs.Written.{NewChunk, chunk_bytes, chunks_bytes, head_bytes, pad}
 use Rattle.snd_fields.proofs.Numbers.{bytes_are_bytes}
+use Rattle.snd_fields.proofs.Tested.{from_test}
 use Rattle.snd_fields.specs.Field.{bytes_of}
 use Rattle.snd_fields.specs.Laws.{IsByte}
 use Rattle.snd_fields.specs.declared.field.Order.TheVariants.{Little}
@@ -17,14 +18,6 @@ use Rattle.snd_wave.proofs.Relaying.{chunks-joined}
 use Rattle.snd_wave.specs.Container.{wave}
 use Rattle.snd_wave.specs.Values.{closing, count_bytes, inner_value, outer_value, riff_size, side_value}
 use Rattle.snd_wave.specs.Written.{chunks_before, filler, has_fact, head_size, junk, new_fact, new_format, reserved_chunks, reserved_head, riff_head, wave_head}
-
-abbrev are_bytes : List ℕ → Bool
-are_bytes [] = true
-are_bytes (x ∷ xs) = nat_lt x 256 && are_bytes xs
-
-pub from_test : (xs : List ℕ) → are_bytes xs ≡ true → All IsByte xs
-from_test [] is = All-nil IsByte
-from_test (x ∷ xs) is = let parts = and_parts (nat_lt x 256) (are_bytes xs) is in All-cons IsByte x xs (ltb-true x 256 parts.0) (from_test xs parts.1)
 
 pub number_bytes : (k n : ℕ) → All IsByte (bytes_of Little k n)
 number_bytes k n = (bytes_are_bytes Little k n).1

@@ -8,7 +8,9 @@ pub mod LateFiles
 pub mod Counted
 pub mod Counts
 pub mod HeadValues
+pub mod HeadsOfBytes
 pub mod Images
+pub mod KeptHeads
 pub mod KeptPieces
 pub mod LayoutFacts
 pub mod Layouts
@@ -18,7 +20,9 @@ pub mod MadeParts
 pub mod NewFiles
 pub mod NewHeads
 pub mod Opens
+pub mod PieceBodies
 pub mod PlainHeads
+pub mod PlainShapes
 pub mod Planning
 pub mod Putting
 pub mod Relaying
@@ -26,4 +30,5 @@ pub mod Shapes
 pub mod Sizes
 pub mod Splits
 pub mod Standing
+pub mod Starts
 pub mod Widths

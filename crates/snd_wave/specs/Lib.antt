@@ -1,6 +1,7 @@
 pub mod Layout
 pub mod Container
 pub mod Parts
+pub mod Start
 pub mod Values
 pub mod Written
 pub mod Sealed

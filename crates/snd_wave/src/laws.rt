@@ -1,11 +1,12 @@
 //! The laws of WAVE files, proved of every file. The functions do nothing: their contracts are the laws.
 
 ghost use Rattle.std.specs.Prelude.{ℕ, Option};
+ghost use Rattle.snd_chunks.specs.HeadLaws.{KeepsHeadLaws};
 ghost use Rattle.snd_chunks.specs.Late.{LateReadsBack};
 ghost use Rattle.snd_layout.specs.Container.{KeepsLaws};
 ghost use Rattle.snd_layout.specs.declared.kind.Kind.TheVariants.{Wave};
 ghost use Rattle.snd_wave.specs.Container.{wave};
-ghost use Rattle.snd_wave.specs.Put.{reserved_heads};
+ghost use Rattle.snd_wave.specs.Put.{reserved_heads, wave_heads};
 ghost use Rattle.snd_wave.specs.Sealed.{HeadIsCounted, ReservedHeadIsCounted};
 ghost use Rattle.snd_wave.specs.Written.{HeadHasItsSize, HeadReadsBack, MadeHoldsAll, MadeInOneSector, MadeReadsBack, MayBePiece, ReservedHeadHasItsSize, ReservedHeadReadsBack, ReservedHoldsAll, ReservedInOneSector, ReservedReadsBack};
 
@@ -14,6 +15,12 @@ ghost use Rattle.snd_wave.specs.Written.{HeadHasItsSize, HeadReadsBack, MadeHold
 /// and of its fields; which further chunks stay; and what a file says that is made.
 pub fn keeps_laws()
     ensures { KeepsLaws Wave wave }
+{}
+
+/// The heads of new WAVE files, with any further chunks and without frames, keep the laws of heads.
+#[tactic(auto, using(crate::proofs::KeptHeads::keeps_head_laws))]
+pub fn keeps_head_laws()
+    ensures { KeepsHeadLaws Wave wave wave_heads }
 {}
 
 /// A file that is made, with any pieces that a file may keep, has the layout that its head says, and

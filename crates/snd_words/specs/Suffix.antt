@@ -1,10 +1,9 @@
 -- The kind of sound file that a name's suffix stands for.
-use Rattle.std.specs.Prelude.{ℕ, Bool, ◌==◌, not, List, [], ◌∷◌, Option, None, Some, length, codes, nat_lt, if◌then◌else◌}
+use Rattle.std.specs.Prelude.{ℕ, Bool, ◌==◌, not, List, Option, None, Some, length, nat_lt, if◌then◌else◌}
 use Rattle.std.specs.List.{after_last, suffix_len}
 use Rattle.std.specs.Option.{option_and_then}
+use Rattle.snd_layout.specs.Kinds.{kind_of_suffix}
 use Rattle.snd_layout.specs.declared.kind.Kind.{Kind}
-use Rattle.snd_layout.specs.declared.kind.Kind.TheVariants.{Wave, Rf64, W64, Au, Voc, Svx, Sphere}
-use Rattle.snd_words.specs.Options.{named}
 
 abbrev pub is_dot : ℕ → Bool
 is_dot c = c == 46
@@ -17,10 +16,5 @@ count_behind_dot name = suffix_len (λ c. not (is_dot c)) name
 unfoldable pub suffix_of : List ℕ → Option (List ℕ)
 suffix_of name = if nat_lt (count_behind_dot name) (length name) then Some (after_last is_dot name) else None
 
-unfoldable pub kind_of : List ℕ → Option Kind
-kind_of suffix = named suffix (
-    (codes "wav", Wave) ∷ (codes "rf64", Rf64) ∷ (codes "w64", W64) ∷ (codes "au", Au) ∷ (codes "snd", Au) ∷ (codes "voc", Voc)
-    ∷ (codes "svx", Svx) ∷ (codes "8svx", Svx) ∷ (codes "nist", Sphere) ∷ (codes "sph", Sphere) ∷ [])
-
 abbrev pub kind_by_suffix : List ℕ → Option Kind
-kind_by_suffix name = option_and_then kind_of (suffix_of name)
+kind_by_suffix name = option_and_then kind_of_suffix (suffix_of name)

@@ -33,7 +33,9 @@ returns-clause-chunk g c =
     (λ known e stands.
     let body : c.in_ok-body.body.items ≡ body_of e.bytes c.args.piece = c.in_ok-body.ensures.body e stands in
     record {
-      may = record { four = c.requires.four; other = not_own c.args.piece c.requires.carried; few = omega (arith, sym (ap length body) ∙ c.in_ok-body.ensures.size, small c.args.piece c.requires.carried) };
+      four = c.requires.four;
+      other = not_own c.args.piece c.requires.carried;
+      few = omega (arith, sym (ap length body) ∙ c.in_ok-body.ensures.size, small c.args.piece c.requires.carried);
       id = c.requires.id;
       body = subst (All IsByte) body c.in_ok-body.ensures.bytes;
     })

@@ -5,9 +5,9 @@ use Rattle.snd_disk.specs.Device.{WritesAtMost}
 use Rattle.snd_disk.proofs.Chains.{goes_on_then, only_reads_then}
 use Rattle.snd_layout.specs.declared.piece.Piece.{Piece}
 use Rattle.snd_modes.specs.Handle.{Known, known_of}
-use Rattle.snd_modes.specs.Heads.{holds_meta}
+use Rattle.snd_layout.specs.Kinds.{holds_meta}
 use Rattle.snd_modes.specs.PieceCalls.{known_put}
-use Rattle.snd_modes.specs.Relaid.{outline}
+use Rattle.snd_chunks.specs.Heads.{outline}
 use Rattle.snd_carry.specs.Carried.{carried_pieces, is_carried}
 use Rattle.snd_carry.specs.Carrying.{AsksForBodies, known_with}
 use Rattle.snd_carry.proofs.Heads.{known_more, meta_with}

@@ -3,7 +3,7 @@ use Rattle.std.proofs.lemmas.Option.{slice_get-get_or}
 use Rattle.std.specs.Prelude.{get_or, map, slice_get}
 use Rattle.snd_chunks.specs.Written.{chunks_bytes}
 use Rattle.snd_fields.specs.declared.field.Order.TheVariants.{Little}
-use Rattle.snd_modes.specs.Relaid.{outline}
+use Rattle.snd_chunks.specs.Heads.{outline}
 use Rattle.snd_layout.specs.declared.piece.Piece.{Piece}
 use Rattle.snd_carry.specs.Carried.{TakesBytes, carried_pieces, is_carried}
 use Rattle.snd_carry.proofs.Taken.{IsFour, IsSized, all_taken, carried_full, carried_more, carried_other, few_carried, nowhere, outlines_are, sized_more, sized_none, sizes, takes_bytes}

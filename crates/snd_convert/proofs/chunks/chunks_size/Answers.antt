@@ -6,7 +6,7 @@ use Rattle.snd_layout.specs.declared.piece.Piece.{Piece}
 use Rattle.snd_chunks.specs.Written.{chunks_bytes}
 use Rattle.snd_fields.specs.declared.field.Order.TheVariants.{Little}
 use Rattle.snd_modes.specs.Handle.{known_of}
-use Rattle.snd_modes.specs.Relaid.{outline}
+use Rattle.snd_chunks.specs.Heads.{outline}
 use Rattle.snd_convert.specs.Convert.{carries}
 use Rattle.snd_convert.proofs.Making.{all_end, no_take, some_take}
 use Rattle.snd_convert.proofs.chunks.chunks_size.Goals as goal

@@ -21,7 +21,7 @@ pub returns-in-Given-clause-puts : goal.returns-in-Given-clause-puts
 returns-in-Given-clause-puts g c =
     let pieces : List Piece = (known_of c.args.from.now).shape.pieces in
     let may : MayStand pieces (Given c.in-Given.id c.in-Given.body) = subst (MayStand pieces) c.in-Given.is c.requires.stands in
-    let is : IsChunk (new_piece c.in-Given.id.0 c.in-Given.body.items) = record { may = record { four = may.1; other = may.0; few = omega (arith, may.2) }; id = may.3; body = may.4 } in
+    let is : IsChunk (new_piece c.in-Given.id.0 c.in-Given.body.items) = record { four = may.1; other = may.0; few = omega (arith, may.2); id = may.3; body = may.4 } in
     subst (λ (x : PlannedChunk). OnOk c.put_chunk.result (PutsPlanned g.D.Disk.state g.E.Disk.state x c.args.from.now c.args.to.now c.put_chunk.new.to)) (sym c.in-Given.is)
     (on_both c.put_chunk.result _ _ _
     (λ stands holds r kind p cs s meta was. (

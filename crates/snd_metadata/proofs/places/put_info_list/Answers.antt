@@ -4,7 +4,7 @@ use Rattle.std.specs.List.{position_or_len}
 use Rattle.std.specs.Prelude.{codes}
 use Rattle.snd_chunks.specs.Written.{NewChunk}
 use Rattle.snd_modes.specs.Handle.{known_of}
-use Rattle.snd_wave.proofs.ByteValues.{from_test}
+use Rattle.snd_fields.proofs.Tested.{from_test}
 use Rattle.snd_chunks.specs.Heads.{new_piece}
 use Rattle.snd_metadata.specs.Chunks.{is_info_list, put_among}
 use Rattle.snd_metadata.specs.Planned.{MayStand, chunk_planned, put_in}

@@ -7,9 +7,9 @@ use Rattle.snd_layout.specs.Shape.{Shape, room}
 use Rattle.snd_layout.specs.declared.kind.Kind.{Kind}
 use Rattle.snd_modes.specs.Handle.{known_of}
 use Rattle.snd_modes.proofs.FixedFrames.{is_fixed}
-use Rattle.snd_modes.specs.Heads.{holds_meta}
+use Rattle.snd_layout.specs.Kinds.{holds_meta}
 use Rattle.snd_modes.specs.Relaid.{shape_with}
-use Rattle.snd_room.specs.Room.{Take}
+use Rattle.snd_container.specs.Room.{Take}
 use Rattle.snd_metadata.specs.Making.{chunks_planned}
 use Rattle.snd_metadata.specs.Planned.{MayStand, outline_planned}
 use Rattle.snd_metadata.specs.Retagged.{is_full_with}

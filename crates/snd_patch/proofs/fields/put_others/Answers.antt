@@ -6,7 +6,8 @@ use Rattle.snd_disk.proofs.RunsOfCalls.{runs_join}
 use Rattle.snd_disk.specs.Device.{Tells}
 use Rattle.snd_disk.specs.Runs.{Since}
 use Rattle.snd_patch.proofs.Running.{held_as, held_same, more_held, put_same, then_synced}
-use Rattle.snd_patch.specs.Sealed.{held_field, held_others, over_field}
+use Rattle.snd_patch.specs.Sealed.{held_field, held_others}
+use Rattle.snd_layout.specs.Filled.{over_field}
 use Rattle.snd_patch.proofs.Places.{outer_is_field, side_is_field}
 use Rattle.snd_patch.proofs.Updating.{settled, updates_more, updates_then}
 use Rattle.snd_patch.specs.Steps.{IsFieldOf}

@@ -1,6 +1,6 @@
 use Rattle.std.proofs.Common.{rules, ◌≡◌, ◌∙◌, sym}
-use Rattle.snd_modes.specs.Heads.{is_reserved}
-use Rattle.snd_modes.proofs.KindHeads.{not_reserved}
+use Rattle.snd_layout.specs.Kinds.{is_reserved}
+use Rattle.snd_layout.proofs.Public.{not_reserved}
 use Rattle.snd_modes.proofs.handle.File.add_piece.Goals as goal
 
 pub put_wanted-requires-clause-other : goal.put_wanted-requires-clause-other

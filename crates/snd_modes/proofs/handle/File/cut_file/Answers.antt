@@ -5,7 +5,7 @@ use Rattle.snd_container.specs.Sound.{fixed_of}
 use Rattle.snd_layout.specs.Shape.{KeepsRule, Shape, end}
 use Rattle.snd_patch.specs.Sealed.{counted, shrunk}
 use Rattle.snd_container.specs.Values.{closed_end}
-use Rattle.snd_modes.specs.Heads.{holds_pieces}
+use Rattle.snd_layout.specs.Kinds.{holds_pieces}
 use Rattle.snd_modes.proofs.BareHeads.{no_fewer}
 use Rattle.snd_modes.proofs.CutFrames.{cut_decoded, may_count_fewer}
 use Rattle.snd_modes.proofs.EditedFrames.{closed_counted}

@@ -8,7 +8,7 @@ use Rattle.snd_layout.specs.Params.{AreParams, Parameters}
 use Rattle.snd_layout.specs.Shape.{KeepsRule, Shape, end}
 use Rattle.snd_chunks.specs.Heads.{new_piece, with_piece}
 use Rattle.snd_modes.specs.Handle.{known_of}
-use Rattle.snd_modes.specs.Heads.{holds_pieces}
+use Rattle.snd_layout.specs.Kinds.{holds_pieces}
 use Rattle.snd_modes.specs.Relaid.{pieces_held, put_to, shape_put}
 use Rattle.snd_modes.proofs.Encoded.{given_anew, nothing_given, pace_anew, place_anew}
 use Rattle.snd_modes.proofs.EncodedPlaces.{blocks_of}

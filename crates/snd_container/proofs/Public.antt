@@ -1,0 +1,26 @@
+-- The laws of kinds and of their heads, for the crates above.
+use Rattle.std.proofs.Common.{◌≡◌, true, List, []}
+use Rattle.snd_chunks.specs.HeadLaws.{IsPieceOf, KeepsHeadLaws}
+use Rattle.snd_chunks.specs.Written.{NewChunk}
+use Rattle.snd_layout.specs.Kinds.{holds_pieces}
+use Rattle.snd_fields.specs.declared.field.Order.TheVariants.{Little}
+use Rattle.snd_layout.specs.Params.{Parameters}
+use Rattle.snd_layout.specs.declared.codec.Codec.TheVariants.{S16}
+use Rattle.snd_layout.specs.declared.kind.Kind.{Kind}
+use Rattle.snd_layout.specs.declared.kind.Kind.TheVariants.{Wave}
+use Rattle.snd_container.proofs.KindHeads.{keep_all_head_laws, others_may_be_put, plain_wave_is_known}
+use Rattle.snd_container.specs.HeadLaws.{plain_wave}
+use Rattle.snd_container.specs.Put.{MayBePieceOf, heads_of}
+use Rattle.snd_container.specs.Values.{any}
+
+-- the heads of a kind keep their laws
+pub head_laws : (kind : Kind) → KeepsHeadLaws kind (any kind) (heads_of kind)
+head_laws kind = keep_all_head_laws kind
+
+-- a chunk that is not a file's own may be put
+pub may_be_put : (kind : Kind) (piece : NewChunk) → holds_pieces kind ≡ true → IsPieceOf kind piece → MayBePieceOf kind piece
+may_be_put kind piece holds is = others_may_be_put kind piece holds is
+
+-- what a plain WAVE file says
+pub wave_is_plain : (p : Parameters) → p.codec ≡ S16 Little → (heads_of Wave).shape p [] ≡ plain_wave p
+wave_is_plain p same = plain_wave_is_known p same
