@@ -3,6 +3,7 @@ pub mod Bodies
 pub mod Chains
 pub mod HeadBytes
 pub mod Heads
+pub mod PutChunks
 pub mod Stays
 pub mod Walks
 pub mod WrittenChunks

@@ -5,6 +5,7 @@ mod error;
 mod front;
 mod head;
 mod list;
+mod put;
 mod walk;
 
 pub use chunk::Chunk;
@@ -12,4 +13,5 @@ pub use error::WalkError;
 pub use front::{Ending, Front};
 pub use head::head_at;
 pub use list::ChunkList;
+pub use put::{put_chunk, put_pad};
 pub use walk::{walk_front, walk_tail};

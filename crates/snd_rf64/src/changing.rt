@@ -19,8 +19,8 @@ use crate::values::{NOT_COUNTED, put_long};
 use arrayvec::ArrayVec;
 use snd_disk::Disk;
 use snd_fields::{Id4, Order};
-use snd_layout::{Kind, Layout, Params, PieceError, PieceList};
-use snd_wave::{Closing, Plan, change_head, plan_piece, put_all, put_number};
+use snd_layout::{Kind, Layout, Params, PieceError, PieceList, put_all, put_number};
+use snd_wave::{Closing, Plan, change_head, plan_piece};
 
 /// The head of a chunk: its identifier and its size.
 const HEAD_SIZE: u64 = 8;
@@ -70,7 +70,7 @@ fn closing_of(end: u64) -> Closing
 {
     let mut bytes = ArrayVec::new();
     put_all(&mut bytes, b"data");
-    put_number(&mut bytes, NO_SIZE);
+    put_number(&mut bytes, Order::Little, NO_SIZE);
     let mut size = ArrayVec::new();
     put_long(&mut size, end + HEAD_SIZE - NOT_COUNTED);
     Closing {

@@ -12,9 +12,12 @@ ghost use Rattle.snd_rf64.specs.Written.{made_shape, plain_start, rf64_head, top
 use crate::layout::{INNER, OUTER, SIDE};
 use crate::values::put_long;
 use arrayvec::ArrayVec;
+use snd_chunks::put_chunk;
 use snd_disk::Disk;
-use snd_layout::{Codec, Kind, Layout, OpenError, Params, PieceList, put_fmt, write_whole};
-use snd_wave::{put_all, put_chunk, put_number};
+use snd_fields::Order;
+use snd_layout::{
+    Codec, Kind, Layout, OpenError, Params, PieceList, put_all, put_fmt, put_number, write_whole,
+};
 use std::alloc::Global;
 
 /// A size of 32 bits that says nothing.
@@ -42,14 +45,14 @@ fn top(size: u64) -> ArrayVec<u8, 128>
 {
     let mut bytes = ArrayVec::new();
     put_all(&mut bytes, b"RF64");
-    put_number(&mut bytes, NO_SIZE);
+    put_number(&mut bytes, Order::Little, NO_SIZE);
     put_all(&mut bytes, b"WAVE");
     put_all(&mut bytes, b"ds64");
-    put_number(&mut bytes, SIZES_LEN);
+    put_number(&mut bytes, Order::Little, SIZES_LEN);
     put_long(&mut bytes, size);
     put_long(&mut bytes, 0);
     put_long(&mut bytes, 0);
-    put_number(&mut bytes, 0);
+    put_number(&mut bytes, Order::Little, 0);
     bytes
 }
 
@@ -64,7 +67,7 @@ fn plain_head(params: &Params) -> ArrayVec<u8, 128>
     let mut head = top(plain_start(params) - 8);
     put_chunk(&mut head, b"fmt ", format.as_slice());
     put_all(&mut head, b"data");
-    put_number(&mut head, NO_SIZE);
+    put_number(&mut head, Order::Little, NO_SIZE);
     head
 }
 

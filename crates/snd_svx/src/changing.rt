@@ -16,12 +16,11 @@ ghost use Rattle.snd_svx.specs.Written.{MayBePiece};
 
 use crate::head::COUNT_AT;
 use crate::layout::FORM_SIZE;
-use crate::values::put_number;
 use arrayvec::ArrayVec;
 use snd_disk::Disk;
 use snd_fields::{Id4, Order};
-use snd_layout::{Field, Kind, Layout, Params, PieceError, PieceList};
-use snd_wave::{Closing, Plan, change_head, plan_piece, put_all, put_filler};
+use snd_layout::{Field, Kind, Layout, Params, PieceError, PieceList, put_all, put_number};
+use snd_wave::{Closing, Plan, change_head, plan_piece, put_filler};
 
 /// The place behind the voice header.
 const FIRST_PLACE: u64 = 40;
@@ -82,7 +81,7 @@ fn closing_bytes(end: u64) -> ArrayVec<u8, 128>
     let mut bytes = ArrayVec::new();
     put_filler(&mut bytes, Order::Big, inner_of(end + HEAD_SIZE));
     put_all(&mut bytes, b"BODY");
-    put_number(&mut bytes, 0);
+    put_number(&mut bytes, Order::Big, 0);
     bytes
 }
 
@@ -98,7 +97,7 @@ fn closing_of(end: u64) -> Closing
 {
     let bytes = closing_bytes(end);
     let mut size = ArrayVec::new();
-    put_number(&mut size, end + bytes.len() as u64 - NOT_COUNTED);
+    put_number(&mut size, Order::Big, end + bytes.len() as u64 - NOT_COUNTED);
     Closing {
         order: Order::Big,
         bytes,

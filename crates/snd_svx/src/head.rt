@@ -11,10 +11,10 @@ ghost use Rattle.snd_layout.specs.Opened.{CountsOpening};
 ghost use Rattle.snd_layout.specs.declared.kind.Kind.TheVariants.{Svx};
 ghost use Rattle.snd_svx.specs.Written.{made_shape, svx_head};
 
-use crate::values::put_number;
 use arrayvec::ArrayVec;
 use snd_disk::Disk;
-use snd_layout::{Field, Kind, Layout, OpenError, Params, PieceList, write_whole};
+use snd_fields::Order;
+use snd_layout::{Field, Kind, Layout, OpenError, Params, PieceList, put_all, put_number, write_whole};
 use std::alloc::Global;
 
 /// The place of the data.
@@ -28,17 +28,6 @@ const HEADER_SIZE: u64 = 20;
 
 /// One octave that is not packed, and the full volume, 1 with 16 bits behind the point.
 const VOICE: [u8; 6] = [1, 0, 0, 1, 0, 0];
-
-// Puts bytes behind the others.
-fn put_all(into: &mut ArrayVec<u8, 64>, bytes: &[u8])
-    requires { array_vec_len into.old + length bytes.now ≤ 64 }
-    ensures items { into.new.items ≡ into.old.items ++ bytes.now }
-    ensures len { array_vec_len into.new ≡ array_vec_len into.old + length bytes.now }
-{
-    for byte in bytes {
-        into.push(*byte);
-    }
-}
 
 // Puts the lowest 2 bytes of a number behind the others, the highest first.
 fn put_short(into: &mut ArrayVec<u8, 64>, value: u32)
@@ -59,14 +48,14 @@ fn plain_head(params: &Params) -> ArrayVec<u8, 64>
     params.are_good();
     let mut head = ArrayVec::new();
     put_all(&mut head, b"FORM");
-    put_number(&mut head, START - 8);
+    put_number(&mut head, Order::Big, START - 8);
     put_all(&mut head, b"8SVXVHDR");
-    put_number(&mut head, HEADER_SIZE);
+    put_number(&mut head, Order::Big, HEADER_SIZE);
     put_all(&mut head, &[0; 12]);
     put_short(&mut head, params.rate);
     put_all(&mut head, &VOICE);
     put_all(&mut head, b"BODY");
-    put_number(&mut head, 0);
+    put_number(&mut head, Order::Big, 0);
     head
 }
 

@@ -11,24 +11,12 @@ ghost use Rattle.snd_layout.specs.declared.kind.Kind.TheVariants.{Svx};
 ghost use Rattle.snd_svx.specs.Values.{closing, form_size, inner_value, outer_value, side_value};
 
 use arrayvec::ArrayVec;
-use snd_layout::Layout;
+use snd_fields::Order;
+use snd_layout::{Layout, put_number};
 
 /// The greatest place at which data may end: the size of the FORM, in which the first 8 bytes are not
 /// counted, is even and has 32 bits.
 const MOST_END: u64 = (1 << 32) + 6;
-
-/// Puts the lowest 4 bytes of a number behind the others, the highest first.
-pub(crate) fn put_number<const N: usize>(into: &mut ArrayVec<u8, N>, value: u64)
-    requires { array_vec_len into.old + 4 ≤ N }
-    ensures items { into.new.items ≡ into.old.items ++ bytes_of Big 4 value }
-    ensures len { array_vec_len into.new ≡ array_vec_len into.old + 4 }
-{
-    let [first, second, third, fourth, ..] = value.to_le_bytes();
-    into.push(fourth);
-    into.push(third);
-    into.push(second);
-    into.push(first);
-}
 
 // The data bytes of so many frames of a layout: each is one byte.
 fn bytes_in(layout: &Layout, frames: u64) -> u64
@@ -45,7 +33,7 @@ fn number_bytes(value: u64) -> ArrayVec<u8, 64>
     ensures { result.items ≡ bytes_of Big 4 value }
 {
     let mut bytes = ArrayVec::new();
-    put_number(&mut bytes, value);
+    put_number(&mut bytes, Order::Big, value);
     bytes
 }
 

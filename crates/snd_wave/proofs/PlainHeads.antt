@@ -138,12 +138,6 @@ module _ (r : Option ℕ) (p : Parameters) (good : AreParams p) (fits : fit_refu
       ∙ ap (λ (l : List ℕ). head_of (start + lead_len - 8) (chunks_bytes Little (lead_of r) ++ (chunk_bytes Little (record { id = l; body = written_format p }) ++ chunks_bytes Little (new_fact p.codec 0))) 0) named
       ∙ sym (head_is (start + lead_len) begin (omega (arith, at, near)) (omega (arith, at, near, few, behind)))
 
--- a chunk that is put together
-pub chunk_put : (old id body first second third fourth : List ℕ) → first ≡ old ++ id → second ≡ first ++ bytes_of Little 4 (length body) → third ≡ second ++ body → fourth ≡ third ++ pad (length body)
-    → fourth ≡ old ++ chunk_bytes Little (record { id = id; body = body })
-unfolding chunk_bytes head_bytes
-chunk_put old id body first second third fourth one two three four = rw (four, three, two, one) (simp append_assoc)
-
 pub fact_put : (codec : Codec) (has : Bool) (old new id body : List ℕ) → has ≡ has_fact codec → has ≡ true → id ≡ codes "fact" → body ≡ bytes_of Little 4 0 → new ≡ old ++ chunk_bytes Little (record { id = id; body = body }) → new ≡ old ++ chunks_bytes Little (new_fact codec 0)
 unfolding chunks_bytes
 fact_put codec has old new id body is there named zero put =

@@ -9,12 +9,11 @@ ghost use Rattle.snd_wave.specs.Put.{closing_behind, filler_for};
 ghost use Rattle.snd_wave.specs.Written.{new_fact, reserved_first};
 
 use crate::head::{has_fact, inner_of, plain_start, put_fact};
-use crate::put::{put_all, put_number, put_size};
 use crate::reserve::lead_size;
 use crate::rest::Closing;
 use arrayvec::ArrayVec;
 use snd_fields::Order;
-use snd_layout::{Field, Params, one_sector};
+use snd_layout::{Field, Params, one_sector, put_all, put_number};
 
 /// The head of a chunk: its identifier and its size.
 const HEAD_SIZE: u64 = 8;
@@ -52,7 +51,7 @@ pub fn put_filler<const N: usize>(into: &mut ArrayVec<u8, N>, order: Order, fiel
 {
     if !one_sector(field) {
         put_all(into, b"JUNK");
-        put_size(into, order, 8);
+        put_number(into, order, 8);
         put_all(into, &[0; 8]);
     }
 }
@@ -71,7 +70,7 @@ fn closing_bytes(params: &Params, end: u64) -> ArrayVec<u8, 128>
     put_filler(&mut bytes, Order::Little, inner_of(params, start));
     put_fact(&mut bytes, params);
     put_all(&mut bytes, b"data");
-    put_number(&mut bytes, 0);
+    put_number(&mut bytes, Order::Little, 0);
     bytes
 }
 
@@ -88,7 +87,11 @@ pub(crate) fn closing_of(params: &Params, end: u64) -> Closing
 {
     let bytes = closing_bytes(params, end);
     let mut size = ArrayVec::new();
-    put_number(&mut size, end + bytes.len() as u64 - NOT_COUNTED);
+    put_number(
+        &mut size,
+        Order::Little,
+        end + bytes.len() as u64 - NOT_COUNTED,
+    );
     Closing {
         order: Order::Little,
         bytes,

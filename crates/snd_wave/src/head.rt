@@ -14,11 +14,15 @@ ghost use Rattle.snd_layout.specs.declared.kind.Kind.TheVariants.{Wave};
 ghost use Rattle.snd_wave.specs.Put.{IsHeadOf, reserved_heads};
 ghost use Rattle.snd_wave.specs.Written.{MayReserve, has_fact, inner_at, lead_of, made_shape, new_fact, plain_start, reserved_head, reserved_shape, side_at, wave_head};
 
-use crate::put::{put_all, put_chunk, put_number};
 use crate::reserve::{RESERVE_SIZE, lead_size};
 use arrayvec::ArrayVec;
+use snd_chunks::put_chunk;
 use snd_disk::{Disk, Step};
-use snd_layout::{Codec, Field, Kind, Layout, OpenError, Params, PieceList, put_fmt, write_whole};
+use snd_fields::Order;
+use snd_layout::{
+    Codec, Field, Kind, Layout, OpenError, Params, PieceList, put_all, put_fmt, put_number,
+    write_whole,
+};
 use std::alloc::Global;
 
 pub(crate) fn has_fact(params: &Params) -> bool
@@ -97,7 +101,7 @@ fn put_lead(into: &mut ArrayVec<u8, 128>, reserve: Option<u32>)
 {
     if let Some(size) = reserve {
         put_all(into, b"JUNK");
-        put_number(into, u64::from(size));
+        put_number(into, Order::Little, u64::from(size));
         put_all(into, &[0; RESERVE_SIZE]);
     }
 }
@@ -113,13 +117,17 @@ fn plain_head(params: &Params, reserve: Option<u32>) -> ArrayVec<u8, 128>
     put_fmt(*params, &mut format);
     let mut head = ArrayVec::new();
     put_all(&mut head, b"RIFF");
-    put_number(&mut head, plain_start(params) + lead_size(reserve) - 8);
+    put_number(
+        &mut head,
+        Order::Little,
+        plain_start(params) + lead_size(reserve) - 8,
+    );
     put_all(&mut head, b"WAVE");
     put_lead(&mut head, reserve);
     put_chunk(&mut head, b"fmt ", format.as_slice());
     put_fact(&mut head, params);
     put_all(&mut head, b"data");
-    put_number(&mut head, 0);
+    put_number(&mut head, Order::Little, 0);
     head
 }
 

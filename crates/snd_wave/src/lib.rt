@@ -13,7 +13,6 @@ mod layout;
 mod parts;
 mod pieces;
 mod plan;
-mod put;
 mod reads;
 mod reserve;
 mod rest;
@@ -25,12 +24,14 @@ pub use change::change_head;
 pub use changing::put_piece;
 pub use closing::put_filler;
 pub use head::{lay_head, lay_reserved};
-pub use laws::{keeps_head_laws, keeps_laws, late_chunks_read_back, made_files_read_back, reserved_files_read_back};
+pub use laws::{
+    keeps_head_laws, keeps_laws, late_chunks_read_back, made_files_read_back,
+    reserved_files_read_back,
+};
 pub use layout::open_layout;
 pub use parts::{Parts, parts_of};
 pub use pieces::add_pieces;
 pub use plan::{Plan, plan_piece};
-pub use put::{put_all, put_chunk, put_number, put_pad, put_size};
 pub use reads::read_format;
 pub use rest::Closing;
 pub use start::{filled_start, start_with};

@@ -7,11 +7,10 @@ ghost use Rattle.snd_wave.specs.Changes.{rest_from};
 ghost use Rattle.snd_chunks.specs.Heads.{CountsPutting, new_piece};
 
 use crate::plan::Plan;
-use crate::put::{put_all, put_size};
 use arrayvec::ArrayVec;
 use snd_disk::{Disk, fill};
 use snd_fields::{Id4, Order};
-use snd_layout::PieceError;
+use snd_layout::{PieceError, put_all, put_number};
 use std::alloc::{AllocError, Global};
 
 /// How a head is closed behind its pieces, and the size of the whole that it says then.
@@ -33,7 +32,7 @@ fn add_chunk(into: &mut Vec<u8>, order: Order, id: Id4, body: &[u8]) -> Result<(
 {
     let mut head: ArrayVec<u8, 8> = ArrayVec::new();
     put_all(&mut head, &id.0);
-    put_size(&mut head, order, body.len() as u64);
+    put_number(&mut head, order, body.len() as u64);
     into.extend_from_slice(head.as_slice())?;
     into.extend_from_slice(body)?;
     if body.len() % 2 == 1 {

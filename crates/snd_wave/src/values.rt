@@ -11,9 +11,9 @@ ghost use Rattle.snd_layout.specs.Shape.{room as shape_room};
 ghost use Rattle.snd_layout.specs.declared.kind.Kind.TheVariants.{Wave};
 ghost use Rattle.snd_wave.specs.Values.{closing, inner_value, outer_value, riff_size, side_value};
 
-use crate::put::{put_all, put_number};
 use arrayvec::ArrayVec;
-use snd_layout::{Layout, Params};
+use snd_fields::Order;
+use snd_layout::{Layout, Params, put_all, put_number};
 
 /// The bytes of the field that holds the count of a `fact`, the identifier of the data chunk and the data
 /// size.
@@ -52,7 +52,7 @@ fn number_bytes(value: u64) -> ArrayVec<u8, 64>
     ensures { result.items ≡ bytes_of Little 4 value }
 {
     let mut bytes = ArrayVec::new();
-    put_number(&mut bytes, value);
+    put_number(&mut bytes, Order::Little, value);
     bytes
 }
 
@@ -78,7 +78,7 @@ pub fn inner_bytes(layout: &Layout, frames: u64) -> ArrayVec<u8, 64>
     }
     let mut value = number_bytes(frames);
     put_all(&mut value, b"data");
-    put_number(&mut value, bytes);
+    put_number(&mut value, Order::Little, bytes);
     value
 }
 

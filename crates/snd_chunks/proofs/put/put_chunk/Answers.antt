@@ -1,5 +1,5 @@
-use Rattle.snd_wave.proofs.PlainHeads.{chunk_put}
-use Rattle.snd_wave.proofs.put.put_chunk.Goals as goal
+use Rattle.snd_chunks.proofs.PutChunks.{chunk_put}
+use Rattle.snd_chunks.proofs.put.put_chunk.Goals as goal
 
 pub returns-clause-items : goal.returns-clause-items
 returns-clause-items g c =
