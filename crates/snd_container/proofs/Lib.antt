@@ -8,3 +8,5 @@ pub mod Marks
 pub mod OfKinds
 pub mod Sources
 pub mod Widths
+pub mod LateKinds
+pub mod WholeSizes

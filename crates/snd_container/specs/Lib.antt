@@ -1,5 +1,6 @@
 pub mod Fixed
 pub mod Kinds
+pub mod Late
 pub mod Laws
 pub mod Made
 pub mod Put

@@ -2,6 +2,7 @@
 //! contract is the laws.
 
 ghost use Rattle.snd_container.specs.Fixed.{BytesAreKept, KeptNumbersStay, NumbersAreKept};
+ghost use Rattle.snd_container.specs.Late.{LateChunksReadBack};
 ghost use Rattle.snd_container.specs.Laws.{KeepAllLaws};
 
 /// What the containers owe the layers above, for files of every kind. Where the field that decides the
@@ -13,6 +14,14 @@ ghost use Rattle.snd_container.specs.Laws.{KeepAllLaws};
 #[tactic(auto, using(crate::proofs::EveryKind::keep_all_laws))]
 pub fn keep_all_laws()
     ensures { KeepAllLaws }
+{}
+
+/// A file that is closed with chunks behind its data, and the size of the whole up to them, has these
+/// behind its pieces, whatever stands behind them all: for each kind that keeps chunks, and in WAVE with a
+/// reservation, too.
+#[tactic(auto, using(crate::proofs::LateKinds::late_chunks_read_back))]
+pub fn late_chunks_read_back()
+    ensures { LateChunksReadBack }
 {}
 
 /// Samples that are written stand for the numbers that their codec keeps: a linear one keeps each, a law

@@ -6,18 +6,12 @@ use Rattle.snd_disk.specs.State.{State}
 use Rattle.snd_layout.specs.Shape.{Shape}
 use Rattle.snd_layout.specs.declared.kind.Kind.{Kind}
 use Rattle.snd_layout.specs.declared.kind.Kind.TheVariants.{Wave, Rf64, Svx}
+pub use Rattle.snd_container.specs.Late.{holds_pieces}
 use Rattle.snd_container.specs.Put.{HoldsHead}
 
 -- ---- kinds and identifiers
 
--- the kinds whose files are given chunks
-abbrev pub holds_pieces : Kind → Bool
-holds_pieces Wave = true
-holds_pieces Rf64 = true
-holds_pieces Svx = true
-holds_pieces kind = false
-
--- .. and those of them that have an INFO list, cue points and a broadcast extension
+-- the kinds whose files are given chunks that have an INFO list, cue points and a broadcast extension
 abbrev pub holds_meta : Kind → Bool
 holds_meta Svx = false
 holds_meta kind = holds_pieces kind
