@@ -1,5 +1,5 @@
 -- Late chunks read back in files of every kind, since they do in each.
-use Rattle.std.proofs.Common.{◌≡◌, ◌∙◌, ap, sym, subst, refl, inl, ℕ, ◌≤◌, true, List, Option, None, Ok, length, take, arith}
+use Rattle.std.proofs.Common.{◌≡◌, ◌∙◌, ap, sym, subst, refl, inl, ℕ, ◌≤◌, true, List, Option, None, Some, Ok, length, take, arith}
 use Rattle.snd_chunks.specs.Heads.{Heads}
 use Rattle.snd_chunks.specs.Late.{EndsLate, LateReadsBack, MayBeLate, late_from, late_shape}
 use Rattle.snd_chunks.specs.Written.{NewChunk}
@@ -13,7 +13,7 @@ use Rattle.snd_container.proofs.Marks.{SameMarks, kind_of_marks, recognised_too}
 use Rattle.snd_container.proofs.OfKinds.{layout_by_kind}
 use Rattle.snd_container.specs.Kinds.{container_of}
 use Rattle.snd_container.specs.Late.{LateChunksReadBack, holds_pieces}
-use Rattle.snd_container.specs.Put.{MayBePieceOf, heads_of}
+use Rattle.snd_container.specs.Put.{MayBePieceOf, heads_for}
 use Rattle.snd_container.specs.Recognised.{recognised}
 use Rattle.snd_container.specs.Sound.{layout_of}
 use Rattle.snd_container.specs.Values.{any}
@@ -87,18 +87,29 @@ svx_known = record { says = svx_says; found = svx_found; told = svx.heads_read_b
 
 -- ---- all of them
 
-reserved : (r : Option ℕ) → LateReadsBack MayBePiece (any Wave) (reserved_heads r)
-reserved r = by_kind Wave (reserved_heads r) (wave_known r) MayBePiece (wave_late.late_reads_back r)
+in_wave : (r : Option ℕ) → LateReadsBack MayBePiece (any Wave) (reserved_heads r)
+in_wave r = by_kind Wave (reserved_heads r) (wave_known r) MayBePiece (wave_late.late_reads_back r)
 
-each : (kind : Kind) → holds_pieces kind ≡ true → LateReadsBack (MayBePieceOf kind) (any kind) (heads_of kind)
-each Wave holds = reserved None
-each Rf64 holds = by_kind Rf64 rf64_heads rf64_known MayBePiece rf64_late.late_reads_back
-each Svx holds = by_kind Svx svx_heads svx_known svx_written.MayBePiece svx_late.late_reads_back
-each W64 holds = absurd (cc)
-each Au holds = absurd (cc)
-each Dns holds = absurd (cc)
-each Voc holds = absurd (cc)
-each Sphere holds = absurd (cc)
+in_rf64 : LateReadsBack MayBePiece (any Rf64) rf64_heads
+in_rf64 = by_kind Rf64 rf64_heads rf64_known MayBePiece rf64_late.late_reads_back
+
+in_svx : LateReadsBack svx_written.MayBePiece (any Svx) svx_heads
+in_svx = by_kind Svx svx_heads svx_known svx_written.MayBePiece svx_late.late_reads_back
 
 pub late_chunks_read_back : LateChunksReadBack
-late_chunks_read_back = record { each = each; reserved = reserved }
+late_chunks_read_back None Wave holds = in_wave None
+late_chunks_read_back None Rf64 holds = in_rf64
+late_chunks_read_back None Svx holds = in_svx
+late_chunks_read_back None W64 holds = absurd (cc)
+late_chunks_read_back None Au holds = absurd (cc)
+late_chunks_read_back None Dns holds = absurd (cc)
+late_chunks_read_back None Voc holds = absurd (cc)
+late_chunks_read_back None Sphere holds = absurd (cc)
+late_chunks_read_back (Some len) Wave holds = in_wave (Some len)
+late_chunks_read_back (Some len) Rf64 holds = in_rf64
+late_chunks_read_back (Some len) Svx holds = in_svx
+late_chunks_read_back (Some len) W64 holds = absurd (cc)
+late_chunks_read_back (Some len) Au holds = absurd (cc)
+late_chunks_read_back (Some len) Dns holds = absurd (cc)
+late_chunks_read_back (Some len) Voc holds = absurd (cc)
+late_chunks_read_back (Some len) Sphere holds = absurd (cc)

@@ -6,9 +6,7 @@ use Rattle.snd_chunks.specs.Written.{NewChunk}
 use Rattle.snd_layout.specs.Shape.{Shape}
 use Rattle.snd_layout.specs.declared.kind.Kind.{Kind}
 use Rattle.snd_layout.specs.declared.kind.Kind.TheVariants.{Wave, Rf64, Svx}
-use Rattle.snd_wave.specs.Put.{reserved_heads}
-use Rattle.snd_wave.specs.Written.{MayBePiece}
-use Rattle.snd_container.specs.Put.{MayBePieceOf, heads_of}
+use Rattle.snd_container.specs.Put.{MayBePieceOf, heads_for}
 use Rattle.snd_container.specs.Values.{any}
 
 -- the kinds whose files are given chunks
@@ -22,7 +20,6 @@ holds_pieces kind = false
 abbrev pub late_shape : Shape → List NewChunk → Shape
 late_shape h late = shape_with_late (any h.kind) h late
 
--- What is closed with late chunks reads back, for each of these kinds; in WAVE with a reservation, too.
-pub record LateChunksReadBack : Type 0 where
-  pub each : (kind : Kind) → holds_pieces kind ≡ true → LateReadsBack (MayBePieceOf kind) (any kind) (heads_of kind)
-  pub reserved : (r : Option ℕ) → LateReadsBack MayBePiece (any Wave) (reserved_heads r)
+-- What is closed with late chunks reads back, for each of these kinds, with a reservation and without.
+abbrev pub LateChunksReadBack : Type 0
+LateChunksReadBack = (r : Option ℕ) (kind : Kind) → holds_pieces kind ≡ true → LateReadsBack (MayBePieceOf kind) (any kind) (heads_for r kind)

@@ -17,8 +17,8 @@ pub fn keep_all_laws()
 {}
 
 /// A file that is closed with chunks behind its data, and the size of the whole up to them, has these
-/// behind its pieces, whatever stands behind them all: for each kind that keeps chunks, and in WAVE with a
-/// reservation, too.
+/// behind its pieces, whatever stands behind them all: for each kind that keeps chunks, with a reservation
+/// and without.
 #[tactic(auto, using(crate::proofs::LateKinds::late_chunks_read_back))]
 pub fn late_chunks_read_back()
     ensures { LateChunksReadBack }

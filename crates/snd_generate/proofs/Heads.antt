@@ -15,7 +15,7 @@ use Rattle.snd_layout.specs.declared.kind.Kind.TheVariants.{Wave}
 use Rattle.snd_modes.specs.Relaid.{head_with, shape_with}
 use Rattle.snd_patch.specs.Sealed.{counted, with_fields}
 use Rattle.snd_wave.specs.Values.{closing as wave_closing, inner_value as wave_inner, outer_value as wave_outer, riff_size, side_value as wave_side}
-use Rattle.snd_wave.specs.Written.{chunks_before, head_size, made_shape, start_without_filler}
+use Rattle.snd_wave.specs.Written.{head_size, reserved_chunks, reserved_shape, reserved_size, reserved_start}
 use Rattle.snd_generate.specs.Edited.{params}
 use Rattle.snd_generate.specs.Steps.{shape_of}
 use Rattle.snd_generate.proofs.Lists.{both_again}
@@ -36,19 +36,19 @@ pub linear : is_none (fixed_of params.codec) ≡ false
 linear = refl
 
 pub params_are : says.params ≡ params
-unfolding made_shape
+unfolding reserved_shape
 params_are = refl
 
 pub known : says.unknown_length ≡ false
-unfolding made_shape
+unfolding reserved_shape
 known = refl
 
 pub no_tail : says.trailing ≡ false
-unfolding made_shape
+unfolding reserved_shape
 no_tail = refl
 
 pub starts : says.start ≡ 44
-unfolding made_shape head_size chunks_before start_without_filler chunks_bytes chunk_bytes head_bytes
+unfolding reserved_shape reserved_size reserved_chunks reserved_start chunks_bytes chunk_bytes head_bytes
 starts = refl
 
 -- without frames
@@ -56,7 +56,7 @@ abbrev pub unwritten : Shape
 unwritten = record says { frames = 0; params = params }
 
 pub room_is : room unwritten ≡ 4294967258
-unfolding made_shape head_size chunks_before start_without_filler chunks_bytes chunk_bytes head_bytes
+unfolding reserved_shape reserved_size reserved_chunks reserved_start chunks_bytes chunk_bytes head_bytes
 room_is = refl
 
 pub data_are : (n : ℕ) → data_bytes params n ≡ 4 * n
@@ -65,15 +65,15 @@ data_are n = omega arith
 -- ---- its fields, for whatever frames a layout counts
 
 pub fields_of : (k n : ℕ) (b : List ℕ) → with_fields b (shape_of k) n ≡ with_fields b says n
-unfolding made_shape wave_inner wave_outer wave_side
+unfolding reserved_shape wave_inner wave_outer wave_side
 fields_of k n b = refl
 
 pub closing_of : (k n : ℕ) → closing (shape_of k) n ≡ closing says n
-unfolding made_shape wave_closing
+unfolding reserved_shape wave_closing
 closing_of k n = refl
 
 pub end_of : (k n : ℕ) → end (shape_of k) n ≡ 44 + 4 * n
-unfolding made_shape
+unfolding reserved_shape
 end_of k n = omega (arith, starts, data_are n)
 
 -- the size of the data, and that of the whole
@@ -84,15 +84,15 @@ abbrev whole_size : ℕ → List ℕ
 whole_size n = outer_value says n
 
 data_size_length : (n : ℕ) → length (data_size n) ≡ 4
-unfolding made_shape wave_inner
+unfolding reserved_shape wave_inner
 data_size_length n = length-bytes_of Little 4 (data_bytes params n)
 
 whole_size_length : (n : ℕ) → length (whole_size n) ≡ 4
-unfolding made_shape wave_outer
+unfolding reserved_shape wave_outer
 whole_size_length n = length-bytes_of Little 4 (riff_size (head_size params []) (data_bytes params n))
 
 fields_are : (b : List ℕ) (n : ℕ) → with_fields b says n ≡ over (over b 40 (data_size n)) 4 (whole_size n)
-unfolding made_shape head_size chunks_before start_without_filler chunks_bytes chunk_bytes head_bytes wave_side
+unfolding reserved_shape reserved_size reserved_chunks reserved_start chunks_bytes chunk_bytes head_bytes wave_side
 fields_are b n = refl
 
 pub fields_length : (b : List ℕ) (n : ℕ) → length b ≡ 44 → length (with_fields b says n) ≡ 44
@@ -104,7 +104,7 @@ fields_length b n long =
 
 -- the layout of as many frames, whatever it was of
 pub counted_again : (k n : ℕ) → counted (shape_of k) n ≡ shape_of n
-unfolding made_shape
+unfolding reserved_shape
 counted_again k n = refl
 
 -- the fields of n frames, put over those of others

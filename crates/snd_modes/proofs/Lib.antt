@@ -45,6 +45,7 @@ pub mod PutBlocks
 pub mod PutHeads
 pub mod Ranges
 pub mod ReadBodies
+pub mod ReservedHeads
 pub mod Rf64Heads
 pub mod Rooms
 pub mod Runs

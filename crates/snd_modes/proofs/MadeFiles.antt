@@ -19,7 +19,7 @@ use Rattle.snd_modes.specs.Making.{making_as, making_of}
 use Rattle.snd_modes.specs.Pacing.{HasPlaceFor}
 use Rattle.snd_modes.specs.Updating.{updating_of}
 use Rattle.snd_w64.specs.Written.{made_shape as w64_made}
-use Rattle.snd_wave.specs.Written.{made_shape as wave_made}
+use Rattle.snd_wave.specs.Written.{reserved_shape as wave_made}
 use Rattle.snd_modes.proofs.BlockBytes.{few_channels, is_held}
 use Rattle.snd_modes.proofs.EditedFiles.{first_keeps, updated_is_edited}
 use Rattle.snd_modes.proofs.Encoded.{given_none}

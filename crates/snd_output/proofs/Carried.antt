@@ -26,7 +26,7 @@ use Rattle.snd_wave.proofs.Made.{no_bytes_yet}
 use Rattle.snd_wave.specs.Layout.{piece_of}
 use Rattle.snd_wave.specs.Values.{riff_size}
 use Rattle.snd_chunks.specs.Heads.{chunk_read}
-use Rattle.snd_wave.specs.Written.{MayBePiece, chunks_before, filler, has_fact, head_for, head_size, inner_size, junk, made_pieces, made_shape, new_fact, new_format, riff_head, start_without_filler, wave_head}
+use Rattle.snd_wave.specs.Written.{MayBePiece, chunks_before, filler, has_fact, head_size, inner_size, junk, new_fact, new_format, reserved_chunks, reserved_head, reserved_pieces, reserved_shape, riff_head, start_without_filler, wave_head}
 use Rattle.snd_modes.specs.Editing.{Editing, first_editing}
 use Rattle.snd_modes.specs.Edits.{coded}
 use Rattle.snd_modes.specs.Heads.{holds_meta}
@@ -73,11 +73,12 @@ pub record SaysOf (kind : Kind) (p : Parameters) (h : Shape) : Type 0 where
   pub params : h.params ≡ p
   pub frames : h.frames ≡ 0
   pub free : h.trailing ≡ false
+  pub reserve : h.reserve ≡ None
 
 pub says_of : (kind : Kind) (p : Parameters) (pieces : List NewChunk) → holds_meta kind ≡ true → SaysOf kind p (shape_with kind p pieces)
-unfolding made_shape rf64.made_shape
-says_of Wave p pieces meta = record { kind_is = refl; params = refl; frames = refl; free = refl }
-says_of Rf64 p pieces meta = record { kind_is = refl; params = refl; frames = refl; free = refl }
+unfolding reserved_shape rf64.made_shape
+says_of Wave p pieces meta = record { kind_is = refl; params = refl; frames = refl; free = refl; reserve = refl }
+says_of Rf64 p pieces meta = record { kind_is = refl; params = refl; frames = refl; free = refl; reserve = refl }
 says_of W64 p pieces meta = absurd (cc)
 says_of Au p pieces meta = absurd (cc)
 says_of Dns p pieces meta = absurd (cc)
@@ -99,6 +100,7 @@ may_with Wave p pieces meta good fits are =
       few = are.few;
       in_room = omega (arith, none);
       counted = λ blocks. omega arith;
+      reserved = tt;
     }
 may_with Rf64 p pieces meta good fits are = record { params = good; fits = fits; pieces_are = All-weaker IsChunk MayBePiece may_each pieces are.each; few = are.few }
 may_with W64 p pieces meta good fits are = absurd (cc)
@@ -133,14 +135,14 @@ fact_is true = All-cons AreBytes fact [] (from_test (codes "fact") refl, number_
 fact_is false = All-nil AreBytes
 
 before_is : (p : Parameters) (pieces : List NewChunk) → All AreBytes pieces → All AreBytes (chunks_before p pieces 0)
-unfolding chunks_before
+unfolding reserved_chunks
 before_is p pieces are =
     All-cons AreBytes (new_format p) (pieces ++ (filler p pieces ++ new_fact p.codec 0)) (format_is p)
     (All-append AreBytes pieces (filler p pieces ++ new_fact p.codec 0) are
     (All-append AreBytes (filler p pieces) (new_fact p.codec 0) (filler_is (is_in_one_sector (start_without_filler p pieces - inner_size p.codec) (inner_size p.codec))) (fact_is (has_fact p.codec))))
 
 wave_is : (p : Parameters) (pieces : List NewChunk) → All AreBytes pieces → All IsByte (wave_head p pieces)
-unfolding head_for riff_head head_bytes
+unfolding reserved_head riff_head head_bytes
 wave_is p pieces are =
     let size = bytes_of Little 4 (riff_size (head_size p pieces) (data_bytes p 0)) in
     let bytes = bytes_of Little 4 (data_bytes p 0) in
@@ -188,7 +190,7 @@ head_is Sphere p pieces meta are = absurd (cc)
 
 -- the count and the data size are one field
 is_joined : (kind : Kind) (p : Parameters) (pieces : List NewChunk) → holds_meta kind ≡ true → fit_refusal kind p ≡ None → is_adpcm p.codec ≡ true → 12 ≤ (shape_with kind p pieces).inner.size
-unfolding made_shape
+unfolding reserved_shape
 is_joined Wave p pieces meta fits is = rw is (omega arith)
 is_joined Rf64 p pieces meta fits is = absurd (⊎_elim (λ wave. cc) (λ w64. cc) (blocks_held Rf64 p.channels p.codec is (is_held Rf64 p fits)))
 is_joined W64 p pieces meta fits is = absurd (cc)
@@ -227,7 +229,7 @@ kept_standing b (chunk ∷ chunks) = ap (λ (l : List Kept). kept_of b (piece_of
 
 kept_pieces : (kind : Kind) (p : Parameters) (pieces : List NewChunk) (b : List ℕ) → holds_meta kind ≡ true
     → map (kept_of b) (shape_with kind p pieces).pieces ≡ map kept_chunk (map (chunk_read b) (shape_with kind p pieces).pieces)
-unfolding made_shape made_pieces rf64.made_shape rf64.made_pieces
+unfolding reserved_shape reserved_pieces rf64.made_shape rf64.made_pieces
 kept_pieces Wave p pieces b meta = kept_standing b (all_placed (padded_end 20 (length (written_format p))) pieces)
 kept_pieces Rf64 p pieces b meta = kept_standing b (all_placed (padded_end 56 (length (written_format p))) pieces)
 kept_pieces W64 p pieces b meta = absurd (cc)

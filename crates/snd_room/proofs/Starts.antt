@@ -15,7 +15,7 @@ use Rattle.snd_svx.specs.Written as svx
 use Rattle.snd_wave.proofs.NewHeads.{size_with}
 use Rattle.snd_wave.proofs.Putting.{first_is}
 use Rattle.snd_wave.proofs.Relaying.{length-joined}
-use Rattle.snd_wave.specs.Written.{filler, has_fact, inner_size, new_fact, new_format, plain_start, start_without_filler}
+use Rattle.snd_wave.specs.Written.{filler, has_fact, inner_size, new_fact, new_format, plain_start, reserved_start, start_without_filler}
 use Rattle.snd_wave.specs.Written as wave
 use Rattle.snd_room.specs.Room.{BeginsRf64, BeginsSvx, BeginsWave, filled_start}
 
@@ -55,7 +55,7 @@ plain_most (Ima align per_block) = omega arith
 plain_most (Ms align per_block) = omega arith
 
 wave_plain : (p : Parameters) (pieces : List NewChunk) → start_without_filler p pieces ≡ plain_start p.codec + length (chunks_bytes Little pieces)
-unfolding start_without_filler
+unfolding reserved_start
 wave_plain p pieces =
     omega (arith, first_is p, plain_most p.codec, length-chunks_bytes Little (new_format p) pieces, length-chunk_bytes Little (new_format p) 12 refl)
 

@@ -11,7 +11,7 @@ use Rattle.snd_sphere.specs.Written.{made_shape as sphere_shape}
 use Rattle.snd_svx.specs.Written.{made_shape as svx_shape}
 use Rattle.snd_voc.specs.Written.{made_shape as voc_shape}
 use Rattle.snd_w64.specs.Written.{made_shape as w64_shape}
-use Rattle.snd_wave.specs.Written.{made_shape as wave_shape}
+use Rattle.snd_wave.specs.Written.{reserved_shape as wave_shape}
 
 pub new_params : (kind : Kind) (p : Parameters) → (new_shape kind p).params ≡ p
 unfolding wave_shape rf64_shape w64_shape voc_shape svx_shape sphere_shape

@@ -1,21 +1,23 @@
 //! The head of a file that is made.
 
-ghost use Rattle.std.specs.Prelude.{◌≡◌, ◌+◌, ◌≤◌, ◌++◌, [], None, is_some, length, OnOk, IfErr, IfOk, IfSome};
-ghost use Rattle.snd_disk.specs.Device.{GoesOnFrom, WritesAtMost};
+ghost use Rattle.std.specs.Prelude.{◌≡◌, ◌+◌, ◌≤◌, ◌++◌, [], None, Some, false, is_some, length, OnErr, OnOk, IfErr, IfOk, IfSome};
+ghost use Rattle.snd_disk.specs.Device.{CountsOn, GoesOnFrom, WritesAtMost};
 ghost use Rattle.arrayvec.specs.ArrayVec.{array_vec_len};
+ghost use Rattle.snd_chunks.specs.Heads.{IsHeadIn};
 ghost use Rattle.snd_chunks.specs.Written.{chunks_bytes};
 ghost use Rattle.snd_fields.specs.declared.field.Order.TheVariants.{Little};
+ghost use Rattle.snd_layout.specs.Blocks.{is_adpcm};
 ghost use Rattle.snd_layout.specs.Fit.{fit_refusal};
 ghost use Rattle.snd_layout.specs.Laid.{HoldsJust, IsLayCause};
 ghost use Rattle.snd_layout.specs.Opened.{CountsOpening};
 ghost use Rattle.snd_layout.specs.declared.kind.Kind.TheVariants.{Wave};
-ghost use Rattle.snd_wave.specs.Put.{IsHeadOf};
+ghost use Rattle.snd_wave.specs.Put.{IsHeadOf, reserved_heads};
 ghost use Rattle.snd_wave.specs.Written.{MayReserve, has_fact, inner_at, lead_of, made_shape, new_fact, plain_start, reserved_head, reserved_shape, side_at, wave_head};
 
 use crate::put::{put_all, put_chunk, put_number};
 use crate::reserve::{RESERVE_SIZE, lead_size};
 use arrayvec::ArrayVec;
-use snd_disk::Disk;
+use snd_disk::{Disk, Step};
 use snd_layout::{Codec, Field, Kind, Layout, OpenError, Params, PieceList, put_fmt, write_whole};
 use std::alloc::Global;
 
@@ -167,4 +169,32 @@ pub fn lay_head<D: Disk>(alloc: Global, disk: &mut D, params: Params) -> Result<
         Ok(()) => Ok(plain_layout(alloc, params, None)),
         Err(step) => Err(OpenError::DiskFault(step)),
     }
+}
+
+/// Lays the head of a WAVE file anew with a chunk `JUNK` of 28 zeros before all others, which is reserved
+/// for 64-bit sizes (EBU Tech 3306). The disk holds the head of the layout, with no pieces, no reservation
+/// and no frames, and the samples have a fixed size; afterwards it holds the head with the reservation, and
+/// the layout is that of this head. It takes no memory, writes at most 2048 bytes and reads none. The only
+/// error is a call of the disk that failed: what the disk holds then is not said, and the layout stays.
+pub fn lay_reserved<D: Disk>(disk: &mut D, layout: &mut Layout) -> Result<(), Step>
+    requires head { IsHeadOf (D.state disk.old) layout.old layout.old.params [] }
+    requires fixed { is_adpcm layout.old.params.codec ≡ false }
+    ensures laid { OnOk result (HoldsJust (reserved_head (Some 28) layout.old.params [] 0) (D.state disk.old) (D.state disk.new)) }
+    ensures layout { OnOk result (layout.new ≡ reserved_shape (Some 28) layout.old.params [] 0) }
+    ensures head { OnOk result (IsHeadIn (reserved_heads (Some 28)) (D.state disk.new) layout.new layout.old.params []) }
+    ensures kept { OnErr result (layout.new ≡ layout.old) }
+    ensures faults { CountsOn D.state disk.old disk.new result }
+    ensures name { (D.state disk.new).name ≡ (D.state disk.old).name }
+    ensures told { is_some (D.state disk.new).contents ≡ is_some (D.state disk.old).contents }
+    ensures time { GoesOnFrom D.state D.left_between disk.old disk.new }
+    ensures written { WritesAtMost D.state 2048 disk.old disk.new }
+    ensures asked { (D.state disk.new).asked ≡ (D.state disk.old).asked }
+{
+    let params = layout.params;
+    params.are_good();
+    let head = plain_head(&params, Some(RESERVE_SIZE as u32));
+    write_whole(disk, head.as_slice())?;
+    let alloc = layout.pieces.allocator();
+    *layout = plain_layout(alloc, params, Some(RESERVE_SIZE as u32));
+    Ok(())
 }

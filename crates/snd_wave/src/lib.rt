@@ -23,7 +23,7 @@ mod values;
 pub use change::change_head;
 pub use changing::put_piece;
 pub use closing::put_filler;
-pub use head::lay_head;
+pub use head::{lay_head, lay_reserved};
 pub use laws::{keeps_laws, late_chunks_read_back, made_files_read_back, reserved_files_read_back};
 pub use layout::open_layout;
 pub use parts::{Parts, parts_of};
