@@ -6,6 +6,8 @@ mod au;
 #[cfg(test)]
 mod heads;
 #[cfg(test)]
+mod late;
+#[cfg(test)]
 mod layout;
 #[cfg(test)]
 mod rf64;

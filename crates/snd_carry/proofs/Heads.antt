@@ -1,9 +1,9 @@
 -- The heads of WAVE and RF64 files with a chunk more.
-use Rattle.std.proofs.Common.{◌≡◌, ◌∙◌, ap, sym, refl, ℕ, ◌+◌, true, List, [], ◌∷◌, ◌++◌, length, take, drop, arith}
+use Rattle.std.proofs.Common.{◌≡◌, ◌∙◌, ap, sym, refl, ℕ, ◌+◌, true, List, [], ◌∷◌, ◌++◌, Option, None, length, take, drop, arith}
 use Rattle.std.proofs.lemmas.List.{length-map, length-replicate, map-append, places, same_lists}
 use Rattle.std.specs.Prelude.{map, replicate}
 use Rattle.snd_chunks.specs.Written.{NewChunk}
-use Rattle.snd_container.proofs.Public.{head_laws}
+use Rattle.snd_container.proofs.Public.{head_laws, piece_laws}
 use Rattle.snd_container.specs.Made.{new_shape}
 use Rattle.snd_layout.specs.Params.{Parameters}
 use Rattle.snd_layout.specs.Shape.{Shape}
@@ -13,8 +13,10 @@ use Rattle.snd_chunks.specs.Heads.{new_piece, with_piece, outline, blank, blanks
 use Rattle.snd_modes.specs.Handle.{Known}
 use Rattle.snd_layout.specs.Kinds.{holds_meta}
 use Rattle.snd_modes.specs.PieceCalls.{known_put}
+use Rattle.snd_container.specs.Put.{heads_for}
 use Rattle.snd_modes.specs.Relaid.{shape_put, shape_with}
 use Rattle.snd_chunks.proofs.Blanks.{blanks_blanks, blanks_with}
+use Rattle.snd_layout.proofs.Public.{meta_holds}
 use Rattle.snd_output.proofs.Carried.{laws_of, says_of}
 use Rattle.snd_carry.specs.Carrying.{known_with}
 
@@ -41,17 +43,23 @@ with_last xs x n all = same_lists _ _ (grind (arith, places)) (λ k d lt. grind 
 pub put_last : (cs : List NewChunk) (c : NewChunk) (n : ℕ) → n ≡ length cs → with_piece cs n c ≡ cs ++ c ∷ []
 put_last cs c n all = with_last cs c n all
 
-module _ (kind : Kind) (p : Parameters) (meta : holds_meta kind ≡ true) where
-  same_shape : (cs ds : List NewChunk) → blanks cs ≡ blanks ds → shape_with kind p cs ≡ shape_with kind p ds
+-- with a reservation, or with none
+module _ (r : Option ℕ) (kind : Kind) (p : Parameters) (meta : holds_meta kind ≡ true) where
+  abbrev shape_of : List NewChunk → Shape
+  shape_of cs = (heads_for r kind).shape p cs
+
+  same_shape : (cs ds : List NewChunk) → blanks cs ≡ blanks ds → shape_of cs ≡ shape_of ds
   same_shape cs ds same =
-      sym ((laws_of kind meta).blank_shape p cs) ∙ ap (shape_with kind p) same ∙ (laws_of kind meta).blank_shape p ds
+      let laws = piece_laws r kind (meta_holds kind meta) in
+      sym (laws.blank_shape p cs) ∙ ap shape_of same ∙ laws.blank_shape p ds
 
   -- a layout hangs on the outline of a chunk
-  pub outlined_by : (cs : List NewChunk) (place : ℕ) (piece : Piece) (body : List ℕ) → length body ≡ piece.len → shape_with kind p (with_piece cs place (new_piece piece.id.0 body)) ≡ shape_with kind p (with_piece cs place (outline piece))
+  pub outlined_by : (cs : List NewChunk) (place : ℕ) (piece : Piece) (body : List ℕ) → length body ≡ piece.len → shape_of (with_piece cs place (new_piece piece.id.0 body)) ≡ shape_of (with_piece cs place (outline piece))
   outlined_by cs place piece body long =
       same_shape (with_piece cs place (new_piece piece.id.0 body)) (with_piece cs place (outline piece))
       (blanks_with cs place (new_piece piece.id.0 body) ∙ ap (with_piece (blanks cs) place) (blank_body piece body long ∙ sym (blank_outline piece)) ∙ sym (blanks_with cs place (outline piece)))
 
+module _ (kind : Kind) (p : Parameters) (meta : holds_meta kind ≡ true) where
   -- it has as many pieces as there are chunks
   pub as_many : (cs : List NewChunk) → length (shape_with kind p cs).pieces ≡ length cs
   as_many cs = sym (length-map (shape_with kind p cs).pieces outline) ∙ ap length ((laws_of kind meta).outlined p cs) ∙ length-map cs blank
@@ -60,17 +68,18 @@ module _ (kind : Kind) (p : Parameters) (meta : holds_meta kind ≡ true) where
   pub put_behind : (cs : List NewChunk) (c : NewChunk) (n : ℕ) → n ≡ length cs → shape_put n c (shape_with kind p cs) ≡ shape_with kind p (cs ++ c ∷ [])
   put_behind cs c n all =
       let h : Shape = shape_with kind p cs in
-      ap (λ (k : Kind). shape_with k h.params (with_piece (map outline h.pieces) n c)) (says_of kind p cs meta).kind_is
+      ap (λ (r : Option ℕ). (heads_for r h.kind).shape h.params (with_piece (map outline h.pieces) n c)) (says_of kind p cs meta).reserve
+      ∙ ap (λ (k : Kind). shape_with k h.params (with_piece (map outline h.pieces) n c)) (says_of kind p cs meta).kind_is
       ∙ ap (λ (q : Parameters). shape_with kind q (with_piece (map outline h.pieces) n c)) (says_of kind p cs meta).params
       ∙ ap (λ (l : List NewChunk). shape_with kind p (with_piece l n c)) ((laws_of kind meta).outlined p cs)
-      ∙ same_shape (with_piece (blanks cs) n c) (with_piece cs n c)
+      ∙ same_shape None kind p meta (with_piece (blanks cs) n c) (with_piece cs n c)
       (blanks_with (blanks cs) n c ∙ ap (λ (l : List NewChunk). with_piece l n (blank c)) (blanks_blanks cs) ∙ sym (blanks_with cs n c))
       ∙ ap (shape_with kind p) (put_last cs c n all)
 
 -- what is known, with a chunk of a piece put
 pub outline_put : (place : ℕ) (piece : Piece) (body : List ℕ) (k : Known) → holds_meta k.shape.kind ≡ true → length body ≡ piece.len → known_put place (new_piece piece.id.0 body) k ≡ known_put place (outline piece) k
 outline_put place piece body k meta long =
-    ap (λ (s : Shape). record k { shape = s }) (outlined_by k.shape.kind k.shape.params meta (map outline k.shape.pieces) place piece body long)
+    ap (λ (s : Shape). record k { shape = s }) (outlined_by k.shape.reserve k.shape.kind k.shape.params meta (map outline k.shape.pieces) place piece body long)
 
 -- .. behind those that were put
 pub known_more : (xs : List Piece) (piece : Piece) (k : Known) → holds_meta k.shape.kind ≡ true

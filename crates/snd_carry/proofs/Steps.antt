@@ -6,6 +6,7 @@ use Rattle.std.proofs.lemmas.Bool.{cases_Bool}
 use Rattle.std.specs.Prelude.{is_none, map, slice_get}
 use Rattle.snd_chunks.specs.Written.{NewChunk}
 use Rattle.snd_container.specs.Made.{new_file, new_shape}
+use Rattle.snd_container.specs.Put.{heads_for}
 use Rattle.snd_blocks.specs.Sound.{frames_in}
 use Rattle.snd_container.specs.Sound.{fixed_of}
 use Rattle.snd_disk.specs.declared.disk.Disk.{Ghosts}
@@ -41,8 +42,9 @@ added_is kind p cs id body meta held =
     let n : ℕ = length h.pieces in
     let c : NewChunk = new_piece id body in
     let all : n ≡ length cs = as_many kind p meta cs in
-    let bytes : head_with h.kind h.params (with_piece (pieces_held (made_with kind p cs)) n c) ≡ head_with kind p (cs ++ c ∷ []) =
-    ap (λ (k : Kind). head_with k h.params (with_piece (pieces_held (made_with kind p cs)) n c)) (says_of kind p cs meta).kind_is
+    let bytes : (heads_for h.reserve h.kind).head h.params (with_piece (pieces_held (made_with kind p cs)) n c) ≡ head_with kind p (cs ++ c ∷ []) =
+    ap (λ (r : Option ℕ). (heads_for r h.kind).head h.params (with_piece (pieces_held (made_with kind p cs)) n c)) (says_of kind p cs meta).reserve
+    ∙ ap (λ (k : Kind). head_with k h.params (with_piece (pieces_held (made_with kind p cs)) n c)) (says_of kind p cs meta).kind_is
     ∙ ap (λ (q : Parameters). head_with kind q (with_piece (pieces_held (made_with kind p cs)) n c)) (says_of kind p cs meta).params
     ∙ ap (λ (l : List NewChunk). head_with kind p (with_piece l n c)) held
     ∙ ap (head_with kind p) (put_last cs c n all) in

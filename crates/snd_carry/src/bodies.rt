@@ -97,7 +97,8 @@ pub fn put_chunk<E: Disk, M: CanMake>(
             | PieceError::ReservedChunk
             | PieceError::NoChunks
             | PieceError::ChunkTooLarge
-            | PieceError::TooManyChunks,
+            | PieceError::TooManyChunks
+            | PieceError::ContainerFull,
         ) => unreachable!(),
     }
 }

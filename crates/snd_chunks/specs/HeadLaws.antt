@@ -46,10 +46,9 @@ pub record SaysNone (kind : Kind) (c : Container) (p : Parameters) (h : Shape) (
   pub few : length h.pieces ≤ 240
   pub fields : KeepsRule h → with_values_of c head h 0 ≡ head
 
--- What holds of the heads of a kind whose files are given chunks: they are made with any of these, and say so; they are read back
--- with them; their layout hangs on the outlines of the chunks alone, which all stand before the data.
+-- What holds of the heads of a kind whose files are given chunks: they say what they are; they are read back with these chunks;
+-- their layout hangs on the outlines of the chunks alone, which all stand before the data.
 pub record KeepsPieceLaws (kind : Kind) (c : Container) (heads : Heads) : Type 0 where
-  pub may : (p : Parameters) (pieces : List NewChunk) → AreParams p → fit_refusal kind p ≡ None → All (IsPieceOf kind) pieces → length pieces ≤ 240 → heads.may p pieces
   pub may_once : (p : Parameters) (pieces : List NewChunk) → IsProp (heads.may p pieces)
   pub says : (p : Parameters) (pieces : List NewChunk) → heads.may p pieces → SaysNone kind c p (heads.shape p pieces) (heads.head p pieces)
   pub opens : (p : Parameters) (pieces : List NewChunk) → heads.may p pieces → c.layout (heads.head p pieces) ≡ Ok (heads.shape p pieces)
@@ -66,7 +65,8 @@ pub record KeepsMetaLaws (kind : Kind) (c : Container) (heads : Heads) : Type 0 
   pub bytes : (p : Parameters) (pieces : List NewChunk) → All IsOfBytes pieces → All IsByte (heads.head p pieces)
   pub bodies : (b : List ℕ) (h : Shape) → c.layout b ≡ Ok h → h.kind ≡ kind → sum_by (λ (piece : Piece). piece.len) h.pieces ≤ length b
 
--- all of them, the first ones with any list of chunks
+-- all of them, the first ones with any list of chunks; none has a reservation, and where files are given chunks a head is made
+-- with any of these
 pub record KeepsHeadLaws (kind : Kind) (c : Container) (heads : Heads) : Type 0 where
   pub kind_is : (p : Parameters) (pieces : List NewChunk) → (heads.shape p pieces).kind ≡ kind
   pub params_are : (p : Parameters) (pieces : List NewChunk) → (heads.shape p pieces).params ≡ p
@@ -75,5 +75,8 @@ pub record KeepsHeadLaws (kind : Kind) (c : Container) (heads : Heads) : Type 0 
   pub joined : (p : Parameters) (pieces : List NewChunk) → fit_refusal kind p ≡ None → is_adpcm p.codec ≡ true → 12 ≤ (heads.shape p pieces).inner.size
   pub bare_head : (p : Parameters) → heads.head p [] ≡ c.head p
   pub bare_shape : (p : Parameters) → heads.shape p [] ≡ c.made p
+  pub reserve : (p : Parameters) (pieces : List NewChunk) → (heads.shape p pieces).reserve ≡ None
+  pub may : holds_pieces kind ≡ true → (p : Parameters) (pieces : List NewChunk) → AreParams p → fit_refusal kind p ≡ None → All (IsPieceOf kind) pieces → length pieces ≤ 240
+      → heads.may p pieces
   pub pieces : holds_pieces kind ≡ true → KeepsPieceLaws kind c heads
   pub meta : holds_meta kind ≡ true → KeepsMetaLaws kind c heads

@@ -16,7 +16,7 @@ use Rattle.snd_container.specs.Recognised.{recognised}
 use Rattle.snd_container.specs.Sound.{layout_as, layout_of}
 use Rattle.snd_container.specs.Values.{any}
 use Rattle.snd_wave.proofs.Contained.{keeps_laws as wave_laws}
-use Rattle.snd_wave.specs.Written.{head_for as wave_head_for, riff_head}
+use Rattle.snd_wave.specs.Written.{reserved_head, riff_head}
 use Rattle.snd_rf64.proofs.Contained.{keeps_laws as rf64_laws}
 use Rattle.snd_rf64.specs.Written.{rf64_head, top as rf64_top}
 use Rattle.snd_w64.proofs.AllLaws.{keeps_laws as w64_laws}
@@ -44,7 +44,7 @@ laws_of Sphere = sphere_laws
 
 -- the first bytes of a file that is made
 head_is_known : (kind : Kind) (p : Parameters) → recognised (take 40 ((container_of kind).head p)) ≡ Ok kind
-unfolding wave_head_for riff_head rf64_head rf64_top w64_head au_head voc_head voc_file_head svx_head_for sphere_head
+unfolding reserved_head riff_head rf64_head rf64_top w64_head au_head voc_head voc_file_head svx_head_for sphere_head
 head_is_known Wave p = kind_of_marks Wave (take 40 ((container_of Wave).head p)) refl
 head_is_known Rf64 p = kind_of_marks Rf64 (take 40 ((container_of Rf64).head p)) refl
 head_is_known W64 p = kind_of_marks W64 (take 40 ((container_of W64).head p)) refl

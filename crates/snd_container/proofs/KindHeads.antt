@@ -1,6 +1,7 @@
 -- The heads of new files of every kind keep their laws, since those of each kind do.
-use Rattle.std.proofs.Common.{◌≡◌, ◌∙◌, ap, sym, refl, ⊎_elim, ℕ, ◌≤◌, true, List, None, Ok, take, arith}
+use Rattle.std.proofs.Common.{◌≡◌, ◌∙◌, ap, sym, refl, ⊎_elim, ℕ, ◌≤◌, true, List, Option, None, Some, Ok, take, arith}
 use Rattle.snd_chunks.specs.HeadLaws.{IsPieceOf, KeepsHeadLaws, KeepsMetaLaws, KeepsPieceLaws, SaysNone, with_values_of}
+use Rattle.snd_chunks.specs.Heads.{Heads}
 use Rattle.snd_chunks.specs.Written.{NewChunk}
 use Rattle.snd_fields.specs.declared.field.Order.{Order}
 use Rattle.snd_fields.specs.declared.field.Order.TheVariants.{Little, Big}
@@ -13,20 +14,21 @@ use Rattle.snd_layout.specs.Shape.{Shape}
 use Rattle.snd_layout.specs.declared.kind.Kind.{Kind}
 use Rattle.snd_layout.specs.declared.kind.Kind.TheVariants.{Wave, Rf64, W64, Au, Dns, Voc, Svx, Sphere}
 use Rattle.snd_rf64.proofs.KeptHeads.{keeps_head_laws as rf64_laws}
-use Rattle.snd_rf64.specs.Written.{rf64_head, top}
+use Rattle.snd_rf64.specs.Written.{made_shape as rf64_shape, rf64_head, top}
 use Rattle.snd_sphere.specs.Written.{made_shape as sphere_shape}
 use Rattle.snd_svx.proofs.KeptHeads.{keeps_head_laws as svx_laws}
 use Rattle.snd_svx.specs.Written.{head_for as svx_head_for, svx_head}
 use Rattle.snd_voc.specs.Written.{made_shape as voc_shape}
 use Rattle.snd_w64.specs.Written.{made_shape as w64_shape}
-use Rattle.snd_wave.proofs.KeptHeads.{keeps_head_laws as wave_laws}
+use Rattle.snd_wave.proofs.KeptHeads.{keeps_head_laws as wave_laws, piece_laws as wave_piece_laws}
 use Rattle.snd_wave.proofs.PlainShapes.{plain_is}
-use Rattle.snd_wave.specs.Written.{head_for as wave_head_for, riff_head, wave_head}
+use Rattle.snd_wave.specs.Written.{reserved_head, reserved_shape, riff_head, wave_head}
+use Rattle.snd_wave.specs.Put.{reserved_heads}
 use Rattle.snd_container.proofs.EveryKind.{known, of_kind}
 use Rattle.snd_container.proofs.Marks.{kind_of_marks}
-use Rattle.snd_container.specs.HeadLaws.{KeepAllHeadLaws, OthersMayBePut, PlainWaveIsKnown}
+use Rattle.snd_container.specs.HeadLaws.{KeepAllHeadLaws, KeepReservedHeadLaws, OthersMayBePut, PlainWaveIsKnown}
 use Rattle.snd_container.specs.Kinds.{container_of}
-use Rattle.snd_container.specs.Put.{heads_of}
+use Rattle.snd_container.specs.Put.{heads_for, heads_of}
 use Rattle.snd_container.specs.Recognised.{recognised}
 use Rattle.snd_container.specs.Sound.{layout_of}
 use Rattle.snd_container.specs.Values.{any}
@@ -47,6 +49,8 @@ w64_laws = record {
   joined = λ p pieces fits blocks. w64_joined p blocks;
   bare_head = λ p. refl;
   bare_shape = λ p. refl;
+  reserve = λ p pieces. refl;
+  may = λ holds. absurd (cc);
   pieces = λ holds. absurd (cc);
   meta = λ holds. absurd (cc);
 }
@@ -73,6 +77,8 @@ au_laws = record {
   joined = au_joined;
   bare_head = λ p. refl;
   bare_shape = λ p. refl;
+  reserve = λ p pieces. refl;
+  may = λ holds. absurd (cc);
   pieces = λ holds. absurd (cc);
   meta = λ holds. absurd (cc);
 }
@@ -86,6 +92,8 @@ dns_laws = record {
   joined = dns_joined;
   bare_head = λ p. refl;
   bare_shape = λ p. refl;
+  reserve = λ p pieces. refl;
+  may = λ holds. absurd (cc);
   pieces = λ holds. absurd (cc);
   meta = λ holds. absurd (cc);
 }
@@ -100,6 +108,8 @@ voc_laws = record {
   joined = voc_joined;
   bare_head = λ p. refl;
   bare_shape = λ p. refl;
+  reserve = λ p pieces. refl;
+  may = λ holds. absurd (cc);
   pieces = λ holds. absurd (cc);
   meta = λ holds. absurd (cc);
 }
@@ -114,6 +124,8 @@ sphere_laws = record {
   joined = sphere_joined;
   bare_head = λ p. refl;
   bare_shape = λ p. refl;
+  reserve = λ p pieces. refl;
+  may = λ holds. absurd (cc);
   pieces = λ holds. absurd (cc);
   meta = λ holds. absurd (cc);
 }
@@ -130,7 +142,7 @@ laws_of Sphere = sphere_laws
 
 -- the first bytes of a head
 head_is_known : (kind : Kind) (p : Parameters) (pieces : List NewChunk) → holds_pieces kind ≡ true → recognised (take 40 ((heads_of kind).head p pieces)) ≡ Ok kind
-unfolding wave_head_for riff_head rf64_head top svx_head_for
+unfolding reserved_head riff_head rf64_head top svx_head_for
 head_is_known Wave p pieces holds = kind_of_marks Wave (take 40 (wave_head p pieces)) refl
 head_is_known Rf64 p pieces holds = kind_of_marks Rf64 (take 40 (rf64_head p pieces)) refl
 head_is_known W64 p pieces holds = absurd (cc)
@@ -139,6 +151,14 @@ head_is_known Dns p pieces holds = absurd (cc)
 head_is_known Voc p pieces holds = absurd (cc)
 head_is_known Svx p pieces holds = kind_of_marks Svx (take 40 (svx_head p pieces)) refl
 head_is_known Sphere p pieces holds = absurd (cc)
+
+reserved_is_known : (r : Option ℕ) (p : Parameters) (pieces : List NewChunk) → recognised (take 40 (reserved_head r p pieces 0)) ≡ Ok Wave
+unfolding reserved_head riff_head
+reserved_is_known r p pieces = kind_of_marks Wave (take 40 (reserved_head r p pieces 0)) refl
+
+reserved_kind : (r : Option ℕ) (p : Parameters) (pieces : List NewChunk) → (reserved_shape r p pieces 0).kind ≡ Wave
+unfolding reserved_shape
+reserved_kind r p pieces = refl
 
 -- ---- any kind
 
@@ -162,21 +182,23 @@ module _ (kind : Kind) where
   opens_any : (b : List ℕ) (h : Shape) → h.kind ≡ kind → recognised (take 40 b) ≡ Ok kind → (container_of kind).layout b ≡ Ok h → layout_of b ≡ Ok h
   opens_any b h is found laid = of_kind b h (found ∙ ap (λ (k : Kind). Ok k) (sym is)) (ap (λ (k : Kind). (container_of k).layout b) is ∙ laid)
 
+  pieces_any : (heads : Heads) → ((p : Parameters) (pieces : List NewChunk) → (heads.shape p pieces).kind ≡ kind)
+      → ((p : Parameters) (pieces : List NewChunk) → recognised (take 40 (heads.head p pieces)) ≡ Ok kind)
+      → KeepsPieceLaws kind (container_of kind) heads → KeepsPieceLaws kind (any kind) heads
+  pieces_any heads is found own = record {
+    may_once = own.may_once;
+    says = λ p pieces may. says_any p (heads.shape p pieces) (heads.head p pieces) (own.says p pieces may);
+    opens = λ p pieces may. opens_any (heads.head p pieces) (heads.shape p pieces) (is p pieces) (found p pieces) (own.opens p pieces may);
+    read = own.read;
+    outlined = own.outlined;
+    before = own.before;
+    blank_may = own.blank_may;
+    blank_shape = own.blank_shape;
+    blank_size = own.blank_size;
+  }
+
   piece_laws : holds_pieces kind ≡ true → KeepsPieceLaws kind (any kind) (heads_of kind)
-  piece_laws holds =
-      let own = (laws_of kind).pieces holds in
-      record {
-        may = own.may;
-        may_once = own.may_once;
-        says = λ p pieces may. says_any p ((heads_of kind).shape p pieces) ((heads_of kind).head p pieces) (own.says p pieces may);
-        opens = λ p pieces may. opens_any ((heads_of kind).head p pieces) ((heads_of kind).shape p pieces) ((laws_of kind).kind_is p pieces) (head_is_known kind p pieces holds) (own.opens p pieces may);
-        read = own.read;
-        outlined = own.outlined;
-        before = own.before;
-        blank_may = own.blank_may;
-        blank_shape = own.blank_shape;
-        blank_size = own.blank_size;
-      }
+  piece_laws holds = pieces_any (heads_of kind) (laws_of kind).kind_is (λ p pieces. head_is_known kind p pieces holds) ((laws_of kind).pieces holds)
 
   meta_laws : holds_meta kind ≡ true → KeepsMetaLaws kind (any kind) (heads_of kind)
   meta_laws holds =
@@ -197,9 +219,23 @@ keep_all_head_laws kind =
       joined = own.joined;
       bare_head = own.bare_head;
       bare_shape = own.bare_shape;
+      reserve = own.reserve;
+      may = own.may;
       pieces = piece_laws kind;
       meta = meta_laws kind;
     }
+
+-- .. with a reservation too
+pub keep_reserved_head_laws : KeepReservedHeadLaws
+keep_reserved_head_laws None kind holds = piece_laws kind holds
+keep_reserved_head_laws (Some len) Wave holds = pieces_any Wave (reserved_heads (Some len)) (reserved_kind (Some len)) (reserved_is_known (Some len)) (wave_piece_laws (Some len))
+keep_reserved_head_laws (Some len) Rf64 holds = piece_laws Rf64 holds
+keep_reserved_head_laws (Some len) W64 holds = absurd (cc)
+keep_reserved_head_laws (Some len) Au holds = absurd (cc)
+keep_reserved_head_laws (Some len) Dns holds = absurd (cc)
+keep_reserved_head_laws (Some len) Voc holds = absurd (cc)
+keep_reserved_head_laws (Some len) Svx holds = piece_laws Svx holds
+keep_reserved_head_laws (Some len) Sphere holds = absurd (cc)
 
 -- ---- chunks that may be put
 

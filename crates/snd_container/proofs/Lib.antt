@@ -12,3 +12,5 @@ pub mod Rooms
 pub mod Sizes
 pub mod Sources
 pub mod Widths
+pub mod LateKinds
+pub mod WholeSizes

@@ -1,6 +1,6 @@
 -- The laws of kinds and of their heads, for the crates above.
-use Rattle.std.proofs.Common.{◌≡◌, true, List, []}
-use Rattle.snd_chunks.specs.HeadLaws.{IsPieceOf, KeepsHeadLaws}
+use Rattle.std.proofs.Common.{◌≡◌, ℕ, true, List, [], Option}
+use Rattle.snd_chunks.specs.HeadLaws.{IsPieceOf, KeepsHeadLaws, KeepsPieceLaws}
 use Rattle.snd_chunks.specs.Written.{NewChunk}
 use Rattle.snd_layout.specs.Kinds.{holds_pieces}
 use Rattle.snd_fields.specs.declared.field.Order.TheVariants.{Little}
@@ -8,14 +8,18 @@ use Rattle.snd_layout.specs.Params.{Parameters}
 use Rattle.snd_layout.specs.declared.codec.Codec.TheVariants.{S16}
 use Rattle.snd_layout.specs.declared.kind.Kind.{Kind}
 use Rattle.snd_layout.specs.declared.kind.Kind.TheVariants.{Wave}
-use Rattle.snd_container.proofs.KindHeads.{keep_all_head_laws, others_may_be_put, plain_wave_is_known}
+use Rattle.snd_container.proofs.KindHeads.{keep_all_head_laws, keep_reserved_head_laws, others_may_be_put, plain_wave_is_known}
 use Rattle.snd_container.specs.HeadLaws.{plain_wave}
-use Rattle.snd_container.specs.Put.{MayBePieceOf, heads_of}
+use Rattle.snd_container.specs.Put.{MayBePieceOf, heads_for, heads_of}
 use Rattle.snd_container.specs.Values.{any}
 
 -- the heads of a kind keep their laws
 pub head_laws : (kind : Kind) → KeepsHeadLaws kind (any kind) (heads_of kind)
 head_laws kind = keep_all_head_laws kind
+
+-- .. with a reservation, and without
+pub piece_laws : (r : Option ℕ) (kind : Kind) → holds_pieces kind ≡ true → KeepsPieceLaws kind (any kind) (heads_for r kind)
+piece_laws r kind holds = keep_reserved_head_laws r kind holds
 
 -- a chunk that is not a file's own may be put
 pub may_be_put : (kind : Kind) (piece : NewChunk) → holds_pieces kind ≡ true → IsPieceOf kind piece → MayBePieceOf kind piece

@@ -11,7 +11,7 @@ use Rattle.snd_sphere.specs.Written.{made_shape as sphere_shape}
 use Rattle.snd_svx.specs.Written.{made_shape as svx_shape}
 use Rattle.snd_voc.specs.Written.{made_shape as voc_shape}
 use Rattle.snd_w64.specs.Written.{made_shape as w64_shape, start_of}
-use Rattle.snd_wave.specs.Written.{made_shape as wave_shape}
+use Rattle.snd_wave.specs.Written.{reserved_shape as wave_shape}
 use Rattle.snd_container.specs.Room.{HasRoom}
 use Rattle.snd_rf64.specs.Start.{BeginsWith as BeginsRf64}
 use Rattle.snd_svx.specs.Start.{BeginsWith as BeginsSvx}

@@ -1,6 +1,6 @@
 -- The laws of the heads of new files, with any further chunks and without frames, for files of every kind.
-use Rattle.std.specs.Prelude.{◌≡◌, [], None, Some, false, true}
-use Rattle.snd_chunks.specs.HeadLaws.{IsPieceOf, KeepsHeadLaws}
+use Rattle.std.specs.Prelude.{◌≡◌, ℕ, [], Option, None, Some, false, true}
+use Rattle.snd_chunks.specs.HeadLaws.{IsPieceOf, KeepsHeadLaws, KeepsPieceLaws}
 use Rattle.snd_chunks.specs.Written.{NewChunk}
 use Rattle.snd_layout.specs.Kinds.{holds_pieces}
 use Rattle.snd_layout.specs.Params.{Parameters, data_bytes}
@@ -9,11 +9,15 @@ use Rattle.snd_fields.specs.declared.field.Order.TheVariants.{Little}
 use Rattle.snd_layout.specs.declared.codec.Codec.TheVariants.{S16}
 use Rattle.snd_layout.specs.declared.kind.Kind.{Kind}
 use Rattle.snd_layout.specs.declared.kind.Kind.TheVariants.{Wave}
-use Rattle.snd_container.specs.Put.{MayBePieceOf, heads_of}
+use Rattle.snd_container.specs.Put.{MayBePieceOf, heads_for, heads_of}
 use Rattle.snd_container.specs.Values.{any}
 
 abbrev pub KeepAllHeadLaws : Type 0
 KeepAllHeadLaws = (kind : Kind) → KeepsHeadLaws kind (any kind) (heads_of kind)
+
+-- .. and where files of a kind are given chunks, those with any reservation
+abbrev pub KeepReservedHeadLaws : Type 0
+KeepReservedHeadLaws = (r : Option ℕ) (kind : Kind) → holds_pieces kind ≡ true → KeepsPieceLaws kind (any kind) (heads_for r kind)
 
 -- Where files of a kind are given chunks, each that is not a file's own may be put.
 abbrev pub OthersMayBePut : Type 0

@@ -1,6 +1,7 @@
 pub mod Fixed
 pub mod HeadLaws
 pub mod Kinds
+pub mod Late
 pub mod Laws
 pub mod Made
 pub mod Put

@@ -1,10 +1,11 @@
 //! What the fields of a file say of a number of frames, and what closes their data, for every kind.
 
-ghost use Rattle.std.specs.Prelude.{◌≡◌, ◌-◌, ◌*◌, ◌^◌, ◌<◌, ◌≤◌, length, min};
+ghost use Rattle.std.specs.Prelude.{◌≡◌, ◌-◌, ◌*◌, ◌^◌, ◌<◌, ◌≤◌, true, IfSome, length, min};
 ghost use Rattle.snd_layout.specs.Blocks.{block_align};
 ghost use Rattle.snd_layout.specs.Params.{data_bytes};
 ghost use Rattle.snd_layout.specs.Shape.{room as shape_room};
 ghost use Rattle.snd_layout.specs.Container.{FitsField, HasRoomFor};
+ghost use Rattle.snd_container.specs.Late.{holds_pieces, outer_to};
 ghost use Rattle.snd_container.specs.Values.{closing, inner_value, outer_value, side_value};
 
 use arrayvec::ArrayVec;
@@ -43,6 +44,25 @@ pub fn outer_bytes(layout: &Layout, frames: u64) -> ArrayVec<u8, 64>
         Kind::W64 => snd_w64::outer_bytes(layout, frames),
         Kind::Svx => snd_svx::outer_bytes(layout, frames),
         Kind::Au | Kind::Dns | Kind::Voc | Kind::Sphere => ArrayVec::new(),
+    }
+}
+
+/// What the size of the whole says of a file that ends at a place: `end - 8`, in the size of the field and
+/// the byte order of the kind, which is `Wave`, `Rf64` or `Svx`. The number fits the field.
+pub fn outer_to(layout: &Layout, end: u64) -> ArrayVec<u8, 64>
+    requires kind { holds_pieces layout.now.kind ≡ true }
+    requires least { 8 ≤ end }
+    requires room { IfSome layout.now.outer (λ field. end - 8 < 2 ^ (8 * field.size)) }
+    ensures value { result.items ≡ outer_to layout.now end }
+    ensures fits { FitsField layout.now.outer result.items }
+    ensures few { length result.items ≤ 8 }
+{
+    layout.keeps_rule();
+    match layout.kind {
+        Kind::Wave => snd_wave::outer_to(end),
+        Kind::Rf64 => snd_rf64::outer_to(end),
+        Kind::Svx => snd_svx::outer_to(end),
+        Kind::W64 | Kind::Au | Kind::Dns | Kind::Voc | Kind::Sphere => unreachable!(),
     }
 }
 

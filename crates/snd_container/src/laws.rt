@@ -2,7 +2,8 @@
 //! contract is the laws.
 
 ghost use Rattle.snd_container.specs.Fixed.{BytesAreKept, KeptNumbersStay, NumbersAreKept};
-ghost use Rattle.snd_container.specs.HeadLaws.{KeepAllHeadLaws, OthersMayBePut, PlainWaveIsKnown};
+ghost use Rattle.snd_container.specs.HeadLaws.{KeepAllHeadLaws, KeepReservedHeadLaws, OthersMayBePut, PlainWaveIsKnown};
+ghost use Rattle.snd_container.specs.Late.{LateChunksReadBack};
 ghost use Rattle.snd_container.specs.Laws.{KeepAllLaws};
 
 /// What the containers owe the layers above, for files of every kind. Where the field that decides the
@@ -20,11 +21,20 @@ pub fn keep_all_laws()
 /// frames: what such a head says and holds, that it is read back with its chunks, and that its layout hangs
 /// on their identifiers and lengths alone. Where files of a kind are given chunks, any that is not a file's
 /// own may be put. A new WAVE file of 16 bits without further chunks has its data at 44.
-#[tactic(auto, using(crate::proofs::KindHeads::keep_all_head_laws, crate::proofs::KindHeads::others_may_be_put, crate::proofs::KindHeads::plain_wave_is_known))]
+#[tactic(auto, using(crate::proofs::KindHeads::keep_all_head_laws, crate::proofs::KindHeads::keep_reserved_head_laws, crate::proofs::KindHeads::others_may_be_put, crate::proofs::KindHeads::plain_wave_is_known))]
 pub fn keep_all_head_laws()
     ensures heads { KeepAllHeadLaws }
+    ensures reserved { KeepReservedHeadLaws }
     ensures others { OthersMayBePut }
     ensures plain { PlainWaveIsKnown }
+{}
+
+/// A file that is closed with chunks behind its data, and the size of the whole up to them, has these
+/// behind its pieces, whatever stands behind them all: for each kind that keeps chunks, with a reservation
+/// and without.
+#[tactic(auto, using(crate::proofs::LateKinds::late_chunks_read_back))]
+pub fn late_chunks_read_back()
+    ensures { LateChunksReadBack }
 {}
 
 /// Samples that are written stand for the numbers that their codec keeps: a linear one keeps each, a law

@@ -2,7 +2,6 @@
 use Rattle.std.proofs.Common.{◌≡◌, ◌∙◌, ap, sym, subst, refl, ℕ, ◌+◌, ◌≤◌, ◌^◌, false, List, [], Option, None, Some, Ok, length, arith}
 use Rattle.std.specs.Prelude.{map}
 use Rattle.snd_chunks.specs.Written.{NewChunk}
-use Rattle.snd_container.specs.Put.{heads_of}
 use Rattle.snd_container.specs.Sound.{layout_of}
 use Rattle.snd_container.specs.Values.{any, closing}
 use Rattle.snd_disk.specs.State.{State}
@@ -12,7 +11,6 @@ use Rattle.snd_layout.specs.declared.kind.Kind.{Kind}
 use Rattle.snd_patch.specs.Sealed.{with_fields}
 use Rattle.snd_chunks.specs.HeadLaws.{KeepsPieceLaws, SaysNone}
 use Rattle.snd_chunks.specs.Heads.{Heads, IsHeadIn, blank, blanks, chunk_read, outline, with_piece}
-use Rattle.snd_modes.specs.Relaid.{head_with, shape_put}
 use Rattle.snd_chunks.proofs.Blanks.{blanks_blanks, blanks_with}
 
 -- a layout without frames, whose disk holds nothing but the head, with the fields of no frames
@@ -27,12 +25,12 @@ pub record IsBareHead (disk : State) (h : Shape) : Type 0 where
   pub few : length h.pieces ≤ 240
   pub fields : (b : List ℕ) → disk.contents ≡ Some b → with_fields b h 0 ≡ b
 
--- what such a head becomes as a piece is put
-pub record IsPut (old new : State) (h h' : Shape) (place : ℕ) (piece : NewChunk) : Type 0 where
+-- what such a head becomes as a piece is put, by the heads of its kind
+pub record IsPut (heads_of : Kind → Heads) (old new : State) (h h' : Shape) (place : ℕ) (piece : NewChunk) : Type 0 where
   pub kind : h'.kind ≡ h.kind
   pub params : h'.params ≡ h.params
-  pub shape : h' ≡ shape_put place piece h
-  pub bytes : (b x : List ℕ) → old.contents ≡ Some b → new.contents ≡ Some x → x ≡ head_with h.kind h.params (with_piece (map (chunk_read b) h.pieces) place piece)
+  pub shape : h' ≡ (heads_of h.kind).shape h.params (with_piece (map outline h.pieces) place piece)
+  pub bytes : (b x : List ℕ) → old.contents ≡ Some b → new.contents ≡ Some x → x ≡ (heads_of h.kind).head h.params (with_piece (map (chunk_read b) h.pieces) place piece)
   pub held : (b x : List ℕ) → old.contents ≡ Some b → new.contents ≡ Some x → map (chunk_read x) h'.pieces ≡ with_piece (map (chunk_read b) h.pieces) place piece
 
 -- the pieces of a head, as its disk tells them: where it tells nothing, of the same lengths
@@ -43,7 +41,7 @@ told_pieces (Some b) h = map (chunk_read b) h.pieces
 pub same_in : (heads : Heads) (old new : State) (h : Shape) (p : Parameters) (pieces : List NewChunk) → new.size ≡ old.size → new.contents ≡ old.contents → IsHeadIn heads old h p pieces → IsHeadIn heads new h p pieces
 same_in heads old new h p pieces size contents is = record { laid = is.laid; size = size ∙ is.size; contents = λ b told. is.contents b (sym contents ∙ told) }
 
-module _ (kind : Kind) (laws : KeepsPieceLaws kind (any kind) (heads_of kind)) where
+module _ (heads_of : Kind → Heads) (kind : Kind) (laws : KeepsPieceLaws kind (any kind) (heads_of kind)) where
   abbrev shape : Parameters → List NewChunk → Shape
   shape p pieces = (heads_of kind).shape p pieces
 
@@ -108,7 +106,7 @@ module _ (kind : Kind) (laws : KeepsPieceLaws kind (any kind) (heads_of kind)) w
   read_in disk h p pieces b is told =
       ap (λ (l : List ℕ). map (chunk_read l) h.pieces) (is.contents b told) ∙ ap (λ (s : Shape). map (chunk_read (head p pieces)) s.pieces) is.laid.shape ∙ laws.read p pieces is.laid.may
 
-  pub put_in : (old new : State) (h h' : Shape) (p : Parameters) (pieces : List NewChunk) (place : ℕ) (piece : NewChunk) → IsHeadIn (heads_of kind) old h p pieces → IsHeadIn (heads_of kind) new h' p (with_piece pieces place piece) → IsPut old new h h' place piece
+  pub put_in : (old new : State) (h h' : Shape) (p : Parameters) (pieces : List NewChunk) (place : ℕ) (piece : NewChunk) → IsHeadIn (heads_of kind) old h p pieces → IsHeadIn (heads_of kind) new h' p (with_piece pieces place piece) → IsPut heads_of old new h h' place piece
   put_in old new h h' p pieces place piece was is =
       let said = laws.says p pieces was.laid.may in
       let says = laws.says p (with_piece pieces place piece) is.laid.may in

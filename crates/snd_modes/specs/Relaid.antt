@@ -5,7 +5,7 @@ use Rattle.snd_chunks.specs.Written.{NewChunk}
 use Rattle.snd_layout.specs.Params.{Parameters}
 use Rattle.snd_layout.specs.Shape.{Shape}
 use Rattle.snd_layout.specs.declared.kind.Kind.{Kind}
-use Rattle.snd_container.specs.Put.{heads_of}
+use Rattle.snd_container.specs.Put.{heads_for, heads_of}
 use Rattle.snd_chunks.specs.Heads.{chunk_read, new_piece, outline, with_piece}
 use Rattle.snd_modes.specs.Editing.{Editing}
 use Rattle.snd_modes.specs.Pieces.{has_name}
@@ -17,9 +17,9 @@ head_with kind p pieces = (heads_of kind).head p pieces
 abbrev pub shape_with : Kind → Parameters → List NewChunk → Shape
 shape_with kind p pieces = (heads_of kind).shape p pieces
 
--- a layout with a chunk put at a place of the list, or behind them all
+-- a layout with a chunk put at a place of the list, or behind them all, and with the reservation that it has
 abbrev pub shape_put : ℕ → NewChunk → Shape → Shape
-shape_put place piece h = shape_with h.kind h.params (with_piece (map outline h.pieces) place piece)
+shape_put place piece h = (heads_for h.reserve h.kind).shape h.params (with_piece (map outline h.pieces) place piece)
 
 -- and an editing state: the head anew, with the bodies that it held
 abbrev pub pieces_held : Editing → List NewChunk
@@ -27,7 +27,7 @@ pieces_held e = map (chunk_read e.bytes) e.shape.pieces
 
 abbrev pub put_to : ℕ → NewChunk → Editing → Editing
 put_to place piece e = record e {
-  bytes = head_with e.shape.kind e.shape.params (with_piece (pieces_held e) place piece);
+  bytes = (heads_for e.shape.reserve e.shape.kind).head e.shape.params (with_piece (pieces_held e) place piece);
   shape = shape_put place piece e.shape;
 }
 

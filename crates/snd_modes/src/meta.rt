@@ -182,7 +182,8 @@ impl<'d, D: Disk, M: CanMake> File<'d, D, M> {
                 | PieceError::ReservedChunk
                 | PieceError::NoChunks
                 | PieceError::ChunkTooLarge
-                | PieceError::TooManyChunks,
+                | PieceError::TooManyChunks
+                | PieceError::ContainerFull,
             ) => unreachable!(),
         }
     }

@@ -53,18 +53,19 @@ pub record SaysOf (kind : Kind) (p : Parameters) (h : Shape) : Type 0 where
   pub params : h.params ≡ p
   pub frames : h.frames ≡ 0
   pub free : h.trailing ≡ false
+  pub reserve : h.reserve ≡ None
 
 pub says_of : (kind : Kind) (p : Parameters) (pieces : List NewChunk) → holds_meta kind ≡ true → SaysOf kind p (shape_with kind p pieces)
 says_of kind p pieces meta =
     let laws = head_laws kind in
-    record { kind_is = laws.kind_is p pieces; params = laws.params_are p pieces; frames = laws.frames p pieces; free = laws.free p pieces }
+    record { kind_is = laws.kind_is p pieces; params = laws.params_are p pieces; frames = laws.frames p pieces; free = laws.free p pieces; reserve = laws.reserve p pieces }
 
 -- they may be made with such chunks
 may_each : (kind : Kind) → holds_meta kind ≡ true → (piece : NewChunk) → IsChunk piece → IsPieceOf kind piece
 may_each kind meta piece is = record { four = is.four; other = meta_own kind piece.id meta ∙ is.other; few = is.few }
 
 may_with : (kind : Kind) (p : Parameters) (pieces : List NewChunk) → holds_meta kind ≡ true → AreParams p → fit_refusal kind p ≡ None → AreChunks pieces → (heads_of kind).may p pieces
-may_with kind p pieces meta good fits are = (laws_of kind meta).may p pieces good fits (All-weaker IsChunk (IsPieceOf kind) (may_each kind meta) pieces are.each) are.few
+may_with kind p pieces meta good fits are = (head_laws kind).may (meta_holds kind meta) p pieces good fits (All-weaker IsChunk (IsPieceOf kind) (may_each kind meta) pieces are.each) are.few
 
 -- ---- they are of bytes
 

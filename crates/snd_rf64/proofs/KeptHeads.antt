@@ -193,7 +193,6 @@ is_joined p pieces fits is = absurd (⊎_elim (λ wave. cc) (λ w64. cc) (blocks
 
 piece_laws : KeepsPieceLaws Rf64 rf64_container rf64_heads
 piece_laws = record {
-  may = may_with;
   may_once = may_once;
   says = says;
   opens = opens;
@@ -215,6 +214,8 @@ keeps_head_laws = record {
   joined = is_joined;
   bare_head = λ p. refl;
   bare_shape = λ p. refl;
+  reserve = λ p pieces. refl;
+  may = λ holds. may_with;
   pieces = λ holds. piece_laws;
   meta = λ holds. record { bytes = rf64_is; bodies = λ b h laid is. rf64_fits b h laid };
 }

@@ -27,7 +27,7 @@ use Rattle.snd_rf64.specs.declared.sizes.Sizes.{Sizes}
 use Rattle.snd_rf64.proofs.Counted.{frames_few}
 use Rattle.snd_rf64.proofs.Opens.{Begins, Opens, TellsSizes, begins, fits_rf64, opens, reached, tells}
 
-keeps_rule : (p : Parameters) (start bytes sound : ℕ) (trailing : Bool) (pieces : List Piece) → AreParams p → fit_refusal Rf64 p ≡ None → 56 ≤ start → start + bytes + 8 ≤ 2 ^ 63 → bytes ≤ sound → sound < 2 ^ 63 → All IsPlaced pieces
+pub keeps_rule : (p : Parameters) (start bytes sound : ℕ) (trailing : Bool) (pieces : List Piece) → AreParams p → fit_refusal Rf64 p ≡ None → 56 ≤ start → start + bytes + 8 ≤ 2 ^ 63 → bytes ≤ sound → sound < 2 ^ 63 → All IsPlaced pieces
     → KeepsRule (shape_at p start (whole_frames p bytes) sound trailing pieces)
 keeps_rule p start bytes sound trailing pieces good fits late ends few short placed =
     let held_all : data_bytes p (whole_frames p bytes) ≤ bytes = frames_few p bytes good fits in

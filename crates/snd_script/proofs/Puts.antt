@@ -311,6 +311,7 @@ module _ {D M O : Type 0} {mode : ModeGhosts M} (d : Ghosts D) (o : SinkMeaning 
   follows_drafting (Err (set_error.Put piece_error.TooManyChunks)) was why =
       found_out d o rule r old out new out' (Open TooManyChunks) (as_before _ was was.left.1.1 (λ e here. (was.sets e here).1) was.faults was.puts) (why ∙ draft_free k was.left.1.0.0 was.left.1.0.2) refl (by_hand why)
       (λ e here. edit_full id (body e) k e here.shape (was.sets e here).0.0.3 (was.sets e here).0.0.4) was.said
+  follows_drafting (Err (set_error.Put piece_error.ContainerFull)) was why = absurd was.left.1.0
   follows_drafting (Err (set_error.Put (piece_error.Broken step))) was why = absurd was.said
   follows_drafting {T} (Err (set_error.Put (piece_error.DiskFault step))) was why = silently d o rule r old out new out' Disk was.said (put_fault T step was why)
   follows_drafting (Err (set_error.Put piece_error.Memory)) was why =
@@ -348,6 +349,7 @@ module _ (id body : List ℕ) (k : Known) where
   add_refused piece_error.NoChunks is working = unreserved is.0 is.1 _ ∙ is_refused (not (holds_pieces k.shape.kind)) NoChunks _ (ap not is.2)
   add_refused piece_error.ChunkTooLarge is working = add_held is.0 is.1 is.2 ∙ is_refused (nat_lt 65536 (length body)) ChunkTooLarge _ (lt-ltb 65536 (length body) is.3)
   add_refused piece_error.TooManyChunks is working = add_small is.0 is.1 is.2 is.3 ∙ is_refused (nat_le 240 (length k.shape.pieces)) (Open TooManyChunks) None (le-leb 240 _ is.4.1)
+  add_refused piece_error.ContainerFull is working = absurd is
   add_refused (piece_error.DiskFault step) is working = absurd is
   add_refused piece_error.Memory is working = absurd is
 
@@ -427,6 +429,7 @@ module _ {D M O : Type 0} {mode : ModeGhosts M} (d : Ghosts D) (o : SinkMeaning 
       refused_on d o adds r old out new out' ChunkTooLarge was.loan (add_refused id body known piece_error.ChunkTooLarge was.left.0 was.working) was.said.sent was.said.said was.left.1 was.stands.0 was.stands.1
   follows_adding (Err piece_error.TooManyChunks) was =
       refused_on d o adds r old out new out' (Open TooManyChunks) was.loan (add_refused id body known piece_error.TooManyChunks was.left.0 was.working) was.said.sent was.said.said was.left.1 was.stands.0 was.stands.1
+  follows_adding (Err piece_error.ContainerFull) was = absurd was.left.0
 
 -- ---- texts
 

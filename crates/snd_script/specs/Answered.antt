@@ -17,7 +17,7 @@ use Rattle.snd_script.specs.declared.handle.Reply.{Reply}
 use Rattle.snd_script.specs.declared.handle.StepFault.{StepFault}
 use Rattle.snd_script.specs.declared.handle.StepFault.TheVariants.{Disk, Memory}
 use Rattle.snd_lines.specs.declared.refusal.Refusal.{Refusal}
-use Rattle.snd_lines.specs.declared.refusal.Refusal.TheVariants.{AutoOn, ChunkTooLarge, FramesWritten, NoChunks, NoSuchChunk, Open, ReservedChunk, TextTooLong}
+use Rattle.snd_lines.specs.declared.refusal.Refusal.TheVariants.{AutoOn, ChunkTooLarge, ContainerFull, FramesWritten, NoChunks, NoSuchChunk, Open, ReservedChunk, TextTooLong}
 
 -- an answer was sent
 pub record Sends {O : Type 0} (o : SinkMeaning O) (answer : Answer) (result : Result Reply StepFault) (out out' : O) : Type 0 where
@@ -59,6 +59,7 @@ put_refused piece_error.AutoOn = AutoOn
 put_refused piece_error.ReservedChunk = ReservedChunk
 put_refused piece_error.NoChunks = NoChunks
 put_refused piece_error.ChunkTooLarge = ChunkTooLarge
+put_refused piece_error.ContainerFull = ContainerFull
 put_refused other = Open TooManyChunks
 
 -- how a call that puts a chunk is answered

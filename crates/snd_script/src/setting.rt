@@ -50,6 +50,7 @@ fn put_refused(error: PieceError) -> Refusal
         PieceError::ReservedChunk => Refusal::ReservedChunk,
         PieceError::NoChunks => Refusal::NoChunks,
         PieceError::ChunkTooLarge => Refusal::ChunkTooLarge,
+        PieceError::ContainerFull => Refusal::ContainerFull,
         PieceError::TooManyChunks
         | PieceError::Broken(_)
         | PieceError::DiskFault(_)

@@ -228,7 +228,6 @@ is_joined p pieces fits is = absurd (⊎_elim (λ wave. cc) (λ w64. cc) (blocks
 
 piece_laws : KeepsPieceLaws Svx svx_container svx_heads
 piece_laws = record {
-  may = may_with;
   may_once = may_once;
   says = says;
   opens = opens;
@@ -250,6 +249,8 @@ keeps_head_laws = record {
   joined = is_joined;
   bare_head = λ p. refl;
   bare_shape = λ p. refl;
+  reserve = λ p pieces. refl;
+  may = λ holds. may_with;
   pieces = λ holds. piece_laws;
   meta = λ holds. absurd (cc);
 }

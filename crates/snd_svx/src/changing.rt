@@ -97,7 +97,11 @@ fn closing_of(end: u64) -> Closing
 {
     let bytes = closing_bytes(end);
     let mut size = ArrayVec::new();
-    put_number(&mut size, Order::Big, end + bytes.len() as u64 - NOT_COUNTED);
+    put_number(
+        &mut size,
+        Order::Big,
+        end + bytes.len() as u64 - NOT_COUNTED,
+    );
     Closing {
         order: Order::Big,
         bytes,

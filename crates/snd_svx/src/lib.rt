@@ -15,7 +15,9 @@ mod values;
 
 pub use changing::put_piece;
 pub use head::lay_head;
-pub use laws::{keeps_head_laws, keeps_laws, late_chunks_read_back, made_files_read_back, made_heads_read_back};
+pub use laws::{
+    keeps_head_laws, keeps_laws, late_chunks_read_back, made_files_read_back, made_heads_read_back,
+};
 pub use layout::open_layout;
 pub use start::start_with;
 pub use values::{closing_bytes, inner_bytes, outer_bytes, outer_to, room, side_bytes};

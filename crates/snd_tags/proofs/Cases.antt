@@ -23,6 +23,7 @@ module _ {D M : Type 0} {mode : ModeGhosts M} (d : Ghosts D) (old mid new : File
   only_puts_after (Err (Put piece_error.NoChunks)) same first puts = only_reads_then _ _ _ _ _ _ _ _ _ first puts
   only_puts_after (Err (Put piece_error.ChunkTooLarge)) same first puts = only_reads_then _ _ _ _ _ _ _ _ _ first puts
   only_puts_after (Err (Put piece_error.TooManyChunks)) same first puts = only_reads_then _ _ _ _ _ _ _ _ _ first puts
+  only_puts_after (Err (Put piece_error.ContainerFull)) same first puts = only_reads_then _ _ _ _ _ _ _ _ _ first puts
   only_puts_after (Err (Put (piece_error.DiskFault step))) same first puts =
       ⊎_elim (λ may. inl (subst MaySet same may)) (λ after. inr (only_reads_then _ _ _ _ _ _ _ _ _ first after)) puts
   only_puts_after (Err (Put piece_error.Memory)) same first puts = only_reads_then _ _ _ _ _ _ _ _ _ first puts
@@ -37,5 +38,6 @@ module _ {D M : Type 0} {mode : ModeGhosts M} (d : Ghosts D) (old mid new : File
   counts_after (Err (Put piece_error.NoChunks)) same counts = counts ∙ same
   counts_after (Err (Put piece_error.ChunkTooLarge)) same counts = counts ∙ same
   counts_after (Err (Put piece_error.TooManyChunks)) same counts = counts ∙ same
+  counts_after (Err (Put piece_error.ContainerFull)) same counts = counts ∙ same
   counts_after (Err (Put (piece_error.DiskFault step))) same counts = subst (λ (n : ℕ). (n ≤ (d.state (disk_of new)).faults) × Rises n (d.state (disk_of new)).faults) same counts
   counts_after (Err (Put piece_error.Memory)) same counts = counts ∙ same

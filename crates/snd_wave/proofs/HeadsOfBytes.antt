@@ -13,7 +13,7 @@ use Rattle.snd_layout.specs.Sector.{is_in_one_sector}
 use Rattle.snd_wave.proofs.ByteValues.{both, number_bytes, three, two_chunks}
 use Rattle.snd_fields.proofs.Tested.{from_test}
 use Rattle.snd_wave.specs.Values.{riff_size}
-use Rattle.snd_wave.specs.Written.{chunks_before, filler, has_fact, head_for, head_size, inner_size, junk, new_fact, new_format, riff_head, start_without_filler, wave_head}
+use Rattle.snd_wave.specs.Written.{chunks_before, filler, has_fact, head_size, inner_size, junk, new_fact, new_format, reserved_chunks, reserved_head, riff_head, start_without_filler, wave_head}
 
 pub all_chunks : (chunks : List NewChunk) → All IsOfBytes chunks → All IsByte (chunks_bytes Little chunks)
 unfolding chunks_bytes
@@ -35,14 +35,14 @@ fact_is true = All-cons IsOfBytes fact [] (from_test (codes "fact") refl, number
 fact_is false = All-nil IsOfBytes
 
 before_is : (p : Parameters) (pieces : List NewChunk) → All IsOfBytes pieces → All IsOfBytes (chunks_before p pieces 0)
-unfolding chunks_before
+unfolding reserved_chunks
 before_is p pieces are =
     All-cons IsOfBytes (new_format p) (pieces ++ (filler p pieces ++ new_fact p.codec 0)) (format_is p)
     (All-append IsOfBytes pieces (filler p pieces ++ new_fact p.codec 0) are
     (All-append IsOfBytes (filler p pieces) (new_fact p.codec 0) (filler_is (is_in_one_sector (start_without_filler p pieces - inner_size p.codec) (inner_size p.codec))) (fact_is (has_fact p.codec))))
 
 pub wave_is : (p : Parameters) (pieces : List NewChunk) → All IsOfBytes pieces → All IsByte (wave_head p pieces)
-unfolding head_for riff_head head_bytes
+unfolding reserved_head riff_head head_bytes
 wave_is p pieces are =
     let size = bytes_of Little 4 (riff_size (head_size p pieces) (data_bytes p 0)) in
     let bytes = bytes_of Little 4 (data_bytes p 0) in

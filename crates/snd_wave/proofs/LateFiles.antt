@@ -29,9 +29,9 @@ use Rattle.snd_wave.specs.Relaid.{IsSmall}
 use Rattle.snd_wave.specs.Written.{MayBePiece, MayBeReserved, MayReserve, has_fact, inner_size, junk, lead_of, new_fact, new_format, reserved_chunks, reserved_filler, reserved_head, reserved_shape, reserved_size, reserved_start}
 use Rattle.snd_wave.proofs.Agreements.{before_is, front_same}
 use Rattle.snd_wave.proofs.Contained.{closed_by}
-use Rattle.snd_wave.proofs.Counted.{HasFields, MaySay, StandsIn, data_reach, frames, pieces_all, same, shape_by, stands}
+use Rattle.snd_wave.proofs.Counted.{HasFields, MaySay, StandsIn, data_reach, pieces_all, same, shape_by, stands}
 use Rattle.snd_wave.proofs.Counts.{reached, trailing_is_stated}
-use Rattle.snd_wave.proofs.LayoutFacts.{FieldsStandApart, SameButNumbers, SameHead, padded_data_end, pieces_before}
+use Rattle.snd_wave.proofs.LayoutFacts.{FieldsStandApart, SameButNumbers, SameHead, padded_data_end}
 use Rattle.snd_wave.proofs.Agreements.{layouts_agree}
 use Rattle.snd_wave.proofs.Made.{front_made, reserved_head_reads_back}
 use Rattle.snd_wave.proofs.NewHeads.{chunks_few, format_few, size_is, size_least}

@@ -9,7 +9,7 @@ use Rattle.snd_layout.specs.declared.codec.Codec.TheVariants.{S16}
 use Rattle.snd_layout.specs.declared.kind.Kind.TheVariants.{Wave}
 use Rattle.snd_wave.proofs.Starts.{begins_wave}
 use Rattle.snd_wave.specs.Start.{plain_shape}
-use Rattle.snd_wave.specs.Written.{head_size, inner_at, made_pieces, made_shape, side_at}
+use Rattle.snd_wave.specs.Written.{head_size, inner_at, made_shape, reserved_pieces, reserved_shape, side_at}
 
 module _ (p : Parameters) where
   -- by its codec, and the place of its data
@@ -30,7 +30,7 @@ module _ (p : Parameters) where
   }
 
   shape_is : made_shape p [] 0 ≡ laid_by p.codec (head_size p [])
-  unfolding made_shape made_pieces all_placed
+  unfolding reserved_shape reserved_pieces all_placed
   shape_is = refl
 
   no_chunks : length (chunks_bytes Little []) ≡ 0

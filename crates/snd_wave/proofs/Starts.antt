@@ -11,7 +11,7 @@ use Rattle.snd_layout.specs.declared.codec.Codec.TheVariants.{U8, S8, S16, S24, 
 use Rattle.snd_wave.proofs.NewHeads.{size_with}
 use Rattle.snd_wave.proofs.Putting.{first_is}
 use Rattle.snd_wave.specs.Start.{BeginsWith, filled_start}
-use Rattle.snd_wave.specs.Written.{filler, head_size, inner_size, new_fact, new_format, plain_start, start_without_filler}
+use Rattle.snd_wave.specs.Written.{filler, head_size, inner_size, new_fact, new_format, plain_start, reserved_start, start_without_filler}
 
 -- with and without the filler
 pub stays : (start inner n : ℕ) → is_in_one_sector (start - inner) inner ≡ true → n ≡ start → filled_start start inner ≡ n
@@ -47,7 +47,7 @@ plain_most (Ima align per_block) = omega arith
 plain_most (Ms align per_block) = omega arith
 
 wave_plain : (p : Parameters) (pieces : List NewChunk) → start_without_filler p pieces ≡ plain_start p.codec + length (chunks_bytes Little pieces)
-unfolding start_without_filler
+unfolding reserved_start
 wave_plain p pieces =
     omega (arith, first_is p, plain_most p.codec, length-chunks_bytes Little (new_format p) pieces, length-chunk_bytes Little (new_format p) 12 refl)
 
