@@ -4,6 +4,7 @@ use Rattle.std.proofs.lemmas.Bool.{and_parts, cases_Bool, le-leb, leb-true, lt-l
 use Rattle.std.specs.Prelude.{◌==◌, ◌||◌, ◌&&◌, IfOk, Result, nat_le, nat_lt, if◌then◌else◌}
 use Rattle.snd_fields.specs.declared.field.Order.{Order}
 use Rattle.snd_fields.specs.declared.field.Order.TheVariants.{Little, Big}
+use Rattle.snd_layout.proofs.Codecs.{fixed_align, fixed_frames, params_good, unless_ok}
 use Rattle.snd_layout.specs.Blocks.{block_align, block_frames, is_adpcm}
 use Rattle.snd_layout.specs.Fit.{fit_refusal, is_au_codec, is_dns_codec}
 use Rattle.snd_layout.specs.Params.{AreParams, Parameters, block_refusal, data_bytes, is_channel_count, params_of, params_refusal}
@@ -81,39 +82,11 @@ few_encodings (Ms a b) = omega arith
 -- ---- codecs that a kind holds
 
 fixed : (order : Order) (codec : Codec) → holds order codec ≡ true → is_adpcm codec ≡ false
-fixed order U8 is = refl
-fixed order S8 is = refl
-fixed order (S16 o) is = refl
-fixed order (S24 o) is = refl
-fixed order (S32 o) is = refl
-fixed order MuLaw is = refl
-fixed order ALaw is = refl
 fixed Big (Ima a b) is = absurd (cc)
 fixed Big (Ms a b) is = absurd (cc)
 fixed Little (Ima a b) is = absurd (cc)
 fixed Little (Ms a b) is = absurd (cc)
-
-one_frame : (codec : Codec) → is_adpcm codec ≡ false → block_frames codec ≡ 1
-one_frame U8 other = refl
-one_frame S8 other = refl
-one_frame (S16 order) other = refl
-one_frame (S24 order) other = refl
-one_frame (S32 order) other = refl
-one_frame MuLaw other = refl
-one_frame ALaw other = refl
-one_frame (Ima a b) other = absurd (cc)
-one_frame (Ms a b) other = absurd (cc)
-
-some_bytes : (channels : ℕ) (codec : Codec) → is_adpcm codec ≡ false → 1 ≤ channels → 1 ≤ block_align channels codec
-some_bytes channels U8 other some = some
-some_bytes channels S8 other some = some
-some_bytes channels (S16 order) other some = omega (arith, some)
-some_bytes channels (S24 order) other some = omega (arith, some)
-some_bytes channels (S32 order) other some = omega (arith, some)
-some_bytes channels MuLaw other some = some
-some_bytes channels ALaw other some = some
-some_bytes channels (Ima a b) other some = absurd (cc)
-some_bytes channels (Ms a b) other some = absurd (cc)
+fixed order _ is = refl
 
 fit_of : (order : Order) (p : Parameters) → holds order p.codec ≡ true → fit_refusal (kind_of order) p ≡ None
 fit_of Big p is = rw is refl
@@ -132,32 +105,9 @@ pub record AreFixed (p : Parameters) : Type 0 where
 pub are_fixed : (order : Order) (p : Parameters) → AreParams p → fit_refusal (kind_of order) p ≡ None → AreFixed p
 are_fixed order p good fits =
     let other = fixed order p.codec (held_of order p fits) in
-    record { adpcm = other; one = one_frame p.codec other; some = some_bytes p.channels p.codec other good.some_channel }
-
-single : (n b a : ℕ) → b ≡ 1 → (n + b - 1) / b * a ≡ n * a
-single n b a one = let q : (n + b - 1) / b ≡ n = rw one (omega arith) in ap (λ k. k * a) q
-
-pub bytes_are : (p : Parameters) (n : ℕ) → block_frames p.codec ≡ 1 → data_bytes p n ≡ n * block_align p.channels p.codec
-bytes_are p n one = single n (block_frames p.codec) (block_align p.channels p.codec) one
+    record { adpcm = other; one = fixed_frames p.codec other; some = fixed_align p.channels p.codec other good.some_channel }
 
 -- ---- parameters that are stated
-
-unless_ok : (refusal : Option OpenRefusal) (p q : Parameters) → unless refusal p ≡ Ok q → (refusal ≡ None) × (p ≡ q)
-unless_ok None p q is = (refl, cc)
-unless_ok (Some refusal) p q is = absurd (cc)
-
-good_of : (c r : ℕ) (codec : Codec) → params_refusal c r codec ≡ None → AreParams (record { channels = c; rate = r; codec = codec })
-good_of c r codec none = elim (cases_Bool (is_channel_count c)) [
-  | inr other ↦ absurd (let h = rw other at none in cc)
-  | inl channels ↦ elim (cases_Bool (nat_le 1 r && nat_lt r (2 ^ 32))) [
-    | inr other ↦ absurd (let h = rw (channels, other) at none in cc)
-    | inl rate ↦
-        let blocks : block_refusal c codec ≡ None = rw (channels, rate) at none in
-        let cs = and_parts (nat_le 1 c) (nat_le c 256) channels in
-        let rs = and_parts (nat_le 1 r) (nat_lt r (2 ^ 32)) rate in
-        record { some_channel = leb-true 1 c cs.0; most_channels = leb-true c 256 cs.1; some_rate = leb-true 1 r rs.0; most_rate = ltb-true r (2 ^ 32) rs.1; blocks = blocks }
-  ]
-]
 
 -- what a head states
 pub record IsStated (order : Order) (n : Numbers) (p : Parameters) : Type 0 where
@@ -169,7 +119,7 @@ stated_of order n (Err refusal) p from is = absurd (cc)
 stated_of order n (Ok codec) p from is =
     let both = unless_ok (params_refusal n.channels n.rate codec) (record { channels = n.channels; rate = n.rate; codec = codec }) p is in
     rw (← both.1) (record {
-      good = good_of n.channels n.rate codec both.0;
+      good = params_good n.channels n.rate codec both.0;
       fits = fit_of order (record { channels = n.channels; rate = n.rate; codec = codec }) (codec_held order n.encoding codec from);
     })
 

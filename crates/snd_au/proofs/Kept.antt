@@ -16,7 +16,8 @@ use Rattle.snd_layout.specs.Shape.{KeepsRule, Shape, is_inner_size, room}
 use Rattle.snd_layout.specs.declared.field.Field.{Field}
 use Rattle.snd_layout.specs.declared.kind.Kind.{Kind}
 use Rattle.snd_layout.specs.declared.kind.Kind.TheVariants.{Au, Dns, Voc}
-use Rattle.snd_au.proofs.Encodings.{AreFixed, IsStated, are_fixed, bytes_are, stated}
+use Rattle.snd_layout.proofs.Codecs.{blocks_of, fixed_bytes}
+use Rattle.snd_au.proofs.Encodings.{AreFixed, IsStated, are_fixed, stated}
 use Rattle.snd_au.proofs.Opens.{AreWords, IsGiven, IsPlaced, LiesWell, Opens, gives, held_known, lies_well, long_enough, opens}
 use Rattle.snd_au.specs.Container.{au}
 use Rattle.snd_au.specs.Layout.{au_layout, au_shape, held, is_unknown, kind_of, layout_of, numbers_of, params_in}
@@ -179,9 +180,6 @@ unfolding inner_value
 value_is Big h n is = rw is refl
 value_is Little h n is = rw is refl
 
-pub blocks_of : (q a : ℕ) → 1 ≤ a → q * a / a ≡ q
-blocks_of q a some = let same : q * a ≡ q * a + 0 = omega arith in ap (λ k. k / a) same ∙ div-mul-add q a 0 (omega arith)
-
 counted : (order : Order) (s s' : ℕ) (nb : Numbers) (d m : ℕ) (p : Parameters) (h : Shape) → h ≡ au_shape order s nb p → held s' (record nb { bytes = d }) / block_align p.channels p.codec ≡ m → d < 2 ^ 32
     → is_unknown d ≡ is_unknown nb.bytes → au_shape order s' (record nb { bytes = d }) p ≡ record h { frames = m; declared = d }
 counted order s s' nb d m p h shape frames few told =
@@ -209,7 +207,7 @@ new_count order b x h m may keeps inner long ends =
     let all : held (length x) (record nb { bytes = data_bytes h.params m }) ≡ data_bytes h.params m =
     all_held (length x) (record nb { bytes = data_bytes h.params m }) counts (record { offset = few.offset; bytes = omega (arith, in_room) }) (omega (arith, there, k.start)) in
     let frames : held (length x) (record nb { bytes = data_bytes h.params m }) / block_align h.params.channels h.params.codec ≡ m =
-    ap (λ (n : ℕ). n / block_align h.params.channels h.params.codec) (all ∙ bytes_are h.params m fixed.one) ∙ blocks_of m (block_align h.params.channels h.params.codec) fixed.some in
+    ap (λ (n : ℕ). n / block_align h.params.channels h.params.codec) (all ∙ fixed_bytes h.params m fixed.adpcm) ∙ blocks_of m (block_align h.params.channels h.params.codec) fixed.some in
     says_so order x (counted_shape h m) (laid order x (record nb { bytes = data_bytes h.params m }) h.params same k.from.gives.placed.early (omega (arith, there, k.start)) k.from.gives.params
     ∙ ap (λ (s : Shape). Ok s) (counted order (length b) (length x) nb (data_bytes h.params m) m h.params h k.from.gives.shape frames (omega (arith, in_room)) (counts ∙ sym told)))
 

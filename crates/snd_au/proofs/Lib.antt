@@ -1,4 +1,3 @@
-pub mod Answered
 pub mod Encodings
 pub mod Opens
 pub mod Kept

@@ -14,7 +14,8 @@ use Rattle.snd_layout.specs.Fit.{fit_refusal}
 use Rattle.snd_layout.specs.Params.{AreParams, Parameters}
 use Rattle.snd_layout.specs.Shape.{Shape}
 use Rattle.snd_au.proofs.Encodings.{AreFixed, are_fixed, few_encodings, states}
-use Rattle.snd_au.proofs.Kept.{apart, are_bytes, blocks_of, closes, declares, ends_in_order, fill, fits, has_number, laid, lies, marks, new_count, old_count, outside_data, pieces_stay, same_fields, same_values, voice}
+use Rattle.snd_layout.proofs.Codecs.{blocks_of}
+use Rattle.snd_au.proofs.Kept.{apart, are_bytes, closes, declares, ends_in_order, fill, fits, has_number, laid, lies, marks, new_count, old_count, outside_data, pieces_stay, same_fields, same_values, voice}
 use Rattle.snd_au.specs.Container.{au}
 use Rattle.snd_au.specs.Layout.{au_layout, au_shape, held, kind_of, numbers_of}
 use Rattle.snd_au.specs.Written.{au_head, encoding_of, made_shape, mark}

@@ -11,7 +11,8 @@ use Rattle.snd_layout.specs.Params.{AreParams, Parameters, data_bytes}
 use Rattle.snd_layout.specs.Shape.{KeepsRule, Shape, end, room}
 use Rattle.snd_layout.specs.declared.refusal.OpenRefusal.{OpenRefusal}
 use Rattle.snd_layout.specs.declared.refusal.OpenRefusal.TheVariants.{ShortHeader}
-use Rattle.snd_au.proofs.Encodings.{AreFixed, IsStated, are_fixed, bytes_are, stated}
+use Rattle.snd_layout.proofs.Codecs.{fixed_bytes}
+use Rattle.snd_au.proofs.Encodings.{AreFixed, IsStated, are_fixed, stated}
 use Rattle.snd_au.specs.Layout.{au_layout, au_shape, held, is_unknown, kind_of, layout_of, numbers_of, params_in, place_refusal, with_params, with_place}
 use Rattle.snd_au.specs.declared.numbers.Numbers.{Numbers}
 
@@ -111,7 +112,7 @@ held_known size n known = rw known refl
 -- the data of the frames are no more than those that are held
 pub few_bytes : (order : Order) (size : ℕ) (n : Numbers) (p : Parameters) → AreFixed p → data_bytes p (au_shape order size n p).frames ≤ held size n
 few_bytes order size n p fixed =
-    omega (arith, bytes_are p (held size n / block_align p.channels p.codec) fixed.one, div-mul-le_self (held size n) (block_align p.channels p.codec))
+    omega (arith, fixed_bytes p (held size n / block_align p.channels p.codec) fixed.adpcm, div-mul-le_self (held size n) (block_align p.channels p.codec))
 
 pub data_held : (order : Order) (size : ℕ) (n : Numbers) (p : Parameters) → IsPlaced size n.offset → params_in order n ≡ Ok p → end (au_shape order size n p) (au_shape order size n p).frames ≤ size
 data_held order size n p place is =

@@ -1,9 +1,10 @@
 -- An AU file as it is made, after the manual page au(4) of Solaris (Sun Microsystems): the mark and five numbers, and no
 -- remark before the data.
-use Rattle.std.specs.Prelude.{ℕ, false, List, [], ◌++◌, None, codes}
+use Rattle.std.specs.Prelude.{ℕ, List, ◌++◌, None, codes}
 use Rattle.snd_fields.specs.Field.{bytes_of}
 use Rattle.snd_fields.specs.declared.field.Order.{Order}
 use Rattle.snd_fields.specs.declared.field.Order.TheVariants.{Little, Big}
+use Rattle.snd_layout.specs.Made.{made}
 use Rattle.snd_layout.specs.Params.{Parameters}
 use Rattle.snd_layout.specs.Shape.{Shape}
 use Rattle.snd_layout.specs.declared.codec.Codec.{Codec}
@@ -32,17 +33,4 @@ au_head order p =
 
 -- what it says of itself
 abbrev pub made_shape : Order → Parameters → Shape
-made_shape order p = record {
-  kind = kind_of order;
-  params = p;
-  start = 24;
-  frames = 0;
-  declared = 0;
-  inner = record { at = 8; size = 4 };
-  outer = None;
-  side = None;
-  trailing = false;
-  unknown_length = false;
-  reserve = None;
-  pieces = [];
-}
+made_shape order p = made (kind_of order) p 24 (record { at = 8; size = 4 }) None None

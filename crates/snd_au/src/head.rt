@@ -11,11 +11,10 @@ ghost use Rattle.snd_au.specs.Written.{au_head, made_shape, mark};
 use crate::codecs::encoding_of;
 use crate::layout::{DATA_SIZE, kind_of};
 use crate::numbers::HEAD_SIZE;
-use crate::put::{put_all, put_number};
 use arrayvec::ArrayVec;
 use snd_disk::Disk;
 use snd_fields::Order;
-use snd_layout::{Layout, OpenError, Params, PieceList, write_whole};
+use snd_layout::{Layout, OpenError, Params, lay_made, put_all, put_number};
 use std::alloc::Global;
 
 // The mark of a byte order.
@@ -48,20 +47,8 @@ fn new_layout(alloc: Global, order: Order, params: Params) -> Layout
     ensures { result ≡ made_shape order params }
 {
     params.are_good();
-    Layout {
-        kind: kind_of(order),
-        params,
-        start: HEAD_SIZE,
-        frames: 0,
-        declared: 0,
-        inner: DATA_SIZE,
-        outer: None,
-        side: None,
-        trailing: false,
-        unknown_length: false,
-        reserve: None,
-        pieces: PieceList::new(alloc),
-    }
+    let kind = kind_of(order);
+    Layout::made(alloc, kind, params, HEAD_SIZE, DATA_SIZE, None, None)
 }
 
 /// Makes a disk an AU file with these parameters and no frames, whatever it held before: in the highest
@@ -85,8 +72,6 @@ pub fn lay_head<D: Disk>(
     ensures asked { (D.state disk.new).asked ≡ (D.state disk.old).asked }
 {
     let head = new_head(order, &params);
-    match write_whole(disk, head.as_slice()) {
-        Ok(()) => Ok(new_layout(alloc, order, params)),
-        Err(step) => Err(OpenError::DiskFault(step)),
-    }
+    let layout = new_layout(alloc, order, params);
+    lay_made(disk, head.as_slice(), layout)
 }

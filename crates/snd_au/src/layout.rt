@@ -138,7 +138,7 @@ fn find_layout<D: Disk>(
 ///
 /// The answer is `Refused` with the first reason, by number, for which the file has no layout, or
 /// `DiskFault` where a call of the disk failed.
-#[tactic(auto, using(crate::proofs::Answered::opens_from))]
+#[tactic(auto, using(snd_layout::proofs::Answered::opens_from))]
 pub fn open_layout<D: Disk>(alloc: Global, disk: &mut D, order: Order) -> Result<Layout, OpenError>
     ensures opened { OpensAs D.state disk.old (au_layout order) result }
     ensures held { IfOk result (λ l. end l l.frames ≤ (D.state disk.old).size) }

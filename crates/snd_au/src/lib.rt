@@ -6,7 +6,6 @@ mod head;
 mod laws;
 mod layout;
 mod numbers;
-mod put;
 mod values;
 
 pub use head::lay_head;

@@ -6,10 +6,9 @@ ghost use Rattle.snd_layout.specs.Params.{data_bytes};
 ghost use Rattle.snd_layout.specs.Shape.{room as shape_room};
 ghost use Rattle.snd_au.specs.Values.{IsAu, closing, inner_value, order_of};
 
-use crate::put::put_number;
 use arrayvec::ArrayVec;
 use snd_fields::Order;
-use snd_layout::{Kind, Layout};
+use snd_layout::{Kind, Layout, put_number};
 
 /// The greatest number of data bytes: a size of 32 bits that are all set says that it is not known.
 const ROOM: u64 = (1 << 32) - 2;

@@ -22,7 +22,8 @@ use Rattle.snd_sphere.specs.Values.{inner_value, lowest_digits}
 use Rattle.snd_sphere.proofs.Counts.{counted_so, digits_few, heading_stays, stands_behind, stands_within}
 use Rattle.snd_sphere.proofs.Digits.{length-lowest, no_feeds, said}
 use Rattle.snd_sphere.proofs.Openings.{short, whole}
-use Rattle.snd_sphere.proofs.Sounds.{align_some, blocks_of, bytes_are, few_frames, frames_few, quotient, sound_good}
+use Rattle.snd_layout.proofs.Codecs.{blocks_of, whole_blocks}
+use Rattle.snd_sphere.proofs.Sounds.{align_some, bytes_are, few_frames, frames_few, sound_good}
 
 -- what is read of a file that has a layout
 pub record Opens (b : List ℕ) (h : Shape) : Type 0 where
@@ -207,7 +208,7 @@ shape_lies b p s long good fits some few within =
     let most : nat_le s.size 18 ≡ true = le-leb s.size 18 few in
     let align = align_some p good fits in
     let bytes : data_bytes p (held (length b) (declared_of p s) / block_align p.channels p.codec) ≤ held (length b) (declared_of p s) =
-    omega (arith, bytes_are p (held (length b) (declared_of p s) / block_align p.channels p.codec) fits, quotient (held (length b) (declared_of p s)) (block_align p.channels p.codec)) in
+    omega (arith, bytes_are p (held (length b) (declared_of p s) / block_align p.channels p.codec) fits, whole_blocks (held (length b) (declared_of p s)) (block_align p.channels p.codec)) in
     record {
       params = good;
       rule = record {

@@ -1,5 +1,4 @@
 pub mod AllLaws
-pub mod Answered
 pub mod Counts
 pub mod Digits
 pub mod Headings

@@ -26,7 +26,8 @@ use Rattle.snd_sphere.specs.Written.{coding_lines, head_lines, made_shape, spher
 use Rattle.snd_sphere.proofs.Counts.{states_other}
 use Rattle.snd_sphere.proofs.Kept.{reads}
 use Rattle.snd_sphere.proofs.Made.{decimal_said, head_size}
-use Rattle.snd_sphere.proofs.Sounds.{align_some, blocks_of}
+use Rattle.snd_layout.proofs.Codecs.{blocks_of}
+use Rattle.snd_sphere.proofs.Sounds.{align_some}
 use Rattle.snd_sphere.proofs.Splits.{NoFeed, ended, no_feed_append, no_feed_cons}
 
 -- ---- digits have no line feed among them

@@ -1,7 +1,8 @@
 -- A SPHERE file as it is made, after "SPeech HEader REsources (SPHERE) 2.6" (National Institute of Standards and Technology,
 -- 1995), header structure. The order of the lines, and the ten digits of the count, are this library's own rules.
-use Rattle.std.specs.Prelude.{ℕ, ◌+◌, ◌-◌, List, [], ◌++◌, None, codes, decimal, false, length, replicate}
+use Rattle.std.specs.Prelude.{ℕ, ◌+◌, ◌-◌, List, ◌++◌, None, codes, decimal, length, replicate}
 use Rattle.snd_fields.specs.declared.field.Order.TheVariants.{Little, Big}
+use Rattle.snd_layout.specs.Made.{made}
 use Rattle.snd_layout.specs.Params.{Parameters}
 use Rattle.snd_layout.specs.Shape.{Shape}
 use Rattle.snd_layout.specs.declared.codec.Codec.{Codec}
@@ -24,17 +25,4 @@ sphere_head p = head_lines p ++ replicate (1024 - length (head_lines p)) 32
 
 -- what it says
 unfoldable pub made_shape : Parameters → Shape
-made_shape p = record {
-  kind = Sphere;
-  params = p;
-  start = 1024;
-  frames = 0;
-  declared = 0;
-  inner = record { at = 50 + length (decimal p.channels); size = 10 };
-  outer = None;
-  side = None;
-  trailing = false;
-  unknown_length = false;
-  reserve = None;
-  pieces = [];
-}
+made_shape p = made Sphere p 1024 (record { at = 50 + length (decimal p.channels); size = 10 }) None None

@@ -8,12 +8,12 @@ ghost use Rattle.snd_layout.specs.Opened.{CountsOpening};
 ghost use Rattle.snd_layout.specs.declared.kind.Kind.TheVariants.{Sphere};
 ghost use Rattle.snd_sphere.specs.Written.{coding_lines, made_shape, sphere_head};
 
-use crate::put::{put_all, put_spaces};
+use crate::put::put_spaces;
 use arrayvec::ArrayVec;
 use itoa::Buffer;
 use snd_disk::Disk;
 use snd_fields::Order;
-use snd_layout::{Codec, Field, Kind, Layout, OpenError, Params, PieceList, write_whole};
+use snd_layout::{Codec, Field, Kind, Layout, OpenError, Params, lay_made, put_all};
 use std::alloc::Global;
 
 /// The size of the header, behind which the data begin.
@@ -80,23 +80,11 @@ fn layout_of(alloc: Global, params: Params) -> Layout
 {
     params.are_good();
     let at = COUNT_AT + digit_count(params.channels);
-    Layout {
-        kind: Kind::Sphere,
-        params,
-        start: HEADER,
-        frames: 0,
-        declared: 0,
-        inner: Field {
-            at,
-            size: COUNT_SIZE,
-        },
-        outer: None,
-        side: None,
-        trailing: false,
-        unknown_length: false,
-        reserve: None,
-        pieces: PieceList::new(alloc),
-    }
+    let inner = Field {
+        at,
+        size: COUNT_SIZE,
+    };
+    Layout::made(alloc, Kind::Sphere, params, HEADER, inner, None, None)
 }
 
 /// Makes a disk a SPHERE file with these parameters and no frames, whatever it held before. A SPHERE
@@ -115,8 +103,6 @@ pub fn lay_head<D: Disk>(alloc: Global, disk: &mut D, params: Params) -> Result<
     ensures asked { (D.state disk.new).asked ≡ (D.state disk.old).asked }
 {
     let head = head_of(&params);
-    match write_whole(disk, head.as_slice()) {
-        Ok(()) => Ok(layout_of(alloc, params)),
-        Err(step) => Err(OpenError::DiskFault(step)),
-    }
+    let layout = layout_of(alloc, params);
+    lay_made(disk, head.as_slice(), layout)
 }

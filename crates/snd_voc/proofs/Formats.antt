@@ -1,9 +1,10 @@
 -- The formats of blocks.
-use Rattle.std.proofs.Common.{◌≡◌, ℕ, ◌+◌, ◌≤◌, ◌^◌, Bool, true, false, not, List, [], ◌∷◌, get_or, Option, None, Some, Ok, Err, refl, inl, inr, arith}
-use Rattle.std.proofs.lemmas.Bool.{and_parts, cases_Bool, le-leb, leb-true, ltb-false, ltb-true}
-use Rattle.std.specs.Prelude.{◌==◌, ◌&&◌, nat_le, nat_lt, if◌then◌else◌}
+use Rattle.std.proofs.Common.{◌≡◌, ℕ, ◌+◌, ◌≤◌, Bool, true, false, not, List, [], ◌∷◌, get_or, Option, None, Some, Ok, Err, refl, inl, inr, arith}
+use Rattle.std.proofs.lemmas.Bool.{cases_Bool, le-leb, ltb-false}
+use Rattle.std.specs.Prelude.{◌==◌, nat_le, nat_lt, if◌then◌else◌}
+use Rattle.snd_layout.proofs.Codecs.{params_good, unless_ok}
 use Rattle.snd_layout.specs.Fit.{fit_refusal, is_voc_codec}
-use Rattle.snd_layout.specs.Params.{AreParams, Parameters, is_channel_count, params_refusal}
+use Rattle.snd_layout.specs.Params.{AreParams, Parameters, params_refusal}
 use Rattle.snd_layout.specs.Refusals.{first_refusal, refuse_if, unless}
 use Rattle.snd_layout.specs.declared.codec.Codec.{Codec}
 use Rattle.snd_layout.specs.declared.codec.Codec.TheVariants.{U8, S16, MuLaw, ALaw}
@@ -16,11 +17,7 @@ use Rattle.snd_voc.specs.Layout.{codec_of, extended_rate, format_of, has_bits, n
 use Rattle.snd_voc.specs.declared.blocks.Block.{Block}
 use Rattle.snd_voc.specs.declared.blocks.Sound.{Sound}
 
--- what is not refused, and why something is
-pub unless_ok : {T : Type 0} (refusal : Option OpenRefusal) (value given : T) → unless refusal value ≡ Ok given → (refusal ≡ None) × (value ≡ given)
-unless_ok None value given is = (refl, cc)
-unless_ok (Some refusal) value given is = absurd (cc)
-
+-- why something is refused
 pub unless_err : {T : Type 0} (refusal : Option OpenRefusal) (value : T) (r : OpenRefusal) → unless refusal value ≡ Err r → refusal ≡ Some r
 unless_err None value r is = absurd (cc)
 unless_err (Some refusal) value r is = cc
@@ -47,25 +44,6 @@ four_codecs false false false false codec is = absurd (cc)
 
 codec_held : (code : ℕ) (codec : Codec) → codec_of code ≡ Some codec → is_voc_codec codec ≡ true
 codec_held code codec is = four_codecs (code == 0) (code == 4) (code == 6) (code == 7) codec is
-
--- parameters that are not refused are good
-params_good : (channels rate : ℕ) (codec : Codec) → params_refusal channels rate codec ≡ None → AreParams (record { channels = channels; rate = rate; codec = codec })
-params_good channels rate codec is = elim (cases_Bool (is_channel_count channels)) [
-  | inl counted ↦ elim (cases_Bool (nat_le 1 rate && nat_lt rate (2 ^ 32))) [
-    | inl plays ↦
-        let count = and_parts (nat_le 1 channels) (nat_le channels 256) counted in
-        let times = and_parts (nat_le 1 rate) (nat_lt rate (2 ^ 32)) plays in
-        record {
-          some_channel = leb-true 1 channels count.0;
-          most_channels = leb-true channels 256 count.1;
-          some_rate = leb-true 1 rate times.0;
-          most_rate = ltb-true rate (2 ^ 32) times.1;
-          blocks = let h = rw (counted, plays) at is in h;
-        }
-    | inr never ↦ absurd (let h = rw (counted, never) at is in cc)
-  ]
-  | inr none ↦ absurd (let h = rw none at is in cc)
-]
 
 abbrev pub IsGood : Parameters → Type 0
 IsGood p = AreParams p × (fit_refusal Voc p ≡ None)

@@ -18,7 +18,8 @@ use Rattle.snd_layout.specs.declared.kind.Kind.TheVariants.{Voc}
 use Rattle.snd_layout.specs.declared.piece.Piece.{Piece}
 use Rattle.snd_voc.proofs.Formats.{IsGood, format_good}
 use Rattle.snd_voc.proofs.Opens.{SameButSize, formats_there, moved, opens, stands}
-use Rattle.snd_voc.proofs.Sizes.{blocks_of, blocks_rest, plain_bytes, quotient_is, some_align, whole_blocks}
+use Rattle.snd_layout.proofs.Codecs.{blocks_of, whole_blocks}
+use Rattle.snd_voc.proofs.Sizes.{blocks_rest, plain_bytes, quotient_is, some_align}
 use Rattle.snd_voc.specs.Container.{voc}
 use Rattle.snd_voc.specs.Layout.{data_start, declared, extra, goes_on, held, size_at, voc_layout, voc_shape}
 use Rattle.snd_voc.specs.Values.{closing, format_size, inner_value, outer_value, side_value}
@@ -218,7 +219,7 @@ frames_end : (b : List ℕ) (h : Shape) (s : Sound) (p : Parameters) → IsOf b 
 frames_end b h s p f good =
     let plain : data_bytes h.params h.frames ≡ h.frames * block_align p.channels p.codec = ap (λ (q : Parameters). data_bytes q h.frames) f.params ∙ plain_bytes p h.frames good.1 in
     let blocks : h.frames * block_align p.channels p.codec ≡ held (length b) (data_start s) (declared b s) / block_align p.channels p.codec * block_align p.channels p.codec = ap (λ k. k * block_align p.channels p.codec) f.frames in
-    omega (arith, plain, blocks, whole_blocks (held (length b) (data_start s) (declared b s)) (block_align p.channels p.codec) (some_align p good.0 good.1))
+    omega (arith, plain, blocks, whole_blocks (held (length b) (data_start s) (declared b s)) (block_align p.channels p.codec))
 
 outside : SameOutsideDataReadsBack voc
 outside b x h is params long same =

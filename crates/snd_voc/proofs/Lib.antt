@@ -1,4 +1,3 @@
-pub mod Answered
 pub mod Filling
 pub mod Formats
 pub mod Kept

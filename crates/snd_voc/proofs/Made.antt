@@ -13,7 +13,8 @@ use Rattle.snd_layout.specs.declared.codec.Codec.{Codec}
 use Rattle.snd_layout.specs.declared.codec.Codec.TheVariants.{U8, S8, S16, S24, S32, MuLaw, ALaw, Ima, Ms}
 use Rattle.snd_layout.specs.declared.kind.Kind.TheVariants.{Voc}
 use Rattle.snd_voc.proofs.Opens.{opened}
-use Rattle.snd_voc.proofs.Sizes.{blocks_of, held_codec, some_align}
+use Rattle.snd_layout.proofs.Codecs.{blocks_of}
+use Rattle.snd_voc.proofs.Sizes.{held_codec, some_align}
 use Rattle.snd_layout.specs.Blocks.{block_align}
 use Rattle.snd_voc.proofs.Stays.{suc_found}
 use Rattle.snd_voc.specs.Layout.{codec_of, first_place, has_bits, has_format, size_at, sound_format, voc_layout, walk}

@@ -1,8 +1,9 @@
 -- A Creative Voice file as it is made, after "The Developer Kit for Sound Blaster Series" (Creative Labs, 1991), appendix
 -- "Creative Voice File Format": a head of 26 bytes of version 1.20, and one block of type 9.
-use Rattle.std.specs.Prelude.{ℕ, false, List, [], ◌∷◌, ◌++◌, None, codes}
+use Rattle.std.specs.Prelude.{ℕ, List, [], ◌∷◌, ◌++◌, None, codes}
 use Rattle.snd_fields.specs.Field.{bytes_of}
 use Rattle.snd_fields.specs.declared.field.Order.TheVariants.{Little}
+use Rattle.snd_layout.specs.Made.{made}
 use Rattle.snd_layout.specs.Params.{Parameters}
 use Rattle.snd_layout.specs.Shape.{Shape}
 use Rattle.snd_layout.specs.declared.codec.Codec.{Codec}
@@ -34,17 +35,4 @@ voc_head p = file_head ++ block_head p
 
 -- what it says of itself
 unfoldable pub made_shape : Parameters → Shape
-made_shape p = record {
-  kind = Voc;
-  params = p;
-  start = 42;
-  frames = 0;
-  declared = 0;
-  inner = record { at = 27; size = 3 };
-  outer = None;
-  side = None;
-  trailing = false;
-  unknown_length = false;
-  reserve = None;
-  pieces = [];
-}
+made_shape p = made Voc p 42 (record { at = 27; size = 3 }) None None

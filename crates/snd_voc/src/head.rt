@@ -2,7 +2,6 @@
 
 ghost use Rattle.std.specs.Prelude.{◌≡◌, ◌+◌, ◌<◌, ◌≤◌, ◌++◌, None, is_some, length, OnOk, IfErr, IfOk};
 ghost use Rattle.snd_disk.specs.Device.{GoesOnFrom, WritesAtMost};
-ghost use Rattle.arrayvec.specs.ArrayVec.{array_vec_len};
 ghost use Rattle.snd_layout.specs.Fit.{fit_refusal};
 ghost use Rattle.snd_layout.specs.Laid.{HoldsJust, IsLayCause};
 ghost use Rattle.snd_layout.specs.Opened.{CountsOpening};
@@ -11,7 +10,7 @@ ghost use Rattle.snd_voc.specs.Written.{bits_of, code_of, made_shape, voc_head};
 
 use arrayvec::ArrayVec;
 use snd_disk::Disk;
-use snd_layout::{Codec, Field, Kind, Layout, OpenError, Params, PieceList, write_whole};
+use snd_layout::{Codec, Field, Kind, Layout, OpenError, Params, lay_made, put_all};
 use std::alloc::Global;
 
 // The bits of a sample.
@@ -33,17 +32,6 @@ fn code_of(codec: Codec) -> u8
         Codec::ALaw => 6,
         Codec::MuLaw => 7,
         _ => 0,
-    }
-}
-
-// Puts bytes behind the others.
-fn put_all(into: &mut ArrayVec<u8, 64>, bytes: &[u8])
-    requires { array_vec_len into.old + length bytes.now ≤ 64 }
-    ensures items { into.new.items ≡ into.old.items ++ bytes.now }
-    ensures len { array_vec_len into.new ≡ array_vec_len into.old + length bytes.now }
-{
-    for byte in bytes {
-        into.push(*byte);
     }
 }
 
@@ -72,20 +60,8 @@ fn plain_layout(alloc: Global, params: Params) -> Layout
     requires { fit_refusal Voc params ≡ None }
     ensures { result ≡ made_shape params }
 {
-    Layout {
-        kind: Kind::Voc,
-        params,
-        start: 42,
-        frames: 0,
-        declared: 0,
-        inner: Field { at: 27, size: 3 },
-        outer: None,
-        side: None,
-        trailing: false,
-        unknown_length: false,
-        reserve: None,
-        pieces: PieceList::new(alloc),
-    }
+    let inner = Field { at: 27, size: 3 };
+    Layout::made(alloc, Kind::Voc, params, 42, inner, None, None)
 }
 
 /// Makes a disk a Creative Voice file with these parameters and no frames, whatever it held before. A
@@ -105,8 +81,6 @@ pub fn lay_head<D: Disk>(alloc: Global, disk: &mut D, params: Params) -> Result<
 {
     params.are_good();
     let head = plain_head(&params);
-    match write_whole(disk, head.as_slice()) {
-        Ok(()) => Ok(plain_layout(alloc, params)),
-        Err(step) => Err(OpenError::DiskFault(step)),
-    }
+    let layout = plain_layout(alloc, params);
+    lay_made(disk, head.as_slice(), layout)
 }

@@ -2,17 +2,16 @@
 use Rattle.std.proofs.Common.{◌≡◌, ℕ, ◌+◌, ◌*◌, ◌-◌, ◌/◌, ◌%◌, ◌<◌, ◌≤◌, ◌^◌, true, false, List, Option, None, Some, get_or, refl, ap, ◌∙◌, inl, inr, arith}
 use Rattle.std.proofs.Math.Nat.{mod-lt}
 use Rattle.std.proofs.lemmas.Bool.{cases_Bool}
-use Rattle.std.proofs.lemmas.Nat.{div-add-mod', div-mul-add, div_below}
+use Rattle.std.proofs.lemmas.Nat.{div-add-mod', div_below}
 use Rattle.snd_disk.specs.Runs.{HasAt}
 use Rattle.snd_fields.proofs.Numbers.{length-bytes_of, number_of_bytes, number_same}
 use Rattle.snd_fields.specs.Field.{bytes_of, number}
 use Rattle.snd_fields.specs.declared.field.Order.TheVariants.{Little}
+use Rattle.snd_layout.proofs.Codecs.{blocks_of, fixed_frames}
 use Rattle.snd_layout.proofs.Frames.{blocks_have_frames}
 use Rattle.snd_layout.specs.Blocks.{block_align, block_frames, is_adpcm}
 use Rattle.snd_layout.specs.Fit.{fit_refusal}
 use Rattle.snd_layout.specs.Params.{AreParams, Parameters, data_bytes}
-use Rattle.snd_layout.specs.declared.codec.Codec.{Codec}
-use Rattle.snd_layout.specs.declared.codec.Codec.TheVariants.{U8, S8, S16, S24, S32, MuLaw, ALaw, Ima, Ms}
 use Rattle.snd_layout.specs.declared.kind.Kind.TheVariants.{W64}
 use Rattle.snd_w64.specs.Layout.{frame_count, whole_frames}
 use Rattle.snd_w64.proofs.Shapes.{blocks_have_bytes}
@@ -24,20 +23,6 @@ has_number b p n has few =
     let same : i ≡ r = omega (arith, re) in
     ap (λ k. get_or b k 0) qe ∙ has i (omega (arith, length-bytes_of Little 8 n)) ∙ ap (λ k. get_or (bytes_of Little 8 n) k 0) same)
     ∙ number_of_bytes Little 8 n few
-
-pub fixed_frames : (codec : Codec) → is_adpcm codec ≡ false → block_frames codec ≡ 1
-fixed_frames U8 other = refl
-fixed_frames S8 other = refl
-fixed_frames (S16 order) other = refl
-fixed_frames (S24 order) other = refl
-fixed_frames (S32 order) other = refl
-fixed_frames MuLaw other = refl
-fixed_frames ALaw other = refl
-fixed_frames (Ima align per_block) other = absurd (cc)
-fixed_frames (Ms align per_block) other = absurd (cc)
-
-blocks_of : (q a : ℕ) → 1 ≤ a → q * a / a ≡ q
-blocks_of q a some = let same : q * a ≡ q * a + 0 = omega arith in ap (λ k. k / a) same ∙ div-mul-add q a 0 (omega arith)
 
 blocks_hold : (n b : ℕ) → 1 ≤ b → n ≤ (n + b - 1) / b * b
 blocks_hold n b some =

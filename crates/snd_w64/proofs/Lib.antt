@@ -1,6 +1,5 @@
 pub mod Agreements
 pub mod AllLaws
-pub mod Answered
 pub mod Blocks
 pub mod Bodies
 pub mod Chains

@@ -1,10 +1,11 @@
 -- A Wave64 file as it is made, after "Sony Wave64" (Sony Media Software): `riff`, the size of the whole, `wave`, and chunks, each
 -- from a multiple of 8 on, among them `fmt ` and at last `data`. A `fact` chunk with the count of the frames stands before the
 -- data of all codecs but linear ones; its form and the order of the chunks are this library's own rules.
-use Rattle.std.specs.Prelude.{ℕ, ◌+◌, ◌-◌, Bool, true, false, not, ◌&&◌, List, [], ◌∷◌, ◌++◌, Option, None, Some, codes, length, replicate, if◌then◌else◌}
+use Rattle.std.specs.Prelude.{ℕ, ◌+◌, ◌-◌, Bool, true, not, ◌&&◌, List, [], ◌∷◌, ◌++◌, Option, None, Some, codes, length, replicate, if◌then◌else◌}
 use Rattle.snd_fields.specs.Field.{bytes_of}
 use Rattle.snd_fields.specs.declared.field.Order.TheVariants.{Little}
 use Rattle.snd_layout.specs.Blocks.{is_adpcm}
+use Rattle.snd_layout.specs.Made.{made}
 use Rattle.snd_layout.specs.Params.{Parameters}
 use Rattle.snd_layout.specs.Shape.{Shape}
 use Rattle.snd_layout.specs.Written.{written_format}
@@ -59,17 +60,5 @@ side_at codec start = if has_fact codec && not (is_adpcm codec) then Some (recor
 
 -- what a file says of itself that is made
 unfoldable pub made_shape : Parameters → Shape
-made_shape p = record {
-  kind = W64;
-  params = p;
-  start = start_of p.codec;
-  frames = 0;
-  declared = 0;
-  inner = inner_at p.codec (start_of p.codec);
-  outer = Some (record { at = 16; size = 8 });
-  side = side_at p.codec (start_of p.codec);
-  trailing = false;
-  unknown_length = false;
-  reserve = None;
-  pieces = [];
-}
+made_shape p =
+    made W64 p (start_of p.codec) (inner_at p.codec (start_of p.codec)) (Some (record { at = 16; size = 8 })) (side_at p.codec (start_of p.codec))

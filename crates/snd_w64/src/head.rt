@@ -10,11 +10,13 @@ ghost use Rattle.snd_layout.specs.declared.kind.Kind.TheVariants.{W64};
 ghost use Rattle.snd_w64.specs.Written.{fact_bytes, has_fact, inner_at, made_shape, side_at, start_of, w64_head};
 
 use crate::layout::WHOLE_SIZE;
-use crate::put::{put_all, put_chunk, put_head, put_number};
+use crate::put::{put_chunk, put_head};
 use crate::walk::ID_END;
 use arrayvec::ArrayVec;
 use snd_disk::Disk;
-use snd_layout::{Codec, Field, Kind, Layout, OpenError, Params, PieceList, put_fmt, write_whole};
+use snd_layout::{
+    Codec, Field, Kind, Layout, OpenError, Params, lay_made, put_all, put_fmt, put_long,
+};
 use std::alloc::Global;
 
 /// The last 12 bytes of the identifier `riff`.
@@ -99,7 +101,7 @@ fn plain_head(params: &Params) -> ArrayVec<u8, 256>
     let mut head = ArrayVec::new();
     put_all(&mut head, b"riff");
     put_all(&mut head, &RIFF_END);
-    put_number(&mut head, start_of(params));
+    put_long(&mut head, start_of(params));
     put_all(&mut head, b"wave");
     put_all(&mut head, &ID_END);
     put_chunk(&mut head, b"fmt ", format.as_slice());
@@ -116,20 +118,17 @@ fn plain_layout(alloc: Global, params: Params) -> Layout
 {
     params.are_good();
     let start = start_of(&params);
-    Layout {
-        kind: Kind::W64,
+    let inner = inner_of(&params, start);
+    let side = side_of(&params, start);
+    Layout::made(
+        alloc,
+        Kind::W64,
         params,
         start,
-        frames: 0,
-        declared: 0,
-        inner: inner_of(&params, start),
-        outer: Some(WHOLE_SIZE),
-        side: side_of(&params, start),
-        trailing: false,
-        unknown_length: false,
-        reserve: None,
-        pieces: PieceList::new(alloc),
-    }
+        inner,
+        Some(WHOLE_SIZE),
+        side,
+    )
 }
 
 /// Makes a disk a Wave64 file with these parameters and no frames, whatever it held before. A
@@ -149,8 +148,6 @@ pub fn lay_head<D: Disk>(alloc: Global, disk: &mut D, params: Params) -> Result<
 {
     params.are_good();
     let head = plain_head(&params);
-    match write_whole(disk, head.as_slice()) {
-        Ok(()) => Ok(plain_layout(alloc, params)),
-        Err(step) => Err(OpenError::DiskFault(step)),
-    }
+    let layout = plain_layout(alloc, params);
+    lay_made(disk, head.as_slice(), layout)
 }

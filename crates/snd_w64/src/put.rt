@@ -1,45 +1,16 @@
-//! Bytes put behind one another.
+//! Chunks put behind one another.
 
 ghost use Rattle.std.specs.Prelude.{◌≡◌, ◌+◌, ◌≤◌, ◌<◌, ◌^◌, ◌++◌, length, replicate};
 ghost use Rattle.arrayvec.specs.ArrayVec.{array_vec_len};
-ghost use Rattle.snd_fields.specs.Field.{bytes_of};
-ghost use Rattle.snd_fields.specs.declared.field.Order.TheVariants.{Little};
 ghost use Rattle.snd_w64.specs.Written.{chunk_bytes, head_bytes};
 
 use crate::count::raised;
 use crate::walk::ID_END;
 use arrayvec::ArrayVec;
+use snd_layout::{put_all, put_long};
 
 /// The head of a chunk, which its size counts.
 pub(crate) const HEAD_SIZE: u64 = 24;
-
-/// Puts bytes behind the others.
-pub(crate) fn put_all<const N: usize>(into: &mut ArrayVec<u8, N>, bytes: &[u8])
-    requires { array_vec_len into.old + length bytes.now ≤ N }
-    ensures items { into.new.items ≡ into.old.items ++ bytes.now }
-    ensures len { array_vec_len into.new ≡ array_vec_len into.old + length bytes.now }
-{
-    for byte in bytes {
-        into.push(*byte);
-    }
-}
-
-/// Puts the 8 bytes of a number behind the others, the lowest first.
-pub(crate) fn put_number<const N: usize>(into: &mut ArrayVec<u8, N>, value: u64)
-    requires { array_vec_len into.old + 8 ≤ N }
-    ensures items { into.new.items ≡ into.old.items ++ bytes_of Little 8 value }
-    ensures len { array_vec_len into.new ≡ array_vec_len into.old + 8 }
-{
-    let [a, b, c, d, e, f, g, h] = value.to_le_bytes();
-    into.push(a);
-    into.push(b);
-    into.push(c);
-    into.push(d);
-    into.push(e);
-    into.push(f);
-    into.push(g);
-    into.push(h);
-}
 
 /// Puts so many zeros behind the others.
 pub(crate) fn put_zeros<const N: usize>(into: &mut ArrayVec<u8, N>, count: u64)
@@ -61,7 +32,7 @@ pub(crate) fn put_head<const N: usize>(into: &mut ArrayVec<u8, N>, letters: &[u8
 {
     put_all(into, letters);
     put_all(into, &ID_END);
-    put_number(into, len + HEAD_SIZE);
+    put_long(into, len + HEAD_SIZE);
 }
 
 /// Puts a chunk.

@@ -11,10 +11,10 @@ ghost use Rattle.snd_layout.specs.declared.kind.Kind.TheVariants.{W64};
 ghost use Rattle.snd_w64.specs.Values.{closing, inner_value, outer_value, side_value};
 
 use crate::count::raised;
-use crate::put::{HEAD_SIZE, put_all, put_number, put_zeros};
+use crate::put::{HEAD_SIZE, put_zeros};
 use crate::walk::ID_END;
 use arrayvec::ArrayVec;
-use snd_layout::{Layout, Params};
+use snd_layout::{Layout, Params, put_all, put_long};
 
 /// The bytes of the field that holds the count of a `fact`, the identifier of the data chunk and the data
 /// size.
@@ -61,7 +61,7 @@ fn number_bytes(value: u64) -> ArrayVec<u8, 64>
     ensures { result.items ≡ bytes_of Little 8 value }
 {
     let mut bytes = ArrayVec::new();
-    put_number(&mut bytes, value);
+    put_long(&mut bytes, value);
     bytes
 }
 
@@ -79,7 +79,7 @@ pub fn inner_bytes(layout: &Layout, frames: u64) -> ArrayVec<u8, 64>
     let mut value = number_bytes(frames);
     put_all(&mut value, b"data");
     put_all(&mut value, &ID_END);
-    put_number(&mut value, size);
+    put_long(&mut value, size);
     value
 }
 

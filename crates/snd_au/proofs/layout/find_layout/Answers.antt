@@ -1,5 +1,5 @@
 use Rattle.std.proofs.Common.{rules, ◌≡◌, ◌∙◌, ap, Err, length}
-use Rattle.snd_au.proofs.Answered.{refusal_found}
+use Rattle.snd_layout.proofs.Answered.{refusal_found}
 use Rattle.snd_au.proofs.Opens.{read_layout, too_short}
 use Rattle.snd_au.specs.Layout.{au_layout}
 use Rattle.snd_layout.specs.declared.refusal.OpenRefusal.{OpenRefusal}

@@ -1,6 +1,6 @@
 use Rattle.std.proofs.Common.{rules, arith, refl, sym, ◌∙◌}
 use Rattle.snd_sphere.specs.Layout.{sphere_layout}
-use Rattle.snd_sphere.proofs.Answered.{refusal_found}
+use Rattle.snd_layout.proofs.Answered.{refusal_found}
 use Rattle.snd_sphere.proofs.Openings.{short, with_header}
 use Rattle.snd_layout.specs.declared.refusal.OpenRefusal.TheVariants.{ShortHeader}
 use Rattle.snd_sphere.proofs.layout.find_layout.Goals as goal

@@ -5,7 +5,7 @@ use Rattle.snd_layout.specs.declared.refusal.OpenRefusal.TheVariants.{NoData}
 use Rattle.snd_voc.specs.Layout.{seen, walk}
 use Rattle.snd_voc.specs.Parts.{HasHeadAt}
 use Rattle.snd_voc.specs.declared.blocks.Seen.TheVariants.{Found, Refused, Passed}
-use Rattle.snd_voc.proofs.Answered.{opens_on}
+use Rattle.snd_layout.proofs.Answered.{opens_on}
 use Rattle.snd_voc.proofs.Walking.{asked_more, last_near, remembered_near, step_cut, step_found, step_passed, step_refused}
 use Rattle.snd_voc.proofs.blocks.find_sound.Goals as goal
 

@@ -1,6 +1,6 @@
 use Rattle.std.proofs.Common.{◌∙◌, None, Ok, ap, rules}
 use Rattle.snd_voc.specs.Layout.{first_place, voc_layout, walk, with_sound}
-use Rattle.snd_voc.proofs.Answered.{opens_on, passed_from, passed_on}
+use Rattle.snd_layout.proofs.Answered.{opens_on, passed_from, passed_on}
 use Rattle.snd_voc.proofs.Parting.{placed_err, placed_ok}
 use Rattle.snd_voc.proofs.layout.find_layout.Goals as goal
 

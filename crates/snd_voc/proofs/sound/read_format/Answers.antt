@@ -2,7 +2,7 @@ use Rattle.std.proofs.Common.{◌≡◌, ◌∙◌, Ok, Err, length, get_or, sym
 use Rattle.snd_layout.specs.declared.refusal.OpenRefusal.{OpenRefusal}
 use Rattle.snd_layout.specs.declared.refusal.OpenRefusal.TheVariants.{NoFormat}
 use Rattle.snd_voc.specs.Layout.{older_format, sound_format}
-use Rattle.snd_voc.proofs.Answered.{opens_on, refusal_found}
+use Rattle.snd_layout.proofs.Answered.{opens_on, refusal_found}
 use Rattle.snd_voc.proofs.Parting.{format_gone, newer_there, older_there}
 use Rattle.snd_voc.proofs.sound.read_format.Goals as goal
 

@@ -1,6 +1,6 @@
 use Rattle.std.proofs.Common.{◌≡◌, ◌∙◌, Ok, Err, sym, rules}
 use Rattle.snd_voc.specs.Layout.{older_format}
-use Rattle.snd_voc.proofs.Answered.{refusal_found}
+use Rattle.snd_layout.proofs.Answered.{refusal_found}
 use Rattle.snd_voc.proofs.Parting.{older_is}
 use Rattle.snd_voc.proofs.sound.read_older.Goals as goal
 

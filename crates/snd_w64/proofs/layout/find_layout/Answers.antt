@@ -1,7 +1,7 @@
 use Rattle.std.proofs.Common.{rules, sym}
 use Rattle.snd_w64.specs.Layout.{w64_layout}
 use Rattle.snd_w64.specs.Parts.{layout_with}
-use Rattle.snd_w64.proofs.Answered.{opens_on, refusal_found}
+use Rattle.snd_layout.proofs.Answered.{opens_on, refusal_found}
 use Rattle.snd_w64.proofs.Layouts.{layout_is, parts_placed, refusal_is}
 use Rattle.snd_w64.proofs.layout.find_layout.Goals as goal
 
