@@ -2,10 +2,9 @@
 
 ghost use Rattle.std.specs.Prelude.{◌≤◌};
 
-use snd_container::fit;
+use snd_container::{fit, room_with};
 use snd_fields::Order;
 use snd_layout::{Codec, Kind, Params};
-use snd_container::room_with;
 use std::test::Fail;
 
 // The room of a file of a kind with chunks of so many bytes, at most 1000.

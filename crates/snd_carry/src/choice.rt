@@ -7,9 +7,9 @@ ghost use Rattle.snd_fields.specs.declared.field.Order.TheVariants.{Little};
 ghost use Rattle.snd_chunks.specs.Heads.{outline};
 ghost use Rattle.snd_carry.specs.Carried.{TakesBytes, carried_pieces, is_carried};
 
+use snd_container::chunk_size;
 use snd_layout::{Kind, Piece, PieceList};
 use snd_modes::may_be_piece;
-use snd_container::chunk_size;
 
 /// The most bytes of the body of a chunk that is carried.
 const MOST_BYTES: u64 = 65536;

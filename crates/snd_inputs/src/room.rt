@@ -6,8 +6,8 @@ ghost use Rattle.snd_layout.specs.Fit.{fit_refusal};
 ghost use Rattle.snd_layout.specs.Shape.{room as shape_room};
 ghost use Rattle.snd_modes.specs.Relaid.{shape_with};
 
-use snd_layout::{Codec, Kind, Params};
 use snd_container::room_with;
+use snd_layout::{Codec, Kind, Params};
 
 /// The greatest number of data bytes for which the head of a file has room that is made with these
 /// parameters and without further chunks. The kind holds the parameters.

@@ -8,10 +8,10 @@ ghost use Rattle.snd_output.specs.declared.stop.Stop.TheVariants as stop;
 ghost use Rattle.snd_metadata.specs.Planned.{IsSmall, KeepsChunks, MayStand, PutsExtension, StandStill, bytes_planned, names_extension, outline_planned, put_in, sizes_planned};
 
 use snd_carry::is_carried;
+use snd_container::chunk_size;
 use snd_fields::Id4;
 use snd_layout::{Piece, PieceList};
 use snd_output::Stop;
-use snd_container::chunk_size;
 use std::alloc::Global;
 
 /// The chunks of the input that are kept at most: two more may be added.

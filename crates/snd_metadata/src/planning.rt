@@ -19,11 +19,10 @@ use crate::halt::Halt;
 use crate::held::drafts_of;
 use crate::places::chunks_of;
 use crate::settings::summary_of;
-use snd_container::fit;
+use snd_container::{fit, room_with};
 use snd_disk::Disk;
 use snd_lines::Refusal;
 use snd_modes::{File, Read};
-use snd_container::room_with;
 use snd_words::MetadataSettings;
 use std::alloc::Global;
 

@@ -4,7 +4,7 @@ use Rattle.snd_layout.specs.Params.{Parameters}
 use Rattle.snd_layout.specs.declared.kind.Kind.{Kind}
 use Rattle.snd_layout.specs.declared.kind.Kind.TheVariants.{Rf64, Sphere, Svx, Voc, W64, Wave}
 use Rattle.snd_container.proofs.Rooms.{as_known, rf64_room, sphere_room, svx_room, voc_room, w64_room, wave_room}
-use Rattle.snd_container.proofs.room.room_with.Goals as goal
+use Rattle.snd_container.proofs.new_room.room_with.Goals as goal
 
 pub returns-in-Wave : goal.returns-in-Wave
 returns-in-Wave c =
