@@ -10,7 +10,7 @@ if ! command -v rt >/dev/null; then
 fi
 folder=$(mktemp -d)
 trap 'rm -rf "$folder"' EXIT
-libraries=$(sed -n 's/^snd_modes: *//p' "$top/crates.txt")
+libraries=$("$top/checks/below" snd_modes | tr '\n' ' ')
 for crate in $libraries snd_modes; do
     for part in src specs proofs; do
         [ ! -d "$top/crates/$crate/$part" ] || { mkdir -p "$folder/crates/$crate" && cp -r "$top/crates/$crate/$part" "$folder/crates/$crate/"; }
