@@ -4,10 +4,10 @@ ghost use Rattle.snd_ima_adpcm.specs.Frames.{Is16Bit};
 ghost use Rattle.codec_bench.specs.Codec.{block_size};
 
 use arrayvec::ArrayVec;
-use snd_ima_adpcm::{ImaBlock, ImaWriter};
-use snd_ms_adpcm::{MsBlock, MsWriter};
 use snd_fields::Order;
 use snd_g711::{alaw_decode_all, alaw_encode_all, mulaw_decode_all, mulaw_encode_all};
+use snd_ima_adpcm::{ImaBlock, ImaWriter};
+use snd_ms_adpcm::{MsBlock, MsWriter};
 use snd_pcm::{Linear, put_samples, read_samples};
 
 const LINEAR: Linear = Linear::S16(Order::Little);

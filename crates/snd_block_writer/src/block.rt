@@ -12,10 +12,10 @@ ghost use Rattle.snd_block_writer.specs.Puts.{Puts};
 ghost use Rattle.snd_block_writer.specs.Writing.{IsOneOrFour, carried, rule_of};
 
 use arrayvec::ArrayVec;
-use snd_ima_adpcm::ImaWriter;
-use snd_ms_adpcm::MsWriter;
 use snd_disk::{Disk, Failed, Step};
+use snd_ima_adpcm::ImaWriter;
 use snd_layout::{Codec, Params};
+use snd_ms_adpcm::MsWriter;
 
 // Puts the bytes of a block in place of what `into` holds. The writer of IMA blocks carries its indices on;
 // Microsoft's codec leaves them.

@@ -11,9 +11,9 @@ ghost use Rattle.snd_block_writer.specs.Writing.{IsOneOrFour, IsPart, KeepsRule,
 
 use crate::block::{encode_blocks, fill_up, put_block, write_bytes};
 use arrayvec::ArrayVec;
-use snd_ima_adpcm::ImaWriter;
 use snd_blocks::is_fourfold;
 use snd_disk::{Disk, Step};
+use snd_ima_adpcm::ImaWriter;
 use snd_layout::Params;
 use std::marker::Model;
 

@@ -12,10 +12,10 @@ ghost use Rattle.snd_blocks.specs.Frames.{block_samples, is_bad_block};
 use crate::buffer::MOST_BYTES;
 use crate::error::BlockError;
 use arrayvec::ArrayVec;
-use snd_ima_adpcm::{BadBlock, ImaBlock};
-use snd_ms_adpcm::MsBlock;
 use snd_disk::{Disk, fill};
+use snd_ima_adpcm::{BadBlock, ImaBlock};
 use snd_layout::{Codec, Layout, Params};
+use snd_ms_adpcm::MsBlock;
 
 // What holds of every layout, and of its parameters.
 pub(crate) fn keeps_rules(layout: &Layout)

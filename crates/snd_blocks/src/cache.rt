@@ -14,8 +14,8 @@ use crate::buffer::BlockCache;
 use crate::error::BlockError;
 use crate::fetch::{Fetched, decode_fetched, fetch_with};
 use crate::four::decode_four;
-use snd_ima_adpcm::BadBlock;
 use snd_disk::Disk;
+use snd_ima_adpcm::BadBlock;
 use snd_layout::Layout;
 
 impl BlockCache {

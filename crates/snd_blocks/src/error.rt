@@ -3,8 +3,8 @@
 ghost use Rattle.std.specs.Prelude.{◌≡◌};
 ghost use Rattle.snd_blocks.specs.declared.error.BlockError.TheVariants as block;
 
-use snd_ima_adpcm::BadBlock;
 use snd_disk::Step;
+use snd_ima_adpcm::BadBlock;
 use thiserror::Error;
 
 /// Why the frames of blocks are not read.

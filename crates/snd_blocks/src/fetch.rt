@@ -13,8 +13,8 @@ ghost use Rattle.snd_blocks.specs.Frames.{block_samples};
 use crate::block::{align_of, decode, keeps_blocks, place_of};
 use crate::buffer::MOST_BYTES;
 use arrayvec::ArrayVec;
-use snd_ima_adpcm::BadBlock;
 use snd_disk::{Disk, Step, fill};
+use snd_ima_adpcm::BadBlock;
 use snd_layout::Layout;
 
 // Whose bytes were read last: those of the blocks from one up to another.

@@ -9,8 +9,8 @@ use crate::block::{align_of, frames_of, keeps_blocks};
 use crate::buffer::MOST_BYTES;
 use crate::fetch::Fetched;
 use arrayvec::ArrayVec;
-use snd_ms_adpcm::MsBlock;
 use snd_layout::{Codec, Layout, Params};
+use snd_ms_adpcm::MsBlock;
 
 /// Whether blocks are read, and made, four at a time: those of Microsoft ADPCM of two channels, where there is room for
 /// the bytes of four.
