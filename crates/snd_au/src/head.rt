@@ -13,8 +13,8 @@ use crate::layout::{DATA_SIZE, kind_of};
 use crate::numbers::HEAD_SIZE;
 use arrayvec::ArrayVec;
 use snd_disk::Disk;
-use snd_fields::Order;
-use snd_layout::{Layout, OpenError, Params, lay_made, put_all, put_number};
+use snd_fields::{Order, put_all, put_number};
+use snd_layout::{Layout, OpenError, Params, lay_made};
 use std::alloc::Global;
 
 // The mark of a byte order.

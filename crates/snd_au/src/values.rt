@@ -7,8 +7,8 @@ ghost use Rattle.snd_layout.specs.Shape.{room as shape_room};
 ghost use Rattle.snd_au.specs.Values.{IsAu, closing, inner_value, order_of};
 
 use arrayvec::ArrayVec;
-use snd_fields::Order;
-use snd_layout::{Kind, Layout, put_number};
+use snd_fields::{Order, put_number};
+use snd_layout::{Kind, Layout};
 
 /// The greatest number of data bytes: a size of 32 bits that are all set says that it is not known.
 const ROOM: u64 = (1 << 32) - 2;

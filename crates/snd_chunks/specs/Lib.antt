@@ -3,5 +3,6 @@ pub mod HeadLaws
 pub mod Heads
 pub mod Late
 pub mod Opening
+pub mod Replaced
 pub mod Walks
 pub mod Written

@@ -6,6 +6,7 @@ mod front;
 mod head;
 mod list;
 mod put;
+mod replacing;
 mod walk;
 
 pub use chunk::Chunk;
@@ -14,4 +15,5 @@ pub use front::{Ending, Front};
 pub use head::head_at;
 pub use list::ChunkList;
 pub use put::{put_chunk, put_pad};
+pub use replacing::replace_from;
 pub use walk::{walk_front, walk_tail};

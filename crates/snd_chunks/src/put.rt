@@ -6,8 +6,7 @@ ghost use Rattle.snd_chunks.specs.Written.{chunk_bytes, pad};
 ghost use Rattle.snd_fields.specs.declared.field.Order.TheVariants.{Little};
 
 use arrayvec::ArrayVec;
-use snd_fields::Order;
-use snd_layout::{put_all, put_number};
+use snd_fields::{Order, put_all, put_number};
 
 /// Puts a zero behind an odd number of bytes.
 pub fn put_pad<const N: usize>(into: &mut ArrayVec<u8, N>, len: usize)

@@ -16,7 +16,6 @@ mod made;
 mod own;
 mod params;
 mod piece;
-mod put;
 mod refusal;
 mod written;
 
@@ -31,6 +30,5 @@ pub use layout::Layout;
 pub use made::lay_made;
 pub use params::Params;
 pub use piece::{Piece, PieceList};
-pub use put::{put_all, put_long, put_number};
 pub use refusal::OpenRefusal;
 pub use written::put_fmt;

@@ -15,11 +15,11 @@ ghost use Rattle.snd_wave.specs.Written.{MayBePiece};
 
 use crate::head::{NO_SIZE, plain_start};
 use crate::layout::{INNER, OUTER, SIDE};
-use crate::values::{NOT_COUNTED, put_long};
+use crate::values::NOT_COUNTED;
 use arrayvec::ArrayVec;
 use snd_disk::Disk;
-use snd_fields::{Id4, Order};
-use snd_layout::{Kind, Layout, Params, PieceError, PieceList, put_all, put_number};
+use snd_fields::{Id4, Order, put_all, put_long, put_number};
+use snd_layout::{Kind, Layout, Params, PieceError, PieceList};
 use snd_wave::{Closing, Plan, change_head, plan_piece};
 
 /// The head of a chunk: its identifier and its size.

@@ -10,14 +10,11 @@ ghost use Rattle.snd_layout.specs.declared.kind.Kind.TheVariants.{Rf64};
 ghost use Rattle.snd_rf64.specs.Written.{made_shape, plain_start, rf64_head, top};
 
 use crate::layout::{INNER, OUTER, SIDE};
-use crate::values::put_long;
 use arrayvec::ArrayVec;
 use snd_chunks::put_chunk;
 use snd_disk::Disk;
-use snd_fields::Order;
-use snd_layout::{
-    Codec, Kind, Layout, OpenError, Params, PieceList, put_all, put_fmt, put_number, write_whole,
-};
+use snd_fields::{Order, put_all, put_long, put_number};
+use snd_layout::{Codec, Kind, Layout, OpenError, Params, PieceList, put_fmt, write_whole};
 use std::alloc::Global;
 
 /// A size of 32 bits that says nothing.

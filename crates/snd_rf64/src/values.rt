@@ -11,6 +11,7 @@ ghost use Rattle.snd_layout.specs.declared.kind.Kind.TheVariants.{Rf64};
 ghost use Rattle.snd_rf64.specs.Values.{closing, inner_value, outer_value, side_value};
 
 use arrayvec::ArrayVec;
+use snd_fields::put_long;
 use snd_layout::Layout;
 
 /// The place by which data end for which a head has room.
@@ -27,23 +28,6 @@ fn bytes_in(layout: &Layout, frames: u64) -> u64
 {
     layout.keeps_rule();
     frames * u64::from(layout.params.block_align())
-}
-
-/// Puts the 8 bytes of a number behind the others, the lowest first.
-pub(crate) fn put_long<const N: usize>(into: &mut ArrayVec<u8, N>, value: u64)
-    requires { array_vec_len into.old + 8 ≤ N }
-    ensures items { into.new.items ≡ into.old.items ++ bytes_of Little 8 value }
-    ensures len { array_vec_len into.new ≡ array_vec_len into.old + 8 }
-{
-    let [first, second, third, fourth, fifth, sixth, seventh, last] = value.to_le_bytes();
-    into.push(first);
-    into.push(second);
-    into.push(third);
-    into.push(fourth);
-    into.push(fifth);
-    into.push(sixth);
-    into.push(seventh);
-    into.push(last);
 }
 
 // The 8 bytes of a number, the lowest first.

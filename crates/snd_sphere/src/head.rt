@@ -12,8 +12,8 @@ use crate::put::put_spaces;
 use arrayvec::ArrayVec;
 use itoa::Buffer;
 use snd_disk::Disk;
-use snd_fields::Order;
-use snd_layout::{Codec, Field, Kind, Layout, OpenError, Params, lay_made, put_all};
+use snd_fields::{Order, put_all};
+use snd_layout::{Codec, Field, Kind, Layout, OpenError, Params, lay_made};
 use std::alloc::Global;
 
 /// The size of the header, behind which the data begin.

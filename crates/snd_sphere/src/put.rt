@@ -3,7 +3,7 @@
 ghost use Rattle.std.specs.Prelude.{◌≡◌, ◌-◌, ◌++◌, length, replicate};
 
 use arrayvec::ArrayVec;
-use snd_layout::put_all;
+use snd_fields::put_all;
 
 /// How many bytes a header has.
 pub(crate) const HEADER_SIZE: usize = 1024;

@@ -18,8 +18,8 @@ use crate::head::COUNT_AT;
 use crate::layout::FORM_SIZE;
 use arrayvec::ArrayVec;
 use snd_disk::Disk;
-use snd_fields::{Id4, Order};
-use snd_layout::{Field, Kind, Layout, Params, PieceError, PieceList, put_all, put_number};
+use snd_fields::{Id4, Order, put_all, put_number};
+use snd_layout::{Field, Kind, Layout, Params, PieceError, PieceList};
 use snd_wave::{Closing, Plan, change_head, plan_piece, put_filler};
 
 /// The place behind the voice header.

@@ -13,10 +13,8 @@ ghost use Rattle.snd_svx.specs.Written.{made_shape, svx_head};
 
 use arrayvec::ArrayVec;
 use snd_disk::Disk;
-use snd_fields::Order;
-use snd_layout::{
-    Field, Kind, Layout, OpenError, Params, PieceList, put_all, put_number, write_whole,
-};
+use snd_fields::{Order, put_all, put_number};
+use snd_layout::{Field, Kind, Layout, OpenError, Params, PieceList, write_whole};
 use std::alloc::Global;
 
 /// The place of the data.

@@ -11,8 +11,8 @@ ghost use Rattle.snd_layout.specs.declared.kind.Kind.TheVariants.{Svx};
 ghost use Rattle.snd_svx.specs.Values.{closing, form_size, inner_value, outer_value, side_value};
 
 use arrayvec::ArrayVec;
-use snd_fields::Order;
-use snd_layout::{Layout, put_number};
+use snd_fields::{Order, put_number};
+use snd_layout::Layout;
 
 /// The greatest place at which data may end: the size of the FORM, in which the first 8 bytes are not
 /// counted, is even and has 32 bits.

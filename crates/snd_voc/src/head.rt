@@ -10,7 +10,8 @@ ghost use Rattle.snd_voc.specs.Written.{bits_of, code_of, made_shape, voc_head};
 
 use arrayvec::ArrayVec;
 use snd_disk::Disk;
-use snd_layout::{Codec, Field, Kind, Layout, OpenError, Params, lay_made, put_all};
+use snd_fields::put_all;
+use snd_layout::{Codec, Field, Kind, Layout, OpenError, Params, lay_made};
 use std::alloc::Global;
 
 // The bits of a sample.

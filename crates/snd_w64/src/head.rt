@@ -14,9 +14,8 @@ use crate::put::{put_chunk, put_head};
 use crate::walk::ID_END;
 use arrayvec::ArrayVec;
 use snd_disk::Disk;
-use snd_layout::{
-    Codec, Field, Kind, Layout, OpenError, Params, lay_made, put_all, put_fmt, put_long,
-};
+use snd_fields::{put_all, put_long};
+use snd_layout::{Codec, Field, Kind, Layout, OpenError, Params, lay_made, put_fmt};
 use std::alloc::Global;
 
 /// The last 12 bytes of the identifier `riff`.

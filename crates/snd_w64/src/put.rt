@@ -7,7 +7,7 @@ ghost use Rattle.snd_w64.specs.Written.{chunk_bytes, head_bytes};
 use crate::count::raised;
 use crate::walk::ID_END;
 use arrayvec::ArrayVec;
-use snd_layout::{put_all, put_long};
+use snd_fields::{put_all, put_long};
 
 /// The head of a chunk, which its size counts.
 pub(crate) const HEAD_SIZE: u64 = 24;

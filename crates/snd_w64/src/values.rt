@@ -14,7 +14,8 @@ use crate::count::raised;
 use crate::put::{HEAD_SIZE, put_zeros};
 use crate::walk::ID_END;
 use arrayvec::ArrayVec;
-use snd_layout::{Layout, Params, put_all, put_long};
+use snd_fields::{put_all, put_long};
+use snd_layout::{Layout, Params};
 
 /// The bytes of the field that holds the count of a `fact`, the identifier of the data chunk and the data
 /// size.

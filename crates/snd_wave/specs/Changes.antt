@@ -1,11 +1,11 @@
 -- What changes in the head of a file that is made as a piece is put.
 use Rattle.std.specs.Prelude.{◌≡◌, ℕ, ◌+◌, ◌^◌, ◌<◌, ◌≤◌, List, ◌++◌, drop, length, take}
-use Rattle.snd_disk.specs.Bytes.{over}
 use Rattle.snd_disk.specs.State.{IsMeant, State}
 use Rattle.snd_chunks.specs.Written.{NewChunk, chunk_bytes, chunks_bytes}
 use Rattle.snd_fields.specs.declared.field.Order.{Order}
 use Rattle.snd_layout.specs.declared.piece.Piece.{Piece}
 use Rattle.snd_chunks.specs.Heads.{with_piece}
+use Rattle.snd_chunks.specs.Replaced.{replaced}
 use Rattle.snd_wave.specs.Relaid.{AreStanding, standing}
 use Rattle.snd_wave.specs.declared.plan.Plan.{Plan}
 use Rattle.snd_wave.specs.declared.rest.Closing.{Closing}
@@ -26,13 +26,6 @@ Plans first old place piece plan = (order : Order) (pieces : List NewChunk) → 
 -- what stands from the piece on then, of a file b
 abbrev pub rest_from : Plan → Closing → NewChunk → List ℕ → List ℕ
 rest_from plan closing piece b = chunk_bytes closing.order piece ++ take plan.count (drop plan.from b) ++ closing.bytes.items
-
--- b with these bytes from a place on, and with the size of the whole at another
-abbrev pub replaced : ℕ → List ℕ → ℕ → List ℕ → List ℕ → List ℕ
-replaced at bytes size_at size b = over (over (take at b) at bytes) size_at size
-
-abbrev pub IsReplaced : ℕ → List ℕ → ℕ → List ℕ → State → State → Type 0
-IsReplaced at bytes size_at size old new = IsMeant (at + length bytes) (replaced at bytes size_at size) old new
 
 -- b as it is changed
 abbrev pub changed : Plan → Closing → NewChunk → List ℕ → List ℕ

@@ -8,7 +8,7 @@ ghost use Rattle.snd_chunks.specs.Heads.{CountsPutting, new_piece};
 
 use crate::plan::Plan;
 use crate::rest::{Closing, rest_of};
-use crate::steps::replace_from;
+use snd_chunks::replace_from;
 use snd_disk::Disk;
 use snd_fields::Id4;
 use snd_layout::PieceError;

@@ -12,8 +12,8 @@ use crate::head::{has_fact, inner_of, plain_start, put_fact};
 use crate::reserve::lead_size;
 use crate::rest::Closing;
 use arrayvec::ArrayVec;
-use snd_fields::Order;
-use snd_layout::{Field, Params, one_sector, put_all, put_number};
+use snd_fields::{Order, put_all, put_number};
+use snd_layout::{Field, Params, one_sector};
 
 /// The head of a chunk: its identifier and its size.
 const HEAD_SIZE: u64 = 8;

@@ -18,11 +18,8 @@ use crate::reserve::{RESERVE_SIZE, lead_size};
 use arrayvec::ArrayVec;
 use snd_chunks::put_chunk;
 use snd_disk::{Disk, Step};
-use snd_fields::Order;
-use snd_layout::{
-    Codec, Field, Kind, Layout, OpenError, Params, PieceList, put_all, put_fmt, put_number,
-    write_whole,
-};
+use snd_fields::{Order, put_all, put_number};
+use snd_layout::{Codec, Field, Kind, Layout, OpenError, Params, PieceList, put_fmt, write_whole};
 use std::alloc::Global;
 
 pub(crate) fn has_fact(params: &Params) -> bool

@@ -17,7 +17,6 @@ mod reads;
 mod reserve;
 mod rest;
 mod start;
-mod steps;
 mod values;
 
 pub use change::change_head;

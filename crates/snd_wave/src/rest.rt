@@ -9,8 +9,8 @@ ghost use Rattle.snd_chunks.specs.Heads.{CountsPutting, new_piece};
 use crate::plan::Plan;
 use arrayvec::ArrayVec;
 use snd_disk::{Disk, fill};
-use snd_fields::{Id4, Order};
-use snd_layout::{PieceError, put_all, put_number};
+use snd_fields::{Id4, Order, put_all, put_number};
+use snd_layout::PieceError;
 use std::alloc::{AllocError, Global};
 
 /// How a head is closed behind its pieces, and the size of the whole that it says then.

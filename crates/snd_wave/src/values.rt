@@ -12,8 +12,8 @@ ghost use Rattle.snd_layout.specs.declared.kind.Kind.TheVariants.{Wave};
 ghost use Rattle.snd_wave.specs.Values.{closing, inner_value, outer_value, riff_size, side_value};
 
 use arrayvec::ArrayVec;
-use snd_fields::Order;
-use snd_layout::{Layout, Params, put_all, put_number};
+use snd_fields::{Order, put_all, put_number};
+use snd_layout::{Layout, Params};
 
 /// The bytes of the field that holds the count of a `fact`, the identifier of the data chunk and the data
 /// size.

@@ -3,7 +3,7 @@
 ghost use Rattle.std.specs.Prelude.{◌≡◌, ◌+◌, ◌<◌, ◌≤◌, ◌^◌, OnOk, is_some, length};
 ghost use Rattle.snd_disk.specs.Device.{CountsOn, GoesOnFrom, WritesAtMost};
 ghost use Rattle.snd_disk.specs.State.{IsCut, IsWritten};
-ghost use Rattle.snd_wave.specs.Changes.{IsReplaced};
+ghost use Rattle.snd_chunks.specs.Replaced.{IsReplaced};
 
 use snd_disk::{Disk, Step};
 
@@ -42,7 +42,7 @@ fn put_bytes<D: Disk>(disk: &mut D, at: u64, bytes: &[u8]) -> Result<(), Step>
 }
 
 /// Replaces what a disk holds from a place on by these bytes, and puts the size of the whole at another.
-pub(crate) fn replace_from<D: Disk>(
+pub fn replace_from<D: Disk>(
     disk: &mut D,
     at: u64,
     bytes: &[u8],

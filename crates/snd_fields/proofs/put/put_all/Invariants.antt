@@ -1,6 +1,6 @@
 use Rattle.std.proofs.Common.{◌≡◌, ◌+◌, ◌++◌, take}
 use Rattle.arrayvec.specs.ArrayVec.{array_vec_len}
-use Rattle.snd_layout.proofs.put.put_all.Given as goal
+use Rattle.snd_fields.proofs.put.put_all.Given as goal
 
 abbrev pub invariant-loop-byte : goal.invariant-loop-byte
 invariant-loop-byte g l =

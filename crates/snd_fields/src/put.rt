@@ -5,8 +5,8 @@ ghost use Rattle.arrayvec.specs.ArrayVec.{array_vec_len};
 ghost use Rattle.snd_fields.specs.Field.{bytes_of};
 ghost use Rattle.snd_fields.specs.declared.field.Order.TheVariants.{Little};
 
+use crate::field::Order;
 use arrayvec::ArrayVec;
-use snd_fields::Order;
 
 /// Puts bytes behind the others.
 pub fn put_all<const N: usize>(into: &mut ArrayVec<u8, N>, bytes: &[u8])
