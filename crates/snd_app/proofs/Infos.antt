@@ -5,7 +5,7 @@ use Rattle.snd_disk.specs.Shelf.{Files, KeepsFiles, SameFiles, ShelfState}
 use Rattle.snd_disk.specs.Shelves.{KeepsFileImages}
 use Rattle.snd_disk.specs.State.{Rises}
 use Rattle.snd_disk.specs.Streams.{AppendsFront}
-use Rattle.snd_disk.proofs.Chains.{keeps_images_then}
+use Rattle.snd_disk.proofs.Public.{keeps_images_then}
 use Rattle.snd_app.specs.Look.{OnlyLooks}
 use Rattle.snd_app.specs.declared.look.Found.{Found}
 use Rattle.snd_app.specs.Outcome.{found_in, info, is_refused, outcome_of_info, outcome_of_infos}

@@ -3,8 +3,7 @@ use Rattle.std.proofs.Common.{◌≡◌, inl, inr, ℕ, List, Option, sym, ◌�
 use Rattle.std.proofs.lemmas.Bool.{cases_Bool}
 use Rattle.std.specs.Prelude.{is_none}
 use Rattle.std.specs.Str.{bytes_eq}
-use Rattle.snd_disk.proofs.Chains.{goes_on_kept}
-use Rattle.snd_disk.proofs.Names.{same_name}
+use Rattle.snd_disk.proofs.Public.{goes_on_kept, same_name}
 use Rattle.snd_disk.specs.Shelf.{KeepsFiles, ShelfState}
 use Rattle.snd_disk.specs.Shelves.{KeepsFileImages}
 use Rattle.snd_disk.specs.State.{GoesOn}

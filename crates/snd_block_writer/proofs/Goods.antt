@@ -3,7 +3,7 @@ use Rattle.std.proofs.Common.{◌≡◌, ◌⊎◌, ◌∙◌, refl, sym, ap, su
 use Rattle.std.specs.Prelude.{◌==◌, IsTrue, nat_le}
 use Rattle.std.proofs.lemmas.Bool.{and_parts, cases_Bool, eqb-true, le-ltb, leb-true}
 use Rattle.std.proofs.lemmas.List.{length-drop}
-use Rattle.snd_ima_adpcm.proofs.Lemmas.{length-firsts, length-ima_code_bytes, length-seconds}
+use Rattle.snd_ima_adpcm.proofs.Public.{length-firsts, length-ima_code_bytes, length-seconds}
 use Rattle.snd_ima_adpcm.specs.Frames.{firsts, high_half_first, low_half_first, of_channel, seconds}
 use Rattle.snd_ima_adpcm.specs.Ima.{Indices, ima_block, ima_bytes, ima_channel, ima_code, ima_code_bytes, ima_first, ima_index, ima_index_after, ima_next_index, ima_next_indices, ima_predictor, ima_samples, ima_start_index, is_bad_ima_block}
 use Rattle.snd_ms_adpcm.specs.Microsoft.{is_bad_ms_block, least_number, ms_block, ms_bytes, ms_channel, ms_delta, ms_number_for, ms_sample, ms_samples, ms_start_error}

@@ -4,8 +4,8 @@ use Rattle.std.proofs.Math.Nat.{div-add-mod, div-div-eq-div-mul, div-eq_of_lt-le
 use Rattle.std.proofs.lemmas.Nat.{le-div}
 use Rattle.std.proofs.lemmas.List.{length-append, length-take-le, places, same_lists, take-take, take_all, take_at}
 use Rattle.std.proofs.lemmas.List.Elements.{All-nil}
-use Rattle.snd_ima_adpcm.proofs.Lemmas.{ima_data_bytes}
-use Rattle.snd_ms_adpcm.proofs.Lemmas.{ms_data_bytes}
+use Rattle.snd_ima_adpcm.proofs.Public.{ima_data_bytes}
+use Rattle.snd_ms_adpcm.proofs.Public.{ms_data_bytes}
 use Rattle.snd_ima_adpcm.specs.Blocks.{filled}
 use Rattle.snd_ima_adpcm.specs.Frames.{Is16Bit}
 use Rattle.snd_disk.specs.Bytes.{over}

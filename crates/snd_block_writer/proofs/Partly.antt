@@ -2,8 +2,7 @@
 use Rattle.std.proofs.Common.{◌≡◌, ◌∙◌, sym, subst, inl, inr, ⊎_elim, ℕ, ◌+◌, ◌-◌, ◌<◌, ◌≤◌, List, [], ◌∷◌, ◌++◌, length, get_or, Some, arith}
 use Rattle.std.proofs.lemmas.Bool.{cases_lt}
 use Rattle.std.proofs.lemmas.List.{length-append, places}
-use Rattle.snd_disk.proofs.Lists.{length-over}
-use Rattle.snd_disk.proofs.Sources.{byte_from}
+use Rattle.snd_disk.proofs.Public.{length-over, byte_from}
 use Rattle.snd_disk.specs.Bytes.{over}
 use Rattle.snd_disk.specs.Device.{Tells}
 use Rattle.snd_disk.specs.Runs.{ComesFrom, HasAt, IsMade, IsSource, Since}

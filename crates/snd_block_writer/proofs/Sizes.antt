@@ -3,7 +3,7 @@ use Rattle.std.proofs.Common.{◌≡◌, ◌⊎◌, ◌∙◌, refl, sym, ap, su
 use Rattle.std.specs.Prelude.{◌==◌, IsTrue, nat_le}
 use Rattle.std.proofs.lemmas.Bool.{and_parts, eqb-true, leb-true}
 use Rattle.std.proofs.lemmas.List.{length-append, length-drop}
-use Rattle.snd_ima_adpcm.proofs.Lemmas.{length-bytes_low, length-firsts, length-ima_codes, length-seconds}
+use Rattle.snd_ima_adpcm.proofs.Public.{length-bytes_low, length-firsts, length-ima_codes, length-seconds}
 use Rattle.snd_ima_adpcm.specs.Frames.{alternating, bytes_16, bytes_high_half_first, firsts, fours, seconds}
 use Rattle.snd_ima_adpcm.specs.Ima.{Indices, ima_body, ima_bytes, ima_codes, ima_head}
 use Rattle.snd_ms_adpcm.specs.Microsoft.{ms_bytes, ms_code, ms_codes, ms_codes_for, ms_delta, ms_delta_for, ms_newer_of, ms_number_for, ms_older_of, ms_sample}

@@ -8,8 +8,8 @@ use Rattle.std.proofs.lemmas.List.{length-drop, length-take, length-take-le, tak
 use Rattle.std.proofs.lemmas.List.Folds.{list_any-append}
 use Rattle.snd_ima_adpcm.specs.Ima.{ima_numbers}
 use Rattle.snd_ms_adpcm.specs.Microsoft.{ms_numbers}
-use Rattle.snd_ima_adpcm.proofs.Lemmas.{count_ima_block}
-use Rattle.snd_ms_adpcm.proofs.Lemmas.{count_ms_block}
+use Rattle.snd_ima_adpcm.proofs.Public.{count_ima_block}
+use Rattle.snd_ms_adpcm.proofs.Public.{count_ms_block}
 use Rattle.snd_fields.specs.Blocks.{is_ima_align, is_ms_align}
 use Rattle.snd_layout.specs.declared.codec.Codec.{Codec}
 use Rattle.snd_layout.specs.declared.codec.Codec.TheVariants.{Ima, Ms}

@@ -4,7 +4,7 @@ use Rattle.std.proofs.lemmas.List.{append-nil, places, same_lists, take-append-d
 use Rattle.snd_chunks.proofs.WrittenChunks.{has_part}
 use Rattle.snd_disk.specs.Bytes.{over}
 use Rattle.snd_disk.specs.Runs.{HasAt}
-use Rattle.snd_disk.proofs.Lists.{length-over}
+use Rattle.snd_disk.proofs.Public.{length-over}
 use Rattle.snd_fields.specs.Field.{with_field}
 use Rattle.snd_layout.specs.declared.field.Field.{Field}
 use Rattle.snd_layout.specs.Filled.{over_field}

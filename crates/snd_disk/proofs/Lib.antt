@@ -1,6 +1,6 @@
 pub mod Chains
 pub mod Fields
-pub mod Lemmas
+pub mod Public
 pub mod Lists
 pub mod Names
 pub mod Returned

@@ -1,7 +1,7 @@
 -- Names that are taken out, as tests of a name.
 use Rattle.std.proofs.Common.{◌≡◌, inl, inr, ℕ, List, [], ◌∷◌, ◌++◌, Bool, true, false, not, cond, filter, refl, sym, ◌∙◌, ap, subst}
 use Rattle.std.proofs.lemmas.Bool.{cases_Bool, false≢true}
-use Rattle.snd_disk.proofs.Lemmas.{same_name}
+use Rattle.snd_disk.proofs.Public.{same_name}
 use Rattle.std.specs.String.{string_bytes}
 use Rattle.std.specs.Str.{bytes_eq}
 use Rattle.snd_files.specs.declared.folder.Taken.{Taken}

@@ -8,7 +8,7 @@ use Rattle.snd_words.specs.declared.generate.Generation.{Generation}
 use Rattle.snd_generate.specs.declared.generating.Summary.{Summary}
 use Rattle.snd_generate.specs.Edited.{file_of, generated, summary_of}
 use Rattle.snd_generate.specs.Generating.{Generates}
-use Rattle.snd_disk.proofs.Chains.{goes_on_then}
+use Rattle.snd_disk.proofs.Public.{goes_on_then}
 use Rattle.snd_disk.specs.Device.{Tells}
 use Rattle.snd_disk.specs.State.{State}
 use Rattle.snd_disk.specs.declared.disk.Disk.{Ghosts}

@@ -7,7 +7,7 @@ use Rattle.snd_container.specs.HeadLaws.{plain_wave}
 use Rattle.snd_container.specs.Laws.{FileSays}
 use Rattle.snd_container.specs.Sound.{fixed_of, layout_of}
 use Rattle.snd_container.specs.Values.{any, closing, inner_value, outer_value, side_value}
-use Rattle.snd_disk.proofs.Lists.{length-over}
+use Rattle.snd_disk.proofs.Public.{length-over}
 use Rattle.snd_disk.specs.Bytes.{over}
 use Rattle.snd_layout.specs.Container.{SameValues}
 use Rattle.snd_layout.specs.Filled.{over_field}

@@ -1,7 +1,7 @@
 -- Bytes put over others.
 use Rattle.std.proofs.Common.{◌≡◌, ◌∙◌, ap, inl, inr, ⊎_elim, ℕ, ◌+◌, ◌≤◌, List, ◌++◌, length, take, drop, arith}
 use Rattle.std.proofs.lemmas.List.{places, same_lists}
-use Rattle.snd_disk.proofs.Lists.{length-over}
+use Rattle.snd_disk.proofs.Public.{length-over}
 use Rattle.snd_disk.specs.Bytes.{over}
 use Rattle.snd_disk.specs.Runs.{AreApart}
 

@@ -4,7 +4,7 @@ pub mod CodedBytes
 pub mod Coding
 pub mod ImaCodes
 pub mod ImaWritten
-pub mod Lemmas
+pub mod Public
 pub mod Numbers
 pub mod Pairs
 pub mod Pushes

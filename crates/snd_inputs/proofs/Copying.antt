@@ -1,7 +1,7 @@
 -- A file that is read while another is made of it.
 use Rattle.std.proofs.Common.{◌≡◌, ◌∙◌, ap, sym, refl, subst, inl, inr, ⊎_elim, ℕ, ◌≤◌, drop, true, None, Result, Ok, Err, arith}
 use Rattle.snd_blocks.specs.Frames.{has_bad}
-use Rattle.snd_disk.proofs.Chains.{goes_on_then, only_reads_then}
+use Rattle.snd_disk.proofs.Public.{goes_on_then, only_reads_then}
 use Rattle.snd_disk.specs.declared.disk.Disk.{Ghosts}
 use Rattle.snd_disk.specs.State.{Rises}
 use Rattle.snd_modes.specs.declared.handle.File.{File}

@@ -1,7 +1,7 @@
 -- A file that was open to be read and came back: what was done meanwhile is done, and the shelf is as that left it.
 use Rattle.std.proofs.Common.{◌≡◌, ◌∙◌, ap, ℕ, List, Bool, cond, false, true, inl, inr, Result, Ok, Err, refl, subst, sym, arith}
 use Rattle.std.specs.Str.{bytes_eq}
-use Rattle.snd_disk.proofs.Chains.{only_reads_then}
+use Rattle.snd_disk.proofs.Public.{only_reads_then}
 use Rattle.snd_disk.specs.declared.disk.Disk.{Ghosts}
 use Rattle.snd_disk.specs.declared.shelf.Shelf.{Ghosts as ShelfMeaning}
 use Rattle.snd_disk.specs.Device.{OnlyReadsOn}

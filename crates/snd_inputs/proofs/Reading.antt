@@ -1,8 +1,6 @@
 -- A shelf of which files are only read: where none was handed out, where one came back as it was, and where one thing follows another.
 use Rattle.std.proofs.Common.{◌≡◌, ℕ, List, [], false, true, None, Some, inl, inr, ◌⊎◌, ◌∙◌, refl, arith, Bool, cond, ap}
-use Rattle.snd_disk.proofs.Chains.{keeps_images_then}
-use Rattle.snd_disk.proofs.Names.{same_bytes}
-use Rattle.snd_disk.proofs.Returned.{returned_files, returned_images, returned_out, stayed_images}
+use Rattle.snd_disk.proofs.Public.{keeps_images_then, same_bytes, returned_files, returned_images, returned_out, stayed_images}
 use Rattle.snd_disk.specs.declared.disk.Disk.{Ghosts as DiskMeaning}
 use Rattle.snd_disk.specs.declared.shelf.Shelf.{Ghosts as ShelfMeaning}
 use Rattle.snd_disk.specs.Device.{OnlyReadsOn}

@@ -5,7 +5,7 @@ use Rattle.std.proofs.lemmas.Bool.{cases_lt}
 use Rattle.std.specs.String.{string_bytes}
 use Rattle.std.specs.declared.alloc.Global.{Global}
 use Rattle.snd_disk.specs.Bytes.{Mix, over}
-use Rattle.snd_disk.proofs.Lemmas.{length-over}
+use Rattle.snd_disk.proofs.Public.{length-over}
 use Rattle.snd_memory.specs.Mixed.{mix_first, mix_partly}
 use Rattle.snd_disk.specs.Device.{IsUnchanged}
 use Rattle.snd_disk.specs.State.{Mixes, MixesAll, Passes, SameImages, KeepsImages, IsBetween}

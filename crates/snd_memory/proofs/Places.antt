@@ -7,7 +7,7 @@ use Rattle.std.specs.Str.{bytes_eq}
 use Rattle.snd_memory.specs.declared.memory.MemoryDisk.{MemoryDisk}
 use Rattle.snd_memory.specs.MemoryShelf.{place_of, entry_at, Changes}
 use Rattle.snd_memory.specs.declared.memory_shelf.Entry.{Entry}
-use Rattle.snd_disk.proofs.Lemmas.{same_name, same_bytes}
+use Rattle.snd_disk.proofs.Public.{same_name, same_bytes}
 
 -- the place is that of an entry of this name
 pub record StandsAt (es : List Entry) (n : List ℕ) (i : ℕ) (e : Entry) : Type 0 where

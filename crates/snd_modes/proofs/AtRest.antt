@@ -6,7 +6,7 @@ use Rattle.snd_disk.specs.declared.disk.Disk.{Ghosts}
 use Rattle.snd_layout.specs.Shape.{Shape}
 use Rattle.snd_patch.proofs.Moments.{leaves_weaker}
 use Rattle.snd_patch.specs.Images.{LeavesEach}
-use Rattle.snd_disk.proofs.RunsOfCalls.{same_some}
+use Rattle.snd_disk.proofs.Public.{same_some}
 use Rattle.snd_modes.specs.declared.handle.File.{File}
 use Rattle.snd_modes.specs.declared.mode.Mode.{Ghosts as ModeGhosts}
 use Rattle.snd_modes.specs.Editing.{Editing}

@@ -13,8 +13,7 @@ use Rattle.snd_block_writer.specs.Puts.{IsPartly, LeavesPartly, Puts}
 use Rattle.snd_block_writer.specs.Writing.{StandsFor, Writing, given_more, more_bytes, next_place, padding}
 use Rattle.snd_blocks.specs.Calls.{AreBlocks}
 use Rattle.snd_container.specs.Values.{closed_end, closing}
-use Rattle.snd_disk.proofs.Lists.{length-over}
-use Rattle.snd_disk.proofs.RunsOfCalls.{same_some}
+use Rattle.snd_disk.proofs.Public.{length-over, same_some}
 use Rattle.snd_disk.specs.Device.{IsStable, Tells}
 use Rattle.snd_disk.specs.Runs.{HasAt, IsMade}
 use Rattle.snd_disk.specs.declared.disk.Disk.{Ghosts}

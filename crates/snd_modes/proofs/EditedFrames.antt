@@ -4,7 +4,7 @@ use Rattle.std.specs.Prelude.{is_none, nat_lt}
 use Rattle.std.proofs.Math.Nat.{mul-div_cancel_left, mul-le-mul_left}
 use Rattle.std.proofs.lemmas.Bool.{cases_lt, cond_both}
 use Rattle.std.proofs.lemmas.List.{length-drop, length-map, length-take-le, places}
-use Rattle.snd_disk.proofs.Lists.{length-over}
+use Rattle.snd_disk.proofs.Public.{length-over}
 use Rattle.snd_layout.specs.Params.{Parameters, data_bytes}
 use Rattle.snd_layout.specs.Shape.{KeepsRule, Shape, end}
 use Rattle.snd_blocks.specs.Sound.{frames_in}

@@ -7,7 +7,7 @@ use Rattle.snd_container.proofs.EveryKind.{declares, outside, voice}
 use Rattle.snd_container.specs.Laws.{FileSays}
 use Rattle.snd_container.specs.Sound.{kept_numbers}
 use Rattle.snd_container.specs.Values.{closed_end, closing}
-use Rattle.snd_disk.proofs.Lists.{length-over}
+use Rattle.snd_disk.proofs.Public.{length-over}
 use Rattle.snd_layout.specs.Params.{AreParams, data_bytes}
 use Rattle.snd_layout.specs.Shape.{KeepsRule, Shape, end, room}
 use Rattle.snd_layout.specs.declared.kind.Kind.TheVariants.{Voc}

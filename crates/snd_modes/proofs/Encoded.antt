@@ -5,7 +5,7 @@ use Rattle.std.specs.Prelude.{is_none, is_some}
 use Rattle.std.proofs.Math.Nat.{mul-div_left, mul-le-mul_right, mul-mod_left, zero-div}
 use Rattle.std.proofs.lemmas.Bool.{cases_Bool, cases_lt}
 use Rattle.std.proofs.lemmas.List.{length-drop, nil_from_length, take_all}
-use Rattle.snd_disk.proofs.Lists.{length-over}
+use Rattle.snd_disk.proofs.Public.{length-over}
 use Rattle.snd_disk.specs.Runs.{HasAt}
 use Rattle.snd_blocks.specs.Calls.{AreBlocks, HasForm}
 use Rattle.snd_blocks.specs.Sound.{frames_in}

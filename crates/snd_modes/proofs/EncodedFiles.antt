@@ -11,7 +11,7 @@ use Rattle.snd_blocks.specs.Sound.{frames_in}
 use Rattle.snd_block_writer.proofs.Kept.{all_are_kept, coded_size, kept_is_read}
 use Rattle.snd_block_writer.specs.Coded.{coded, kept, whole}
 use Rattle.snd_container.specs.Laws.{FileSays}
-use Rattle.snd_disk.proofs.Lists.{length-over}
+use Rattle.snd_disk.proofs.Public.{length-over}
 use Rattle.snd_layout.specs.Blocks.{block_frames, is_adpcm}
 use Rattle.snd_layout.specs.Container.{HasRoomFor, KeepsHead}
 use Rattle.snd_layout.specs.Params.{data_bytes}

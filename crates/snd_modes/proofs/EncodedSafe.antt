@@ -15,7 +15,7 @@ use Rattle.snd_block_writer.specs.Writing.{given, more_bytes, padding}
 use Rattle.snd_container.proofs.EveryKind as every
 use Rattle.snd_container.specs.Laws.{FileSays}
 use Rattle.snd_container.specs.Values.{closed_end, declared_end, inner_value, outer_reach, outer_value}
-use Rattle.snd_disk.proofs.Lists.{length-over}
+use Rattle.snd_disk.proofs.Public.{length-over}
 use Rattle.snd_fields.specs.Laws.{IsByte}
 use Rattle.snd_layout.specs.Container.{KeepsHead}
 use Rattle.snd_layout.specs.Params.{data_bytes}

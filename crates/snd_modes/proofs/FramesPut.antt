@@ -3,8 +3,7 @@ use Rattle.std.proofs.Common.{◌≡◌, ◌⊎◌, ◌∙◌, sym, subst, refl,
 use Rattle.std.proofs.lemmas.Bool.{cases_Bool, cond_both}
 use Rattle.std.specs.Prelude.{nat_lt}
 use Rattle.snd_container.specs.Values.{closing}
-use Rattle.snd_disk.proofs.Lists.{length-over}
-use Rattle.snd_disk.proofs.RunsOfCalls.{same_some}
+use Rattle.snd_disk.proofs.Public.{length-over, same_some}
 use Rattle.snd_disk.specs.Device.{IsStable, Tells}
 use Rattle.snd_disk.specs.Runs.{HasAt}
 use Rattle.snd_disk.specs.declared.disk.Disk.{Ghosts}

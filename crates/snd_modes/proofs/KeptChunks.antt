@@ -4,7 +4,7 @@ use Rattle.std.specs.Prelude.{Bool, nat_lt}
 use Rattle.std.proofs.lemmas.Bool.{cond_both}
 use Rattle.std.proofs.lemmas.List.Elements.{All-cons, All-nil}
 use Rattle.snd_container.specs.Sound.{Kept, kept_of}
-use Rattle.snd_disk.proofs.RunsOfCalls.{same_some}
+use Rattle.snd_disk.proofs.Public.{same_some}
 use Rattle.snd_disk.specs.Device.{Tells}
 use Rattle.snd_disk.specs.declared.disk.Disk.{Ghosts}
 use Rattle.snd_layout.specs.Shape.{Shape}

@@ -2,7 +2,7 @@
 use Rattle.std.proofs.Common.{◌≡◌, ◌⊎◌, ◌∙◌, ap, sym, subst, inl, inr, ⊎_elim, ℕ, ◌<◌, ◌≤◌, Bool, true, false, cond, List, [], All, Ok}
 use Rattle.std.specs.Prelude.{Result}
 use Rattle.std.proofs.lemmas.Bool.{cases_Bool, lt-ltb}
-use Rattle.snd_disk.proofs.RunsOfCalls.{same_some}
+use Rattle.snd_disk.proofs.Public.{same_some}
 use Rattle.snd_disk.specs.Device.{IsStable, OnlyReadsOn}
 use Rattle.snd_disk.specs.Runs.{IsMade}
 use Rattle.snd_disk.specs.declared.disk.Disk.{Ghosts}

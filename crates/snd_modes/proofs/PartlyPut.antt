@@ -2,8 +2,7 @@
 use Rattle.std.proofs.Common.{◌≡◌, ◌∙◌, ap, sym, subst, inl, inr, ⊎_elim, ℕ, ◌+◌, ◌-◌, ◌*◌, ◌<◌, ◌≤◌, ℤ, List, [], ◌∷◌, ◌++◌, length, take, drop, get_or, Some, arith}
 use Rattle.std.proofs.lemmas.Bool.{cases_lt}
 use Rattle.std.proofs.lemmas.List.{length-drop, length-take-le, places, same_lists}
-use Rattle.snd_disk.proofs.Lists.{length-over}
-use Rattle.snd_disk.proofs.Sources.{byte_from}
+use Rattle.snd_disk.proofs.Public.{length-over, byte_from}
 use Rattle.snd_disk.specs.Bytes.{over}
 use Rattle.snd_disk.specs.Device.{Tells}
 use Rattle.snd_disk.specs.Runs.{ComesFrom, HasAt, IsMade, IsSource, Since}

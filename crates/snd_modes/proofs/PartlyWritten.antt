@@ -5,8 +5,7 @@ use Rattle.std.proofs.lemmas.List.{length-append, places}
 use Rattle.std.proofs.lemmas.List.Elements.{All-head, All-tail}
 use Rattle.std.specs.Prelude.{nat_lt}
 use Rattle.snd_container.specs.Values.{closing}
-use Rattle.snd_disk.proofs.Lists.{length-over}
-use Rattle.snd_disk.proofs.Sources.{byte_from}
+use Rattle.snd_disk.proofs.Public.{length-over, byte_from}
 use Rattle.snd_disk.specs.Bytes.{over}
 use Rattle.snd_disk.specs.Runs.{ComesFrom, IsMade, IsSource}
 use Rattle.snd_layout.specs.Shape.{end}

@@ -7,7 +7,7 @@ use Rattle.snd_disk.specs.Bytes.{over}
 use Rattle.snd_disk.specs.Device.{GoesOnFrom, WritesAtMost}
 use Rattle.snd_disk.specs.Runs.{IsBeside}
 use Rattle.snd_disk.specs.State.{IsBetween, IsMeant, IsWritten, State}
-use Rattle.snd_disk.proofs.Chains.{goes_on_then}
+use Rattle.snd_disk.proofs.Public.{goes_on_then}
 use Rattle.snd_patch.proofs.Bytes.{mix_beside, over_beside}
 use Rattle.snd_patch.proofs.Updating.{told_between, told_mapped}
 use Rattle.snd_container.specs.Fixed.{byte_count, samples_bytes}

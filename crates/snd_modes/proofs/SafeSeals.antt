@@ -4,7 +4,7 @@ use Rattle.std.proofs.lemmas.Bool.{cases_lt, lt-ltb}
 use Rattle.snd_blocks.specs.Sound.{decode}
 use Rattle.snd_container.proofs.EveryKind.{voice}
 use Rattle.snd_container.specs.Values.{closed_end, closing, declared_end, inner_value, outer_reach, outer_value}
-use Rattle.snd_disk.proofs.Lists.{length-over}
+use Rattle.snd_disk.proofs.Public.{length-over}
 use Rattle.snd_layout.specs.Container.{KeepsHead, is_in_fields}
 use Rattle.snd_layout.specs.Params.{data_bytes}
 use Rattle.snd_layout.specs.Shape.{Shape, end}

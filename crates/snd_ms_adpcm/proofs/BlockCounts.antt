@@ -5,7 +5,7 @@ use Rattle.std.proofs.lemmas.Bool.{and_parts, leb-true}
 use Rattle.std.proofs.lemmas.List.{length-drop}
 use Rattle.snd_fields.specs.Blocks.{is_ms_align}
 use Rattle.snd_ima_adpcm.specs.Frames.{high_half_first, of_channel}
-use Rattle.snd_ima_adpcm.proofs.Lemmas.{length-alternating, length-firsts, length-high_half_first, length-seconds}
+use Rattle.snd_ima_adpcm.proofs.Public.{length-alternating, length-firsts, length-high_half_first, length-seconds}
 use Rattle.snd_ms_adpcm.specs.Microsoft.{ms_block, ms_channel, ms_delta, ms_newer, ms_number, ms_numbers, ms_older, ms_sample, ms_samples, ms_start_delta, newer_weight, older_weight}
 
 length-ms_samples : (newer_by older_by newer older delta : ℤ) (codes : List ℕ) → length (ms_samples newer_by older_by newer older delta codes) ≡ length codes

@@ -8,7 +8,7 @@ use Rattle.std.proofs.lemmas.List.{length-take, get_or_past}
 use Rattle.std.proofs.lemmas.List.Elements.{All-append, All-cons, All-drop, All-head, All-nil, All-tail, All-take}
 use Rattle.snd_fields.specs.Laws.{IsByte}
 use Rattle.snd_ima_adpcm.specs.Frames.{Is16Bit, alternating, bytes_16, bytes_high_half_first, clamp, clamp_16, firsts, floor_div, in_frames, in_turn, of_channel, seconds}
-use Rattle.snd_ima_adpcm.proofs.Lemmas.{All-firsts, All-seconds, IsCode, abs_within, alternating_all, clamp_least, clamp_most, high_first_bytes, list_bytes, number_bytes, word_bytes, zero_has_16}
+use Rattle.snd_ima_adpcm.proofs.Public.{All-firsts, All-seconds, IsCode, abs_within, alternating_all, clamp_least, clamp_most, high_first_bytes, list_bytes, number_bytes, word_bytes, zero_has_16}
 use Rattle.snd_ms_adpcm.specs.Laws.{MsDataAreBytes, ms_rule}
 use Rattle.snd_ms_adpcm.specs.Microsoft.{code_of_number, least_number, ms_bytes, ms_code, ms_codes, ms_codes_for, ms_delta, ms_delta_for, ms_error, ms_error_sum, ms_newer_of, ms_number_for, ms_numbers, ms_older_of, ms_prediction, ms_sample, ms_start_error, newer_weight, older_weight}
 

@@ -8,7 +8,7 @@ use Rattle.snd_ima_adpcm.specs.Frames.{Is16Bit, alternating, clamp, clamp_16, fi
 use Rattle.snd_ms_adpcm.specs.Microsoft.{adaptation, is_bad_ms_block, ms_block, ms_delta, ms_prediction, ms_sample, signed_code}
 use Rattle.snd_ms_adpcm.specs.States.{ms_frames_from, ms_samples_from}
 use Rattle.snd_ms_adpcm.proofs.MsCodes.{rest_of, rest_of-code, samples_from_range}
-use Rattle.snd_ima_adpcm.proofs.Lemmas.{all_put, alternating_all, two_put}
+use Rattle.snd_ima_adpcm.proofs.Public.{all_put, alternating_all, two_put}
 
 -- a state that moves by what a code stands for follows by that code
 pub follows : (s t : MsState) (code : ℕ) (deltas factor : ℤ) → deltas ≡ signed_code code → factor ≡ adaptation code

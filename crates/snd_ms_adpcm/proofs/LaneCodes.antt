@@ -12,7 +12,7 @@ use Rattle.snd_ms_adpcm.specs.Laws.{ms_rule}
 use Rattle.snd_ms_adpcm.specs.Lanes.{AreLeft, IsCoded, Takes, lane_codes}
 use Rattle.snd_ms_adpcm.specs.Microsoft.{adaptation, adaptations, ms_bytes, ms_code, ms_codes, ms_delta, ms_sample}
 use Rattle.snd_ms_adpcm.specs.States.{ms_codes_from, ms_runs}
-use Rattle.snd_ima_adpcm.proofs.Lemmas.{alternating-same, drop_two, written_over}
+use Rattle.snd_ima_adpcm.proofs.Public.{alternating-same, drop_two, written_over}
 
 -- ---- what a code multiplies the delta by
 

@@ -3,7 +3,7 @@ pub mod BlockLaws
 pub mod CodedBytes
 pub mod Four
 pub mod LaneCodes
-pub mod Lemmas
+pub mod Public
 pub mod MsCodes
 pub mod MsWritten
 pub mod Numbers

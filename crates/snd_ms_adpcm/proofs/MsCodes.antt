@@ -2,7 +2,7 @@
 use Rattle.std.proofs.Common.{◌≡◌, ℕ, ℤ, ◌*◌, ◌+ℤ◌, ◌*ℤ◌, List, [], ◌∷◌, drop, refl}
 use Rattle.std.specs.List.{All}
 use Rattle.std.proofs.lemmas.List.Elements.{All-nil, All-cons}
-use Rattle.snd_ima_adpcm.proofs.Lemmas.{clamp_least, clamp_most}
+use Rattle.snd_ima_adpcm.proofs.Public.{clamp_least, clamp_most}
 use Rattle.snd_ms_adpcm.specs.declared.microsoft_state.MsState.{MsState}
 use Rattle.snd_ima_adpcm.specs.Frames.{Is16Bit, high_half_first, of_channel}
 use Rattle.snd_ms_adpcm.specs.States.{ms_samples_from}

@@ -112,7 +112,7 @@ fn nearest_16(x: i32) -> i32
 
 /// A number held within 16 bits. Few are outside, so that a test that the processor foresees is quicker than two choices.
 #[inline]
-#[tactic(auto, using(snd_ima_adpcm::proofs::Lemmas::abs_within))]
+#[tactic(auto, using(snd_ima_adpcm::proofs::Public::abs_within))]
 pub(crate) fn held_16(x: i32) -> i32
     ensures value { result ≡ clamp_16 x }
     ensures range { Is16Bit result }
@@ -127,7 +127,7 @@ pub(crate) fn held_16(x: i32) -> i32
 
 /// A number held within 16 bits, without a branch.
 #[inline]
-#[tactic(auto, using(snd_ima_adpcm::proofs::Lemmas::abs_within))]
+#[tactic(auto, using(snd_ima_adpcm::proofs::Public::abs_within))]
 pub(crate) fn clamped_16(x: i32) -> i32
     ensures value { result ≡ clamp_16 x }
     ensures range { Is16Bit result }
@@ -138,7 +138,7 @@ pub(crate) fn clamped_16(x: i32) -> i32
 
 /// The delta that is so many 256ths of one, without a branch.
 #[inline]
-#[tactic(auto, using(snd_ima_adpcm::proofs::Lemmas::abs_within))]
+#[tactic(auto, using(snd_ima_adpcm::proofs::Public::abs_within))]
 pub(crate) fn scaled(delta: i32, factor: i32) -> i32
     requires delta { unsigned_abs delta ≤ 1048576 }
     requires factor { unsigned_abs factor ≤ 768 }
@@ -168,7 +168,7 @@ fn sample_of(newer_by: i32, older_by: i32, newer: i32, older: i32, delta: i32, d
 /// The delta after a code, for the few that would be above the greatest.
 #[cold]
 #[inline(never)]
-#[tactic(auto, unfolding(crate::specs::Microsoft::ms_delta), using(snd_ima_adpcm::proofs::Lemmas::abs_within))]
+#[tactic(auto, unfolding(crate::specs::Microsoft::ms_delta), using(snd_ima_adpcm::proofs::Public::abs_within))]
 fn held_delta(delta: i32, code: u32) -> i32
     requires delta { unsigned_abs delta ≤ 1048576 }
     requires code { code < 16 }
@@ -181,7 +181,7 @@ fn held_delta(delta: i32, code: u32) -> i32
 
 /// The delta after a code.
 #[inline]
-#[tactic(auto, unfolding(crate::specs::Microsoft::ms_delta), using(snd_ima_adpcm::proofs::Lemmas::abs_within))]
+#[tactic(auto, unfolding(crate::specs::Microsoft::ms_delta), using(snd_ima_adpcm::proofs::Public::abs_within))]
 pub(crate) fn delta_after(delta: i32, code: u32) -> i32
     requires delta { unsigned_abs delta ≤ 1048576 }
     requires code { code < 16 }
@@ -200,7 +200,7 @@ pub(crate) fn delta_after(delta: i32, code: u32) -> i32
 }
 
 /// The number in two bytes of a head.
-#[tactic(auto, using(snd_ima_adpcm::proofs::Lemmas::abs_within))]
+#[tactic(auto, using(snd_ima_adpcm::proofs::Public::abs_within))]
 fn number_in(bytes: &[u8], at: usize) -> i32
     requires { at + 2 ≤ length bytes.now }
     ensures value { result ≡ number_at bytes.now at }

@@ -3,7 +3,7 @@ use Rattle.std.proofs.Common.{◌≡◌, ◌⊎◌, inl, inr, drop, ◌∙◌, a
 use Rattle.std.specs.Prelude.{IfSome, is_none, nat_lt}
 use Rattle.std.proofs.lemmas.Bool.{cases_lt, le-ltb, lt-ltb}
 use Rattle.std.proofs.lemmas.List.{append-nil, drop_all, length-append, nil_from_length}
-use Rattle.snd_disk.proofs.Lists.{length-over}
+use Rattle.snd_disk.proofs.Public.{length-over}
 use Rattle.snd_disk.specs.Bytes.{over}
 use Rattle.snd_container.proofs.EveryKind.{free}
 use Rattle.snd_container.proofs.FixedSamples.{bytes_of_joined, count_of_bytes}

@@ -4,8 +4,7 @@ use Rattle.std.proofs.lemmas.Bool.{cases_Bool, cases_lt}
 use Rattle.std.proofs.lemmas.List.{length-take}
 use Rattle.std.specs.Prelude.{nat_lt}
 use Rattle.snd_disk.specs.Runs.{IsMade, IsSource}
-use Rattle.snd_disk.proofs.Lists.{length-over}
-use Rattle.snd_disk.proofs.Sources.{byte_from, made_front}
+use Rattle.snd_disk.proofs.Public.{length-over, byte_from, made_front}
 use Rattle.snd_disk.specs.State.{State}
 use Rattle.snd_patch.specs.Laws.{ClosesFromTo, ClosingKeepsPlaces, CutsFromTo, StableStartCloses, StableStartCuts, StartIsMade}
 use Rattle.snd_layout.specs.Shape.{Shape, end}

@@ -4,7 +4,7 @@ use Rattle.std.proofs.lemmas.Bool.{cases_lt}
 use Rattle.std.proofs.lemmas.List.{get_or-take, get_or_past, length-take, places}
 use Rattle.snd_disk.specs.Bytes.{Mix, over}
 use Rattle.snd_disk.specs.Runs.{IsBeside}
-use Rattle.snd_disk.proofs.Lists.{length-over}
+use Rattle.snd_disk.proofs.Public.{length-over}
 
 -- bytes beside those that are put stay
 pub over_beside : (b : List ℕ) (at : ℕ) (s : List ℕ) (i : ℕ) → IsBeside i at (length s) → get_or (over b at s) i 0 ≡ get_or b i 0

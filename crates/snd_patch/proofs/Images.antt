@@ -4,7 +4,7 @@ use Rattle.std.proofs.lemmas.Bool.{cases_lt, le-leb, lt-leb}
 use Rattle.std.specs.Prelude.{nat_le}
 use Rattle.snd_disk.specs.Bytes.{over}
 use Rattle.snd_disk.specs.Runs.{ComesFrom, IsMade, IsSource}
-use Rattle.snd_disk.proofs.Sources.{byte_from, made_comes}
+use Rattle.snd_disk.proofs.Public.{byte_from, made_comes}
 use Rattle.snd_layout.specs.Params.{data_bytes}
 use Rattle.snd_layout.specs.Shape.{KeepsRule, Shape}
 use Rattle.snd_layout.specs.declared.field.Field.{Field}

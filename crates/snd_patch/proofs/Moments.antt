@@ -2,7 +2,7 @@
 use Rattle.std.proofs.Common.{◌⊎◌, ℕ, List, inl, inr, ⊎_elim}
 use Rattle.snd_disk.specs.Runs.{IsMade, Since}
 use Rattle.snd_disk.specs.declared.disk.Disk.{Ghosts}
-use Rattle.snd_disk.proofs.Chains.{goes_on_then}
+use Rattle.snd_disk.proofs.Public.{goes_on_then}
 use Rattle.snd_patch.specs.Images.{LeavesEach}
 
 module _ {D : Type 0} (d : Ghosts D) where

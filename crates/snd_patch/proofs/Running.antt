@@ -3,8 +3,7 @@ use Rattle.std.proofs.Common.{◌≡◌, ℕ, ◌≤◌, true, List, [], ◌∷�
 use Rattle.std.specs.Prelude.{nat_lt}
 use Rattle.snd_disk.specs.Runs.{Since}
 use Rattle.snd_disk.specs.State.{State}
-use Rattle.snd_disk.proofs.RunsOfCalls.{runs_join}
-use Rattle.snd_disk.proofs.Sources.{made_front}
+use Rattle.snd_disk.proofs.Public.{runs_join, made_front}
 use Rattle.snd_layout.specs.declared.field.Field.{Field}
 use Rattle.snd_layout.specs.Shape.{Shape}
 use Rattle.snd_patch.specs.Images.{held_closing}

@@ -4,7 +4,7 @@ use Rattle.std.specs.Prelude.{is_some}
 use Rattle.snd_disk.specs.Bytes.{Mix, over}
 use Rattle.snd_disk.specs.Device.{GoesOnFrom, WritesAtMost}
 use Rattle.snd_disk.specs.State.{State, IsBetween, IsMeant, Keeps}
-use Rattle.snd_disk.proofs.Chains.{goes_on_then}
+use Rattle.snd_disk.proofs.Public.{goes_on_then}
 use Rattle.snd_layout.specs.Shape.{Shape, end}
 use Rattle.snd_patch.specs.Sealed.{SameBesideFields}
 use Rattle.snd_patch.specs.Steps.{IsOutside, Updates}

@@ -1,8 +1,7 @@
 -- Fields that are old or new: in what comes from lists that have them so, and after bytes are put into a field.
 use Rattle.std.proofs.Common.{◌≡◌, inl, inr, ⊎_elim, ℕ, ◌+◌, ◌<◌, ◌≤◌, false, List, length, get_or, Option, None, Some, IfSome, refl, ◌∙◌, arith}
 use Rattle.snd_disk.specs.Runs.{ComesFrom, IsBeside}
-use Rattle.snd_disk.proofs.Fields.{field_from, over_in}
-use Rattle.snd_disk.proofs.Sources.{byte_from}
+use Rattle.snd_disk.proofs.Public.{field_from, over_in, byte_from}
 use Rattle.snd_layout.specs.Shape.{EndsBy, Shape}
 use Rattle.snd_layout.specs.declared.field.Field.{Field}
 use Rattle.snd_layout.specs.Container.{FitsField, is_in_fields}

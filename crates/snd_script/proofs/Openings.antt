@@ -3,7 +3,7 @@ use Rattle.std.proofs.Common.{◌≡◌, ℤ, inl, inr, ℕ, List, [], ◌++◌,
 use Rattle.std.specs.Prelude.{unwrap_or}
 use Rattle.std.specs.Str.{bytes_eq}
 use Rattle.std.specs.Borrow.{MutBor}
-use Rattle.snd_disk.proofs.Names.{same_bytes}
+use Rattle.snd_disk.proofs.Public.{same_bytes}
 use Rattle.snd_disk.specs.Device.{Tells}
 use Rattle.snd_disk.specs.State.{Rises, State}
 use Rattle.snd_disk.specs.declared.disk.Disk.{Ghosts}

@@ -1,6 +1,6 @@
 -- The trail of a file that is not opened, and of one whose disk comes back.
 use Rattle.std.proofs.Common.{◌≡◌, ℕ, ◌≤◌, List, [], ◌++◌, Bool, Option, Some, Result, Ok, Err, All, reverse, sym, ◌∙◌, ap, subst, arith}
-use Rattle.snd_disk.proofs.RunsOfCalls.{same_some}
+use Rattle.snd_disk.proofs.Public.{same_some}
 use Rattle.snd_disk.specs.Device.{IsStable, OnlyReadsOn, Tells}
 use Rattle.snd_disk.specs.declared.disk.Disk.{Ghosts}
 use Rattle.snd_fields.specs.Laws.{IsByte}

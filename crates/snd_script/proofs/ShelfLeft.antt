@@ -3,9 +3,7 @@ use Rattle.std.proofs.Common.{◌≡◌, inl, inr, ⊎_elim, ℕ, List, [], Bool
 use Rattle.std.specs.Prelude.{is_none, is_some, unwrap_or}
 use Rattle.std.specs.Str.{bytes_eq}
 use Rattle.std.proofs.lemmas.Bool.{cases_Bool}
-use Rattle.snd_disk.proofs.Chains.{goes_on_kept, goes_on_then}
-use Rattle.snd_disk.proofs.Names.{same_name}
-use Rattle.snd_disk.proofs.Returned.{gone_on, stayed_images}
+use Rattle.snd_disk.proofs.Public.{goes_on_kept, goes_on_then, same_name, gone_on, stayed_images}
 use Rattle.snd_disk.specs.Shelf.{Files, Gives, SameFiles, ShelfState, Stays, Takes, put}
 use Rattle.snd_disk.specs.Shelves.{ChangesOnly, HandsOut, HandsOutNone, KeepsOthers, TakesBack, TellsFiles}
 use Rattle.snd_disk.specs.State.{GoesOn, State}

@@ -1,8 +1,7 @@
 -- A command on an open file: what stands at the desk that it leaves.
 use Rattle.std.proofs.Common.{◌≡◌, ℕ, List, Bool, true, false, ◌||◌, refl, sym, ◌∙◌, ap, arith, rules}
 use Rattle.std.specs.Str.{bytes_eq}
-use Rattle.snd_disk.proofs.Chains.{goes_on_then, only_reads_then}
-use Rattle.snd_disk.proofs.Names.{same_bytes}
+use Rattle.snd_disk.proofs.Public.{goes_on_then, only_reads_then, same_bytes}
 use Rattle.snd_disk.specs.State.{State}
 use Rattle.snd_disk.specs.declared.disk.Disk.{Ghosts}
 use Rattle.snd_meters.specs.Gauge.{Gauge}

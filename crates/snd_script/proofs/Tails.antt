@@ -2,8 +2,7 @@
 use Rattle.std.proofs.Common.{◌≡◌, ℕ, List, [], ◌∷◌, ◌++◌, Bool, true, false, ◌||◌, Option, Some, Result, Ok, Err, refl, sym, ◌∙◌, ap, append_assoc, subst}
 use Rattle.std.specs.Str.{bytes_eq}
 use Rattle.snd_command.specs.Line.{command_of}
-use Rattle.snd_disk.proofs.Chains.{keeps_images_then}
-use Rattle.snd_disk.proofs.Returned.{others_then, returned_images, stayed_images}
+use Rattle.snd_disk.proofs.Public.{keeps_images_then, others_then, returned_images, stayed_images}
 use Rattle.snd_disk.specs.Shelf.{ShelfState}
 use Rattle.snd_disk.specs.Shelves.{HandsOut, HandsOutNone, KeepsImagesOf, KeepsOthers, TakesBack}
 use Rattle.snd_disk.specs.declared.disk.Disk.{Ghosts}

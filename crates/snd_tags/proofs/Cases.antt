@@ -3,7 +3,7 @@ use Rattle.std.proofs.Common.{◌≡◌, ◌≤◌, ℕ, Result, Ok, Err, inl, i
 use Rattle.snd_disk.specs.Device.{OnlyReadsOn}
 use Rattle.snd_disk.specs.State.{Rises}
 use Rattle.snd_disk.specs.declared.disk.Disk.{Ghosts}
-use Rattle.snd_disk.proofs.Chains.{only_reads_then}
+use Rattle.snd_disk.proofs.Public.{only_reads_then}
 use Rattle.snd_layout.specs.declared.error.PieceError.TheVariants as piece_error
 use Rattle.snd_modes.specs.Handle.{disk_of, known_of}
 use Rattle.snd_modes.specs.declared.handle.File.{File}

@@ -3,7 +3,7 @@ use Rattle.std.proofs.Common.{◌≡◌, ◌+◌, ℕ, List, [], Result, Err, sy
 use Rattle.std.specs.Prelude.{is_some}
 use Rattle.snd_disk.specs.Device.{GoesOnFrom, OnlyReadsOn, WritesAtMost}
 use Rattle.snd_disk.specs.declared.disk.Disk.{Ghosts}
-use Rattle.snd_disk.proofs.Chains.{at_most_then, goes_on_kept, goes_on_then}
+use Rattle.snd_disk.proofs.Public.{at_most_then, goes_on_kept, goes_on_then}
 use Rattle.snd_modes.specs.Editing.{Editing}
 use Rattle.snd_modes.specs.Handle.{Known, Stands, disk_of, known_of}
 use Rattle.snd_modes.specs.Outcomes.{TellsOn}

@@ -4,9 +4,7 @@ use Rattle.std.proofs.Common.{◌≡◌, ◌⊎◌, inl, inr, ⊎_elim, ℕ, Lis
 use Rattle.std.specs.Prelude.{is_none, unwrap_or}
 use Rattle.std.specs.Str.{bytes_eq}
 use Rattle.std.proofs.lemmas.Bool.{cases_Bool}
-use Rattle.snd_disk.proofs.Chains.{goes_on_kept, goes_on_then, keeps_images_then}
-use Rattle.snd_disk.proofs.Names.{same_bytes, same_name}
-use Rattle.snd_disk.proofs.Returned.{gone_on, handed_there, stayed_images}
+use Rattle.snd_disk.proofs.Public.{goes_on_kept, goes_on_then, keeps_images_then, same_bytes, same_name, gone_on, handed_there, stayed_images}
 use Rattle.snd_disk.specs.declared.disk.Disk.{Ghosts as DiskMeaning}
 use Rattle.snd_disk.specs.declared.shelf.Shelf.{Ghosts as ShelfMeaning}
 use Rattle.snd_disk.specs.Device.{GoesOnFrom, KeepsImagesOn}

@@ -3,7 +3,7 @@ use Rattle.std.proofs.Common.{◌≡◌, inl, inr, ℕ, List, [], Bool, false, t
 use Rattle.std.specs.Prelude.{is_none}
 use Rattle.std.specs.Str.{bytes_eq}
 use Rattle.std.proofs.lemmas.Bool.{cases_Bool}
-use Rattle.snd_disk.proofs.Names.{same_bytes, same_name}
+use Rattle.snd_disk.proofs.Public.{same_bytes, same_name}
 use Rattle.snd_disk.specs.Shelf.{Files, SameFiles, put}
 use Rattle.snd_tools.specs.Done.{Done, files_after}
 

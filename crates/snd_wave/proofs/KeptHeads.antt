@@ -9,7 +9,7 @@ use Rattle.snd_chunks.specs.Chunks.{padded_end}
 use Rattle.snd_chunks.specs.Written.{NewChunk, chunks_bytes, pad}
 use Rattle.snd_chunks.proofs.WrittenChunks.{length-all_placed, length-chunks_bytes}
 use Rattle.snd_disk.specs.Bytes.{over}
-use Rattle.snd_disk.proofs.Lists.{length-over}
+use Rattle.snd_disk.proofs.Public.{length-over}
 use Rattle.snd_fields.specs.declared.field.Order.TheVariants.{Little}
 use Rattle.snd_layout.specs.Blocks.{is_adpcm}
 use Rattle.snd_layout.specs.Fit.{fit_refusal}

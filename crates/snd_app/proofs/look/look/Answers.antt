@@ -1,5 +1,5 @@
 use Rattle.std.proofs.Common.{◌≡◌, rules}
-use Rattle.snd_disk.proofs.Returned.{returned_files, returned_images, stayed_images}
+use Rattle.snd_disk.proofs.Public.{returned_files, returned_images, stayed_images}
 use Rattle.snd_app.proofs.Looks.{counts_given, found_there, if_ok}
 use Rattle.snd_app.proofs.look.look.Goals as goal
 

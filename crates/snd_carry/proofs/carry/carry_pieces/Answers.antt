@@ -2,7 +2,7 @@ use Rattle.std.proofs.Common.{rules, ◌≡◌, ◌∙◌, ap, sym, subst, refl,
 use Rattle.std.proofs.lemmas.Option.{slice_get-get_or}
 use Rattle.std.specs.Prelude.{slice_get}
 use Rattle.snd_disk.specs.Device.{WritesAtMost}
-use Rattle.snd_disk.proofs.Chains.{goes_on_then, only_reads_then}
+use Rattle.snd_disk.proofs.Public.{goes_on_then, only_reads_then}
 use Rattle.snd_layout.specs.declared.piece.Piece.{Piece}
 use Rattle.snd_modes.specs.Handle.{Known, known_of}
 use Rattle.snd_layout.specs.Kinds.{holds_meta}

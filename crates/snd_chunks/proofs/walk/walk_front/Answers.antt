@@ -1,7 +1,7 @@
 use Rattle.std.proofs.Common.{◌≡◌, ◌∙◌, ◌+◌, ◌-◌, ◌≤◌, ◌%◌, ◌<◌, ◌++◌, ◌∷◌, [], length, rules, sym, arith}
 use Rattle.std.proofs.Math.Nat.{mod-lt}
 use Rattle.std.proofs.lemmas.List.Elements.{All-push}
-use Rattle.snd_disk.proofs.Chains.{only_reads_then}
+use Rattle.snd_disk.proofs.Public.{only_reads_then}
 use Rattle.snd_chunks.specs.Chunks.{chunk_at}
 use Rattle.snd_chunks.specs.declared.front.Seen.TheVariants.{Sound, Whole, Nothing}
 use Rattle.snd_chunks.specs.Walks.{EndsBy, HasHeadAt, IsShort, seen_of}

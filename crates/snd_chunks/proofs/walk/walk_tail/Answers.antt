@@ -1,5 +1,5 @@
 use Rattle.std.proofs.Common.{◌≡◌, ◌∙◌, ◌+◌, ◌-◌, ◌++◌, ◌∷◌, [], Some, None, rules, sym, arith}
-use Rattle.snd_disk.proofs.Chains.{only_reads_then}
+use Rattle.snd_disk.proofs.Public.{only_reads_then}
 use Rattle.snd_chunks.specs.Chunks.{chunk_at}
 use Rattle.snd_chunks.specs.Walks.{EndsBy, ended_by}
 use Rattle.snd_chunks.proofs.Walks.{tail_goes_on, tail_ends, tail_is_full, ends_grow, asked_more}

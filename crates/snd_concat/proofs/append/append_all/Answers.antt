@@ -1,7 +1,7 @@
 use Rattle.std.proofs.Common.{◌≡◌, ◌∙◌, ◌+◌, ◌≤◌, ℕ, List, [], ◌∷◌, Option, Some, Ok, length, slice_get, get_or, take, true, false, rules, arith, ap, sym, subst}
 use Rattle.std.proofs.lemmas.List.{take_all}
 use Rattle.std.proofs.lemmas.Option.{get_or_from_slice_get, slice_get_within}
-use Rattle.snd_disk.proofs.Chains.{goes_on_then}
+use Rattle.snd_disk.proofs.Public.{goes_on_then}
 use Rattle.snd_inputs.proofs.Asking.{asks_next, each_front, each_then, one_more}
 use Rattle.snd_inputs.specs.Asking.{AsksForEach}
 use Rattle.snd_inputs.proofs.Lists.{input_at, length-inputs, none_bad}

@@ -1,5 +1,5 @@
 use Rattle.std.proofs.Common.{◌≡◌, ◌∙◌, ap, sym, refl, true, false, rules}
-use Rattle.snd_disk.proofs.Chains.{only_reads_then}
+use Rattle.snd_disk.proofs.Public.{only_reads_then}
 use Rattle.snd_inputs.specs.Inputs.{is_bad}
 use Rattle.snd_layout.specs.Shape.{Shape}
 use Rattle.snd_output.proofs.Changing.{changed_err, unchanged_as}

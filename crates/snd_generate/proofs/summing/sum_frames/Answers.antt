@@ -1,5 +1,5 @@
 use Rattle.std.proofs.Common.{◌≡◌, ◌∙◌, ap, sym, subst, ℕ, ◌+◌, ◌-◌, ◌%◌, ◌≤◌, length, take, arith, rules}
-use Rattle.snd_disk.proofs.Chains.{only_reads_then}
+use Rattle.snd_disk.proofs.Public.{only_reads_then}
 use Rattle.snd_modes.specs.Calls.{count_read}
 use Rattle.snd_modes.specs.Editing.{Editing}
 use Rattle.snd_modes.specs.Handle.{Known, Stands, channels_of, known_of}

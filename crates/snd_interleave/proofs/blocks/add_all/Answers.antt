@@ -1,6 +1,6 @@
 use Rattle.std.proofs.Common.{rules, ◌≡◌, ◌∙◌, ap, sym, subst, refl, ℕ, ◌+◌, ◌≤◌, ℤ, List, ◌++◌, length, take, Err, arith}
 use Rattle.std.proofs.lemmas.List.{append-nil, length-take}
-use Rattle.snd_disk.proofs.Chains.{goes_on_then}
+use Rattle.snd_disk.proofs.Public.{goes_on_then}
 use Rattle.snd_layout.specs.declared.codec.Codec.{Codec}
 use Rattle.snd_modes.specs.Handle.{codec_of, disk_of, known_of}
 use Rattle.snd_layout.specs.Shape.{Shape}

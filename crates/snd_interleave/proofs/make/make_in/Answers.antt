@@ -1,5 +1,5 @@
 use Rattle.std.proofs.Common.{rules, ◌≡◌, ◌∙◌, ap, subst, inl, inr, ℕ, [], ◌++◌, List, Some, Err}
-use Rattle.snd_disk.proofs.Chains.{goes_on_then}
+use Rattle.snd_disk.proofs.Public.{goes_on_then}
 use Rattle.snd_disk.specs.Device.{GoesOnFrom}
 use Rattle.snd_inputs.proofs.Begun.{begun_as, begun_at_end, begun_room}
 use Rattle.snd_layout.specs.Params.{Parameters}

@@ -1,5 +1,5 @@
 use Rattle.std.proofs.Common.{◌≡◌, ◌+◌, ◌-◌, ◌++◌, length, replicate, take, drop, rules}
-use Rattle.snd_disk.proofs.Lemmas.{over_lengthened}
+use Rattle.snd_disk.proofs.Public.{over_lengthened}
 use Rattle.snd_memory.proofs.memory.put_over.Goals as goal
 
 pub returns-clause-ok : goal.returns-clause-ok

@@ -1,6 +1,5 @@
 use Rattle.std.proofs.Common.{refl}
-use Rattle.snd_disk.proofs.Chains.{goes_on_passes}
-use Rattle.snd_disk.proofs.RunsOfCalls.{change_is_run}
+use Rattle.snd_disk.proofs.Public.{goes_on_passes, change_is_run}
 use Rattle.snd_disk.specs.Bytes.{over}
 use Rattle.snd_modes.proofs.PartlyPut.{puts_partly}
 use Rattle.snd_modes.proofs.PutBlocks.{broken_puts, put_puts}

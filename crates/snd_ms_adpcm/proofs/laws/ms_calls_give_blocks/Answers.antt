@@ -1,7 +1,7 @@
 use Rattle.snd_ima_adpcm.specs.Blocks.{joined}
 use Rattle.snd_ms_adpcm.specs.Laws.{ms_rule}
 use Rattle.snd_ms_adpcm.specs.Microsoft.{ms_numbers}
-use Rattle.snd_ima_adpcm.proofs.Lemmas.{calls_give_list, filled-whole}
+use Rattle.snd_ima_adpcm.proofs.Public.{calls_give_list, filled-whole}
 use Rattle.snd_ms_adpcm.proofs.BlockLaws.{ms_numbers-positive}
 use Rattle.snd_ms_adpcm.proofs.laws.ms_calls_give_blocks.Goals as goal
 

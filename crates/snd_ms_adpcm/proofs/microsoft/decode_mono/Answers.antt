@@ -4,7 +4,7 @@ use Rattle.std.proofs.lemmas.List.Elements.{All-same}
 use Rattle.std.proofs.lemmas.Grind.{common_steps}
 use Rattle.snd_ima_adpcm.specs.Frames.{Is16Bit, high_half_first}
 use Rattle.snd_ms_adpcm.proofs.MsCodes.{rest_of, rest_of-code, samples_from_range}
-use Rattle.snd_ima_adpcm.proofs.Lemmas.{two_begin, two_put, all_put}
+use Rattle.snd_ima_adpcm.proofs.Public.{two_begin, two_put, all_put}
 use Rattle.snd_ms_adpcm.proofs.microsoft.decode_mono.Goals as goal
 
 pub loop-n-init : goal.loop-n-init

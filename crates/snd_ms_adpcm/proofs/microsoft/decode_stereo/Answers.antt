@@ -5,7 +5,7 @@ use Rattle.std.proofs.lemmas.Grind.{common_steps}
 use Rattle.snd_ima_adpcm.specs.Frames.{Is16Bit, alternating, high_half_first, firsts, seconds}
 use Rattle.snd_ms_adpcm.specs.States.{ms_samples_from}
 use Rattle.snd_ms_adpcm.proofs.MsCodes.{rest_of, rest_of-code, samples_from_range}
-use Rattle.snd_ima_adpcm.proofs.Lemmas.{two_begin, two_put, all_put, alternating_all}
+use Rattle.snd_ima_adpcm.proofs.Public.{two_begin, two_put, all_put, alternating_all}
 use Rattle.snd_ms_adpcm.proofs.microsoft.decode_stereo.Goals as goal
 
 pub loop-n-init : goal.loop-n-init

@@ -1,7 +1,7 @@
 use Rattle.std.proofs.Common.{arith}
 use Rattle.std.proofs.lemmas.Int.{ints}
 use Rattle.snd_ms_adpcm.specs.Microsoft.{signed_code}
-use Rattle.snd_ima_adpcm.proofs.Lemmas.{table_entry}
+use Rattle.snd_ima_adpcm.proofs.Public.{table_entry}
 use Rattle.snd_ms_adpcm.proofs.Numbers.{abs_of_code}
 use Rattle.snd_ms_adpcm.proofs.microsoft.signed.Goals as goal
 

@@ -2,7 +2,7 @@ use Rattle.std.proofs.Common.{◌≡◌, ◌+◌, ◌*◌, [], ◌∷◌, ◌++�
 use Rattle.std.proofs.lemmas.Grind.{common_steps}
 use Rattle.snd_ima_adpcm.specs.Frames.{Is16Bit, alternating, firsts, seconds}
 use Rattle.snd_ms_adpcm.proofs.MsWritten.{Follows, codes_of, codes_of-sample, one_byte}
-use Rattle.snd_ima_adpcm.proofs.Lemmas.{alternating-same, drop_two}
+use Rattle.snd_ima_adpcm.proofs.Public.{alternating-same, drop_two}
 use Rattle.snd_ms_adpcm.proofs.microsoft_writer.encode_frames.Goals as goal
 
 pub loop-n-preserved : goal.loop-n-preserved

@@ -1,5 +1,5 @@
 use Rattle.std.proofs.Common.{◌≡◌, ◌+◌, ◌*◌, [], ◌∷◌, ◌++◌, pos, get_or, arith, rules, sym, ap, ◌∙◌}
-use Rattle.snd_ima_adpcm.proofs.Lemmas.{take-firsts-more, take-seconds-more}
+use Rattle.snd_ima_adpcm.proofs.Public.{take-firsts-more, take-seconds-more}
 use Rattle.snd_ms_adpcm.proofs.microsoft_writer.first_frames.Goals as goal
 
 pub loop-n-preserved : goal.loop-n-preserved

@@ -1,6 +1,6 @@
 use Rattle.std.proofs.Common.{◌≡◌, ◌∙◌, [], ◌∷◌, ℕ, true, ap, length, option_map, sym}
 use Rattle.std.specs.Prelude.{nat_lt}
-use Rattle.snd_disk.proofs.RunsOfCalls.{runs_join}
+use Rattle.snd_disk.proofs.Public.{runs_join}
 use Rattle.snd_patch.specs.Images.{held_closing}
 use Rattle.snd_patch.specs.Sealed.{closed, over_closing}
 use Rattle.snd_container.specs.Values.{closed_end}

@@ -1,4 +1,4 @@
-use Rattle.snd_disk.proofs.RunsOfCalls.{read_is_run}
+use Rattle.snd_disk.proofs.Public.{read_is_run}
 use Rattle.snd_patch.proofs.fields.lacks_closing.Goals as goal
 
 pub returns-in-Ok-clause-run : goal.returns-in-Ok-clause-run

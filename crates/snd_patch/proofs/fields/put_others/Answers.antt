@@ -2,7 +2,7 @@ use Rattle.std.proofs.Common.{Option, ap, arith, subst, sym, ◌≡◌, ◌∙�
 use Rattle.snd_layout.specs.Shape.{Shape}
 use Rattle.snd_layout.specs.declared.field.Field.{Field}
 use Rattle.snd_container.specs.Values.{outer_value, side_value}
-use Rattle.snd_disk.proofs.RunsOfCalls.{runs_join}
+use Rattle.snd_disk.proofs.Public.{runs_join}
 use Rattle.snd_disk.specs.Device.{Tells}
 use Rattle.snd_disk.specs.Runs.{Since}
 use Rattle.snd_patch.proofs.Running.{held_as, held_same, more_held, put_same, then_synced}

@@ -1,5 +1,5 @@
 use Rattle.std.proofs.Common.{◌≡◌, ◌∙◌, ◌≤◌, ap, arith, length, option_map, Some, sym}
-use Rattle.snd_disk.proofs.RunsOfCalls.{same_some}
+use Rattle.snd_disk.proofs.Public.{same_some}
 use Rattle.snd_patch.proofs.Phases.{raise_inner, raise_others, raise_settled}
 use Rattle.snd_patch.specs.Sealed.{with_inner}
 use Rattle.snd_patch.proofs.Updating.{settled, updates_more, updates_then}

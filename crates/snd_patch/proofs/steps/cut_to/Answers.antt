@@ -1,6 +1,5 @@
 use Rattle.std.proofs.Common.{arith, take}
-use Rattle.snd_disk.proofs.Chains.{goes_on_passes}
-use Rattle.snd_disk.proofs.RunsOfCalls.{change_is_run}
+use Rattle.snd_disk.proofs.Public.{goes_on_passes, change_is_run}
 use Rattle.snd_patch.proofs.Updating.{broken_cut_updates}
 use Rattle.snd_patch.proofs.steps.cut_to.Goals as goal
 

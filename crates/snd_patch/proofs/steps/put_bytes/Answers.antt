@@ -1,7 +1,6 @@
 use Rattle.std.proofs.Common.{length}
 use Rattle.snd_disk.specs.Bytes.{over}
-use Rattle.snd_disk.proofs.Chains.{goes_on_passes}
-use Rattle.snd_disk.proofs.RunsOfCalls.{change_is_run}
+use Rattle.snd_disk.proofs.Public.{goes_on_passes, change_is_run}
 use Rattle.snd_patch.proofs.Updating.{broken_put_updates, put_updates}
 use Rattle.snd_patch.proofs.steps.put_bytes.Goals as goal
 

@@ -1,5 +1,5 @@
 use Rattle.std.proofs.Common.{◌≡◌, ◌∙◌, ◌≤◌, [], ◌∷◌, ℕ, ap, arith, option_map, Some, sym, take}
-use Rattle.snd_disk.proofs.RunsOfCalls.{runs_join, same_some}
+use Rattle.snd_disk.proofs.Public.{runs_join, same_some}
 use Rattle.snd_patch.specs.Images.{IsCutting, held_cut}
 use Rattle.snd_patch.specs.Sealed.{over_closing}
 use Rattle.snd_container.specs.Values.{closed_end}

@@ -1,7 +1,7 @@
 use Rattle.std.proofs.Common.{◌≡◌, [], ◌∷◌, List, ℕ, Option, None, Some, Ok, Err, false, refl, sym, ◌∙◌, ap, subst}
 use Rattle.std.specs.Prelude.{unwrap_or}
 use Rattle.std.proofs.lemmas.List.{append-nil}
-use Rattle.snd_disk.proofs.Returned.{handed_there}
+use Rattle.snd_disk.proofs.Public.{handed_there}
 use Rattle.snd_modes.specs.Safe.{IsSafe}
 use Rattle.snd_script.specs.Desk.{closed_desk}
 use Rattle.snd_script.specs.Edit.{Edited, Opening, open_edit}

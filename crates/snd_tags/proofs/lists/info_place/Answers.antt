@@ -1,6 +1,6 @@
 use Rattle.std.proofs.Common.{rules, ◌≡◌, ◌∙◌, ap, sym, inl, inr, ⊎_elim, Bool, false, true, Some, take}
 use Rattle.std.specs.Prelude.{◌&&◌, codes, slice_get}
-use Rattle.snd_disk.proofs.Chains.{only_reads_then}
+use Rattle.snd_disk.proofs.Public.{only_reads_then}
 use Rattle.snd_layout.specs.Shape.{Shape}
 use Rattle.snd_tags.specs.Bodies.{begins_info}
 use Rattle.snd_tags.specs.Found.{is_info}

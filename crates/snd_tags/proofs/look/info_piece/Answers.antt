@@ -2,7 +2,7 @@ use Rattle.std.proofs.Common.{rules, ◌≡◌, ◌∙◌, sym, subst, ℕ, ◌<
 use Rattle.std.proofs.lemmas.List.Elements.{All-get_or, All-take}
 use Rattle.std.proofs.lemmas.Option.{slice_get-get_or}
 use Rattle.std.specs.List.{All}
-use Rattle.snd_disk.proofs.Chains.{only_reads_then}
+use Rattle.snd_disk.proofs.Public.{only_reads_then}
 use Rattle.snd_layout.specs.Shape.{IsPlaced}
 use Rattle.snd_layout.specs.declared.piece.Piece.{Piece}
 use Rattle.snd_tags.specs.Found.{is_info}

@@ -1,5 +1,5 @@
 use Rattle.std.proofs.Common.{◌≡◌, ◌∙◌, Ok, length, ap, rules}
-use Rattle.snd_disk.proofs.Chains.{only_reads_then}
+use Rattle.snd_disk.proofs.Public.{only_reads_then}
 use Rattle.snd_voc.specs.Layout.{sound_format, with_format, with_sound}
 use Rattle.snd_layout.proofs.Answered.{passed_from}
 use Rattle.snd_voc.proofs.Parting.{laid_out}

@@ -2,7 +2,7 @@ use Rattle.std.proofs.Common.{◌≡◌, ◌*◌, drop, sym, ap, ◌∙◌, leng
 use Rattle.snd_ima_adpcm.specs.Frames.{high_half_first, firsts, seconds}
 use Rattle.snd_ms_adpcm.specs.Microsoft.{ms_block, ms_numbers}
 use Rattle.snd_ms_adpcm.proofs.MsCodes.{of_head}
-use Rattle.snd_ima_adpcm.proofs.Lemmas.{alternating-same, written_over}
+use Rattle.snd_ima_adpcm.proofs.Public.{alternating-same, written_over}
 use Rattle.snd_ms_adpcm.proofs.microsoft.MsBlock.decode.Goals as goal
 
 pub returns-then-channels-eq1-clause-samples : goal.returns-then-channels-eq1-clause-samples

@@ -3,7 +3,7 @@ use Rattle.std.proofs.lemmas.List.Elements.{All-same, All-take}
 use Rattle.snd_ima_adpcm.specs.Frames.{Is16Bit, firsts, seconds}
 use Rattle.snd_ms_adpcm.specs.States.{ms_heads, ms_runs}
 use Rattle.snd_ms_adpcm.proofs.MsWritten.{Starts, starts_whole, stereo_block}
-use Rattle.snd_ima_adpcm.proofs.Lemmas.{All-firsts, All-seconds}
+use Rattle.snd_ima_adpcm.proofs.Public.{All-firsts, All-seconds}
 use Rattle.snd_ms_adpcm.proofs.microsoft_writer.Heads.of.Goals as goal
 
 pub start_of-left_number-requires-clause-range : goal.start_of-left_number-requires-clause-range
