@@ -6,7 +6,6 @@ leaves every file but the one that it makes as it was. A script leaves all files
 leave them, with a close behind these, but for the file that a `create` without a reply names; the replies of these lines are
 out. What a number of lines leaves is what the program does with these alone. Needs Python 3; skipped where gcc is missing."""
 import os
-import shutil
 import struct
 import subprocess
 import sys
