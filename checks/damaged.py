@@ -3,11 +3,11 @@
 asks for all later ones too, since the lowest number is answered. Each prefix of a file of each kind is described and read, and
 the answer is that of a short table, which comes from the places of the head's parts. Up to 256 chunks or blocks may stand before
 the data. Needs Python 3."""
+import os
 import struct
-import subprocess
 
 from lib import kinds
-from lib.head import SECONDS, Cases, first_difference, start
+from lib.head import Cases, changed, ended, finished, run, start, sums
 from lib.kinds import chunk, voc_block, w64_chunk, w64_id
 
 program = start()
@@ -17,9 +17,13 @@ NAMES = dict(enumerate("NotSound FloatRate ShortHeader BadField TooManyChunks No
 
 
 def ran(words, script, out, err, status):
-    done = subprocess.run([program, *words], input=script.encode(), capture_output=True, timeout=SECONDS)
-    wrong = first_difference("standard output", done.stdout, out.encode()) + first_difference("standard error", done.stderr, err.encode())
-    return wrong + [f"status {done.returncode} for {status}"] * (done.returncode != status)
+    """The faults of a run, which may change no file."""
+    return run(program, words, script.encode(), out.encode(), err.encode(), status)
+
+
+def ended_so(words, out, err, status):
+    """The faults of the streams and the status of a run."""
+    return ended(finished([program, *words]), out.encode(), err.encode(), status)
 
 
 def put(name, data):
@@ -33,8 +37,6 @@ def refused(what, data, number):
     error = f"error {number} {NAMES[number]}\n"
     wrong = ran(["info", "f"], "", "", f"snd: f: {error}", 1)
     wrong += ran(["script"], "open r f\nopen u f\ninfo\n", error * 2 + "error 42 NotOpen\n", "", 1)
-    with open("f", "rb") as file:
-        wrong += ["the file was changed"] * (file.read() != data)
     cases.case(f"{what} is {number} {NAMES[number]}", wrong)
 
 
@@ -232,13 +234,16 @@ for name, (whole, codec, channels, refusals, start, many, chunks) in PREFIXES.it
     wrong, asked, replies = [], [], []
     count = frames_from(start, channels * kinds.size(codec), many)
     for length in range(len(whole) + 1):
+        put(f"p{length}", whole[:length])
+    # (one look at all files before and after, since there are many)
+    before = sums()
+    for length in range(len(whole) + 1):
         file = f"p{length}"
-        put(file, whole[:length])
         number = next((number for below, number in refusals if length < below), None)
         asked += [f"open r {file}", "read 9", "close"]
         if number:
             replies += [f"error {number} {NAMES[number]}", "error 42 NotOpen", "error 42 NotOpen"]
-            wrong += [f"{length} bytes: {it}" for it in ran(["info", file], "", "", f"snd: {file}: error {number} {NAMES[number]}\n", 1)]
+            wrong += [f"{length} bytes: {it}" for it in ended_so(["info", file], "", f"snd: {file}: error {number} {NAMES[number]}\n", 1)]
             continue
         frames = count(length)
         data = whole[start:start + frames * channels * kinds.size(codec)]
@@ -246,8 +251,11 @@ for name, (whole, codec, channels, refusals, start, many, chunks) in PREFIXES.it
         numbers = kinds.numbers_of(codec, data)
         replies += [f"ok {frames} {channels} 8000 {it.kind} {codec}", f"ok {frames}", *(" ".join(map(str, numbers[i:i + channels])) for i in range(0, len(numbers), channels)), f"ok {frames}"]
         listed = "".join(f"chunk {what}\n" for what, least in chunks if length >= least)
-        wrong += [f"{length} bytes: {it}" for it in ran(["info", file], "", lines_of(it, file) + listed, "", 0)]
+        wrong += [f"{length} bytes: {it}" for it in ended_so(["info", file], lines_of(it, file) + listed, "", 0)]
     wrong += ran(["script"], "".join(f"{line}\n" for line in asked), "".join(f"{line}\n" for line in replies), "", 1)
+    wrong += changed(before, sums())
+    for length in range(len(whole) + 1):
+        os.remove(f"p{length}")
     cases.case(f"each of the {len(whole) + 1} prefixes of {name}", wrong)
 
 # ---- 256 chunks or blocks, and one more

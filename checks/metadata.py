@@ -9,7 +9,7 @@ import shutil
 import struct
 import subprocess
 
-from lib.head import SECONDS, Cases, first_difference, start
+from lib.head import SECONDS, Cases, changed, ended, finished, first_difference, start, sums
 
 program = start()
 cases = Cases("metadata")
@@ -49,8 +49,13 @@ def strings(texts):
     return [f"{key} {texts[key]}" for key in ORDER if key in texts]
 
 
-def script(lines):
-    return done([program, "script"], "".join(line + "\n" for line in lines).encode("latin-1"))
+def script(lines, made=None):
+    """What a script prints, or None and its faults; it makes or changes one file at most."""
+    before = sums()
+    ran = finished([program, "script"], "".join(line + "\n" for line in lines).encode("latin-1"))
+    wrong = ended(ran, ran.stdout, b"", 0) if ran else [f"no end within {SECONDS} seconds"]
+    wrong += changed(before, sums(), [f"./{made}"])
+    return (None, wrong) if wrong else (ran.stdout.decode("latin-1"), [])
 
 
 def read_back(name, texts, fields, shown):
@@ -118,7 +123,7 @@ if has("ffmpeg", 2):
 for kind, name, body in (("wave", "made.wav", "0102ff"), ("rf64", "made.rf64", "0102ff00")):
     sets = [f"set string {key} {TEXTS[key]}" for key in TEXTS] + [f"set bext {key} {BEXT[key]}" for key in FIELDS] + ["set cue 2 5", f"set chunk abcd {body}"]
     lines = [f"create {kind} pcm_16_le 1 8000 {name}", *sets, "write 1 -1 2 -2 300 -300 32767 -32768", "close"]
-    out, wrong = script(lines)
+    out, wrong = script(lines, name)
     if not wrong:
         wrong = first_difference("answers", out.split("\n"), [f"ok 0 1 8000 {kind} pcm_16_le"] + ["ok"] * len(sets) + ["ok 8", "ok 8", ""])
     cases.case(f"{kind} with metadata is made", wrong or read_back(name, TEXTS, BEXT, []))
@@ -140,7 +145,7 @@ for kind, name, body in (("wave", "made.wav", "0102ff"), ("rf64", "made.rf64", "
         cases.case(f"{kind} by sndfile-info", wrong or [f"no line {line!r}" for line in want if line not in (out or "")])
 
 # ---- every chunk keeps its bytes through updates
-out, wrong = script(["open u made.wav", "write 7 7", "seek w 8", "write 9 9 9", "truncate 5", "update", "auto on", "write 1", "get strings", "get cues", "get chunk abcd", "close"])
+out, wrong = script(["open u made.wav", "write 7 7", "seek w 8", "write 9 9 9", "truncate 5", "update", "auto on", "write 1", "get strings", "get cues", "get chunk abcd", "close"], "made.wav")
 if not wrong:
     want = ["ok 8 1 8000 wave pcm_16_le", "ok 2", "ok 8", "ok 3", "ok 5", "ok 5", "ok 5", "ok 1", f"ok {len(TEXTS)}", *strings(TEXTS), "ok 2", "1 2", "2 5", "ok 3 0102ff", "ok 6", ""]
     wrong = first_difference("answers", out.split("\n"), want)
