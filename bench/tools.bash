@@ -16,7 +16,7 @@ need() {
     fi
 }
 built() {
-    "$top/checks/build" "$1"
+    "$top/tools/build" "$1"
 }
 folder=$(mktemp -d -p /dev/shm)
 trap 'rm -rf "$folder"' EXIT

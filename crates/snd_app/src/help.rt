@@ -19,7 +19,8 @@ Usage: snd COMMAND
   snd --version                          print the version
 
 Options of convert: -pcmu8 -pcms8 -pcm16 -pcm24 -pcm32 -ulaw -alaw
-                    -endian=little -endian=big -override-sample-rate=N
+                    -ima-adpcm -ms-adpcm -endian=little -endian=big
+                    -override-sample-rate=N
 Options of metadata-set: --str-title --str-artist --str-comment --str-copyright
                     --str-date --str-album --bext-description --bext-originator
                     --bext-orig-ref --bext-orig-date --bext-orig-time
