@@ -1,7 +1,7 @@
 -- Late chunks read back in files of every kind, since they do in each.
-use Rattle.std.proofs.Common.{◌≡◌, ◌∙◌, ap, sym, subst, refl, inl, ℕ, ◌≤◌, true, List, Option, None, Some, Ok, length, take, arith}
+use Rattle.std.proofs.Common.{◌≡◌, ◌∙◌, ap, sym, subst, refl, inl, ℕ, ◌≤◌, List, Option, None, Some, Ok, length, take, arith}
 use Rattle.snd_chunks.specs.Heads.{Heads}
-use Rattle.snd_chunks.specs.Late.{EndsLate, LateReadsBack, MayBeLate, late_from, late_shape}
+use Rattle.snd_chunks.specs.Late.{EndsLate, LateReadsBack, late_from}
 use Rattle.snd_chunks.specs.Written.{NewChunk}
 use Rattle.snd_layout.specs.Container.{closed_end, counted_shape}
 use Rattle.snd_layout.specs.Params.{Parameters}
@@ -12,10 +12,8 @@ use Rattle.snd_container.proofs.EveryKind.{laws_of}
 use Rattle.snd_container.proofs.Marks.{SameMarks, kind_of_marks, recognised_too}
 use Rattle.snd_container.proofs.OfKinds.{layout_by_kind}
 use Rattle.snd_container.specs.Kinds.{container_of}
-use Rattle.snd_container.specs.Late.{LateChunksReadBack, holds_pieces}
-use Rattle.snd_container.specs.Put.{MayBePieceOf, heads_for}
+use Rattle.snd_container.specs.Late.{LateChunksReadBack}
 use Rattle.snd_container.specs.Recognised.{recognised}
-use Rattle.snd_container.specs.Sound.{layout_of}
 use Rattle.snd_container.specs.Values.{any}
 use Rattle.snd_rf64.proofs.LateFiles as rf64_late
 use Rattle.snd_rf64.proofs.Putting as rf64

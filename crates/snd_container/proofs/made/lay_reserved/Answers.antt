@@ -1,4 +1,4 @@
-use Rattle.std.proofs.Common.{◌≡◌, ◌∙◌, [], Option, Some, ap}
+use Rattle.std.proofs.Common.{[], Some, ap}
 use Rattle.std.proofs.lemmas.Result.{on_ok_weaker}
 use Rattle.snd_chunks.specs.Heads.{IsHeadIn}
 use Rattle.snd_container.proofs.Heads.{as_kind, of_kind, wave_says}

@@ -21,8 +21,8 @@ returns-in-Wave-clause-put g c =
 pub returns-in-Wave-clause-head : goal.returns-in-Wave-clause-head
 returns-in-Wave-clause-head g c = on_ok_weaker c.put_piece.result (λ head. holds_of_kind Wave (reserved_heads c.args.layout.now.reserve) (wave_says c.args.layout.now.reserve) (g.D.Disk.state c.put_piece.new.disk) c.put_piece.new.layout head) c.put_piece.ensures.head
 
-pub put_piece-in-Rf64-requires-clause-head : goal.put_piece-in-Rf64-requires-clause-head
-put_piece-in-Rf64-requires-clause-head g c =
+pub put_piece-requires-in-Rf64-clause-head : goal.put_piece-requires-in-Rf64-clause-head
+put_piece-requires-in-Rf64-clause-head g c =
     let kind : c.args.layout.now.kind ≡ Rf64 = sym (ap (λ (s : Shape). s.kind) c.layout.view_is) ∙ c.in-Rf64.is in
     holds_as_kind Rf64 (heads_of Rf64) (g.D.Disk.state c.args.disk.now) c.args.layout.now (kind, rf64_same c.args.layout.now.reserve) c.requires.head
 
@@ -34,8 +34,8 @@ returns-in-Rf64-clause-put g c =
 pub returns-in-Rf64-clause-head : goal.returns-in-Rf64-clause-head
 returns-in-Rf64-clause-head g c = on_ok_weaker c.put_piece-in-Rf64.result (λ head. holds_of_kind Rf64 (heads_of Rf64) rf64_says (g.D.Disk.state c.put_piece-in-Rf64.new.disk) c.put_piece-in-Rf64.new.layout head) c.put_piece-in-Rf64.ensures.head
 
-pub put_piece-in-Svx-requires-clause-head : goal.put_piece-in-Svx-requires-clause-head
-put_piece-in-Svx-requires-clause-head g c =
+pub put_piece-requires-in-Svx-clause-head : goal.put_piece-requires-in-Svx-clause-head
+put_piece-requires-in-Svx-clause-head g c =
     let kind : c.args.layout.now.kind ≡ Svx = sym (ap (λ (s : Shape). s.kind) c.layout.view_is) ∙ c.in-Svx.is in
     holds_as_kind Svx (heads_of Svx) (g.D.Disk.state c.args.disk.now) c.args.layout.now (kind, svx_same c.args.layout.now.reserve) c.requires.head
 
