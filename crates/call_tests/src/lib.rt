@@ -1,5 +1,5 @@
 //! Tests of calls that no command makes, or whose answers no command tells: worked examples, and values that other
-//! programs made. What commands show of codecs, lines, words and chunks, `checks/codecs.sh` and `checks/lines.sh` try.
+//! programs made. What commands show of codecs, lines, words and chunks, `checks/codecs.py` and `checks/lines.py` try.
 #![tactic(auto)]
 
 #[cfg(test)]

@@ -9,7 +9,7 @@ mod codec;
 mod stream;
 
 use codec::Codec;
-use snd_disk::ReaderSource;
+use snd_files::ReaderSource;
 use std::env;
 use std::process::ExitCode;
 

@@ -1,8 +1,8 @@
 //! Files that other programs made: sox, ffmpeg and libsndfile.
 use snd_au::*;
-use snd_disk::MemoryDisk;
 use snd_fields::Order;
 use snd_layout::{OpenError, OpenRefusal};
+use snd_memory::MemoryDisk;
 use std::alloc::Global;
 use std::test::Fail;
 

@@ -1,8 +1,8 @@
 //! The heads of files without frames, as other programs write them or written out by hand from the formats' specifications.
 use snd_container::{fit, lay_head};
-use snd_disk::MemoryDisk;
 use snd_fields::Order;
 use snd_layout::{Codec, Field, Kind, Params};
+use snd_memory::MemoryDisk;
 use std::test::Fail;
 
 struct Head {

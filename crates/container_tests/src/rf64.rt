@@ -1,7 +1,7 @@
 //! Chunks that are put into a head, written out by hand from the format's specification.
-use snd_disk::MemoryDisk;
 use snd_fields::{Id4, Order};
 use snd_layout::{Codec, Kind, Params};
+use snd_memory::MemoryDisk;
 use snd_rf64::*;
 use std::test::Fail;
 

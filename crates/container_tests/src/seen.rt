@@ -1,6 +1,6 @@
 //! What is seen of a file after calls.
-use snd_disk::MemoryDisk;
 use snd_layout::{Field, Layout};
+use snd_memory::MemoryDisk;
 
 /// Whether the data begin and are counted at these places, and these bytes stand in the file from one on.
 pub(crate) fn shows(

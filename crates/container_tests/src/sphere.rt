@@ -1,7 +1,7 @@
 //! Headers that other programs wrote, and a head that is laid.
-use snd_disk::MemoryDisk;
 use snd_fields::Order;
 use snd_layout::{Codec, Field, Kind, OpenError, OpenRefusal, Params};
+use snd_memory::MemoryDisk;
 use snd_sphere::*;
 use std::alloc::{AllocError, Global};
 use std::test::Fail;

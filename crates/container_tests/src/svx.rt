@@ -1,8 +1,8 @@
 //! Chunks that are put into a head, written out by hand from the format's specification.
 use crate::seen::shows;
-use snd_disk::MemoryDisk;
 use snd_fields::Id4;
 use snd_layout::{Codec, Field, Kind, Params};
+use snd_memory::MemoryDisk;
 use snd_svx::*;
 use std::test::Fail;
 

@@ -1,6 +1,6 @@
 //! Files that libsndfile and FFmpeg wrote, and some by hand after the format's specification.
-use snd_disk::MemoryDisk;
 use snd_layout::{OpenError, OpenRefusal};
+use snd_memory::MemoryDisk;
 use snd_w64::*;
 use std::alloc::Global;
 use std::test::Fail;

@@ -1,7 +1,7 @@
 //! Where the fields of whole files lie, written out by hand from the format's specification, and chunks that are put into a head.
-use snd_disk::MemoryDisk;
 use snd_fields::Order;
 use snd_layout::{Codec, Kind, Params};
+use snd_memory::MemoryDisk;
 use snd_wave::*;
 use std::test::Fail;
 

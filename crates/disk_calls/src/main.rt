@@ -4,7 +4,8 @@
 
 ghost use Rattle.std.specs.Prelude.{◌≡◌, false};
 
-use snd_disk::{Disk, Failed, FolderShelf, Shelf};
+use snd_disk::{Disk, Failed, Shelf};
+use snd_files::FolderShelf;
 use std::env;
 use std::process::ExitCode;
 

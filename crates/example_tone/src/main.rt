@@ -3,8 +3,9 @@
 
 ghost use Rattle.std.specs.Prelude.{◌≡◌};
 
-use snd_disk::{Disk, FolderShelf, Shelf};
+use snd_disk::{Disk, Shelf};
 use snd_fields::Order;
+use snd_files::FolderShelf;
 use snd_layout::{Codec, Kind, Params};
 use snd_modes::create;
 use std::alloc::Global;

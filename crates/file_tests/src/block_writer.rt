@@ -7,8 +7,9 @@ ghost use Rattle.snd_block_writer.specs.Writing.{block_end, next_place, place_af
 ghost use Rattle.file_tests.specs.Uses.{PutsSound, sound_end};
 
 use snd_block_writer::*;
-use snd_disk::{Disk, FailingCall, MemoryDisk, SteadyDisk, Step};
+use snd_disk::{Disk, Step};
 use snd_layout::{Codec, Params};
+use snd_memory::{FailingCall, MemoryDisk, SteadyDisk};
 use std::alloc::Global;
 
 // The two blocks that libsndfile 1.2.0's sndfile-convert writes of 600 frames of one channel at 8000 frames a second, of which the

@@ -1,9 +1,11 @@
 ghost use Rattle.std.specs.Prelude.{◌≡◌, ◌≤◌, List, ℕ, false, IsTrue, IfOk};
 ghost use Rattle.std.specs.Str.{bytes_eq};
-ghost use Rattle.snd_disk.specs.Folder.{folder_state};
+ghost use Rattle.snd_files.specs.Folder.{folder_state};
 ghost use Rattle.file_tests.specs.Uses.{SameOut};
 
 use snd_disk::*;
+use snd_files::*;
+use snd_memory::*;
 use std::alloc::{AllocError, Global};
 use std::os::unix::fs::symlink;
 use std::process::Abort;

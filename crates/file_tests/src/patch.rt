@@ -1,7 +1,8 @@
 //! The calls of the disk, in their order, on a whole file written out by hand.
-use snd_disk::{Call, Disk, Made, SteadyDisk};
+use snd_disk::Disk;
 use snd_fields::Order;
 use snd_layout::{Codec, Field, Kind, Layout, Params, PieceList};
+use snd_memory::{Call, Made, SteadyDisk};
 use snd_patch::*;
 use std::test::Fail;
 

@@ -6,7 +6,8 @@
 ghost use Rattle.std.specs.Prelude.{◌≡◌};
 ghost use Rattle.snd_modes.specs.Handle.{disk_of, loan_of};
 
-use snd_disk::{Disk, FolderShelf, Shelf};
+use snd_disk::{Disk, Shelf};
+use snd_files::FolderShelf;
 use snd_modes::{File, Read, ReadError, open_read};
 use std::alloc::Global;
 use std::env;

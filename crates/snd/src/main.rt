@@ -4,8 +4,9 @@
 ghost use Rattle.snd_tools.specs.Shelves.{IsAllIn};
 
 use snd_app::run;
-use snd_disk::{FolderShelf, ReaderSource, Shelf, WriterSink};
+use snd_disk::Shelf;
 use snd_fields::Words;
+use snd_files::{FolderShelf, ReaderSource, WriterSink};
 use snd_taps::{Clips, Energy, Peak, Tap};
 use std::alloc::AllocError;
 use std::process::ExitCode;

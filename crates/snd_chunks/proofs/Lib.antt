@@ -3,3 +3,4 @@ pub mod Heads
 pub mod Stays
 pub mod Walks
 pub mod WrittenChunks
+pub mod LateChunks

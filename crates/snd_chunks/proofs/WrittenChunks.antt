@@ -64,7 +64,7 @@ length-chunk_bytes order chunk p four =
       length-replicate {A = ℕ} (length chunk.body % 2) 0,
     )
 
-has_head : (order : Order) (b : List ℕ) (p : ℕ) (chunk : NewChunk) → HasAt b p (chunk_bytes order chunk) → HasAt b p (head_bytes order chunk.id (length chunk.body))
+pub has_head : (order : Order) (b : List ℕ) (p : ℕ) (chunk : NewChunk) → HasAt b p (chunk_bytes order chunk) → HasAt b p (head_bytes order chunk.id (length chunk.body))
 unfolding chunk_bytes
 has_head order b p chunk has =
     has_left b p (head_bytes order chunk.id (length chunk.body)) chunk.body (has_left b p (head_bytes order chunk.id (length chunk.body) ++ chunk.body) (pad (length chunk.body)) has)

@@ -1,12 +1,9 @@
-pub mod AfterCall
 pub mod Chains
 pub mod Fields
-pub mod ListedBytes
+pub mod Lemmas
 pub mod Lists
 pub mod Names
-pub mod Places
 pub mod Returned
 pub mod RunsOfCalls
 pub mod Sources
-pub mod TakenOut
 pub mod TwoFields

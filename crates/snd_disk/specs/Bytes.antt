@@ -1,6 +1,5 @@
 -- Lists of bytes, and what a crash does to them by whole sectors of 512 bytes.
-use Rattle.std.specs.Prelude.{◌≡◌, ◌⊎◌, ℕ, ◌+◌, ◌-◌, ◌<◌, ◌/◌, List, ◌++◌, length, take, drop, get_or, replicate, map, max, nat_lt, nat_le, if◌then◌else◌}
-use Rattle.std.specs.List.{range_with_len}
+use Rattle.std.specs.Prelude.{◌≡◌, ◌⊎◌, ℕ, ◌+◌, ◌-◌, ◌<◌, ◌/◌, List, ◌++◌, length, take, drop, get_or, replicate}
 
 -- b with s put at a place, and zeros between the old end and that place
 abbrev pub over : List ℕ → ℕ → List ℕ → List ℕ
@@ -14,15 +13,3 @@ HasSectorOf x y k = (i : ℕ) → i / 512 ≡ k → i < length x → get_or x i 
 pub record Mix (y z x : List ℕ) : Type 0 where
   pub size : (length x ≡ length y) ⊎ (length x ≡ length z)
   pub sectors : (k : ℕ) → HasSectorOf x y k ⊎ HasSectorOf x z k
-
--- how many sectors n bytes take
-abbrev pub sectors_of : ℕ → ℕ
-sectors_of n = (n + 511) / 512
-
--- y, where the sectors below k are those of z
-abbrev pub with_sectors_of : List ℕ → List ℕ → ℕ → List ℕ
-with_sectors_of y z k = map (λ i. if nat_lt (i / 512) k then get_or z i 0 else get_or y i 0) (range_with_len 0 (length y))
-
--- .. and z as a whole where these are all its sectors and all of y's
-abbrev pub partly : List ℕ → List ℕ → ℕ → List ℕ
-partly y z k = if nat_le (sectors_of (max (length y) (length z))) k then z else with_sectors_of y z k

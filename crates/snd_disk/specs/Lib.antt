@@ -1,17 +1,8 @@
 pub mod Bytes
 pub mod Device
-pub mod File
-pub mod Folder
 pub mod Laws
-pub mod Listed
-pub mod Memory
-pub mod MemoryShelf
-pub mod MemoryStreams
-pub mod Mixed
-pub mod Past
 pub mod Runs
 pub mod Shelf
 pub mod Shelves
 pub mod State
-pub mod Steady
 pub mod Streams

@@ -110,4 +110,8 @@ pub trait Disk {
 
     /// No moment is to come: up to a value beyond the clock is up to the clock.
     ghost none_to_come: { (d : Self) (s t : ℕ) (x : List ℕ) → (state d).clock ≤ t → left_between d s t x → left_between d s (state d).clock x };
+
+    /// Time splits: what a crash may have left between two values of the clock it may have left up to
+    /// a third, or from that one on.
+    ghost splits: { (d : Self) (s t u : ℕ) (x : List ℕ) → left_between d s u x → left_between d s t x ⊎ left_between d t u x };
 }

@@ -1,4 +1,4 @@
-ghost use Rattle.std.specs.Prelude.{◌≡◌, ◌<◌, ◌≤◌, ◌^◌, List, ℕ, length, true, false, Some, IfOk, IsErrOf, OnErr};
+ghost use Rattle.std.specs.Prelude.{◌≡◌, ◌⊎◌, ◌<◌, ◌≤◌, ◌^◌, List, ℕ, length, true, false, Some, IfOk, IsErrOf, OnErr};
 ghost use Rattle.snd_disk.specs.Shelf.{Files, ShelfState, Takes, Stays, Gives, IsMissing, CountsFault, KeepsBytes};
 ghost use Rattle.snd_disk.specs.Shelves.{HandsOut, HandsOutNone, KeepsOthers, TakesBack};
 
@@ -62,4 +62,8 @@ pub trait Shelf {
 
     /// No moment is to come: up to a value beyond the clock is up to the clock.
     ghost none_to_come: { (s : Self) (n : List ℕ) (t t' : ℕ) (x : List ℕ) → (state s).clock n ≤ t' → left_between s n t t' x → left_between s n t ((state s).clock n) x };
+
+    /// Time splits: what a crash may have left of a file between two values of its clock it may have
+    /// left up to a third, or from that one on.
+    ghost splits: { (s : Self) (n : List ℕ) (t t' t'' : ℕ) (x : List ℕ) → left_between s n t t'' x → left_between s n t t' x ⊎ left_between s n t' t'' x };
 }

@@ -85,6 +85,9 @@ pub enum PieceError {
     /// 240 chunks stand already.
     #[error("the file has 240 chunks already")]
     TooManyChunks,
+    /// The data and the chunks behind them have no room in the size of the whole.
+    #[error("the file has no room for the chunk")]
+    ContainerFull,
     /// A call of the disk failed at this step.
     #[error("the disk failed")]
     DiskFault(Step),

@@ -60,7 +60,7 @@ stands b h is =
     rw from.shape (record { late = omega (arith, begin.least, tell.behind); within = begin.within; inner = refl; outer = refl; side = refl })
 
 -- the end of what closes the data
-closed_by : (h : Shape) (n : ℕ) → closed_end rf64 h n ≡ padded_end h.start (data_bytes h.params n)
+pub closed_by : (h : Shape) (n : ℕ) → closed_end rf64 h n ≡ padded_end h.start (data_bytes h.params n)
 unfolding closing
 closed_by h n = ap (λ (m : ℕ). end h n + m) (length-replicate {A = ℕ} (data_bytes h.params n % 2) 0)
 

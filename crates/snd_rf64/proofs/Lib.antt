@@ -8,3 +8,4 @@ pub mod Made
 pub mod NewFiles
 pub mod Putting
 pub mod Contained
+pub mod LateFiles

@@ -26,11 +26,11 @@ use Rattle.snd_wave.proofs.Opens.{refused}
 use Rattle.snd_wave.proofs.Shapes.{blocks_have_bytes}
 use Rattle.snd_wave.specs.Layout.{body_of, format_chunk, is_format, is_own, piece_of, pieces_of, whole_frames}
 use Rattle.snd_wave.specs.Written.{MayBePiece, new_format}
-use Rattle.snd_rf64.specs.Layout.{data_end, fitted, held, outer_end, rf64_front, rf64_layout, rf64_shape, shape_at, sizes_of}
+use Rattle.snd_rf64.specs.Layout.{data_end, fitted, held, outer_end, rf64_front, rf64_layout, rf64_shape, shape_at, sizes_in, sizes_of}
 use Rattle.snd_rf64.specs.Written.{MayBeMade, chunks_before, head_size, made_pieces, made_shape, no_size, rf64_head, top}
 use Rattle.snd_rf64.specs.declared.sizes.Sizes.{Sizes}
 use Rattle.snd_rf64.proofs.Counted.{fits_wave, free_shape, has_long}
-use Rattle.snd_rf64.proofs.Opens.{Opens, opened}
+use Rattle.snd_rf64.proofs.Opens.{Opens, opened, tells}
 
 -- ---- the first bytes
 
@@ -114,7 +114,7 @@ pub all_precede : (p : Parameters) (pieces : List NewChunk) → All MayBePiece p
 all_precede p pieces are = All-cons (MayPrecede (codes "data")) (new_format p) pieces (format_precedes p) (All-weaker MayBePiece (MayPrecede (codes "data")) piece_precedes pieces are)
 
 -- each piece is kept
-kept_all : (place : ℕ) (pieces : List NewChunk) → All MayBePiece pieces → filter (λ chunk. not (is_own chunk)) (all_placed place pieces) ≡ all_placed place pieces
+pub kept_all : (place : ℕ) (pieces : List NewChunk) → All MayBePiece pieces → filter (λ chunk. not (is_own chunk)) (all_placed place pieces) ≡ all_placed place pieces
 unfolding all_placed
 kept_all place [] are = refl
 kept_all place (piece ∷ pieces) are =
@@ -209,8 +209,19 @@ module _ (b : List ℕ) (p : Parameters) (pieces : List NewChunk) (may : MayBeMa
     shape = sym shape_is;
   }
 
+has_self : (l : List ℕ) → HasAt l 0 l
+has_self l = λ j lt. ap (λ k. get_or l k 0) (omega arith)
+
 pub head_reads_back : (p : Parameters) (pieces : List NewChunk) → MayBeMade p pieces → head_size p pieces < 2 ^ 63 → rf64_layout (rf64_head p pieces) ≡ Ok (made_shape p pieces)
 head_reads_back p pieces may few =
     let at : head_size p pieces ≡ (head_size p pieces - 8) + 8 = omega (arith, size_least p pieces) in
-    let self : HasAt (rf64_head p pieces) 0 (rf64_head p pieces) = λ j lt. ap (λ k. get_or (rf64_head p pieces) k 0) (omega arith) in
-    opened (rf64_head p pieces) (made_shape p pieces) (opens_made (rf64_head p pieces) p pieces may self (length-head p pieces) (head_size p pieces - 8) at few)
+    opened (rf64_head p pieces) (made_shape p pieces) (opens_made (rf64_head p pieces) p pieces may (has_self (rf64_head p pieces)) (length-head p pieces) (head_size p pieces - 8) at few)
+
+-- the walk over a head sees the format and the pieces, from behind `ds64` on
+pub walk_few : (p : Parameters) (pieces : List NewChunk) → MayBeMade p pieces → head_size p pieces < 2 ^ 63 → length (rf64_front (rf64_head p pieces) (sizes_in (rf64_head p pieces)).next).chunks ≡ length pieces + 1
+walk_few p pieces may few =
+    let at : head_size p pieces ≡ (head_size p pieces - 8) + 8 = omega (arith, size_least p pieces) in
+    let said : sizes_of (rf64_head p pieces) ≡ Ok (made_sizes (head_size p pieces - 8)) = told (rf64_head p pieces) p pieces may (has_self (rf64_head p pieces)) (length-head p pieces) (head_size p pieces - 8) at few in
+    let next : (sizes_in (rf64_head p pieces)).next ≡ 48 = ap (λ (s : Sizes). s.next) (sym (tells (rf64_head p pieces) (made_sizes (head_size p pieces - 8)) said).is) in
+    let seen = front_is (rf64_head p pieces) p pieces may (has_self (rf64_head p pieces)) (length-head p pieces) (head_size p pieces - 8) at few in
+    ap (λ n. length (rf64_front (rf64_head p pieces) n).chunks) next ∙ ap (λ (f : Front). length f.chunks) seen ∙ omega (arith, length-all_placed 48 (chunks_before p pieces))

@@ -4,9 +4,9 @@ ghost use Rattle.std.specs.Prelude.{◌≡◌, IfSome, false, is_none};
 ghost use Rattle.snd_container.specs.Sound.{fixed_of};
 
 use snd_container::fixed_form;
-use snd_disk::{Call, Made, SteadyDisk};
 use snd_fields::Id4;
 use snd_layout::{Codec, Kind, Params};
+use snd_memory::{Call, Made, SteadyDisk};
 use snd_modes::{GetError, create, may_be_piece, open_read, open_update};
 use std::alloc::Global;
 use std::test::Fail;

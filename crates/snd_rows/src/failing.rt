@@ -3,7 +3,8 @@ ghost use Rattle.std.specs.Prelude.{◌≡◌, List, ℕ, false};
 
 use crate::memory::words_of;
 use snd_app::run;
-use snd_disk::{FailingCall, FailingPut, MemoryDisk, MemoryShelf, MemorySink, MemorySource, Shelf};
+use snd_disk::Shelf;
+use snd_memory::{FailingCall, FailingPut, MemoryDisk, MemoryShelf, MemorySink, MemorySource};
 use std::alloc::{AllocError, Global};
 use std::process::Abort;
 use std::test::Fail;

@@ -3,11 +3,15 @@
 #![tactic(auto)]
 
 #[cfg(test)]
+mod boxes;
+#[cfg(test)]
 mod calls;
 #[cfg(test)]
 mod crash;
 #[cfg(test)]
 mod failing;
+#[cfg(test)]
+mod faults;
 mod memory;
 
 pub use memory::{Printed, run_in_memory, words_of};

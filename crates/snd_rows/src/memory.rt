@@ -3,8 +3,8 @@ ghost use Rattle.snd_app.specs.Outcome.{outcome};
 ghost use Rattle.snd_rows.specs.Memory.{one_file, IsPrinted};
 
 use snd_app::run;
-use snd_disk::{MemoryDisk, MemoryShelf, MemorySink, MemorySource};
 use snd_fields::Words;
+use snd_memory::{MemoryDisk, MemoryShelf, MemorySink, MemorySource};
 use snd_taps::Tap;
 use std::alloc::{AllocError, Global};
 

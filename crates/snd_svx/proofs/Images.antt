@@ -70,12 +70,12 @@ sized b chunk sound bytes there =
 
 -- ---- layouts from their parts
 
-same_shape : (p : Parameters) (start start' frames frames' declared declared' count : ℕ) (t t' : Bool) (l l' : List Piece) → start ≡ start' → frames ≡ frames' → declared ≡ declared' → t ≡ t' → l ≡ l'
+pub same_shape : (p : Parameters) (start start' frames frames' declared declared' count : ℕ) (t t' : Bool) (l l' : List Piece) → start ≡ start' → frames ≡ frames' → declared ≡ declared' → t ≡ t' → l ≡ l'
     → shape_of p start frames declared count t l ≡ shape_of p start' frames' declared' count t' l'
 same_shape p start start' frames frames' declared declared' count t t' l l' one two three four five = rw (one, two, three, four, five) refl
 
 -- a file that ends by its data has no piece behind them
-no_pieces : (x : List ℕ) (f : Front) (sound : Chunk) → outer_end x ≤ data_end x sound → pieces_of false f.chunks ++ pieces_of true (svx_tail x f sound) ≡ pieces_of false f.chunks
+pub no_pieces : (x : List ℕ) (f : Front) (sound : Chunk) → outer_end x ≤ data_end x sound → pieces_of false f.chunks ++ pieces_of true (svx_tail x f sound) ≡ pieces_of false f.chunks
 no_pieces x f sound ends =
     let none : svx_tail x f sound ≡ [] = no_tail Big x (outer_end x) _ (data_end x sound) ends in
     ap (λ (l : List Chunk). pieces_of false f.chunks ++ pieces_of true l) none ∙ append-nil (pieces_of false f.chunks)
@@ -95,7 +95,7 @@ closed x f header chunk sound start n at size within on_disk ends =
     at all declared (le-ltb (data_end x sound) (outer_end x) ends_too) (no_pieces x f sound ends_too)
 
 -- a layout that does not go on ends by its data
-stops_there : (b : List ℕ) (h : Shape) (from : Opens b (svx_front b) h) → h.trailing ≡ false → outer_end b ≤ data_end b from.sound
+pub stops_there : (b : List ℕ) (h : Shape) (from : Opens b (svx_front b) h) → h.trailing ≡ false → outer_end b ≤ data_end b from.sound
 stops_there b h from free = ltb-false (data_end b from.sound) (outer_end b) (sym (ap (λ (s : Shape). s.trailing) from.shape) ∙ free)
 
 -- ---- the old count

@@ -3,6 +3,7 @@ pub mod AllLaws
 pub mod Bodies
 pub mod FieldValues
 pub mod Images
+pub mod LateFiles
 pub mod Layouts
 pub mod Lies
 pub mod Made

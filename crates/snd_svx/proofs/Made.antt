@@ -47,7 +47,7 @@ filler_precedes p pieces = elim (cases_Bool (is_in_one_sector (start_without_fil
   | inr other ↦ rw other (All-cons (MayPrecede (codes "BODY")) junk [] (record { four = refl; few = omega arith; other = refl }) (All-nil (MayPrecede (codes "BODY"))))
 ]
 
-filler_few : (p : Parameters) (pieces : List NewChunk) → length (filler p pieces) ≤ 1
+pub filler_few : (p : Parameters) (pieces : List NewChunk) → length (filler p pieces) ≤ 1
 filler_few p pieces = elim (cases_Bool (is_in_one_sector (start_without_filler p pieces - 4) 4)) [
   | inl is ↦ rw is (omega arith)
   | inr other ↦ rw other (omega arith)
@@ -66,6 +66,10 @@ kept_pieces k (piece ∷ pieces) rest none are =
     let is : MayBePiece piece = All-head MayBePiece piece pieces are in
     let other : is_own (placed piece.id k (length piece.body)) ≡ false = is.other in
     rw other (ap (λ (l : List Chunk). placed piece.id k (length piece.body) ∷ l) (kept_pieces (padded_end (k + 8) (length piece.body)) pieces rest none (All-tail MayBePiece piece pieces are)))
+
+pub kept_all : (k : ℕ) (pieces : List NewChunk) → All MayBePiece pieces → filter (λ chunk. not (is_own chunk)) (all_placed k pieces) ≡ all_placed k pieces
+unfolding all_placed
+kept_all k pieces are = ap (λ (l : List NewChunk). filter (λ chunk. not (is_own chunk)) (all_placed k l)) (sym (append-nil pieces)) ∙ kept_pieces k pieces [] (λ i. refl) are
 
 no_pairs : (b : List ℕ) (k : ℕ) (pieces rest : List NewChunk) → ((i : ℕ) → list_any (is_pair b) (all_placed i rest) ≡ false) → All MayBePiece pieces → list_any (is_pair b) (all_placed k (pieces ++ rest)) ≡ false
 unfolding all_placed
@@ -196,6 +200,13 @@ module _ (p : Parameters) (pieces : List NewChunk) (may : MayBeMade p pieces) (q
 
   told : svx_layout b ≡ Ok (made_shape p pieces 0)
   told = opened b (made_shape p pieces 0) (subst (λ (f : Front). Opens b f (made_shape p pieces 0)) (sym front_is) opens_made)
+
+-- the walk over a head sees the voice header, the pieces and the filler
+pub walk_few : (p : Parameters) (pieces : List NewChunk) → MayBeMade p pieces → length (svx_front (svx_head p pieces)).chunks ≤ length pieces + 2
+walk_few p pieces may =
+    let at : head_size p pieces ≡ (head_size p pieces - 8) + 8 = omega arith in
+    let seen = ap (λ (f : Front). length f.chunks) (front_is p pieces may (head_size p pieces - 8) at) in
+    omega (arith, seen, length-all_placed 12 (chunks_before p pieces 0), length-append pieces (filler p pieces), filler_few p pieces)
 
 pub heads_read_back : HeadReadsBack
 heads_read_back p pieces may =

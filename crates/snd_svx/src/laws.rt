@@ -2,8 +2,10 @@
 
 ghost use Rattle.snd_layout.specs.Container.{KeepsLaws};
 ghost use Rattle.snd_layout.specs.declared.kind.Kind.TheVariants.{Svx};
+ghost use Rattle.snd_chunks.specs.Late.{LateReadsBack};
 ghost use Rattle.snd_svx.specs.Container.{svx};
-ghost use Rattle.snd_svx.specs.Put.{HeadReadsBack};
+ghost use Rattle.snd_svx.specs.Put.{HeadReadsBack, svx_heads};
+ghost use Rattle.snd_svx.specs.Written.{MayBePiece};
 
 /// 8SVX files are a container: their layouts keep the laws of all containers. The function does nothing:
 /// its contract is the laws.
@@ -15,4 +17,11 @@ pub fn keeps_laws()
 #[tactic(auto, using(crate::proofs::Made::heads_read_back))]
 pub fn made_heads_read_back()
     ensures { HeadReadsBack }
+{}
+
+/// A file that is closed with chunks behind its data, and the size of the whole up to them, has these
+/// behind its pieces, whatever stands behind them all.
+#[tactic(auto, using(crate::proofs::LateFiles::late_reads_back))]
+pub fn late_chunks_read_back()
+    ensures { LateReadsBack MayBePiece svx svx_heads }
 {}

@@ -14,6 +14,6 @@ mod values;
 
 pub use changing::put_piece;
 pub use head::lay_head;
-pub use laws::{keeps_laws, made_heads_read_back};
+pub use laws::{keeps_laws, late_chunks_read_back, made_heads_read_back};
 pub use layout::open_layout;
 pub use values::{closing_bytes, inner_bytes, outer_bytes, room, side_bytes};

@@ -13,7 +13,8 @@ ghost use Rattle.snd_modes.specs.Handle.{disk_of, loan_of};
 
 use job::{Change, Creation, Job, job_of};
 use snd_container::{Fixed, fixed_form};
-use snd_disk::{Disk, FolderShelf, Shelf};
+use snd_disk::{Disk, Shelf};
+use snd_files::FolderShelf;
 use snd_layout::Kind;
 use snd_modes::{File, Update, create, create_blocks, open_update};
 use std::alloc::Global;

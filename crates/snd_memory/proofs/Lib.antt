@@ -1,0 +1,3 @@
+pub mod AfterCall
+pub mod ListedBytes
+pub mod Places

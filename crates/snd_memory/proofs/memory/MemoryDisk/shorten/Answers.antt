@@ -1,0 +1,8 @@
+use Rattle.std.proofs.Common.{rules}
+use Rattle.snd_memory.specs.declared.call.Call.TheVariants.{Cut}
+use Rattle.snd_memory.specs.declared.call.End.TheVariants.{Done}
+use Rattle.snd_memory.proofs.AfterCall.{kept_push}
+use Rattle.snd_memory.proofs.memory.MemoryDisk.shorten.Goals as goal
+
+pub invariant_of-self-2 : goal.invariant_of-self-2
+invariant_of-self-2 c = record { kept = kept_push c.args.self.now.first.items c.args.self.now.bytes.items _ c.args.self.now.past.items c.push.new.self.items (record { call = Cut c.args.len; end = Done }) c.args.self.now.kept (search rules) (search rules) }
