@@ -2,11 +2,10 @@
 """The codecs of the built program against bytes and numbers of other programs, which stand in lib/codec_rows.py: each byte and each number
 of 16 bits of both laws, linear samples of each form and in another width, blocks of IMA and Microsoft ADPCM. Files of the bytes are
 read by scripts, and files of the numbers are made by scripts and by `convert`. Needs Python 3."""
-import subprocess
 import zlib
 
 from lib import blocks, codec_rows as rows, kinds
-from lib.head import SECONDS, Cases, first_difference, run, start
+from lib.head import Cases, first_difference, run, start
 from lib.tool_runs import RATE, wrong_run
 
 program = start()
@@ -47,10 +46,8 @@ def data_of(name):
 
 
 def made(name, words, script, out):
-    """The faults of a run that makes a file, and the bytes of its samples."""
-    done = subprocess.run([program, *words], input=script, capture_output=True, timeout=SECONDS)
-    wrong = first_difference("standard output", done.stdout, out) + first_difference("standard error", done.stderr, b"")
-    wrong += [f"status {done.returncode} for 0"] * (done.returncode != 0)
+    """The faults of a run that makes a file and changes no other, and the bytes of its samples."""
+    wrong = run(program, words, script, out, b"", 0, {f"./{name}"})
     return wrong, b"" if wrong else data_of(name)
 
 

@@ -9,7 +9,7 @@ import struct
 import subprocess
 
 from lib import kinds
-from lib.head import SECONDS, Cases, first_difference, start
+from lib.head import Cases, first_difference, run, start
 from lib.readers import Readers
 
 program = start()
@@ -83,9 +83,7 @@ class Sound:
         """Runs the script so far, and gives the faults of what it says."""
         script, want = ("".join(f"{line}\n" for line in lines).encode() for lines in (self.asked, self.replies))
         self.asked, self.replies = [], []
-        done = subprocess.run([program, "script"], input=script, capture_output=True, timeout=SECONDS)
-        wrong = first_difference("standard output", done.stdout, want) + first_difference("standard error", done.stderr, b"")
-        return wrong + [f"status {done.returncode} for 0"] * (done.returncode != 0)
+        return run(program, ["script"], script, want, b"", 0, {f"./{self.name}"})
 
 
 def read_back(what, sound, rest=None):

@@ -10,7 +10,7 @@ import os
 import subprocess
 
 from lib import blocks, kinds, tool_runs
-from lib.head import SECONDS, Cases, start
+from lib.head import Cases, first_difference, run, start
 from lib.readers import Readers
 from lib.tool_runs import changed, numbers
 
@@ -67,9 +67,12 @@ def converted(one, codec, kind, channels, rate):
         if one == "pcm_16_le" and rate == RATES[0]:
             lines = [f"create {kind} {codec} {channels} {rate} by-script.{SUFFIX[kind]}"]
             lines += ["write " + " ".join(map(str, wanted[i:i + 200])) for i in range(0, len(wanted), 200)]
-            subprocess.run([program, "script"], input="\n".join([*lines, "close", ""]).encode(), check=True, capture_output=True, timeout=SECONDS)
-            with open(f"by-script.{SUFFIX[kind]}", "rb") as one_file, open(out, "rb") as other:
-                cases.case(f"a script makes the same: {what}, {kind} {codec} {channels}", [] if one_file.read() == other.read() else ["another file"])
+            replies = [f"ok 0 {channels} {rate} {kind} {codec}", *(f"ok {len(wanted[i:i + 200]) // channels}" for i in range(0, len(wanted), 200)), f"ok {FRAMES}"]
+            by_script = f"by-script.{SUFFIX[kind]}"
+            script, replies = ("".join(f"{line}\n" for line in found).encode() for found in ([*lines, "close"], replies))
+            wrong = run(program, ["script"], script, replies, b"", 0, {f"./{by_script}"})
+            with open(by_script, "rb") as one_file, open(out, "rb") as other:
+                cases.case(f"a script makes the same: {what}, {kind} {codec} {channels}", wrong + first_difference("the file", one_file.read(), other.read()))
         os.remove(out)
 
 

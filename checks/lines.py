@@ -5,10 +5,9 @@ the largest numbers, and further lines show what they did; texts, broadcast exte
 are read, and written as they were. No file changes but the one that a row makes. Needs Python 3."""
 import os
 import struct
-import subprocess
 
 from lib import kinds, line_rows as rows
-from lib.head import SECONDS, Cases, first_difference, start, sums
+from lib.head import Cases, first_difference, run, start
 
 program = start()
 cases = Cases("lines")
@@ -32,14 +31,8 @@ def ran(words, script, out, err, status, made=()):
     for name in made:
         if os.path.exists(name):
             os.remove(name)
-    before = sums()
-    done = subprocess.run([program, *words], input=script.encode("latin-1"), capture_output=True, timeout=SECONDS)
-    wrong = first_difference("standard output", done.stdout, out.encode("latin-1")) + first_difference("standard error", done.stderr, err.encode("latin-1"))
-    wrong += [f"status {done.returncode} for {status}"] * (done.returncode != status)
-    after = sums()
-    wrong += [f"{name} was not made" for name in made if f"./{name}" not in after]
-    wrong += [f"{name} was changed, made or removed" for name in sorted({*before, *after}) if name[2:] not in made and before.get(name) != after.get(name)]
-    return wrong
+    wrong = run(program, words, *(it.encode("latin-1") for it in (script, out, err)), status, {f"./{name}" for name in made})
+    return wrong + [f"{name} was not made" for name in made if not os.path.isfile(name)]
 
 
 def replied(pairs):
