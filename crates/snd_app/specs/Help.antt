@@ -91,6 +91,12 @@ option_lines options = [] ∷ map (columns 26) options
 abbrev pub usage_of : Topic → List ℕ
 usage_of topic = lines (usages (forms topic) ++ notes topic ++ option_lines (all_in (option_rows topic)) ++ [] ∷ (codes "Example: " ++ example topic) ∷ [])
 
+abbrev pub convert_usage : List ℕ
+convert_usage = usage_of Convert
+
+abbrev pub metadata_usage : List ℕ
+metadata_usage = usage_of SetMetadata
+
 -- `--help`: the forms of all commands, the options of two by their names, and what names and files can be
 abbrev pub all_forms : List Entry
 all_forms =

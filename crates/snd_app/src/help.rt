@@ -1,7 +1,7 @@
 //! The texts of `--help`, of `COMMAND --help` and of `--version`, in lines of at most 79 characters.
 
 ghost use Rattle.std.specs.Prelude.{◌≡◌};
-ghost use Rattle.snd_app.specs.Help.{usage, usage_of, version};
+ghost use Rattle.snd_app.specs.Help.{convert_usage, metadata_usage, usage, usage_of, version};
 
 use snd_words::Topic;
 
@@ -136,16 +136,30 @@ pub fn version() -> &'static str
     "snd 0.1.0\n"
 }
 
+/// What `convert --help` prints.
+fn convert_usage() -> &'static str
+    ensures { result.now ≡ convert_usage }
+{
+    CONVERT
+}
+
+/// What `metadata-set --help` prints.
+fn metadata_usage() -> &'static str
+    ensures { result.now ≡ metadata_usage }
+{
+    SET_METADATA
+}
+
 /// What `COMMAND --help` prints of a command.
 pub fn usage_of(topic: Topic) -> &'static str
     ensures { result.now ≡ usage_of topic }
 {
     match topic {
         Topic::Info => INFO,
-        Topic::Convert => CONVERT,
+        Topic::Convert => convert_usage(),
         Topic::Concat => CONCAT,
         Topic::Interleave => INTERLEAVE,
-        Topic::SetMetadata => SET_METADATA,
+        Topic::SetMetadata => metadata_usage(),
         Topic::Generate => GENERATE,
         Topic::Script => SCRIPT,
     }
