@@ -1,22 +1,22 @@
 # Completion of the words of snd in bash. A name is completed as a file's.
 _snd() {
-    local typed=${COMP_LINE:0:COMP_POINT} words help=
+    local typed=${COMP_LINE:0:COMP_POINT} words
     typed=${typed##* }
-    # the only word behind a command
-    [ "$COMP_CWORD" != 2 ] || help=--help
     COMPREPLY=()
     case $COMP_CWORD:${COMP_WORDS[1]}:$typed in
         1:*) words="info convert concat interleave metadata-set gen script --help --version" ;;
-        2:script:*) words="--auto $help" ;;
-        *:info:-* | *:concat:-* | *:gen:-*) words=$help ;;
+        2:script:*) words="--auto" ;;
+        2:info:-* | 2:concat:-* | 2:gen:-*) words= ;;
         # bash takes what stands behind an equals sign for the word to be completed
         *:convert:-endian=*) words="little big" ;;
         *:convert:-*=*) return ;;
-        *:convert:-*) words="$help -pcmu8 -pcms8 -pcm16 -pcm24 -pcm32 -ulaw -alaw -ima-adpcm -ms-adpcm -endian= -override-sample-rate=" ;;
-        *:interleave:-*) words="-o $help" ;;
-        *:metadata-set:-*) words="$help --str-title --str-artist --str-comment --str-copyright --str-date --str-album --bext-description --bext-originator --bext-orig-ref --bext-orig-date --bext-orig-time --bext-time-ref --bext-coding-hist" ;;
+        *:convert:-*) words="-pcmu8 -pcms8 -pcm16 -pcm24 -pcm32 -ulaw -alaw -ima-adpcm -ms-adpcm -endian= -override-sample-rate=" ;;
+        *:interleave:-*) words="-o" ;;
+        *:metadata-set:-*) words="--str-title --str-artist --str-comment --str-copyright --str-date --str-album --bext-description --bext-originator --bext-orig-ref --bext-orig-date --bext-orig-time --bext-time-ref --bext-coding-hist" ;;
         *) return ;;
     esac
+    # as the only word behind a command
+    [ "$COMP_CWORD" != 2 ] || words+=" --help"
     mapfile -t COMPREPLY < <(compgen -W "$words" -- "${typed##*=}")
     [[ ${COMPREPLY[*]} != *= ]] || compopt -o nospace
 }

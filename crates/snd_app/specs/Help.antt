@@ -104,14 +104,19 @@ all_forms =
     ++ entry (codes "snd COMMAND --help") (codes "print what one command takes") ∷ entry (codes "snd --help") (codes "print this text") ∷ entry (codes "snd --version") (codes "print the version") ∷ []
 
 abbrev pub names_in : List Entry → List ℕ
-names_in row = codes "  " ++ spaced (map (λ it. it.words) row)
+names_in row = spaced (map (λ it. it.words) row)
+
+abbrev pub titled : List ℕ → List (List Entry) → List (List ℕ)
+titled title [] = []
+titled title (row ∷ rows) = (codes "Options of " ++ title ++ codes ": " ++ names_in row) ∷ map (λ it. codes "    " ++ names_in it) rows
 
 abbrev pub option_names : List ℕ → Topic → List (List ℕ)
-option_names command topic = [] ∷ (codes "Options of " ++ command ++ codes ", before the names:") ∷ map names_in (option_rows topic)
+option_names command topic = [] ∷ titled command (option_rows topic)
 
 abbrev pub kinds_and_codecs : List (List ℕ)
 kinds_and_codecs =
     []
+    ∷ codes "Options stand before the names, each of them once at most."
     ∷ codes "Suffixes of OUT: wav rf64 w64 au snd voc svx 8svx nist sph"
     ∷ codes "Kinds: wave rf64 w64 au dns voc svx sphere"
     ∷ codes "Codecs: pcm_u8 pcm_s8 pcm_16_le pcm_16_be pcm_24_le pcm_24_be pcm_32_le"

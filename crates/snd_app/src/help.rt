@@ -102,17 +102,16 @@ Usage: snd COMMAND
   snd --help                             print this text
   snd --version                          print the version
 
-Options of convert, before the names:
-  -pcmu8 -pcms8 -pcm16 -pcm24 -pcm32
-  -ulaw -alaw -ima-adpcm -ms-adpcm
-  -endian=little -endian=big -override-sample-rate=N
+Options of convert: -pcmu8 -pcms8 -pcm16 -pcm24 -pcm32
+    -ulaw -alaw -ima-adpcm -ms-adpcm
+    -endian=little -endian=big -override-sample-rate=N
 
-Options of metadata-set, before the names:
-  --str-title --str-artist --str-comment --str-copyright
-  --str-date --str-album --bext-description --bext-originator
-  --bext-orig-ref --bext-orig-date --bext-orig-time
-  --bext-time-ref --bext-coding-hist
+Options of metadata-set: --str-title --str-artist --str-comment --str-copyright
+    --str-date --str-album --bext-description --bext-originator
+    --bext-orig-ref --bext-orig-date --bext-orig-time
+    --bext-time-ref --bext-coding-hist
 
+Options stand before the names, each of them once at most.
 Suffixes of OUT: wav rf64 w64 au snd voc svx 8svx nist sph
 Kinds: wave rf64 w64 au dns voc svx sphere
 Codecs: pcm_u8 pcm_s8 pcm_16_le pcm_16_be pcm_24_le pcm_24_be pcm_32_le
