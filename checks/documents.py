@@ -3,14 +3,15 @@
 and the manual page is run as written, page by page, each in an empty folder, and what it prints is compared; README.md's folder has
 what its commands name of the repository. Of the pages, there is no block that is neither run nor a piece of a named file; README.md
 has at most 150 lines; each file, and each line with a clause, that they name is there; the refusals are those of the crates, and
-those of the manual page word for word; and examples/make.py makes examples/. Needs Python 3 and bash."""
+those of the manual page word for word; --help and COMMAND --help name the same forms and options, and those of the manual page; and
+examples/make.py makes examples/. Needs Python 3 and bash."""
 import os
 import re
 import subprocess
 import sys
 import textwrap
 
-from lib.head import TOP, Cases, first_difference, start
+from lib.head import TOP, Cases, finished, first_difference, start
 
 program = start()
 cases = Cases("documents")
@@ -136,9 +137,20 @@ plain = [tuple(" ".join(re.sub(r"\\f[BR]|`", "", part).replace(r"\-", "-").split
 wanted = [tuple(part.replace("`", "") for part in it) for it in rows]
 cases.case("docs/refusals.md against docs/snd.1", [f"{it}" for it in sorted({*plain} ^ {*wanted}, key=lambda it: int(it[0]))])
 
+commands = re.findall(r"(?m)^\.SS snd ([a-z]\S*)", text("docs/snd.1").replace(r"\-", "-"))
+helped = {it: finished([program, *it.split()]).stdout.decode() for it in ("--help", *(f"{it} --help" for it in dict.fromkeys(commands)))}
+for it, said in helped.items():
+    wide = [line for line in said.splitlines() if len(line) > 80]
+    form = [line for line in re.findall(r"(?m)^(?:Usage: |       )(snd .*)$", said) if line not in helped["--help"]]
+    lacks = [word for word in re.findall(r"(?m)^  (--?[a-z]\S*)", said) if it != "--help" and word not in helped["--help"] and word != "-o"]
+    cases.case(f"snd {it}", [f"a line of {len(line)}" for line in wide] + [f"--help lacks {word}" for word in form + lacks] + ["it says nothing"] * (not said))
+page = text("docs/snd.1").replace(r"\-", "-")
+options = {*re.findall(r"(?<![\w-])(-(?:pcm\w+|ulaw|alaw|ima-adpcm|ms-adpcm))\b", page)} | {f"--str-{it}" for it in ("title", "artist", "album", "comment", "copyright", "date")}
+cases.case("snd --help: the options of the manual page", [f"it lacks {it}" for it in sorted(options) if it not in helped["--help"]] + ["none found"] * (len(options) < 15))
+
 os.mkdir("made")
 subprocess.run([sys.executable, f"{TOP}/examples/make.py", "made"], check=True)
 made = sorted(os.listdir("made"))
 other = [it for it in made if open(f"made/{it}", "rb").read() != open(f"{TOP}/examples/{it}", "rb").read()]
 cases.case("examples/make.py", [f"makes another {it}" for it in other] + ["makes nothing"] * (not made))
-cases.end(tried + 2 * len(PAGES) + 5)
+cases.end(tried + 2 * len(PAGES) + 6 + len(helped))

@@ -90,7 +90,7 @@ def bash_words(case):
 
 
 # ---- commands, and the forms of their words
-forms = {re.sub(r" {2,}.*", "", it) for it in re.findall(r"(?m)^  snd (\S.*)$", HELP)}
+forms = {re.sub(r" {2,}.*|[][]", "", it) for it in re.findall(r"(?m)^  snd (\S.*)$", HELP)} - {"COMMAND --help"}
 titles = {re.sub(r"[][]", "", it).replace(" ..", "..") for it in re.findall(r"(?m)^\.SS snd (.*)$", PAGE)}
 same("the forms of the words", help=forms, page=titles)
 in_zsh = {*re.findall(r"(?m)^ +'([a-z-]+):", ZSH), *re.findall(r"'\(- \*\)(--\w+)\[", ZSH)}

@@ -6,6 +6,7 @@ _snd() {
     case $COMP_CWORD:${COMP_WORDS[1]}:$typed in
         1:*) words="info convert concat interleave metadata-set gen script --help --version" ;;
         2:script:*) words="--auto" ;;
+        2:info:-* | 2:concat:-* | 2:gen:-*) words= ;;
         # bash takes what stands behind an equals sign for the word to be completed
         *:convert:-endian=*) words="little big" ;;
         *:convert:-*=*) return ;;
@@ -14,6 +15,8 @@ _snd() {
         *:metadata-set:-*) words="--str-title --str-artist --str-comment --str-copyright --str-date --str-album --bext-description --bext-originator --bext-orig-ref --bext-orig-date --bext-orig-time --bext-time-ref --bext-coding-hist" ;;
         *) return ;;
     esac
+    # as the only word behind a command
+    [ "$COMP_CWORD" != 2 ] || words+=" --help"
     mapfile -t COMPREPLY < <(compgen -W "$words" -- "${typed##*=}")
     [[ ${COMPREPLY[*]} != *= ]] || compopt -o nospace
 }

@@ -1,3 +1,4 @@
+pub mod Help
 pub mod Info
 pub mod Look
 pub mod Outcome

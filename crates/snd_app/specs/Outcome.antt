@@ -19,7 +19,7 @@ use Rattle.snd_script.specs.Script.{any_refused, last_desk, texts}
 use Rattle.snd_taps.specs.declared.tap.TapKind.{TapKind}
 use Rattle.snd_app.specs.declared.look.Found.{Found}
 use Rattle.snd_app.specs.declared.look.Found.TheVariants.{Missing, Refused, Sound}
-use Rattle.snd_app.specs.declared.help.TheConstants.{HELP, VERSION}
+use Rattle.snd_app.specs.Help.{usage, usage_of, version}
 use Rattle.snd_app.specs.Printed.{Outcome, and_then, bad_words, says}
 use Rattle.snd_app.specs.Text.{refusal}
 use Rattle.snd_app.specs.Tools.{after_work, made_by, outcome_of_work}
@@ -86,8 +86,9 @@ abbrev pub outcome_of : Asked → List TapKind → Files → List ℕ → Outcom
 outcome_of Asked.nothing kinds files text = bad_words
 outcome_of (Asked.info_of names) kinds files text = outcome_of_infos names files
 outcome_of (Asked.script name) kinds files text = outcome_of_script name kinds files text
-outcome_of Asked.help kinds files text = says HELP.now
-outcome_of Asked.version kinds files text = says VERSION.now
+outcome_of Asked.help kinds files text = says usage
+outcome_of (Asked.help_on topic) kinds files text = says (usage_of topic)
+outcome_of Asked.version kinds files text = says version
 outcome_of (Asked.tool work) kinds files text = outcome_of_work work files
 
 -- whether that is a script; and the name that is pinned in it, where there is one

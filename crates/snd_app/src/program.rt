@@ -14,7 +14,7 @@ ghost use Rattle.snd_app.specs.Outcome.{files_after, looks_for, names_for, outco
 ghost use Rattle.snd_app.specs.Printed.{bad_words};
 ghost use Rattle.snd_app.specs.Run.{DescribesAs, DescribingFaultRises, DoneAtStream, EndsAs, FaultRises, IsCalm, KeepsAllImages, RunsAs, RunsScript, StopsAs};
 
-use crate::help::{HELP, VERSION};
+use crate::help::{usage, usage_of, version};
 use crate::info::{describe, refuse};
 use crate::look::{Found, look};
 use crate::put::{FAULT, NO_MEMORY, put_text};
@@ -146,8 +146,8 @@ fn run_script<S: Shelf, R: Source, O: Sink, E: Sink>(
 ///
 /// The words `info NAME..` describe 1 to 64 files, and `script` carries out the commands that come from
 /// `script`, one a line; with `script --auto NAME` the file of the name is open in all of them, and updated
-/// automatically. The boxes of `taps` wait in their order for a script's `tap`. `convert OPTION.. IN OUT` copies a file into another container or codec. `--help` and
-/// `--version` print a text on `out`. Any other words are refused. Beside the
+/// automatically. The boxes of `taps` wait in their order for a script's `tap`. `convert OPTION.. IN OUT` copies a file into another container or codec. `--help`,
+/// `COMMAND --help` and `--version` print a text on `out`. Any other words are refused. Beside the
 /// statuses 0, 1 and 2 that the outcome has, 3 says that the shelf, the script or a sink failed, and 4 that
 /// memory ran out.
 pub fn run<S: Shelf, R: Source, O: Sink, E: Sink>(
@@ -215,8 +215,9 @@ pub fn run<S: Shelf, R: Source, O: Sink, E: Sink>(
     match request_of(words) {
         Some(Request::Info(names)) => run_infos(alloc, &names, shelf, out, err),
         Some(Request::Script(pinned)) => run_script(alloc, pinned, shelf, script, out, err, taps),
-        Some(Request::Help) => put_text(out, HELP.as_bytes(), 0),
-        Some(Request::Version) => put_text(out, VERSION.as_bytes(), 0),
+        Some(Request::Help) => put_text(out, usage().as_bytes(), 0),
+        Some(Request::HelpOn(topic)) => put_text(out, usage_of(topic).as_bytes(), 0),
+        Some(Request::Version) => put_text(out, version().as_bytes(), 0),
         Some(Request::Tool(tool)) => run_tool(alloc, &tool, shelf, out, err),
         None => put_text(err, b"snd: bad words\n", 2),
     }

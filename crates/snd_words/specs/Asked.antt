@@ -3,6 +3,7 @@ use Rattle.std.specs.Prelude.{ℕ, ◌^◌, ◌<◌, ◌≤◌, List, All, Optio
 use Rattle.snd_fields.specs.declared.field.Order.{Order}
 use Rattle.snd_words.specs.declared.convert.CodecChoice.{CodecChoice}
 use Rattle.snd_words.specs.Stated.{IsStated, Stated}
+use Rattle.snd_words.specs.declared.topic.Topic.{Topic}
 
 -- what `convert` is to do
 pub record Converting : Type 0 where
@@ -24,6 +25,7 @@ pub data Asked : Type 0 where
   info_of : List (List ℕ) → Asked
   script : Option (List ℕ) → Asked
   help : Asked
+  help_on : Topic → Asked
   version : Asked
   tool : Work → Asked
   nothing : Asked

@@ -12,3 +12,4 @@ pub mod Request
 pub mod Setting
 pub mod Stated
 pub mod Suffix
+pub mod Topics

@@ -2,7 +2,7 @@
 use Rattle.std.specs.Prelude.{Option, Some, None, option_map}
 use Rattle.snd_words.specs.Asked.{Asked, Work}
 use Rattle.snd_words.specs.declared.request.Request.{Request}
-use Rattle.snd_words.specs.declared.request.Request.TheVariants.{Info, Script, Help, Version, Tool as TheTool}
+use Rattle.snd_words.specs.declared.request.Request.TheVariants.{Info, Script, Help, HelpOn, Version, Tool as TheTool}
 use Rattle.snd_words.specs.declared.request.Tool.{Tool}
 use Rattle.snd_words.specs.declared.request.Tool.TheVariants.{Convert, Concat, Interleave, Generate, SetMetadata}
 
@@ -17,6 +17,7 @@ abbrev pub asked_by : Option Request → Asked
 asked_by (Some (Info names)) = Asked.info_of names
 asked_by (Some (Script name)) = Asked.script (option_map (λ text. text.now) name)
 asked_by (Some Help) = Asked.help
+asked_by (Some (HelpOn topic)) = Asked.help_on topic
 asked_by (Some Version) = Asked.version
 asked_by (Some (TheTool tool)) = Asked.tool (work_of tool)
 asked_by None = Asked.nothing

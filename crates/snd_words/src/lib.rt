@@ -14,6 +14,7 @@ mod repeats;
 mod request;
 mod settings;
 mod suffix;
+mod topic;
 
 pub use concat::Concatenation;
 pub use convert::{CodecChoice, Conversion};
@@ -26,3 +27,4 @@ pub use repeats::first_repeated;
 pub use request::{Request, Tool, request_of};
 pub use settings::MetadataSetting;
 pub use suffix::kind_by_suffix;
+pub use topic::Topic;

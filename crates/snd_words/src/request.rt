@@ -12,6 +12,7 @@ use crate::interleave::{Interleaving, interleave_request};
 use crate::metadata::{MetadataChange, metadata_request};
 use crate::names::Names;
 use crate::plain::{help_request, info_request, script_request, version_request};
+use crate::topic::{Topic, asks_help, topic_of};
 use snd_fields::Words;
 
 /// What the words of a command line ask for.
@@ -24,6 +25,8 @@ pub enum Request<'a> {
     Script(Option<&'a str>),
     /// `--help`
     Help,
+    /// `COMMAND --help`, of one command.
+    HelpOn(Topic),
     /// `--version`
     Version,
     /// A tool, with what it is to do.
@@ -79,5 +82,9 @@ pub fn request_of(words: &Words) -> Option<Request<'_>>
     ensures good { IsAsked (asked_by result) }
 {
     let command = words.get(0)?;
+    if asks_help(words) {
+        let topic = topic_of(command)?;
+        return Some(Request::HelpOn(topic));
+    }
     request_with(command, words)
 }

@@ -58,14 +58,21 @@ returns-in-Some-Help-clause-headline g c = λ files text told left.
     let is : Asked.help ≡ asked c.args.words.now = search rules in
     run_as g.S.Shelf.state c.args.shelf.now c.put_text.result _ _ _ _ files text _ _ _ is
     (with_files c.put_text.result _ _ _ _ (outcome_of Asked.help [] files text) _ (files, told, λ n. refl)
-    (is_put_out c.put_text.result _ _ _ _ (outcome_of Asked.help [] files text) c.as_bytes.result.now (ap (λ t. record { out = t; err = []; status = 0 }) c.as_bytes.ensures.value) refl refl refl refl c.put_text.ensures))
+    (is_put_out c.put_text.result _ _ _ _ (outcome_of Asked.help [] files text) c.as_bytes.result.now (ap (λ t. record { out = t; err = []; status = 0 }) (c.as_bytes.ensures.value ∙ c.usage.ensures)) refl refl refl refl c.put_text.ensures))
+
+pub returns-in-Some-HelpOn-clause-headline : goal.returns-in-Some-HelpOn-clause-headline
+returns-in-Some-HelpOn-clause-headline g c = λ files text told left.
+    let is : Asked.help_on c.in-Some-HelpOn.topic ≡ asked c.args.words.now = search rules in
+    run_as g.S.Shelf.state c.args.shelf.now c.put_text-in-Some-HelpOn.result _ _ _ _ files text _ _ _ is
+    (with_files c.put_text-in-Some-HelpOn.result _ _ _ _ (outcome_of (Asked.help_on c.in-Some-HelpOn.topic) [] files text) _ (files, told, λ n. refl)
+    (is_put_out c.put_text-in-Some-HelpOn.result _ _ _ _ (outcome_of (Asked.help_on c.in-Some-HelpOn.topic) [] files text) c.as_bytes-in-Some-HelpOn.result.now (ap (λ t. record { out = t; err = []; status = 0 }) (c.as_bytes-in-Some-HelpOn.ensures.value ∙ c.usage_of.ensures)) refl refl refl refl c.put_text-in-Some-HelpOn.ensures))
 
 pub returns-in-Some-Version-clause-headline : goal.returns-in-Some-Version-clause-headline
 returns-in-Some-Version-clause-headline g c = λ files text told left.
     let is : Asked.version ≡ asked c.args.words.now = search rules in
     run_as g.S.Shelf.state c.args.shelf.now c.put_text-in-Some-Version.result _ _ _ _ files text _ _ _ is
     (with_files c.put_text-in-Some-Version.result _ _ _ _ (outcome_of Asked.version [] files text) _ (files, told, λ n. refl)
-    (is_put_out c.put_text-in-Some-Version.result _ _ _ _ (outcome_of Asked.version [] files text) c.as_bytes-in-Some-Version.result.now (ap (λ t. record { out = t; err = []; status = 0 }) c.as_bytes-in-Some-Version.ensures.value) refl refl refl refl c.put_text-in-Some-Version.ensures))
+    (is_put_out c.put_text-in-Some-Version.result _ _ _ _ (outcome_of Asked.version [] files text) c.as_bytes-in-Some-Version.result.now (ap (λ t. record { out = t; err = []; status = 0 }) (c.as_bytes-in-Some-Version.ensures.value ∙ c.version.ensures)) refl refl refl refl c.put_text-in-Some-Version.ensures))
 
 pub returns-in-Some-Tool-clause-headline : goal.returns-in-Some-Tool-clause-headline
 returns-in-Some-Tool-clause-headline g c = λ files text told left.
