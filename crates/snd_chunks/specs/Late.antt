@@ -5,14 +5,12 @@ use Rattle.std.specs.Prelude.{◌≡◌, ℕ, ◌+◌, ◌-◌, ◌%◌, ◌^◌
 use Rattle.snd_disk.specs.Runs.{HasAt}
 use Rattle.snd_fields.specs.Field.{bytes_of}
 use Rattle.snd_fields.specs.declared.field.Order.{Order}
-use Rattle.snd_fields.specs.declared.field.Order.TheVariants.{Little, Big}
 use Rattle.snd_layout.specs.Blocks.{is_adpcm}
 use Rattle.snd_layout.specs.Container.{Container, KeepsHead, closed_end, counted_shape}
+use Rattle.snd_layout.specs.Kinds.{order_of}
 use Rattle.snd_layout.specs.Params.{Parameters, data_bytes}
 use Rattle.snd_layout.specs.Shape.{Shape, room}
 use Rattle.snd_layout.specs.declared.field.Field.{Field}
-use Rattle.snd_layout.specs.declared.kind.Kind.{Kind}
-use Rattle.snd_layout.specs.declared.kind.Kind.TheVariants.{Svx}
 use Rattle.snd_layout.specs.declared.piece.Piece.{Piece}
 use Rattle.snd_chunks.specs.declared.chunk.Chunk.{Chunk}
 use Rattle.snd_chunks.specs.Heads.{Heads}
@@ -22,11 +20,6 @@ use Rattle.snd_chunks.specs.Written.{NewChunk, all_placed, chunks_bytes}
 abbrev pub late_bytes : List NewChunk → ℕ
 late_bytes [] = 0
 late_bytes (chunk ∷ chunks) = 8 + length chunk.body + length chunk.body % 2 + late_bytes chunks
-
--- the order of the sizes in the chunks of a kind: IFF has the highest byte first
-abbrev pub order_of : Kind → Order
-order_of Svx = Big
-order_of kind = Little
 
 -- what a size of the whole says of a file that ends at a place: all behind its first 8 bytes
 abbrev pub size_to : Option Field → Order → ℕ → List ℕ

@@ -1,7 +1,8 @@
 -- The size of the whole of a file that ends at a place.
 use Rattle.std.proofs.Common.{◌≡◌, ◌∙◌, ap, subst, ℕ, ◌-◌, true, Option, None, Some, List, length, arith}
 use Rattle.std.proofs.lemmas.Bool.{eqb-true}
-use Rattle.snd_chunks.specs.Late.{order_of, outer_to, size_to}
+use Rattle.snd_layout.specs.Kinds.{order_of}
+use Rattle.snd_chunks.specs.Late.{outer_to, size_to}
 use Rattle.snd_fields.specs.Field.{bytes_of}
 use Rattle.snd_fields.specs.declared.field.Order.{Order}
 use Rattle.snd_fields.specs.declared.field.Order.TheVariants.{Little, Big}

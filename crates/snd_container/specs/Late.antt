@@ -1,20 +1,13 @@
 -- Late chunks in files of every kind that keeps chunks beside its sound.
-use Rattle.std.specs.Prelude.{◌≡◌, ℕ, Bool, true, false, List, Option}
-pub use Rattle.snd_chunks.specs.Late.{late_bytes, order_of, outer_to}
+use Rattle.std.specs.Prelude.{◌≡◌, ℕ, true, List, Option}
+pub use Rattle.snd_chunks.specs.Late.{late_bytes, outer_to}
 use Rattle.snd_chunks.specs.Late.{LateReadsBack, late_shape as shape_with_late}
 use Rattle.snd_chunks.specs.Written.{NewChunk}
+use Rattle.snd_layout.specs.Kinds.{holds_pieces}
 use Rattle.snd_layout.specs.Shape.{Shape}
 use Rattle.snd_layout.specs.declared.kind.Kind.{Kind}
-use Rattle.snd_layout.specs.declared.kind.Kind.TheVariants.{Wave, Rf64, Svx}
 use Rattle.snd_container.specs.Put.{MayBePieceOf, heads_for}
 use Rattle.snd_container.specs.Values.{any}
-
--- the kinds whose files are given chunks
-abbrev pub holds_pieces : Kind → Bool
-holds_pieces Wave = true
-holds_pieces Rf64 = true
-holds_pieces Svx = true
-holds_pieces kind = false
 
 -- the layout of a file that is closed with late chunks
 abbrev pub late_shape : Shape → List NewChunk → Shape

@@ -5,7 +5,8 @@ ghost use Rattle.snd_layout.specs.Blocks.{block_align};
 ghost use Rattle.snd_layout.specs.Params.{data_bytes};
 ghost use Rattle.snd_layout.specs.Shape.{room as shape_room};
 ghost use Rattle.snd_layout.specs.Container.{FitsField, HasRoomFor};
-ghost use Rattle.snd_container.specs.Late.{holds_pieces, outer_to};
+ghost use Rattle.snd_layout.specs.Kinds.{holds_pieces};
+ghost use Rattle.snd_container.specs.Late.{outer_to};
 ghost use Rattle.snd_container.specs.Values.{closing, inner_value, outer_value, side_value};
 
 use arrayvec::ArrayVec;
