@@ -286,4 +286,4 @@ for kind, head, one, own in (("rf64", riff(b"RF64", ds64(), GOOD), NONE, 2), ("s
     refused(f"{kind}: 256 chunks and no data", head + one * (256 - own), 7)
     refused(f"{kind}: 256 chunks and one that is cut", head + one * (256 - own) + one[:-1], 7)
     refused(f"{kind}: 257 chunks and no data", head + one * (257 - own), 5)
-cases.end(282)
+cases.end(287)
