@@ -1,8 +1,8 @@
 //! Files that are closed with chunks behind their data, written out by hand from the formats' specifications.
 use snd_container::open_layout;
-use snd_disk::MemoryDisk;
 use snd_fields::Id4;
 use snd_layout::{Kind, Piece};
+use snd_memory::MemoryDisk;
 use std::test::Fail;
 
 /// A file of one frame with two chunks behind it, and where their bodies stand.
