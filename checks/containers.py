@@ -135,4 +135,4 @@ for name, before, script, out, end in made.MADE:
             data = file.read()
         wrong += first_difference("a.wav", data if end[:4] == b"RIFF" else data[-len(end):], end)
     cases.case(name, wrong)
-cases.end(71 + 23 + 30 + 19 + 13 + 13 + 5 + 20 + 3 + 14 + 15 + 1 + 4 + 2 + 9)
+cases.end(71 + 23 + 30 + 21 + 13 + 13 + 5 + 20 + 3 + 14 + 15 + 1 + 4 + 2 + 9)
