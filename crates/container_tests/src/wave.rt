@@ -1,6 +1,4 @@
-//! Where the fields of whole files lie, written out by hand from the format's specification, and chunks that are put into a head.
-use snd_fields::Order;
-use snd_layout::{Codec, Kind, Params};
+//! Where the fields of whole files lie, written out by hand from the format's specification.
 use snd_memory::MemoryDisk;
 use snd_wave::*;
 use std::test::Fail;
@@ -116,39 +114,6 @@ mod places {
             };
             assert!(rt; is_as(&layout, row), "file {i}");
         }
-        Ok(())
-    }
-}
-
-/// Pieces, and where they leave the data and the field that decides their count.
-mod added {
-    use super::*;
-    use crate::seen::shows;
-    use snd_fields::Id4;
-    use snd_layout::Field;
-
-    #[test]
-    fn pieces_move_the_filler(rt: HostRuntime) -> Result<(), Fail> {
-        let alloc = rt.alloc();
-        let params = Params::new(1, 8000, Codec::S16(Order::Little))?;
-        assert!(rt; Kind::Wave.refusal_of(&params).is_none());
-        let mut disk = MemoryDisk::new(alloc, Vec::new(alloc), Vec::new(alloc))?;
-        let mut layout = lay_head(alloc, &mut disk, params)?;
-        // the size of the data would stand at 510 to 513, so that a filler stands at 506
-        put_piece(&mut disk, &mut layout, 0, Id4(*b"abcd"), &[0; 462])?;
-        let inner = Field { at: 526, size: 4 };
-        let filler = b"JUNK\x08\0\0\0\0\0\0\0\0\0\0\0data\0\0\0\0";
-        assert!(rt; shows(&disk, &layout, 530, inner, 506, filler));
-        // behind another piece the size stands in one sector
-        put_piece(&mut disk, &mut layout, 1, Id4(*b"efgh"), b"\x09\x08")?;
-        let inner = Field { at: 520, size: 4 };
-        assert!(rt; shows(&disk, &layout, 524, inner, 4, b"\x04\x02\0\0WAVE"));
-        // so it does behind a shorter one
-        put_piece(&mut disk, &mut layout, 0, Id4(*b"abcd"), b"\x01\x02\x03")?;
-        let inner = Field { at: 62, size: 4 };
-        let whole =
-            b"RIFF\x3a\0\0\0WAVEfmt \x10\0\0\0\x01\0\x01\0\x40\x1f\0\0\x80\x3e\0\0\x02\0\x10\0abcd\x03\0\0\0\x01\x02\x03\0efgh\x02\0\0\0\x09\x08data\0\0\0\0";
-        assert!(rt; shows(&disk, &layout, 66, inner, 0, whole));
         Ok(())
     }
 }
