@@ -11,14 +11,11 @@ use crate::codecs::params_in;
 use crate::numbers::{HEAD_SIZE, Numbers, read_numbers};
 use snd_disk::{Disk, Step};
 use snd_fields::Order;
-use snd_layout::{Field, Kind, Layout, OpenError, OpenRefusal, Params, PieceList};
+use snd_layout::{Field, Kind, LAST_PLACE, Layout, OpenError, OpenRefusal, Params, PieceList};
 use std::alloc::Global;
 
 /// The field that decides the count of the frames: the size of the data.
 pub(crate) const DATA_SIZE: Field = Field { at: 8, size: 4 };
-
-/// No data byte from this place on counts, so that what closes a file always fits a disk.
-const LAST_PLACE: u64 = (1 << 63) - 8;
 
 /// The kind of a byte order.
 pub(crate) fn kind_of(order: Order) -> Kind

@@ -12,14 +12,13 @@ use crate::reads::{find_count, read_heading};
 use crate::stated::Stated;
 use snd_disk::{Disk, Step, fill};
 use snd_fields::Order;
-use snd_layout::{Codec, Field, Kind, Layout, OpenError, OpenRefusal, Params, PieceList};
+use snd_layout::{
+    Codec, Field, Kind, LAST_PLACE, Layout, OpenError, OpenRefusal, Params, PieceList,
+};
 use std::alloc::Global;
 
 /// The size of the header, behind which the data begin.
 const HEADER: u64 = 1024;
-
-/// No data byte from this place on counts, so that what closes a file always fits a disk.
-const LAST_PLACE: u64 = (1 << 63) - 8;
 
 /// The greatest declared length.
 const MOST_DECLARED: u64 = (1 << 63) - 1;

@@ -14,7 +14,7 @@ use crate::reads::read_from;
 use crate::sound::{SOUND_HEAD, read_format};
 use snd_disk::{Disk, Step};
 use snd_fields::{Order, u16_at, u24_at};
-use snd_layout::{Field, Kind, Layout, OpenError, OpenRefusal, Params, PieceList};
+use snd_layout::{Field, Kind, LAST_PLACE, Layout, OpenError, OpenRefusal, Params, PieceList};
 use std::alloc::Global;
 
 /// The bytes before the first block in a file of this library's, and the least that a head has.
@@ -22,9 +22,6 @@ const HEAD_SIZE: usize = 26;
 
 /// How many blocks are passed over at most.
 const MOST_BLOCKS: u64 = 256;
-
-/// No data byte from this place on counts, so that what closes a file always fits a disk.
-const LAST_PLACE: u64 = (1 << 63) - 8;
 
 // Whether the head has a size and the check of its version.
 fn is_head(head: &[u8]) -> bool
