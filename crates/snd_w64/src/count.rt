@@ -6,10 +6,7 @@ ghost use Rattle.snd_layout.specs.declared.kind.Kind.TheVariants.{Wave};
 ghost use Rattle.snd_w64.specs.Layout.{data_end, frame_count, held, outer_end, raised, reached};
 
 use snd_chunks::Chunk;
-use snd_layout::Params;
-
-/// No byte from this place on counts, so that what closes a file always fits a disk.
-const LAST_PLACE: u64 = (1 << 63) - 8;
+use snd_layout::{LAST_PLACE, Params};
 
 /// The first multiple of 8 from a place on.
 pub(crate) fn raised(place: u64) -> u64
