@@ -7,10 +7,7 @@ ghost use Rattle.snd_wave.specs.Layout.{frame_count, held};
 ghost use Rattle.snd_wave.specs.Parts.{ends_of};
 
 use snd_chunks::Chunk;
-use snd_layout::Params;
-
-/// No data byte from this place on counts, so that what closes a file always fits a disk.
-const LAST_PLACE: u64 = (1 << 63) - 8;
+use snd_layout::{LAST_PLACE, Params};
 
 /// Where the data of a file and the whole of it end.
 #[derive(Clone, Copy, Debug, PartialEq, Eq)]
