@@ -5,9 +5,7 @@ ghost use Rattle.snd_rf64.specs.Layout.{held};
 ghost use Rattle.snd_rf64.specs.Parts.{ends_of};
 
 use crate::sizes::Sizes;
-
-/// No data byte from this place on counts, so that what closes a file always fits a disk.
-const LAST_PLACE: u64 = (1 << 63) - 8;
+use snd_layout::LAST_PLACE;
 
 /// The bytes at the beginning that the size of the whole does not count.
 const NOT_COUNTED: u64 = 8;

@@ -5,9 +5,7 @@ ghost use Rattle.snd_wave.specs.Layout.{held};
 ghost use Rattle.snd_svx.specs.Parts.{ends_of};
 
 use snd_chunks::Chunk;
-
-/// No data byte from this place on counts, so that what closes a file always fits a disk.
-const LAST_PLACE: u64 = (1 << 63) - 8;
+use snd_layout::LAST_PLACE;
 
 /// Where the data of a file and the whole of it end.
 #[derive(Clone, Copy, Debug, PartialEq, Eq)]
