@@ -10,8 +10,9 @@ ghost use Rattle.snd_carry.specs.Carried.{carried_pieces};
 ghost use Rattle.snd_carry.specs.Carrying.{AsksForBodies, Carries, HoldsChunks, IsNewShape, StaysAsOpened, known_with};
 
 use crate::bodies::carry_chunk;
-use crate::choice::{MOST_PIECES, is_carried};
+use crate::choice::is_carried;
 use snd_disk::Disk;
+use snd_layout::MOST_PIECES;
 use snd_modes::{CanMake, File, Read};
 use snd_output::Stop;
 use std::alloc::Global;

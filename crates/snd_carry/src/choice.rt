@@ -8,14 +8,8 @@ ghost use Rattle.snd_chunks.specs.Heads.{outline};
 ghost use Rattle.snd_carry.specs.Carried.{TakesBytes, carried_pieces, is_carried};
 
 use snd_container::chunk_size;
-use snd_layout::{Kind, Piece, PieceList};
+use snd_layout::{Kind, LONGEST_PIECE, MOST_PIECES, Piece, PieceList};
 use snd_modes::may_be_piece;
-
-/// The most bytes of the body of a chunk that is carried.
-const MOST_BYTES: u64 = 65536;
-
-/// How many chunks are carried at most.
-pub(crate) const MOST_PIECES: usize = 240;
 
 /// Whether a copy of a file carries the chunk of a piece: it has at most 65536 bytes, and is none of the chunks
 /// that a WAVE file has of its own.
@@ -24,7 +18,7 @@ pub fn is_carried(piece: Piece) -> bool
     ensures four { length piece.id.0 ≡ 4 }
     ensures bytes { All IsByte piece.id.0 }
 {
-    piece.len <= MOST_BYTES && may_be_piece(Kind::Wave, piece.id)
+    piece.len <= LONGEST_PIECE && may_be_piece(Kind::Wave, piece.id)
 }
 
 /// The bytes that the chunks take in a head that a copy carries of a file with these pieces: at most
