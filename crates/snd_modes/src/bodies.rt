@@ -8,10 +8,7 @@ ghost use Rattle.snd_modes.specs.Pieces.{IsGetRefusal, IsSmall, first_piece, has
 use crate::error::GetError;
 use snd_disk::{Disk, Failed, Step};
 use snd_fields::Id4;
-use snd_layout::{Layout, Piece};
-
-/// The most bytes that a body has that is given whole.
-const MOST_BYTES: u64 = 65536;
+use snd_layout::{LONGEST_PIECE, Layout, Piece};
 
 pub(crate) fn has_name(piece: &Piece, id: Id4) -> bool
     ensures { result ≡ has_name id.0 piece.now }
@@ -38,7 +35,7 @@ pub(crate) fn piece_to_give(layout: &Layout, id: Id4) -> Result<Piece, GetError>
     let Some(piece) = first_piece(layout, id) else {
         return Err(GetError::NoSuchChunk);
     };
-    if piece.len > MOST_BYTES {
+    if piece.len > LONGEST_PIECE {
         return Err(GetError::ChunkTooLarge);
     }
     Ok(piece)

@@ -22,13 +22,7 @@ use crate::wanted::{Wanted, place_named};
 use snd_container::put_piece;
 use snd_disk::Disk;
 use snd_fields::Id4;
-use snd_layout::{Layout, PieceError};
-
-/// The most bytes of a body.
-const MOST_BYTES: usize = 65536;
-
-/// The most chunks of a file that is made.
-const MOST_PIECES: usize = 240;
+use snd_layout::{LONGEST_PIECE, Layout, MOST_PIECES, PieceError};
 
 // Puts a chunk into the head of a layout, and tells what holds of the layout then.
 fn put_ruled<D: Disk>(
@@ -208,7 +202,7 @@ impl<'d, D: Disk, M: CanMake> File<'d, D, M> {
         if !wanted.held {
             return Err(PieceError::NoChunks);
         }
-        if wanted.len > MOST_BYTES {
+        if wanted.len > LONGEST_PIECE as usize {
             return Err(PieceError::ChunkTooLarge);
         }
         if wanted.place == self.layout.pieces.len() && wanted.place >= MOST_PIECES {
