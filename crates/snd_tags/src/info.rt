@@ -6,9 +6,6 @@ ghost use Rattle.snd_modes.specs.Pieces.{has_name};
 
 use snd_layout::Piece;
 
-/// The most bytes that a body has that is read.
-pub(crate) const MOST_BYTES: u64 = 65536;
-
 /// How many chunks of a file are looked at.
 const MOST_PIECES: usize = 256;
 

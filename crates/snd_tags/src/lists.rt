@@ -9,10 +9,10 @@ ghost use Rattle.snd_tags.specs.Bodies.{BodyLeaves, IsBodyOf, IsGiveRefusal, Who
 ghost use Rattle.snd_tags.specs.Found.{CountsFinding, FindsInfo, info_piece};
 
 use crate::error::TagError;
-use crate::info::{MOST_BYTES, front, is_list, names_info};
+use crate::info::{front, is_list, names_info};
 use snd_disk::Disk;
 use snd_fields::Id4;
-use snd_layout::Piece;
+use snd_layout::{LONGEST_PIECE, Piece};
 use snd_modes::{File, GetError, Mode, PieceReadError};
 use std::alloc::Global;
 
@@ -92,7 +92,7 @@ fn body_at<'d, D: Disk, M: Mode>(
     let Some(piece) = file.pieces().get(place) else {
         unreachable!()
     };
-    if piece.len > MOST_BYTES {
+    if piece.len > LONGEST_PIECE {
         return Err(TagError::Get(GetError::ChunkTooLarge));
     }
     let mut body = vec![in alloc; 0u8; piece.len as usize]?;

@@ -8,9 +8,9 @@ ghost use Rattle.snd_tags.specs.Found.{IsAnswer, body_given, is_info, texts_of};
 ghost use Rattle.snd_tags.specs.Look.{IsBodyRefusal};
 
 use crate::error::TagError;
-use crate::info::{MOST_BYTES, front, is_list, names_info};
+use crate::info::{front, is_list, names_info};
 use snd_disk::{Disk, Failed, Step};
-use snd_layout::{Layout, Piece};
+use snd_layout::{LONGEST_PIECE, Layout, Piece};
 use snd_meta::InfoList;
 use snd_modes::GetError;
 use std::alloc::Global;
@@ -79,7 +79,7 @@ fn body_on<D: Disk>(alloc: Global, disk: &mut D, piece: &Piece) -> Result<Vec<u8
     ensures reads { OnlyReadsOn D.state D.may_leave D.left_between disk.old disk.new }
     ensures asked { AsksAtMost D.state 65536 disk.old disk.new }
 {
-    if piece.len > MOST_BYTES {
+    if piece.len > LONGEST_PIECE {
         return Err(TagError::Get(GetError::ChunkTooLarge));
     }
     let mut body = vec![in alloc; 0u8; piece.len as usize]?;
