@@ -14,14 +14,12 @@ ghost use Rattle.snd_metadata.specs.Settings.{are_too_long};
 
 use crate::halt::Halt;
 use crate::settings::{Drafts, put_settings};
+use snd_layout::LONGEST_PIECE;
 use snd_lines::Refusal;
 use snd_meta::{Bext, InfoList};
 use snd_output::Stop;
 use snd_words::MetadataSettings;
 use std::alloc::Global;
-
-/// The most bytes of the body of a chunk.
-const MOST_BYTES: usize = 65536;
 
 /// The bodies of the broadcast extension and of the INFO list.
 #[derive(Drop)]
@@ -71,7 +69,8 @@ fn texts_body(alloc: Global, draft: &InfoList) -> Result<Vec<u8>, Stop>
 fn are_too_large(extension: &[u8], texts: &[u8]) -> bool
     ensures { result ≡ are_too_large extension.now texts.now }
 {
-    extension.len() > MOST_BYTES || texts.len() > MOST_BYTES
+    let most = LONGEST_PIECE as usize;
+    extension.len() > most || texts.len() > most
 }
 
 // The bodies of drafts with all that is set, of which nothing is too long.
