@@ -73,4 +73,4 @@ for script, out in rows.OTHERS:
     lay([])
     name = "j.wav" if script.startswith("create ") else None
     cases.case(f"the script {script!r}", ran(["script"], script, out, "", int("error " in out), name))
-cases.end(32 + 28 + 6 + 3 + 4 + 9 + 1 + 4)
+cases.end(32 + 28 + 8 + 3 + 4 + 9 + 1 + 4)

@@ -1,6 +1,7 @@
 pub mod Blanks
 pub mod Bodies
 pub mod Chains
+pub mod ChunksOfBytes
 pub mod HeadBytes
 pub mod Heads
 pub mod PutChunks

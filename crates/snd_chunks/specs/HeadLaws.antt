@@ -59,14 +59,9 @@ pub record KeepsPieceLaws (kind : Kind) (c : Container) (heads : Heads) : Type 0
   pub blank_shape : (p : Parameters) (pieces : List NewChunk) → heads.shape p (blanks pieces) ≡ heads.shape p pieces
   pub blank_size : (p : Parameters) (pieces : List NewChunk) → length (heads.head p (blanks pieces)) ≡ length (heads.head p pieces)
 
--- .. and of a kind with texts and fields: its heads are of bytes, and the bodies of the chunks of any file of the kind
--- are no more bytes than it
-pub record KeepsMetaLaws (kind : Kind) (c : Container) (heads : Heads) : Type 0 where
-  pub bytes : (p : Parameters) (pieces : List NewChunk) → All IsOfBytes pieces → All IsByte (heads.head p pieces)
-  pub bodies : (b : List ℕ) (h : Shape) → c.layout b ≡ Ok h → h.kind ≡ kind → sum_by (λ (piece : Piece). piece.len) h.pieces ≤ length b
-
--- all of them, the first ones with any list of chunks; none has a reservation, and where files are given chunks a head is made
--- with any of these
+-- All laws of the heads of a kind. The first ones hold with any list of chunks, and none has a reservation. Where files are given
+-- chunks, a head is made with any of these, and is of bytes where they are. Of a kind with texts and fields, the bodies of the
+-- chunks of any file are no more bytes than the file.
 pub record KeepsHeadLaws (kind : Kind) (c : Container) (heads : Heads) : Type 0 where
   pub kind_is : (p : Parameters) (pieces : List NewChunk) → (heads.shape p pieces).kind ≡ kind
   pub params_are : (p : Parameters) (pieces : List NewChunk) → (heads.shape p pieces).params ≡ p
@@ -79,4 +74,5 @@ pub record KeepsHeadLaws (kind : Kind) (c : Container) (heads : Heads) : Type 0 
   pub may : holds_pieces kind ≡ true → (p : Parameters) (pieces : List NewChunk) → AreParams p → fit_refusal kind p ≡ None → All (IsPieceOf kind) pieces → length pieces ≤ 240
       → heads.may p pieces
   pub pieces : holds_pieces kind ≡ true → KeepsPieceLaws kind c heads
-  pub meta : holds_meta kind ≡ true → KeepsMetaLaws kind c heads
+  pub bytes : holds_pieces kind ≡ true → (p : Parameters) (pieces : List NewChunk) → All IsOfBytes pieces → All IsByte (heads.head p pieces)
+  pub bodies : holds_meta kind ≡ true → (b : List ℕ) (h : Shape) → c.layout b ≡ Ok h → h.kind ≡ kind → sum_by (λ (piece : Piece). piece.len) h.pieces ≤ length b

@@ -1,6 +1,7 @@
 -- The heads of new files of every kind keep their laws, since those of each kind do.
-use Rattle.std.proofs.Common.{◌≡◌, ◌∙◌, ap, sym, refl, ⊎_elim, ℕ, ◌≤◌, true, List, Option, None, Some, Ok, take, arith}
-use Rattle.snd_chunks.specs.HeadLaws.{IsPieceOf, KeepsHeadLaws, KeepsMetaLaws, KeepsPieceLaws, SaysNone, with_values_of}
+use Rattle.std.proofs.Common.{◌≡◌, ◌∙◌, ap, sym, refl, ⊎_elim, ℕ, ◌≤◌, true, List, Option, None, Some, Ok, length, take, arith}
+use Rattle.std.specs.List.{sum_by}
+use Rattle.snd_chunks.specs.HeadLaws.{IsPieceOf, KeepsHeadLaws, KeepsPieceLaws, SaysNone, with_values_of}
 use Rattle.snd_chunks.specs.Heads.{Heads}
 use Rattle.snd_chunks.specs.Written.{NewChunk}
 use Rattle.snd_fields.specs.declared.field.Order.{Order}
@@ -12,6 +13,7 @@ use Rattle.snd_layout.specs.Kinds.{holds_meta, holds_pieces}
 use Rattle.snd_layout.specs.Params.{Parameters}
 use Rattle.snd_layout.specs.Shape.{Shape}
 use Rattle.snd_layout.specs.declared.kind.Kind.{Kind}
+use Rattle.snd_layout.specs.declared.piece.Piece.{Piece}
 use Rattle.snd_layout.specs.declared.kind.Kind.TheVariants.{Wave, Rf64, W64, Au, Dns, Voc, Svx, Sphere}
 use Rattle.snd_rf64.proofs.KeptHeads.{keeps_head_laws as rf64_laws}
 use Rattle.snd_rf64.specs.Written.{made_shape as rf64_shape, rf64_head, top}
@@ -52,7 +54,8 @@ w64_laws = record {
   reserve = λ p pieces. refl;
   may = λ holds. absurd (cc);
   pieces = λ holds. absurd (cc);
-  meta = λ holds. absurd (cc);
+  bytes = λ holds. absurd (cc);
+  bodies = λ holds. absurd (cc);
 }
 
 -- the others hold no blocks
@@ -80,7 +83,8 @@ au_laws = record {
   reserve = λ p pieces. refl;
   may = λ holds. absurd (cc);
   pieces = λ holds. absurd (cc);
-  meta = λ holds. absurd (cc);
+  bytes = λ holds. absurd (cc);
+  bodies = λ holds. absurd (cc);
 }
 
 dns_laws : KeepsHeadLaws Dns (container_of Dns) (heads_of Dns)
@@ -95,7 +99,8 @@ dns_laws = record {
   reserve = λ p pieces. refl;
   may = λ holds. absurd (cc);
   pieces = λ holds. absurd (cc);
-  meta = λ holds. absurd (cc);
+  bytes = λ holds. absurd (cc);
+  bodies = λ holds. absurd (cc);
 }
 
 voc_laws : KeepsHeadLaws Voc (container_of Voc) (heads_of Voc)
@@ -111,7 +116,8 @@ voc_laws = record {
   reserve = λ p pieces. refl;
   may = λ holds. absurd (cc);
   pieces = λ holds. absurd (cc);
-  meta = λ holds. absurd (cc);
+  bytes = λ holds. absurd (cc);
+  bodies = λ holds. absurd (cc);
 }
 
 sphere_laws : KeepsHeadLaws Sphere (container_of Sphere) (heads_of Sphere)
@@ -127,7 +133,8 @@ sphere_laws = record {
   reserve = λ p pieces. refl;
   may = λ holds. absurd (cc);
   pieces = λ holds. absurd (cc);
-  meta = λ holds. absurd (cc);
+  bytes = λ holds. absurd (cc);
+  bodies = λ holds. absurd (cc);
 }
 
 laws_of : (kind : Kind) → KeepsHeadLaws kind (container_of kind) (heads_of kind)
@@ -200,13 +207,8 @@ module _ (kind : Kind) where
   piece_laws : holds_pieces kind ≡ true → KeepsPieceLaws kind (any kind) (heads_of kind)
   piece_laws holds = pieces_any (heads_of kind) (laws_of kind).kind_is (λ p pieces. head_is_known kind p pieces holds) ((laws_of kind).pieces holds)
 
-  meta_laws : holds_meta kind ≡ true → KeepsMetaLaws kind (any kind) (heads_of kind)
-  meta_laws holds =
-      let own = (laws_of kind).meta holds in
-      record {
-        bytes = own.bytes;
-        bodies = λ b h laid is. own.bodies b h (ap (λ (k : Kind). (container_of k).layout b) (sym is) ∙ (known b h laid).laid) is;
-      }
+  bodies_any : holds_meta kind ≡ true → (b : List ℕ) (h : Shape) → layout_of b ≡ Ok h → h.kind ≡ kind → sum_by (λ (piece : Piece). piece.len) h.pieces ≤ length b
+  bodies_any holds b h laid is = (laws_of kind).bodies holds b h (ap (λ (k : Kind). (container_of k).layout b) (sym is) ∙ (known b h laid).laid) is
 
 pub keep_all_head_laws : KeepAllHeadLaws
 keep_all_head_laws kind =
@@ -222,7 +224,8 @@ keep_all_head_laws kind =
       reserve = own.reserve;
       may = own.may;
       pieces = piece_laws kind;
-      meta = meta_laws kind;
+      bytes = own.bytes;
+      bodies = bodies_any kind;
     }
 
 -- .. with a reservation too
@@ -236,6 +239,20 @@ keep_reserved_head_laws (Some len) Dns holds = absurd (cc)
 keep_reserved_head_laws (Some len) Voc holds = absurd (cc)
 keep_reserved_head_laws (Some len) Svx holds = piece_laws Svx holds
 keep_reserved_head_laws (Some len) Sphere holds = absurd (cc)
+
+-- ---- the parameters of a head, with a reservation and without
+
+pub params_are : (r : Option ℕ) (kind : Kind) (p : Parameters) (pieces : List NewChunk) → ((heads_for r kind).shape p pieces).params ≡ p
+unfolding reserved_shape
+params_are None kind p pieces = (laws_of kind).params_are p pieces
+params_are (Some len) Wave p pieces = refl
+params_are (Some len) Rf64 p pieces = (laws_of Rf64).params_are p pieces
+params_are (Some len) W64 p pieces = (laws_of W64).params_are p pieces
+params_are (Some len) Au p pieces = (laws_of Au).params_are p pieces
+params_are (Some len) Dns p pieces = (laws_of Dns).params_are p pieces
+params_are (Some len) Voc p pieces = (laws_of Voc).params_are p pieces
+params_are (Some len) Svx p pieces = (laws_of Svx).params_are p pieces
+params_are (Some len) Sphere p pieces = (laws_of Sphere).params_are p pieces
 
 -- ---- chunks that may be put
 

@@ -8,7 +8,7 @@ use Rattle.snd_layout.specs.Params.{Parameters}
 use Rattle.snd_layout.specs.declared.codec.Codec.TheVariants.{S16}
 use Rattle.snd_layout.specs.declared.kind.Kind.{Kind}
 use Rattle.snd_layout.specs.declared.kind.Kind.TheVariants.{Wave}
-use Rattle.snd_container.proofs.KindHeads.{keep_all_head_laws, keep_reserved_head_laws, others_may_be_put, plain_wave_is_known}
+use Rattle.snd_container.proofs.KindHeads.{keep_all_head_laws, keep_reserved_head_laws, others_may_be_put, params_are, plain_wave_is_known}
 use Rattle.snd_container.specs.HeadLaws.{plain_wave}
 use Rattle.snd_container.specs.Put.{MayBePieceOf, heads_for, heads_of}
 use Rattle.snd_container.specs.Values.{any}
@@ -20,6 +20,10 @@ head_laws kind = keep_all_head_laws kind
 -- .. with a reservation, and without
 pub piece_laws : (r : Option ℕ) (kind : Kind) → holds_pieces kind ≡ true → KeepsPieceLaws kind (any kind) (heads_for r kind)
 piece_laws r kind holds = keep_reserved_head_laws r kind holds
+
+-- A head has the parameters with which it is made, with a reservation and without.
+pub params_of_heads : (r : Option ℕ) (kind : Kind) (p : Parameters) (pieces : List NewChunk) → ((heads_for r kind).shape p pieces).params ≡ p
+params_of_heads r kind p pieces = params_are r kind p pieces
 
 -- a chunk that is not a file's own may be put
 pub may_be_put : (kind : Kind) (piece : NewChunk) → holds_pieces kind ≡ true → IsPieceOf kind piece → MayBePieceOf kind piece

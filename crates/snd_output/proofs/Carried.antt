@@ -19,10 +19,11 @@ use Rattle.snd_layout.specs.declared.piece.Piece.{Piece}
 use Rattle.snd_chunks.specs.Heads.{chunk_read}
 use Rattle.snd_modes.specs.Editing.{Editing, first_editing}
 use Rattle.snd_modes.specs.Edits.{coded}
-use Rattle.snd_layout.specs.Kinds.{holds_meta}
+use Rattle.snd_layout.specs.Kinds.{holds_meta, holds_pieces}
 use Rattle.snd_modes.specs.Laws.{IsEncoded}
 use Rattle.snd_modes.specs.Pacing.{HasPlaceFor}
 use Rattle.snd_modes.specs.Relaid.{head_with, shape_with}
+use Rattle.snd_modes.specs.Making.{making_of}
 use Rattle.snd_modes.specs.Updating.{updating_of}
 use Rattle.snd_layout.proofs.Public.{few_channels, is_held, meta_holds, meta_own}
 use Rattle.snd_modes.proofs.EditedFiles.{first_keeps, updated_is_edited}
@@ -37,7 +38,7 @@ use Rattle.snd_blocks.specs.Sound.{frames_in}
 use Rattle.snd_modes.proofs.FixedFrames.{count_opened, is_fixed}
 use Rattle.snd_modes.proofs.PutHeads.{begins_again}
 use Rattle.snd_output.specs.Laws.{CarriedIsMaking}
-use Rattle.snd_output.specs.Made.{AreChunks, HoldsBlocks, HoldsNumbers, IsChunk, IsMaking, closing_so_far, frame_count, kept_chunk, made_with}
+use Rattle.snd_output.specs.Made.{AreChunks, ArePieces, HoldsBlocks, HoldsNumbers, IsChunk, IsMaking, closing_so_far, frame_count, kept_chunk, made_with}
 use Rattle.snd_output.proofs.Begun.{may_make}
 use Rattle.snd_output.proofs.MadeBlocks.{none_whole}
 use Rattle.snd_output.proofs.Bytes.{coded_none}
@@ -61,19 +62,13 @@ says_of kind p pieces meta =
     record { kind_is = laws.kind_is p pieces; params = laws.params_are p pieces; frames = laws.frames p pieces; free = laws.free p pieces; reserve = laws.reserve p pieces }
 
 -- they may be made with such chunks
-may_each : (kind : Kind) → holds_meta kind ≡ true → (piece : NewChunk) → IsChunk piece → IsPieceOf kind piece
-may_each kind meta piece is = record { four = is.four; other = meta_own kind piece.id meta ∙ is.other; few = is.few }
-
-may_with : (kind : Kind) (p : Parameters) (pieces : List NewChunk) → holds_meta kind ≡ true → AreParams p → fit_refusal kind p ≡ None → AreChunks pieces → (heads_of kind).may p pieces
-may_with kind p pieces meta good fits are = (head_laws kind).may (meta_holds kind meta) p pieces good fits (All-weaker IsChunk (IsPieceOf kind) (may_each kind meta) pieces are.each) are.few
+may_with : (kind : Kind) (p : Parameters) (pieces : List NewChunk) → holds_pieces kind ≡ true → AreParams p → fit_refusal kind p ≡ None → ArePieces kind pieces → (heads_of kind).may p pieces
+may_with kind p pieces holds good fits are = (head_laws kind).may holds p pieces good fits are.each are.few
 
 -- ---- they are of bytes
 
-bytes_each : (piece : NewChunk) → IsChunk piece → IsOfBytes piece
-bytes_each piece is = (is.id, is.body)
-
-head_is : (kind : Kind) (p : Parameters) (pieces : List NewChunk) → holds_meta kind ≡ true → AreChunks pieces → All IsByte (head_with kind p pieces)
-head_is kind p pieces meta are = ((head_laws kind).meta meta).bytes p pieces (All-weaker IsChunk IsOfBytes bytes_each pieces are.each)
+head_is : (kind : Kind) (p : Parameters) (pieces : List NewChunk) → holds_pieces kind ≡ true → ArePieces kind pieces → All IsByte (head_with kind p pieces)
+head_is kind p pieces holds are = (head_laws kind).bytes holds p pieces are.bytes
 
 -- ---- of ADPCM
 
@@ -110,13 +105,16 @@ kept_standing b (piece ∷ pieces) before =
     ap (λ (t : Bool). record { id = piece.id.0; body = take piece.len (drop piece.at b); after = t } ∷ map (kept_of b) pieces) (All-head (λ (q : Piece). q.after ≡ false) piece pieces before)
     ∙ ap (λ (l : List Kept). kept_chunk (chunk_read b piece) ∷ l) (kept_standing b pieces (All-tail (λ (q : Piece). q.after ≡ false) piece pieces before))
 
-kept_pieces : (kind : Kind) (p : Parameters) (pieces : List NewChunk) (b : List ℕ) → holds_meta kind ≡ true
+kept_pieces : (kind : Kind) (p : Parameters) (pieces : List NewChunk) (b : List ℕ) → holds_pieces kind ≡ true
     → map (kept_of b) (shape_with kind p pieces).pieces ≡ map kept_chunk (map (chunk_read b) (shape_with kind p pieces).pieces)
-kept_pieces kind p pieces b meta = kept_standing b (shape_with kind p pieces).pieces ((laws_of kind meta).before p pieces)
+kept_pieces kind p pieces b holds = kept_standing b (shape_with kind p pieces).pieces (((head_laws kind).pieces holds).before p pieces)
 
 -- ---- the file
 
-module _ (kind : Kind) (p : Parameters) (pieces : List NewChunk) (meta : holds_meta kind ≡ true) (good : AreParams p) (fits : fit_refusal kind p ≡ None) (are : AreChunks pieces) where
+module _ (kind : Kind) (p : Parameters) (pieces : List NewChunk) (holds : holds_pieces kind ≡ true) (good : AreParams p) (fits : fit_refusal kind p ≡ None) (are : ArePieces kind pieces) where
+  laws : KeepsPieceLaws kind (any kind) (heads_of kind)
+  laws = (head_laws kind).pieces holds
+
   abbrev head : List ℕ
   head = head_with kind p pieces
 
@@ -127,10 +125,10 @@ module _ (kind : Kind) (p : Parameters) (pieces : List NewChunk) (meta : holds_m
   state = made_with kind p pieces
 
   may : (heads_of kind).may p pieces
-  may = may_with kind p pieces meta good fits are
+  may = may_with kind p pieces holds good fits are
 
   said : SaysNone kind (any kind) p says head
-  said = (laws_of kind meta).says p pieces may
+  said = laws.says p pieces may
 
   no_frames : 0 ≡ frame_count p []
   no_frames = let some = good.some_channel in omega (arith, some)
@@ -150,12 +148,12 @@ module _ (kind : Kind) (p : Parameters) (pieces : List NewChunk) (meta : holds_m
         let none : data_bytes says.params says.frames ≡ 0 = ap (data_bytes says.params) said.frames ∙ ap (λ (q : Parameters). data_bytes q 0) said.params_are ∙ said.no_bytes in
         let within : end says says.frames ≤ length head = omega (arith, said.start, none) in
         let frames : [] ≡ frames_in head says = sym (nil_from_length (frames_in head says) (sym (count_opened head says says_linear some within) ∙ said.frames)) in
-        (begins_again false state ((laws_of kind meta).opens p pieces may) said.known (λ by_place. says_linear)
+        (begins_again false state (laws.opens p pieces may) said.known (λ by_place. says_linear)
         (record { frames = frames; place = refl; write_place = refl; automatic = refl; written = refl; given = refl })).updates refl
 
     holds_numbers : HoldsNumbers kind p pieces [] state
     holds_numbers = record {
-      edited = updated_is_edited head state (head_is kind p pieces meta are) updated;
+      edited = updated_is_edited head state (head_is kind p pieces holds are) updated;
       shape = ap (λ (n : ℕ). record says { frames = n }) (said.frames ∙ no_frames);
       bytes = bytes_are (frame_count p []) (sym no_frames);
     }
@@ -165,9 +163,9 @@ module _ (kind : Kind) (p : Parameters) (pieces : List NewChunk) (meta : holds_m
       let form = are_blocks p is (few_channels kind p.channels p.codec is (is_held kind p fits)) good in
       record {
         form = form;
-        told = record { goes_on = says.trailing; told = (laws_of kind meta).opens p pieces may; same = inr refl };
+        told = record { goes_on = says.trailing; told = laws.opens p pieces may; same = inr refl };
         encoded = encoded_with head says (ap (λ (q : Parameters). is_adpcm q.codec) said.params_are ∙ is) (subst AreBlocks (sym said.params_are) form)
-            (head_is kind p pieces meta are) ((laws_of kind meta).opens p pieces may) said.frames said.free said.known (is_joined kind p pieces fits is);
+            (head_is kind p pieces holds are) (laws.opens p pieces may) said.frames said.free said.known (is_joined kind p pieces fits is);
         given = refl;
         shape = ap (λ (n : ℕ). record says { frames = n }) (said.frames ∙ sym (none_whole p form));
         bytes = sym (append-nil head) ∙ ap (λ (l : List ℕ). head ++ l) (sym (none_coded p form));
@@ -179,7 +177,7 @@ module _ (kind : Kind) (p : Parameters) (pieces : List NewChunk) (meta : holds_m
     params = said.params_are;
     start = said.start;
     free = said.free;
-    kept = kept_pieces kind p pieces head meta ∙ ap (map kept_chunk) ((laws_of kind meta).read p pieces may);
+    kept = kept_pieces kind p pieces head holds ∙ ap (map kept_chunk) (laws.read p pieces may);
     whole = let some = good.some_channel in omega (arith, some);
     in_range = λ form is k d lt. absurd (omega (arith, lt));
     numbers = holds_numbers;
@@ -188,5 +186,24 @@ module _ (kind : Kind) (p : Parameters) (pieces : List NewChunk) (meta : holds_m
     automatic = refl;
   }
 
-pub carried_is_making : CarriedIsMaking
-carried_is_making kind p pieces e good is meta are = state_is_making kind p pieces meta good (may_make kind p e is) are
+pub put_is_making : CarriedIsMaking
+put_is_making kind p pieces e good is holds are = state_is_making kind p pieces holds good (may_make kind p e is) are
+
+-- ---- chunks of a WAVE or RF64 file
+
+each_is : (kind : Kind) → holds_meta kind ≡ true → (piece : NewChunk) → IsChunk piece → IsPieceOf kind piece
+each_is kind meta piece is = record { four = is.four; other = meta_own kind piece.id meta ∙ is.other; few = is.few }
+
+each_of_bytes : (piece : NewChunk) → IsChunk piece → IsOfBytes piece
+each_of_bytes piece is = (is.id, is.body)
+
+are_pieces : (kind : Kind) (pieces : List NewChunk) → holds_meta kind ≡ true → AreChunks pieces → ArePieces kind pieces
+are_pieces kind pieces meta are = record {
+  each = All-weaker IsChunk (IsPieceOf kind) (each_is kind meta) pieces are.each;
+  bytes = All-weaker IsChunk IsOfBytes each_of_bytes pieces are.each;
+  few = are.few;
+}
+
+pub carried_is_making : (kind : Kind) (p : Parameters) (pieces : List NewChunk) (e : Editing) → AreParams p → making_of kind p ≡ Ok e
+    → holds_meta kind ≡ true → AreChunks pieces → IsMaking kind p pieces [] (made_with kind p pieces)
+carried_is_making kind p pieces e good is meta are = put_is_making kind p pieces e good is (meta_holds kind meta) (are_pieces kind pieces meta are)

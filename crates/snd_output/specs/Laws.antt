@@ -8,19 +8,19 @@ use Rattle.snd_layout.specs.declared.kind.Kind.{Kind}
 use Rattle.snd_modes.specs.Editing.{Editing}
 use Rattle.snd_modes.specs.Edits.{sealed_to, written_to}
 use Rattle.snd_modes.specs.Encoding.{MayEncode, encoded_to, encoded_whole}
-use Rattle.snd_layout.specs.Kinds.{holds_meta}
+use Rattle.snd_layout.specs.Kinds.{holds_pieces}
 use Rattle.snd_modes.specs.Making.{making_of}
 use Rattle.snd_modes.specs.WriteCalls.{MayWrite}
-use Rattle.snd_output.specs.Made.{AreChunks, IsMaking, made_file, made_sound, made_with}
+use Rattle.snd_output.specs.Made.{ArePieces, IsMaking, made_file, made_sound, made_with}
 
 -- a file begins without chunks and numbers
 abbrev pub BegunIsMaking : Type 0
 BegunIsMaking = (kind : Kind) (p : Parameters) (e : Editing) → AreParams p → making_of kind p ≡ Ok e → IsMaking kind p [] [] e
 
--- and one into which chunks were carried is one that is being made with these
+-- and one into which chunks were put, of a kind that is given chunks, is one that is being made with these
 abbrev pub CarriedIsMaking : Type 0
 CarriedIsMaking = (kind : Kind) (p : Parameters) (pieces : List NewChunk) (e : Editing) → AreParams p → making_of kind p ≡ Ok e →
-    holds_meta kind ≡ true → AreChunks pieces → IsMaking kind p pieces [] (made_with kind p pieces)
+    holds_pieces kind ≡ true → ArePieces kind pieces → IsMaking kind p pieces [] (made_with kind p pieces)
 
 -- frames that are written stand behind those that it holds; in ADPCM frames are given behind those before
 abbrev pub WrittenIsMaking : Type 0

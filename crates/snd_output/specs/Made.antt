@@ -2,6 +2,7 @@
 use Rattle.std.specs.Prelude.{◌≡◌, ℕ, ℤ, ◌/◌, ◌%◌, ◌≤◌, true, false, List, [], ◌++◌, All, length, map, nat_lt, if◌then◌else◌}
 use Rattle.snd_block_writer.specs.Coded as blocks
 use Rattle.snd_blocks.specs.Calls.{AreBlocks}
+use Rattle.snd_chunks.specs.HeadLaws.{IsOfBytes, IsPieceOf}
 use Rattle.snd_chunks.specs.Written.{NewChunk}
 use Rattle.snd_container.specs.Laws.{FileSays}
 use Rattle.snd_container.specs.Sound.{Kept, Sound, kept_numbers, kept_of}
@@ -105,4 +106,10 @@ pub record IsChunk (piece : NewChunk) : Type 0 where
 
 pub record AreChunks (pieces : List NewChunk) : Type 0 where
   pub each : All IsChunk pieces
+  pub few : length pieces ≤ 240
+
+-- chunks of bytes with which a file of a kind that is given chunks may be made
+pub record ArePieces (kind : Kind) (pieces : List NewChunk) : Type 0 where
+  pub each : All (IsPieceOf kind) pieces
+  pub bytes : All IsOfBytes pieces
   pub few : length pieces ≤ 240

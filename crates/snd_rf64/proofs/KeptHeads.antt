@@ -35,7 +35,7 @@ use Rattle.snd_rf64.proofs.Putting.{heads_read_back, rf64_form, rf64_mark, rf64_
 use Rattle.snd_chunks.proofs.Blanks.{all_before, all_length, all_stand, blanks_keep, outlines_standing, pieces_read, same_length}
 use Rattle.snd_chunks.proofs.HeadBytes.{three_stay}
 use Rattle.snd_rf64.specs.Container.{rf64 as rf64_container}
-use Rattle.snd_chunks.specs.HeadLaws.{IsPieceOf, KeepsHeadLaws, KeepsMetaLaws, KeepsPieceLaws, SaysNone, with_values_of}
+use Rattle.snd_chunks.specs.HeadLaws.{IsPieceOf, KeepsHeadLaws, KeepsPieceLaws, SaysNone, with_values_of}
 
 size_same : (p : Parameters) (cs : List NewChunk) → head_size p (blanks cs) ≡ head_size p cs
 unfolding head_size
@@ -217,5 +217,6 @@ keeps_head_laws = record {
   reserve = λ p pieces. refl;
   may = λ holds. may_with;
   pieces = λ holds. piece_laws;
-  meta = λ holds. record { bytes = rf64_is; bodies = λ b h laid is. rf64_fits b h laid };
+  bytes = λ holds. rf64_is;
+  bodies = λ holds b h laid is. rf64_fits b h laid;
 }

@@ -3,9 +3,9 @@ use Rattle.std.proofs.Common.{◌≡◌, ◌∙◌, sym, refl, ap, ℕ, ◌-◌,
 use Rattle.std.proofs.lemmas.List.{append-nil}
 use Rattle.std.proofs.lemmas.List.Elements.{All-nil}
 use Rattle.std.specs.Prelude.{codes}
+use Rattle.snd_chunks.specs.HeadLaws.{IsOfBytes}
 use Rattle.snd_chunks.specs.Written.{all_placed, chunk_bytes, chunks_bytes, head_bytes}
 use Rattle.snd_fields.specs.Field.{bytes_of}
-use Rattle.snd_fields.specs.Laws.{IsByte}
 use Rattle.snd_fields.specs.declared.field.Order.TheVariants.{Little}
 use Rattle.snd_layout.specs.Container.{IsNew}
 use Rattle.snd_layout.specs.Fit.{fit_refusal}
@@ -15,13 +15,11 @@ use Rattle.snd_layout.specs.declared.codec.Codec.{Codec}
 use Rattle.snd_layout.specs.declared.codec.Codec.TheVariants.{U8, S8, S16, S24, S32, MuLaw, ALaw, Ima, Ms}
 use Rattle.snd_layout.specs.declared.kind.Kind.TheVariants.{Rf64}
 use Rattle.snd_layout.specs.declared.piece.Piece.{Piece}
-use Rattle.snd_layout.proofs.StatedFormats.{format_bytes}
-use Rattle.snd_wave.proofs.ByteValues.{both, number_bytes, three, two_chunks}
-use Rattle.snd_fields.proofs.Tested.{from_test}
-use Rattle.snd_wave.specs.Written.{MayBePiece, new_format}
+use Rattle.snd_wave.specs.Written.{MayBePiece}
 use Rattle.snd_rf64.specs.Container.{rf64}
 use Rattle.snd_rf64.specs.Layout.{shape_at}
-use Rattle.snd_rf64.specs.Written.{MayBeMade, chunks_before, head_size, made_pieces, made_shape, no_size, plain_start, rf64_head, top}
+use Rattle.snd_rf64.specs.Written.{MayBeMade, head_size, made_pieces, made_shape, no_size, plain_start, rf64_head, top}
+use Rattle.snd_rf64.proofs.HeadsOfBytes.{rf64_is}
 use Rattle.snd_rf64.proofs.Made.{head_reads_back, length-head}
 
 -- ---- where the data begin
@@ -85,37 +83,11 @@ plain_shape p start pieces fits at none =
 pub no_pieces : (p : Parameters) → AreParams p → fit_refusal Rf64 p ≡ None → MayBeMade p []
 no_pieces p good fits = record { params = good; fits = fits; pieces_are = All-nil MayBePiece; few = omega arith }
 
-top_bytes : (s : ℕ) → All IsByte (top s)
-unfolding top
-top_bytes s =
-    let first = codes "RF64" ++ bytes_of Little 4 no_size ++ codes "WAVE" in
-    let id = first ++ codes "ds64" in
-    let len = id ++ bytes_of Little 4 28 in
-    let whole = len ++ bytes_of Little 8 s in
-    let zeros = bytes_of Little 8 0 in
-    both (whole ++ zeros ++ zeros) (bytes_of Little 4 0)
-    (three whole zeros zeros
-    (three id (bytes_of Little 4 28) (bytes_of Little 8 s) (both first (codes "ds64") (three (codes "RF64") (bytes_of Little 4 no_size) (codes "WAVE") (from_test (codes "RF64") refl) (number_bytes 4 no_size) (from_test (codes "WAVE") refl)) (from_test (codes "ds64") refl))
-    (number_bytes 4 28) (number_bytes 8 s))
-    (number_bytes 8 0) (number_bytes 8 0))
-    (number_bytes 4 0)
-
-no_chunk : All IsByte (chunks_bytes Little [])
-unfolding chunks_bytes
-no_chunk = All-nil IsByte
-
-head_are_bytes : (p : Parameters) → fit_refusal Rf64 p ≡ None → All IsByte (rf64_head p [])
-unfolding rf64_head head_bytes
-head_are_bytes p fits =
-    three (top (head_size p [] - 8)) (chunks_bytes Little (chunks_before p [])) (codes "data" ++ bytes_of Little 4 no_size) (top_bytes (head_size p [] - 8))
-    (two_chunks (new_format p) [] (from_test (codes "fmt ") refl, format_bytes p) no_chunk)
-    (both (codes "data") (bytes_of Little 4 no_size) (from_test (codes "data") refl) (number_bytes 4 no_size))
-
 pub is_new : (p : Parameters) → AreParams p → fit_refusal Rf64 p ≡ None → IsNew Rf64 rf64 p
 unfolding made_shape
 is_new p good fits = record {
   told = head_reads_back p [] (no_pieces p good fits) (omega (arith, plain_size p fits, few_start p.codec));
-  bytes = head_are_bytes p fits;
+  bytes = rf64_is p [] (All-nil IsOfBytes);
   is_kind = refl;
   params = refl;
   frames = refl;

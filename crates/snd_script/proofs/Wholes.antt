@@ -19,7 +19,7 @@ use Rattle.snd_script.specs.declared.handle.StepFault.{StepFault}
 use Rattle.snd_script.specs.declared.handle.StepFault.TheVariants.{Disk, Out, Memory}
 use Rattle.snd_lines.specs.declared.refusal.Refusal.{Refusal}
 use Rattle.snd_lines.specs.declared.refusal.Refusal.TheVariants.{AdpcmSeek, AdpcmUpdate, Pinned}
-use Rattle.snd_script.proofs.HeadParams.{put_params_for}
+use Rattle.snd_container.proofs.Public.{params_of_heads}
 
 -- a command that is carried out breaks no handle, and leaves the parameters of its file
 pub record KeepsBroken (rule : Rule) : Type 0 where
@@ -75,7 +75,7 @@ keeps_plain mode taps (Said.truncate n) = keeps_in (writes mode) _ (keeps_by (en
 keeps_plain mode taps Said.trim = keeps_in (writes mode) _ (keeps_by (encodes mode) (refused_rule AdpcmUpdate) trim_rule (record { same = λ k. refl; params = λ k. refl }) (record { same = λ k. refl; params = λ k. refl }))
 keeps_plain mode taps Said.update = keeps_in (writes mode) update_rule (record { same = λ k. refl; params = λ k. refl })
 keeps_plain mode taps (Said.auto on) = keeps_in (writes mode) (auto_rule on) (record { same = λ k. refl; params = λ k. refl })
-keeps_plain mode taps (Said.set_chunk id hex) = keeps_in (makes mode) (set_chunk_rule id hex) (record { same = λ k. refl; params = λ k. put_params_for k.shape.reserve k.shape.kind k.shape.params _ })
+keeps_plain mode taps (Said.set_chunk id hex) = keeps_in (makes mode) (set_chunk_rule id hex) (record { same = λ k. refl; params = λ k. params_of_heads k.shape.reserve k.shape.kind k.shape.params _ })
 keeps_plain mode taps (Said.set_string key text) = keeps_in (makes mode) (set_string_rule key text) (record { same = λ k. refl; params = λ k. refl })
 keeps_plain mode taps (Said.set_bext key text) = keeps_in (makes mode) (set_bext_rule key text) (keeps_bext key text)
 keeps_plain mode taps (Said.set_cue places) = keeps_in (makes mode) (set_cue_rule places) (record { same = λ k. refl; params = λ k. refl })
@@ -120,7 +120,7 @@ broken_after false step k k' is = ap (λ (x : Known). is_none x.broken) is
 
 params_known : (puts : Option (List ℕ)) (done k k' : Known) → done.shape.params ≡ k.shape.params → IsKnown puts done k k' → k'.shape.params ≡ k.shape.params
 params_known None done k k' same is = ap (λ (x : Known). x.shape.params) is ∙ same
-params_known (Some id) done k k' same (body, is) = ap (λ (x : Known). x.shape.params) is ∙ put_params_for k.shape.reserve k.shape.kind k.shape.params _
+params_known (Some id) done k k' same (body, is) = ap (λ (x : Known). x.shape.params) is ∙ params_of_heads k.shape.reserve k.shape.kind k.shape.params _
 
 params_unless : (refusal : Option Refusal) (rule : Rule) (k k' : Known) (reply : Reply) → KeepsBroken rule → RepliesUnless refusal rule k k' reply → k'.shape.params ≡ k.shape.params
 params_unless (Some refusal) rule k k' reply keeps replies = ap (λ (x : Known). x.shape.params) replies.1

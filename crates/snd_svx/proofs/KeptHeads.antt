@@ -26,6 +26,7 @@ use Rattle.snd_svx.specs.Layout.{shape_of}
 use Rattle.snd_svx.specs.Put.{closing_behind, svx_heads}
 use Rattle.snd_svx.specs.Values as svx
 use Rattle.snd_svx.specs.Written.{MayBeMade, MayBePiece, chunks_before, filler, form_head, head_for, head_size, junk, made_pieces, made_shape, new_header, start_without_filler, svx_head}
+use Rattle.snd_svx.proofs.HeadsOfBytes.{svx_is}
 use Rattle.snd_svx.proofs.Made.{heads_read_back}
 use Rattle.snd_svx.proofs.Putting.{length-head, no_bytes_yet, svx_form, svx_mark, svx_size, svx_split}
 use Rattle.snd_chunks.proofs.Blanks.{all_before, all_length, all_stand, blanks_keep, outlines_standing, pieces_read, same_length}
@@ -252,5 +253,6 @@ keeps_head_laws = record {
   reserve = λ p pieces. refl;
   may = λ holds. may_with;
   pieces = λ holds. piece_laws;
-  meta = λ holds. absurd (cc);
+  bytes = λ holds. svx_is;
+  bodies = λ holds. absurd (cc);
 }

@@ -3,6 +3,7 @@ pub mod AllLaws
 pub mod Bodies
 pub mod FieldValues
 pub mod HeadValues
+pub mod HeadsOfBytes
 pub mod Images
 pub mod KeptHeads
 pub mod LateFiles

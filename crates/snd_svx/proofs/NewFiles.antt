@@ -3,6 +3,7 @@ use Rattle.std.proofs.Common.{◌≡◌, ◌∙◌, ap, sym, subst, refl, ℕ, �
 use Rattle.std.proofs.lemmas.Bool.{and_parts, leb-true, ltb-true, ne_eqb}
 use Rattle.std.proofs.lemmas.List.Elements.{All-append, All-cons, All-nil}
 use Rattle.std.specs.Prelude.{◌==◌, Result, codes, nat_le, nat_lt, not}
+use Rattle.snd_chunks.specs.HeadLaws.{IsOfBytes}
 use Rattle.snd_chunks.specs.Written.{all_placed, chunk_bytes, chunks_bytes, head_bytes, placed}
 use Rattle.snd_chunks.specs.declared.chunk.Chunk.{Chunk}
 use Rattle.snd_chunks.specs.declared.front.Ending.TheVariants.{AtSound}
@@ -26,6 +27,7 @@ use Rattle.snd_svx.specs.declared.header.Header.{Header}
 use Rattle.snd_svx.specs.Layout.{header_of, is_packed, svx_front, svx_layout, svx_shape, voice, voice_of}
 use Rattle.snd_svx.specs.Written.{head_for, made_shape, svx_head}
 use Rattle.snd_svx.proofs.Agreements.{voice_by}
+use Rattle.snd_svx.proofs.HeadsOfBytes.{svx_is}
 use Rattle.snd_svx.proofs.Opens.{opened}
 
 -- ---- what 8SVX files hold
@@ -111,39 +113,13 @@ pub size_is : (rate : ℕ) → length (svx_head (voice rate) []) ≡ 48
 unfolding head_for chunks_bytes chunk_bytes head_bytes
 size_is rate = refl
 
--- ---- its bytes
-
-abbrev are_bytes : List ℕ → Bool
-are_bytes [] = true
-are_bytes (x ∷ xs) = nat_lt x 256 && are_bytes xs
-
-from_test : (xs : List ℕ) → are_bytes xs ≡ true → All IsByte xs
-from_test [] is = All-nil IsByte
-from_test (x ∷ xs) is = let parts = and_parts (nat_lt x 256) (are_bytes xs) is in All-cons IsByte x xs (ltb-true x 256 parts.0) (from_test xs parts.1)
-
--- the bytes before the rate, and those behind it
-abbrev before_rate : List ℕ
-before_rate = codes "FORM" ++ 0 ∷ 0 ∷ 0 ∷ 40 ∷ [] ++ codes "8SVXVHDR" ++ 0 ∷ 0 ∷ 0 ∷ 20 ∷ 0 ∷ 0 ∷ 0 ∷ 0 ∷ 0 ∷ 0 ∷ 0 ∷ 0 ∷ 0 ∷ 0 ∷ 0 ∷ 0 ∷ []
-
-abbrev behind_rate : List ℕ
-behind_rate = 1 ∷ 0 ∷ 0 ∷ 1 ∷ 0 ∷ 0 ∷ [] ++ codes "BODY" ++ 0 ∷ 0 ∷ 0 ∷ 0 ∷ []
-
-pub head_is : (rate : ℕ) → svx_head (voice rate) [] ≡ before_rate ++ (bytes_of Big 2 rate ++ behind_rate)
-unfolding head_for chunks_bytes chunk_bytes head_bytes
-head_is rate = refl
-
-head_bytes_are : (rate : ℕ) → All IsByte (svx_head (voice rate) [])
-head_bytes_are rate =
-    subst (All IsByte) (sym (head_is rate)) (All-append IsByte before_rate (bytes_of Big 2 rate ++ behind_rate) (from_test before_rate refl)
-    (All-append IsByte (bytes_of Big 2 rate) behind_rate (bytes_are_bytes Big 2 rate).1 (from_test behind_rate refl)))
-
 -- ---- all of it
 
 new_voice_file : (rate : ℕ) → 1 ≤ rate → rate < 2 ^ 16 → IsNew Svx svx (voice rate)
 unfolding made_shape chunks_bytes chunk_bytes head_bytes all_placed
 new_voice_file rate some few = record {
   told = told rate some few;
-  bytes = head_bytes_are rate;
+  bytes = svx_is (voice rate) [] (All-nil IsOfBytes);
   is_kind = refl;
   params = refl;
   frames = refl;

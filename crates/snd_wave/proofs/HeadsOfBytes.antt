@@ -1,7 +1,8 @@
 -- The head that is made with chunks of bytes is of bytes.
 use Rattle.std.proofs.Common.{refl, ◌-◌, Bool, true, false, cond, List, [], ◌∷◌, ◌++◌, All, arith}
-use Rattle.std.proofs.lemmas.List.Elements.{All-append, All-cons, All-head, All-nil, All-replicate, All-tail}
+use Rattle.std.proofs.lemmas.List.Elements.{All-append, All-cons, All-nil, All-replicate}
 use Rattle.std.specs.Prelude.{codes}
+use Rattle.snd_chunks.proofs.ChunksOfBytes.{all_chunks, both, number_bytes, three}
 use Rattle.snd_chunks.specs.HeadLaws.{IsOfBytes}
 use Rattle.snd_chunks.specs.Written.{NewChunk, chunks_bytes, head_bytes}
 use Rattle.snd_fields.specs.Field.{bytes_of}
@@ -10,15 +11,9 @@ use Rattle.snd_fields.specs.declared.field.Order.TheVariants.{Little}
 use Rattle.snd_layout.proofs.StatedFormats.{format_bytes}
 use Rattle.snd_layout.specs.Params.{Parameters, data_bytes}
 use Rattle.snd_layout.specs.Sector.{is_in_one_sector}
-use Rattle.snd_wave.proofs.ByteValues.{both, number_bytes, three, two_chunks}
 use Rattle.snd_fields.proofs.Tested.{from_test}
 use Rattle.snd_wave.specs.Values.{riff_size}
 use Rattle.snd_wave.specs.Written.{chunks_before, filler, has_fact, head_size, inner_size, junk, new_fact, new_format, reserved_chunks, reserved_head, riff_head, start_without_filler, wave_head}
-
-pub all_chunks : (chunks : List NewChunk) → All IsOfBytes chunks → All IsByte (chunks_bytes Little chunks)
-unfolding chunks_bytes
-all_chunks [] are = All-nil IsByte
-all_chunks (chunk ∷ chunks) are = two_chunks chunk chunks (All-head IsOfBytes chunk chunks are) (all_chunks chunks (All-tail IsOfBytes chunk chunks are))
 
 pub format_is : (p : Parameters) → IsOfBytes (new_format p)
 format_is p = (from_test (codes "fmt ") refl, format_bytes p)
@@ -31,7 +26,7 @@ abbrev fact : NewChunk
 fact = record { id = codes "fact"; body = bytes_of Little 4 0 }
 
 fact_is : (t : Bool) → All IsOfBytes (cond t (fact ∷ []) [])
-fact_is true = All-cons IsOfBytes fact [] (from_test (codes "fact") refl, number_bytes 4 0) (All-nil IsOfBytes)
+fact_is true = All-cons IsOfBytes fact [] (from_test (codes "fact") refl, number_bytes Little 4 0) (All-nil IsOfBytes)
 fact_is false = All-nil IsOfBytes
 
 before_is : (p : Parameters) (pieces : List NewChunk) → All IsOfBytes pieces → All IsOfBytes (chunks_before p pieces 0)
@@ -47,6 +42,6 @@ wave_is p pieces are =
     let size = bytes_of Little 4 (riff_size (head_size p pieces) (data_bytes p 0)) in
     let bytes = bytes_of Little 4 (data_bytes p 0) in
     three (codes "RIFF" ++ size ++ codes "WAVE") (chunks_bytes Little (chunks_before p pieces 0)) (codes "data" ++ bytes)
-    (three (codes "RIFF") size (codes "WAVE") (from_test (codes "RIFF") refl) (number_bytes 4 (riff_size (head_size p pieces) (data_bytes p 0))) (from_test (codes "WAVE") refl))
-    (all_chunks (chunks_before p pieces 0) (before_is p pieces are))
-    (both (codes "data") bytes (from_test (codes "data") refl) (number_bytes 4 (data_bytes p 0)))
+    (three (codes "RIFF") size (codes "WAVE") (from_test (codes "RIFF") refl) (number_bytes Little 4 (riff_size (head_size p pieces) (data_bytes p 0))) (from_test (codes "WAVE") refl))
+    (all_chunks Little (chunks_before p pieces 0) (before_is p pieces are))
+    (both (codes "data") bytes (from_test (codes "data") refl) (number_bytes Little 4 (data_bytes p 0)))

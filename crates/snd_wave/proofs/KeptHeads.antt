@@ -37,7 +37,7 @@ use Rattle.snd_wave.proofs.Relaying.{length-joined}
 use Rattle.snd_chunks.proofs.Blanks.{all_before, all_length, all_stand, blanks_keep, outlines_standing, same_length}
 use Rattle.snd_chunks.proofs.HeadBytes.{field_longer, over_within}
 use Rattle.snd_wave.specs.Container.{wave as wave_container}
-use Rattle.snd_chunks.specs.HeadLaws.{IsPieceOf, KeepsHeadLaws, KeepsMetaLaws, KeepsPieceLaws, SaysNone, with_values_of}
+use Rattle.snd_chunks.specs.HeadLaws.{IsPieceOf, KeepsHeadLaws, KeepsPieceLaws, SaysNone, with_values_of}
 
 -- bytes put into a field, which lie within a head
 field_within : (field : Option Field) (b v : List ℕ) (start : ℕ) → IfSome field (EndsBy start) → start ≤ length b → over_field field b v ≡ put_in field v b
@@ -240,5 +240,6 @@ keeps_head_laws = record {
   reserve = λ p pieces. refl;
   may = λ holds. may_with;
   pieces = λ holds. piece_laws None;
-  meta = λ holds. record { bytes = wave_is; bodies = λ b h laid is. wave_fits b h laid };
+  bytes = λ holds. wave_is;
+  bodies = λ holds b h laid is. wave_fits b h laid;
 }

@@ -6,7 +6,8 @@ use Rattle.snd_layout.specs.Fit.{fit_refusal}
 use Rattle.snd_layout.specs.Params.{AreParams, Parameters, data_bytes}
 use Rattle.snd_layout.specs.declared.kind.Kind.TheVariants.{Wave}
 use Rattle.snd_chunks.specs.Written.{all_placed}
-use Rattle.snd_wave.proofs.ByteValues.{head_bytes_are}
+use Rattle.snd_chunks.specs.HeadLaws.{IsOfBytes}
+use Rattle.snd_wave.proofs.HeadsOfBytes.{wave_is}
 use Rattle.snd_wave.proofs.Made.{head_reads_back, length-head_for, no_bytes_yet}
 use Rattle.snd_wave.specs.Container.{wave}
 use Rattle.snd_wave.specs.Written.{MayBeMade, MayBePiece, made_pieces, reserved_pieces, reserved_shape}
@@ -30,7 +31,7 @@ pub is_new : (p : Parameters) → AreParams p → fit_refusal Wave p ≡ None �
 unfolding reserved_shape
 is_new p good fits = record {
   told = head_reads_back p [] (no_pieces p good fits);
-  bytes = head_bytes_are p;
+  bytes = wave_is p [] (All-nil IsOfBytes);
   is_kind = refl;
   params = refl;
   frames = refl;

@@ -1,5 +1,5 @@
 use Rattle.snd_output.proofs.Begun.{begun_is_making}
-use Rattle.snd_output.proofs.Carried.{carried_is_making}
+use Rattle.snd_output.proofs.Carried.{put_is_making}
 use Rattle.snd_output.proofs.Encoding.{encoded_is_making, filled_is_made}
 use Rattle.snd_output.proofs.Finished.{sealed_is_made}
 use Rattle.snd_output.proofs.Lengthened.{written_is_making}
@@ -9,7 +9,7 @@ pub returns-clause-begun : goal.returns-clause-begun
 returns-clause-begun c = begun_is_making
 
 pub returns-clause-carried : goal.returns-clause-carried
-returns-clause-carried c = carried_is_making
+returns-clause-carried c = put_is_making
 
 pub returns-clause-written : goal.returns-clause-written
 returns-clause-written c = written_is_making
