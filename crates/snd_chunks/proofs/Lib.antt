@@ -8,3 +8,5 @@ pub mod Stays
 pub mod Walks
 pub mod WrittenChunks
 pub mod LateChunks
+pub mod Opens
+pub mod Formats

@@ -6,7 +6,7 @@ use Rattle.snd_layout.proofs.Formats.{format_fits, front_format}
 use Rattle.snd_layout.specs.Fit.{fit_refusal}
 use Rattle.snd_layout.specs.Format.{format_of}
 use Rattle.snd_layout.specs.Params.{Parameters}
-use Rattle.snd_layout.specs.declared.kind.Kind.TheVariants.{W64}
+use Rattle.snd_layout.specs.declared.kind.Kind.TheVariants.{Wave}
 use Rattle.snd_layout.specs.declared.refusal.OpenRefusal.{OpenRefusal}
 
 part_of : (count len n : ℕ) (d : List ℕ) → count ≡ min len n → take count d ≡ take n (take len d)
@@ -25,9 +25,9 @@ pub part_tells : (count len : ℕ) (x zeros d : List ℕ) → x ≡ take (length
 part_tells count len x zeros d told long is enough =
     ap format_of (filled count len x zeros d told long is ∙ part_of count len (length zeros) d is) ∙ front_format (length zeros) (take len d) enough
 
--- the parameters of a part fit a Wave64 file
+-- the parameters of a part fit a WAVE file
 pub part_fits : (count : ℕ) (x zeros : List ℕ) (p : Parameters) (r : Result Parameters OpenRefusal) → length x ≡ length (take count zeros) → r ≡ format_of (take count (x ++ drop count zeros)) → r ≡ Ok p
-    → fit_refusal W64 p ≡ None
+    → fit_refusal Wave p ≡ None
 part_fits count x zeros p r long read is = format_fits (take count (x ++ drop count zeros)) p (sym read ∙ is)
 
 -- what fills a slice is what stands there
