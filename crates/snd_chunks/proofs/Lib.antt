@@ -9,3 +9,5 @@ pub mod Stays
 pub mod Walks
 pub mod WrittenChunks
 pub mod LateChunks
+pub mod Opens
+pub mod Formats

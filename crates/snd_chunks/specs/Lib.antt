@@ -3,6 +3,7 @@ pub mod HeadLaws
 pub mod Heads
 pub mod Late
 pub mod Opening
+pub mod Parts
 pub mod Replaced
 pub mod Walks
 pub mod Written

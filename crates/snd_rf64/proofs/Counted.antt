@@ -24,7 +24,8 @@ use Rattle.snd_layout.specs.declared.piece.Piece.{Piece}
 use Rattle.snd_wave.proofs.Images.{in_field}
 use Rattle.snd_wave.proofs.Made.{counted}
 use Rattle.snd_wave.proofs.Shapes.{counted_bytes}
-use Rattle.snd_wave.specs.Layout.{pieces_of, whole_frames}
+use Rattle.snd_chunks.specs.Parts.{whole_frames}
+use Rattle.snd_wave.specs.Layout.{pieces_of}
 use Rattle.snd_rf64.specs.Layout.{data_end, held, outer_end, rf64_front, rf64_layout, rf64_shape, rf64_tail, shape_at, sizes_in}
 use Rattle.snd_rf64.specs.Values.{closing, inner_value, outer_value}
 use Rattle.snd_rf64.specs.declared.sizes.Sizes.{Sizes}

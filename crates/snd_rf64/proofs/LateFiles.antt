@@ -18,7 +18,8 @@ use Rattle.snd_layout.specs.declared.piece.Piece.{Piece}
 use Rattle.snd_wave.proofs.NewHeads.{format_few}
 use Rattle.snd_wave.proofs.Putting.{small}
 use Rattle.snd_wave.proofs.Relaying.{bytes_few}
-use Rattle.snd_wave.specs.Layout.{piece_of, pieces_of, whole_frames}
+use Rattle.snd_chunks.specs.Parts.{whole_frames}
+use Rattle.snd_wave.specs.Layout.{piece_of, pieces_of}
 use Rattle.snd_wave.specs.Relaid.{IsSmall}
 use Rattle.snd_wave.specs.Written.{MayBePiece}
 use Rattle.snd_rf64.specs.Container.{rf64}

@@ -15,9 +15,8 @@ use Rattle.snd_layout.specs.Params.{Parameters}
 use Rattle.snd_layout.specs.Shape.{Shape}
 use Rattle.snd_layout.specs.declared.piece.Piece.{Piece}
 use Rattle.snd_layout.specs.declared.refusal.OpenRefusal.{OpenRefusal}
-use Rattle.snd_wave.specs.Layout.{body_of, front_refusal}
-use Rattle.snd_wave.specs.Parts.{AreParts}
-use Rattle.snd_wave.specs.declared.parts.Parts.{Parts}
+use Rattle.snd_chunks.specs.Parts.{AreParts, body_of, front_refusal}
+use Rattle.snd_chunks.specs.declared.parts.Parts.{Parts}
 use Rattle.snd_rf64.specs.Layout.{fitted, rf64_front, rf64_layout, sizes_of, sizes_told, with_format, with_sizes}
 use Rattle.snd_rf64.specs.Parts.{ArePlaced, all_pieces, ends_of, layout_with, shape_of, with_params}
 use Rattle.snd_rf64.specs.declared.ends.Ends.{Ends}
@@ -48,7 +47,7 @@ pub built : (b : List ℕ) (sizes : Sizes) (front : Front) (parts : Parts) (p : 
     → r ≡ Ok p → ends ≡ ends_of (length b) sizes parts.sound.at → pieces ≡ all_pieces b front ends → layout ≡ shape_of p parts.sound.at sizes.sound ends pieces → with_params b sizes front parts r ≡ Ok layout
 built b sizes front parts p r ends pieces layout params ended found is = rw params (ap (λ (s : Shape). Ok s) (sym (is ∙ rw (found, ended) refl)))
 
-pub parts_placed : (size : ℕ) (sizes : Sizes) (front : Front) (parts : Parts) → IsFront size sizes.next 256 front → AreParts front parts → ArePlaced size sizes parts
+pub parts_placed : (size : ℕ) (sizes : Sizes) (front : Front) (parts : Parts) → IsFront size sizes.next 256 front → AreParts 4 front parts → ArePlaced size sizes parts
 parts_placed size sizes front parts is are = record {
   format = (find_has _ (EndsBy size) front.chunks parts.format is.whole are.format).0;
   long = are.long;
@@ -67,7 +66,7 @@ with_sound : (b : List ℕ) (sizes : Sizes) (front : Front) (parts : Parts) (r :
 with_sound b sizes front parts (Err refusal) = refl
 with_sound b sizes front parts (Ok p) = refl
 
-pub layout_is : (b : List ℕ) (sizes : Sizes) (front : Front) (parts : Parts) → sizes_of b ≡ Ok sizes → front ≡ rf64_front b sizes.next → AreParts front parts → layout_with b sizes front parts ≡ rf64_layout b
+pub layout_is : (b : List ℕ) (sizes : Sizes) (front : Front) (parts : Parts) → sizes_of b ≡ Ok sizes → front ≡ rf64_front b sizes.next → AreParts 4 front parts → layout_with b sizes front parts ≡ rf64_layout b
 unfolding rf64_layout
 layout_is b sizes front parts told walked are =
     let format : Result Parameters OpenRefusal = fitted (format_of (body_of b parts.format)) in

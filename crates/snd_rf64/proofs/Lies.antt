@@ -21,7 +21,7 @@ use Rattle.snd_layout.specs.declared.piece.Piece.{Piece}
 use Rattle.snd_layout.specs.Fit.{fit_refusal}
 use Rattle.snd_layout.proofs.StatedFormats.{good_params}
 use Rattle.snd_wave.proofs.Shapes.{pieces_end}
-use Rattle.snd_wave.specs.Layout.{body_of, whole_frames}
+use Rattle.snd_chunks.specs.Parts.{body_of, whole_frames}
 use Rattle.snd_rf64.specs.Layout.{held, outer_end, rf64_front, rf64_layout, rf64_shape, rf64_tail, shape_at}
 use Rattle.snd_rf64.specs.declared.sizes.Sizes.{Sizes}
 use Rattle.snd_rf64.proofs.Counted.{frames_few}

@@ -22,9 +22,10 @@ use Rattle.snd_layout.specs.Params.{Parameters}
 use Rattle.snd_layout.specs.Written.{written_format}
 use Rattle.snd_layout.specs.declared.piece.Piece.{Piece}
 use Rattle.snd_wave.proofs.NewHeads.{format_few, format_size, not_data}
-use Rattle.snd_wave.proofs.Opens.{refused}
+use Rattle.snd_chunks.proofs.Opens.{refused}
 use Rattle.snd_wave.proofs.Shapes.{blocks_have_bytes}
-use Rattle.snd_wave.specs.Layout.{body_of, format_chunk, is_format, is_own, piece_of, pieces_of, whole_frames}
+use Rattle.snd_chunks.specs.Parts.{body_of, format_chunk, is_format, whole_frames}
+use Rattle.snd_wave.specs.Layout.{is_own, piece_of, pieces_of}
 use Rattle.snd_wave.specs.Written.{MayBePiece, new_format}
 use Rattle.snd_rf64.specs.Layout.{data_end, fitted, held, outer_end, rf64_front, rf64_layout, rf64_shape, shape_at, sizes_in, sizes_of}
 use Rattle.snd_rf64.specs.Written.{MayBeMade, chunks_before, head_size, made_pieces, made_shape, no_size, rf64_head, top}

@@ -18,7 +18,7 @@ use Rattle.snd_layout.specs.Refusals.{unless}
 use Rattle.snd_layout.specs.Shape.{Shape}
 use Rattle.snd_layout.specs.declared.kind.Kind.TheVariants.{Rf64}
 use Rattle.snd_layout.specs.declared.refusal.OpenRefusal.{OpenRefusal}
-use Rattle.snd_wave.specs.Layout.{body_of, format_chunk, front_refusal}
+use Rattle.snd_chunks.specs.Parts.{body_of, format_chunk, front_refusal}
 use Rattle.snd_rf64.specs.Layout.{fitted, has_sizes, layout_from, rf64_front, rf64_layout, rf64_shape, sizes_in, sizes_of, with_chunk, with_format, with_sizes}
 use Rattle.snd_rf64.specs.declared.sizes.Sizes.{Sizes}
 

@@ -19,8 +19,8 @@ use Rattle.snd_layout.specs.Shape.{Shape}
 use Rattle.snd_layout.specs.declared.kind.Kind.TheVariants.{Rf64}
 use Rattle.snd_wave.proofs.Agreements.{outside}
 use Rattle.snd_wave.proofs.Counted.{out_of_fields}
-use Rattle.snd_wave.proofs.Opens.{not_refused}
-use Rattle.snd_wave.specs.Layout.{body_of, format_chunk, front_refusal, has_id}
+use Rattle.snd_chunks.proofs.Opens.{not_refused}
+use Rattle.snd_chunks.specs.Parts.{body_of, format_chunk, front_refusal, has_id}
 use Rattle.snd_rf64.specs.Layout.{fitted, has_sizes, rf64_front, rf64_layout, rf64_shape, sizes_in, sizes_of}
 use Rattle.snd_rf64.specs.declared.sizes.Sizes.{Sizes}
 use Rattle.snd_rf64.proofs.Opens.{Begins, Opens, TellsSizes, begins, fits_rf64, opened, opens, reached, tells}

@@ -19,7 +19,8 @@ use Rattle.snd_layout.specs.declared.kind.Kind.TheVariants.{Rf64}
 use Rattle.snd_layout.specs.declared.piece.Piece.{Piece}
 use Rattle.snd_layout.specs.declared.refusal.OpenRefusal.{OpenRefusal}
 use Rattle.snd_layout.specs.declared.refusal.OpenRefusal.TheVariants.{ShortHeader, BadField, NoFormat, NoData}
-use Rattle.snd_wave.specs.Layout.{body_of, format_chunk, front_refusal, pieces_of, whole_frames}
+use Rattle.snd_chunks.specs.Parts.{body_of, format_chunk, front_refusal, whole_frames}
+use Rattle.snd_wave.specs.Layout.{pieces_of}
 use Rattle.snd_rf64.specs.declared.sizes.Sizes.{Sizes}
 
 -- The first chunk, whose head is at 12, is `ds64`: it has the two sizes, the count and the length of a table, and ends in a file

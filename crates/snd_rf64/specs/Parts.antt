@@ -10,8 +10,9 @@ use Rattle.snd_layout.specs.Params.{Parameters}
 use Rattle.snd_layout.specs.Shape.{Shape, end, room}
 use Rattle.snd_layout.specs.declared.piece.Piece.{Piece}
 use Rattle.snd_layout.specs.declared.refusal.OpenRefusal.{OpenRefusal}
-use Rattle.snd_wave.specs.Layout.{body_of, pieces_of, whole_frames}
-use Rattle.snd_wave.specs.declared.parts.Parts.{Parts}
+use Rattle.snd_chunks.specs.Parts.{body_of, whole_frames}
+use Rattle.snd_wave.specs.Layout.{pieces_of}
+use Rattle.snd_chunks.specs.declared.parts.Parts.{Parts}
 use Rattle.snd_rf64.specs.declared.ends.Ends.{Ends}
 use Rattle.snd_rf64.specs.declared.sizes.Sizes.{Sizes}
 use Rattle.snd_rf64.specs.Layout.{data_end, fitted, held, outer_end, shape_at}

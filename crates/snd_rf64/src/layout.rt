@@ -11,15 +11,15 @@ ghost use Rattle.snd_layout.specs.Shape.{IsPlaced, end, room};
 ghost use Rattle.snd_layout.specs.declared.kind.Kind.TheVariants.{Rf64};
 ghost use Rattle.snd_rf64.specs.Layout.{fitted, rf64_layout};
 ghost use Rattle.snd_rf64.specs.Parts.{ArePlaced, AreSizes, IsHeld, all_pieces, layout_with, shape_of};
-ghost use Rattle.snd_wave.specs.Layout.{body_of, whole_frames};
+ghost use Rattle.snd_chunks.specs.Parts.{body_of, whole_frames};
 
 use crate::ends::{Ends, ends_of};
 use crate::sizes::{Sizes, read_sizes};
-use snd_chunks::{Chunk, Front, WalkError, walk_front, walk_tail};
+use snd_chunks::{Chunk, Front, Parts, WalkError, parts_of, read_format, walk_front, walk_tail};
 use snd_disk::{Disk, Step};
 use snd_fields::{Id4, Order};
 use snd_layout::{Field, Kind, Layout, OpenError, Params, PieceList};
-use snd_wave::{Parts, add_pieces, parts_of, read_format};
+use snd_wave::add_pieces;
 use std::alloc::Global;
 
 /// How many chunks there are at most but for `ds64` and the data.
@@ -27,6 +27,9 @@ const MOST_CHUNKS: usize = 255;
 
 /// The identifier of the chunk that holds the data.
 const DATA: Id4 = Id4(*b"data");
+
+/// The bytes of the count of a `fact`, which is not read.
+const COUNT_SIZE: u8 = 4;
 
 /// The size of the whole, in `ds64`.
 pub(crate) const OUTER: Field = Field { at: 20, size: 8 };
@@ -170,7 +173,7 @@ fn find_layout<D: Disk>(alloc: Global, disk: &mut D, size: u64) -> Result<Layout
         sizes.next,
         MOST_CHUNKS + 1,
     )?;
-    let parts = parts_of(&front)?;
+    let parts = parts_of(&front, COUNT_SIZE)?;
     layout_at(alloc, disk, size, sizes, &front, parts)
 }
 
@@ -179,7 +182,7 @@ fn find_layout<D: Disk>(alloc: Global, disk: &mut D, size: u64) -> Result<Layout
 ///
 /// The answer is `Refused` with the first reason, by number, for which the file has no layout;
 /// `DiskFault` where a call of the disk failed; `Memory` where there is none.
-#[tactic(auto, using(snd_wave::proofs::Answered::opens_from))]
+#[tactic(auto, using(snd_layout::proofs::Answered::opens_from))]
 pub fn open_layout<D: Disk>(alloc: Global, disk: &mut D) -> Result<Layout, OpenError>
     ensures opened { OpensAs D.state disk.old rf64_layout result }
     ensures held { IfOk result (λ l. end l l.frames ≤ (D.state disk.old).size) }

@@ -18,7 +18,7 @@ use Rattle.snd_layout.specs.Refusals.{unless}
 use Rattle.snd_layout.specs.Shape.{Shape}
 use Rattle.snd_layout.specs.declared.field.Field.{Field}
 use Rattle.snd_layout.specs.declared.refusal.OpenRefusal.{OpenRefusal}
-use Rattle.snd_wave.specs.Layout.{has_id}
+use Rattle.snd_chunks.specs.Parts.{has_id}
 use Rattle.snd_svx.specs.declared.header.Header.{Header}
 use Rattle.snd_svx.specs.Layout.{front_refusal, header_chunk, header_of, is_header, is_pair, svx_front, svx_layout, svx_shape, voice_of, voice_refusal}
 use Rattle.snd_svx.proofs.Layouts.{reached}

@@ -22,7 +22,7 @@ use Rattle.snd_layout.specs.Shape.{Shape, end, room}
 use Rattle.snd_layout.specs.declared.kind.Kind.{Kind}
 use Rattle.snd_layout.specs.declared.kind.Kind.TheVariants.{Svx, Voc}
 use Rattle.snd_layout.specs.declared.piece.Piece.{Piece}
-use Rattle.snd_wave.specs.Layout.{held}
+use Rattle.snd_chunks.specs.Parts.{held}
 use Rattle.snd_svx.specs.Container.{svx}
 use Rattle.snd_svx.specs.declared.header.Header.{Header}
 use Rattle.snd_svx.specs.Layout.{data_end, declared_in, outer_end, pieces_of, shape_of, svx_front, svx_layout, svx_shape, svx_tail, voice}

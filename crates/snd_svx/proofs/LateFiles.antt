@@ -19,7 +19,8 @@ use Rattle.snd_layout.specs.Sector.{is_in_one_sector}
 use Rattle.snd_layout.specs.Shape.{Shape, end}
 use Rattle.snd_layout.specs.declared.piece.Piece.{Piece}
 use Rattle.snd_wave.proofs.Relaying.{bytes_few}
-use Rattle.snd_wave.specs.Layout.{held, piece_of}
+use Rattle.snd_chunks.specs.Parts.{held}
+use Rattle.snd_wave.specs.Layout.{piece_of}
 use Rattle.snd_wave.specs.Relaid.{IsSmall}
 use Rattle.snd_svx.specs.Container.{svx}
 use Rattle.snd_svx.specs.Layout.{data_end, declared_in, outer_end, pieces_of, shape_of, svx_front, svx_layout, svx_shape, svx_tail, voice}

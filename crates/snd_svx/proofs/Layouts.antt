@@ -16,7 +16,8 @@ use Rattle.snd_layout.specs.Params.{Parameters}
 use Rattle.snd_layout.specs.Shape.{Shape}
 use Rattle.snd_layout.specs.declared.piece.Piece.{Piece}
 use Rattle.snd_layout.specs.declared.refusal.OpenRefusal.{OpenRefusal}
-use Rattle.snd_wave.specs.Layout.{has_id, held, piece_of}
+use Rattle.snd_chunks.specs.Parts.{has_id, held}
+use Rattle.snd_wave.specs.Layout.{piece_of}
 use Rattle.snd_svx.specs.declared.ends.Ends.{Ends}
 use Rattle.snd_svx.specs.declared.header.Header.{Header}
 use Rattle.snd_svx.specs.declared.parts.Parts.{Parts}

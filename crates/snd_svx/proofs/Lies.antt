@@ -23,7 +23,8 @@ use Rattle.snd_layout.specs.Shape.{IsPlaced, KeepsRule, Shape, end}
 use Rattle.snd_layout.specs.declared.kind.Kind.TheVariants.{Svx}
 use Rattle.snd_layout.specs.declared.refusal.OpenRefusal.{OpenRefusal}
 use Rattle.snd_layout.specs.declared.refusal.OpenRefusal.TheVariants.{BadRate}
-use Rattle.snd_wave.specs.Layout.{has_id, held, piece_of}
+use Rattle.snd_chunks.specs.Parts.{has_id, held}
+use Rattle.snd_wave.specs.Layout.{piece_of}
 use Rattle.snd_svx.specs.Container.{svx}
 use Rattle.snd_svx.specs.declared.header.Header.{Header}
 use Rattle.snd_svx.specs.Layout.{data_end, header_of, is_own, is_pair, outer_end, pieces_of, svx_front, svx_layout, svx_shape, svx_tail, voice, voice_of, voice_refusal}

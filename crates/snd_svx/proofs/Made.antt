@@ -21,7 +21,8 @@ use Rattle.snd_fields.specs.declared.field.Order.TheVariants.{Big}
 use Rattle.snd_layout.specs.Params.{Parameters, data_bytes}
 use Rattle.snd_layout.specs.Sector.{is_in_one_sector}
 use Rattle.snd_layout.specs.declared.piece.Piece.{Piece}
-use Rattle.snd_wave.specs.Layout.{held, piece_of}
+use Rattle.snd_chunks.specs.Parts.{held}
+use Rattle.snd_wave.specs.Layout.{piece_of}
 use Rattle.snd_svx.specs.Made.{HeadHasItsSize, MadeHoldsAll, MadeReadsBack, svx_made}
 use Rattle.snd_svx.specs.Layout.{data_end, declared_in, header_chunk, header_of, is_header, is_own, is_pair, outer_end, pieces_of, shape_of, svx_front, svx_layout, svx_shape, svx_tail, voice, voice_of}
 use Rattle.snd_svx.specs.Put.{HeadReadsBack}

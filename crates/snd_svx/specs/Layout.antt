@@ -8,7 +8,7 @@ use Rattle.snd_fields.specs.declared.field.Order.TheVariants.{Big}
 use Rattle.snd_fields.specs.Field.{number}
 use Rattle.snd_chunks.specs.declared.chunk.Chunk.{Chunk}
 use Rattle.snd_chunks.specs.declared.front.Ending.{Ending}
-use Rattle.snd_chunks.specs.declared.front.Ending.TheVariants.{AtSound, TooMany}
+use Rattle.snd_chunks.specs.declared.front.Ending.TheVariants.{AtSound}
 use Rattle.snd_chunks.specs.declared.front.Front.{Front}
 use Rattle.snd_chunks.specs.Chunks.{chunk_at, front, tail, padded_end}
 use Rattle.snd_layout.specs.Params.{Parameters}
@@ -19,7 +19,8 @@ use Rattle.snd_layout.specs.declared.kind.Kind.TheVariants.{Svx}
 use Rattle.snd_layout.specs.declared.piece.Piece.{Piece}
 use Rattle.snd_layout.specs.declared.refusal.OpenRefusal.{OpenRefusal}
 use Rattle.snd_layout.specs.declared.refusal.OpenRefusal.TheVariants.{TooManyChunks, NoFormat, NoData, BadChannels, BadRate, PackedBody}
-use Rattle.snd_wave.specs.Layout.{has_id, held, piece_of}
+use Rattle.snd_chunks.specs.Parts.{has_id, held, is_at_sound, is_too_many}
+use Rattle.snd_wave.specs.Layout.{piece_of}
 use Rattle.snd_svx.specs.declared.header.Header.{Header}
 
 -- The walk: the chunks from place 12 on, up to the body; 257 chunks before it are too many
@@ -35,14 +36,6 @@ is_header None = false
 is_header (Some chunk) = nat_le 20 chunk.len
 
 -- why the walk is refused
-abbrev pub is_too_many : Ending → Bool
-is_too_many TooMany = true
-is_too_many ending = false
-
-abbrev pub is_at_sound : Ending → Bool
-is_at_sound (AtSound chunk) = true
-is_at_sound ending = false
-
 abbrev pub front_refusal : Front → Option OpenRefusal
 front_refusal f = first_refusal (
     refuse_if (is_too_many f.ending) TooManyChunks

@@ -11,7 +11,7 @@ use Rattle.snd_layout.specs.Opened.{EndsIn}
 use Rattle.snd_layout.specs.Shape.{Shape, end, room}
 use Rattle.snd_layout.specs.declared.piece.Piece.{Piece}
 use Rattle.snd_layout.specs.declared.refusal.OpenRefusal.{OpenRefusal}
-use Rattle.snd_wave.specs.Layout.{held}
+use Rattle.snd_chunks.specs.Parts.{held}
 use Rattle.snd_svx.specs.declared.ends.Ends.{Ends}
 use Rattle.snd_svx.specs.declared.header.Header.{Header}
 use Rattle.snd_svx.specs.declared.parts.Parts.{Parts}

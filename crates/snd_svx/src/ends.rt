@@ -1,7 +1,7 @@
 //! Where the data and the whole end.
 
 ghost use Rattle.std.specs.Prelude.{◌≡◌, ◌<◌, ◌^◌};
-ghost use Rattle.snd_wave.specs.Layout.{held};
+ghost use Rattle.snd_chunks.specs.Parts.{held};
 ghost use Rattle.snd_svx.specs.Parts.{ends_of};
 
 use snd_chunks::Chunk;

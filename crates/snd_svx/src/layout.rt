@@ -170,7 +170,7 @@ fn find_layout<D: Disk>(alloc: Global, disk: &mut D, size: u64) -> Result<Layout
 ///
 /// The answer is `Refused` with the first reason, by number, for which the file has no layout;
 /// `DiskFault` where a call of the disk failed; `Memory` where there is none.
-#[tactic(auto, using(snd_wave::proofs::Answered::opens_from))]
+#[tactic(auto, using(snd_layout::proofs::Answered::opens_from))]
 pub fn open_layout<D: Disk>(alloc: Global, disk: &mut D) -> Result<Layout, OpenError>
     ensures opened { OpensAs D.state disk.old svx_layout result }
     ensures held { IfOk result (λ l. end l l.frames ≤ (D.state disk.old).size) }

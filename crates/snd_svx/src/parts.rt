@@ -1,11 +1,10 @@
 //! The chunks before the data from which a layout is made.
 
 ghost use Rattle.std.specs.Prelude.{◌≡◌, IfOk, IfErr, Some};
-ghost use Rattle.snd_wave.specs.Layout.{has_id};
 ghost use Rattle.snd_svx.specs.Layout.{front_refusal, header_chunk};
 ghost use Rattle.snd_svx.specs.Parts.{AreParts};
 
-use snd_chunks::{Chunk, Ending, Front};
+use snd_chunks::{Chunk, Ending, Front, has_id};
 use snd_layout::OpenRefusal;
 
 const LEAST_HEADER: u64 = 20;
@@ -15,12 +14,6 @@ const LEAST_HEADER: u64 = 20;
 pub(crate) struct Parts {
     pub(crate) header: Chunk,
     pub(crate) sound: Chunk,
-}
-
-pub(crate) fn has_id(chunk: &Chunk, id: &[u8]) -> bool
-    ensures { result ≡ has_id id.now chunk.now }
-{
-    chunk.id.0.as_slice() == id
 }
 
 // The first voice header.

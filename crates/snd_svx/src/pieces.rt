@@ -3,8 +3,7 @@
 ghost use Rattle.std.specs.Prelude.{◌≡◌, ◌++◌, OnOk};
 ghost use Rattle.snd_svx.specs.Layout.{is_own, pieces_of};
 
-use crate::parts::has_id;
-use snd_chunks::Chunk;
+use snd_chunks::{Chunk, has_id};
 use snd_layout::{Piece, PieceList};
 use std::alloc::AllocError;
 

@@ -10,8 +10,7 @@ ghost use Rattle.snd_layout.specs.Opened.{CountsOpening, OpensAs};
 ghost use Rattle.snd_svx.specs.Layout.{header_of, is_pair, voice_of};
 
 use crate::header::Header;
-use crate::parts::has_id;
-use snd_chunks::Chunk;
+use snd_chunks::{Chunk, has_id};
 use snd_disk::{Disk, Step, fill};
 use snd_fields::{Order, u16_at, u32_at};
 use snd_layout::OpenError;

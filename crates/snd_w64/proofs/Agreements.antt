@@ -12,9 +12,11 @@ use Rattle.snd_layout.specs.Format.{format_of}
 use Rattle.snd_layout.specs.Params.{Parameters}
 use Rattle.snd_layout.specs.Shape.{Shape}
 use Rattle.snd_layout.specs.declared.field.Field.{Field}
-use Rattle.snd_w64.specs.Layout.{body_of, chunk_at, fact_chunk, format_chunk, has_id, is_fact, reached, w64_front, w64_layout, w64_shape}
+use Rattle.snd_chunks.specs.Parts.{body_of, fact_chunk, format_chunk, has_id, is_fact, reached}
+use Rattle.snd_w64.specs.Layout.{chunk_at, w64_front, w64_layout, w64_shape}
 use Rattle.snd_w64.proofs.Chains.{IsApart, IsBetween, IsHead, SameHead, SaysNext, StandsIn, apart, head_at, in_order, is_head, same_chain, say_next, stands_in}
-use Rattle.snd_w64.proofs.Opens.{Opens, not_refused, opened}
+use Rattle.snd_chunks.proofs.Opens.{not_refused}
+use Rattle.snd_w64.proofs.Opens.{Opens, opened}
 
 -- a place that is not in a field lies before it or behind it
 pub outside : (field : Field) (i : ℕ) → (i < field.at) ⊎ (field.at + field.size ≤ i) → is_in field i ≡ false
@@ -51,7 +53,7 @@ pub record Stand (b : List ℕ) (sound : Chunk) : Type 0 where
   pub head : IsHead b reach.last sound
   pub at : sound.at ≡ reach.last + 24
   pub late : 40 ≤ reach.last
-  pub fact : (f : Chunk) → fact_chunk (w64_front b).chunks ≡ Some f → StandsBefore sound f
+  pub fact : (f : Chunk) → fact_chunk 8 (w64_front b).chunks ≡ Some f → StandsBefore sound f
 
 pub stand : (b : List ℕ) (sound : Chunk) → (w64_front b).ending ≡ AtSound sound → Stand b sound
 stand b sound ends =
@@ -65,8 +67,8 @@ stand b sound ends =
       at = at;
       late = ordered.0;
       fact = λ f found.
-          let between = find_has is_fact (IsBetween 40 reach.last) (w64_front b).chunks f ordered.1 found in
-          let next : SaysNext f = (find_has is_fact SaysNext (w64_front b).chunks f (say_next b (codes "data") (length b) 40 5 reach.last (w64_front b).chunks refl reach.chain) found).0 in
+          let between = find_has (is_fact 8) (IsBetween 40 reach.last) (w64_front b).chunks f ordered.1 found in
+          let next : SaysNext f = (find_has (is_fact 8) SaysNext (w64_front b).chunks f (say_next b (codes "data") (length b) 40 5 reach.last (w64_front b).chunks refl reach.chain) found).0 in
           let count : 8 ≤ f.len = leb-true 8 f.len (and_parts (has_id (codes "fact") f) (nat_le 8 f.len) between.1).1 in
           record {
             behind = omega (arith, between.0.after);
@@ -82,10 +84,10 @@ IsBeside fact i = (f : Chunk) → fact ≡ Some f → (i < f.at) ⊎ (f.at + 8 �
 
 -- a file has the bytes of another before the data size, but for the size of the whole and the count
 abbrev pub SameChunks : List ℕ → List ℕ → Chunk → Type 0
-SameChunks x y sound = (i : ℕ) → 40 ≤ i → i < sound.at - 8 → IsBeside (fact_chunk (w64_front y).chunks) i → get_or x i 0 ≡ get_or y i 0
+SameChunks x y sound = (i : ℕ) → 40 ≤ i → i < sound.at - 8 → IsBeside (fact_chunk 8 (w64_front y).chunks) i → get_or x i 0 ≡ get_or y i 0
 
 -- the identifiers of a format and of a `fact` differ
-not_both : (chunk : Chunk) → has_id (codes "fmt ") chunk ≡ true → is_fact chunk ≡ true → ⊥
+not_both : (chunk : Chunk) → has_id (codes "fmt ") chunk ≡ true → is_fact 8 chunk ≡ true → ⊥
 not_both chunk format fact =
     let one : chunk.id.0 ≡ codes "fmt " = (bytes_eq-Decides chunk.id.0 (codes "fmt ")).0 format in
     let other : chunk.id.0 ≡ codes "fact" = (bytes_eq-Decides chunk.id.0 (codes "fact")).0 (and_parts (has_id (codes "fact") chunk) (nat_le 8 chunk.len) fact).0 in
@@ -107,8 +109,8 @@ module _ (x y : List ℕ) (p : Parameters) (sound : Chunk) (same : SameChunks x 
   ordered : (40 ≤ there.reach.last) × All (IsBetween 40 there.reach.last) (w64_front y).chunks
   ordered = in_order y (codes "data") (length y) 40 there.reach.last (w64_front y).chunks there.reach.chain
 
-  apart_from : (f : Chunk) → fact_chunk (w64_front y).chunks ≡ Some f → All (IsApart f) (w64_front y).chunks
-  apart_from f found = apart y (codes "data") (length y) 40 there.reach.last (w64_front y).chunks is_fact f there.reach.chain found
+  apart_from : (f : Chunk) → fact_chunk 8 (w64_front y).chunks ≡ Some f → All (IsApart f) (w64_front y).chunks
+  apart_from f found = apart y (codes "data") (length y) 40 there.reach.last (w64_front y).chunks (is_fact 8) f there.reach.chain found
 
   heads_same : All (SameHead x y) (w64_front y).chunks
   heads_same k d lt i from to =
@@ -133,7 +135,7 @@ module _ (x y : List ℕ) (p : Parameters) (sound : Chunk) (same : SameChunks x 
       same_part format.len format.at x y (omega (arith, has.0.before, there.at)) (omega (arith, has.0.before, there.at, there.head.within))
       (λ i from to. same i (omega (arith, has.0.after)) (omega (arith, has.0.before, there.at)) (λ f fact.
       let beside = (find_has (has_id (codes "fmt ")) (IsApart f) (w64_front y).chunks format (apart_from f fact) found).0 in
-      let fact_is = (find_has is_fact (IsBetween 40 there.reach.last) (w64_front y).chunks f ordered.1 fact).1 in
+      let fact_is = (find_has (is_fact 8) (IsBetween 40 there.reach.last) (w64_front y).chunks f ordered.1 fact).1 in
       is_beside_body f format i beside (λ both. not_both f (rw both at has.1) fact_is) (there.fact f fact).count from to))
 
   pub lays : (h : Shape) (from : Opens y (w64_front y) h) → from.sound ≡ sound → from.params ≡ p → w64_layout x ≡ Ok (w64_shape x (w64_front y) p sound_same.chunk)

@@ -8,7 +8,8 @@ use Rattle.std.specs.Str.{bytes_eq}
 use Rattle.snd_chunks.proofs.Chains.{IsChain, find_has, same_number_at, same_part}
 use Rattle.snd_chunks.specs.declared.chunk.Chunk.{Chunk}
 use Rattle.snd_fields.specs.declared.field.Order.TheVariants.{Little}
-use Rattle.snd_w64.specs.Layout.{chunk_at, chunk_with, is_long, letters, letters_at, raised, reached, size_at}
+use Rattle.snd_chunks.specs.Parts.{reached}
+use Rattle.snd_w64.specs.Layout.{chunk_at, chunk_with, is_long, letters, letters_at, raised, size_at}
 use Rattle.snd_w64.proofs.Heads.{in_reach, made_of}
 use Rattle.snd_w64.proofs.Raising.{raised-least}
 

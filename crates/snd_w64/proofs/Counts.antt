@@ -13,7 +13,7 @@ use Rattle.snd_layout.specs.Blocks.{block_align, block_frames, is_adpcm}
 use Rattle.snd_layout.specs.Fit.{fit_refusal}
 use Rattle.snd_layout.specs.Params.{AreParams, Parameters, data_bytes}
 use Rattle.snd_layout.specs.declared.kind.Kind.TheVariants.{W64}
-use Rattle.snd_w64.specs.Layout.{frame_count, whole_frames}
+use Rattle.snd_chunks.specs.Parts.{frame_count, whole_frames}
 use Rattle.snd_w64.proofs.Shapes.{blocks_have_bytes}
 
 -- a number of 8 bytes that stands at a place

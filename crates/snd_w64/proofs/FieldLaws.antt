@@ -18,7 +18,8 @@ use Rattle.snd_layout.specs.declared.codec.Codec.{Codec}
 use Rattle.snd_layout.specs.declared.field.Field.{Field}
 use Rattle.snd_layout.specs.declared.kind.Kind.TheVariants.{W64, Voc}
 use Rattle.snd_w64.specs.Container.{w64}
-use Rattle.snd_w64.specs.Layout.{fact_chunk, id_end, inner_field, is_joined, raised, side_field, w64_front, w64_layout}
+use Rattle.snd_chunks.specs.Parts.{fact_chunk, inner_field, is_joined, side_field}
+use Rattle.snd_w64.specs.Layout.{id_end, raised, w64_front, w64_layout}
 use Rattle.snd_w64.specs.Values.{closing, count_bytes, data_size, inner_value, outer_value, side_value, whole_of}
 use Rattle.snd_w64.proofs.Agreements.{Stand, StandsBefore, out_of_fields, outside, stand}
 use Rattle.snd_w64.proofs.Opens.{Opens, opens}
@@ -50,15 +51,15 @@ pub record FieldsStand (h : Shape) : Type 0 where
   pub sizes : (h.inner.size ≡ 8) ⊎ (h.inner.size ≡ 32)
 
 inner_stands : (p : Parameters) (fact : Option Chunk) (sound : Chunk) → 64 ≤ sound.at → ((f : Chunk) → fact ≡ Some f → StandsBefore sound f)
-    → (56 ≤ (inner_field p fact sound).at) × ((inner_field p fact sound).at + (inner_field p fact sound).size ≡ sound.at) × (((inner_field p fact sound).size ≡ 8) ⊎ ((inner_field p fact sound).size ≡ 32))
+    → (56 ≤ (inner_field 8 24 p fact sound).at) × ((inner_field 8 24 p fact sound).at + (inner_field 8 24 p fact sound).size ≡ sound.at) × (((inner_field 8 24 p fact sound).size ≡ 8) ⊎ ((inner_field 8 24 p fact sound).size ≡ 32))
 inner_stands p None sound late stands = elim (cases_Bool (is_adpcm p.codec)) [
   | inl is ↦ rw is (omega arith, omega arith, inl refl)
   | inr other ↦ rw other (omega arith, omega arith, inl refl)
 ]
-inner_stands p (Some fact) sound late stands = elim (cases_Bool (is_adpcm p.codec && is_joined (Some fact) sound)) [
+inner_stands p (Some fact) sound late stands = elim (cases_Bool (is_adpcm p.codec && is_joined 8 24 (Some fact) sound)) [
   | inl both ↦
       let before : StandsBefore sound fact = stands fact refl in
-      let parts = and_parts (fact.len == 8) (fact.next + 24 == sound.at) (and_parts (is_adpcm p.codec) (is_joined (Some fact) sound) both).1 in
+      let parts = and_parts (fact.len == 8) (fact.next + 24 == sound.at) (and_parts (is_adpcm p.codec) (is_joined 8 24 (Some fact) sound) both).1 in
       let next : fact.next ≡ fact.at + 8 = before.joined (eqb-true fact.len 8 parts.0) in
       let joined : fact.next + 24 ≡ sound.at = eqb-true (fact.next + 24) sound.at parts.1 in
       rw both (omega (arith, before.behind), omega (arith, next, joined), inr refl)
@@ -66,7 +67,7 @@ inner_stands p (Some fact) sound late stands = elim (cases_Bool (is_adpcm p.code
 ]
 
 side_stands : (p : Parameters) (fact : Option Chunk) (sound : Chunk) → ((f : Chunk) → fact ≡ Some f → StandsBefore sound f)
-    → IfSome (side_field p fact) (λ field. (field.size ≡ 8) × (64 ≤ field.at) × (field.at + 8 ≤ (inner_field p fact sound).at))
+    → IfSome (side_field 8 p fact) (λ field. (field.size ≡ 8) × (64 ≤ field.at) × (field.at + 8 ≤ (inner_field 8 24 p fact sound).at))
 side_stands p None sound stands = elim (cases_Bool (is_adpcm p.codec)) [ inl is ↦ rw is tt | inr other ↦ rw other tt ]
 side_stands p (Some fact) sound stands = elim (cases_Bool (is_adpcm p.codec)) [
   | inl is ↦ rw is tt
@@ -79,11 +80,11 @@ pub fields_stand : (b : List ℕ) (h : Shape) → w64_layout b ≡ Ok h → Fiel
 fields_stand b h is =
     let from : Opens b (w64_front b) h = opens b h is in
     let there : Stand b from.sound = stand b from.sound from.sound_is in
-    let inner = inner_stands from.params (fact_chunk (w64_front b).chunks) from.sound (omega (arith, there.at, there.late)) there.fact in
+    let inner = inner_stands from.params (fact_chunk 8 (w64_front b).chunks) from.sound (omega (arith, there.at, there.late)) there.fact in
     rw from.shape (record {
       kind = refl;
       outer = refl;
-      side = side_stands from.params (fact_chunk (w64_front b).chunks) from.sound there.fact;
+      side = side_stands from.params (fact_chunk 8 (w64_front b).chunks) from.sound there.fact;
       inner = inner.0;
       start = inner.1;
       sizes = inner.2;

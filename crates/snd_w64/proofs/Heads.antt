@@ -6,7 +6,8 @@ use Rattle.snd_chunks.proofs.Heads.{agree_whole, same_front, same_number, whole_
 use Rattle.snd_chunks.specs.declared.chunk.Chunk.{Chunk}
 use Rattle.snd_fields.specs.Field.{number}
 use Rattle.snd_fields.specs.declared.field.Order.TheVariants.{Little}
-use Rattle.snd_w64.specs.Layout.{chunk_at, chunk_with, is_long, letters, letters_at, reached, size_at}
+use Rattle.snd_chunks.specs.Parts.{reached}
+use Rattle.snd_w64.specs.Layout.{chunk_at, chunk_with, is_long, letters, letters_at, size_at}
 
 -- the chunk with these letters and this size, where there is one
 abbrev pub made_of : List ℕ → ℕ → ℕ → Option Chunk

@@ -20,7 +20,8 @@ use Rattle.snd_layout.specs.Shape.{Shape, end}
 use Rattle.snd_layout.specs.declared.field.Field.{Field}
 use Rattle.snd_layout.specs.declared.kind.Kind.TheVariants.{W64, Voc}
 use Rattle.snd_w64.specs.Container.{w64}
-use Rattle.snd_w64.specs.Layout.{body_of, chunk_at, data_end, fact_chunk, fact_count, frame_count, held, id_end, inner_field, is_joined, letters, letters_at, outer_end, raised, reached, shape_of, side_field, size_at, w64_front, w64_layout, w64_shape, whole_size}
+use Rattle.snd_chunks.specs.Parts.{body_of, fact_chunk, fact_count, frame_count, held, inner_field, is_joined, reached, side_field}
+use Rattle.snd_w64.specs.Layout.{chunk_at, data_end, id_end, letters, letters_at, outer_end, raised, shape_of, size_at, w64_front, w64_layout, w64_shape, whole_size}
 use Rattle.snd_w64.specs.Values.{data_size, inner_value, outer_value, whole_of}
 use Rattle.snd_w64.proofs.Agreements.{IsBeside, SameChunks, Stand, StandsBefore, lays, out_of_fields, outside, sound_same, stand}
 use Rattle.snd_w64.proofs.Blocks.{frames_fit}
@@ -32,7 +33,7 @@ use Rattle.snd_w64.proofs.Raising.{raised-grows, raised-least}
 
 -- ---- what a layout hangs on
 
-inner_same : (p : Parameters) (fact : Option Chunk) (sound sound' : Chunk) → sound'.at ≡ sound.at → inner_field p fact sound' ≡ inner_field p fact sound
+inner_same : (p : Parameters) (fact : Option Chunk) (sound sound' : Chunk) → sound'.at ≡ sound.at → inner_field 8 24 p fact sound' ≡ inner_field 8 24 p fact sound
 inner_same p None sound sound' at = rw at refl
 inner_same p (Some fact) sound sound' at = rw at refl
 
@@ -48,8 +49,8 @@ by_counts p fact sound sound' count count' size size' whole whole' frames declar
     ∙ ap (λ (g : Bool). record s { frames = frames; declared = declared; trailing = g }) goes_on
 
 -- in other codecs than ADPCM the count of a `fact` does not count
-same_frames : (p : Parameters) (bytes : ℕ) (fact : Option Chunk) (x y : List ℕ) → (is_adpcm p.codec ≡ true → option_map (fact_count x) fact ≡ option_map (fact_count y) fact)
-    → frame_count p bytes (option_map (fact_count x) fact) ≡ frame_count p bytes (option_map (fact_count y) fact)
+same_frames : (p : Parameters) (bytes : ℕ) (fact : Option Chunk) (x y : List ℕ) → (is_adpcm p.codec ≡ true → option_map (fact_count 8 x) fact ≡ option_map (fact_count 8 y) fact)
+    → frame_count p bytes (option_map (fact_count 8 x) fact) ≡ frame_count p bytes (option_map (fact_count 8 y) fact)
 same_frames p bytes None x y same = refl
 same_frames p bytes (Some fact) x y same = elim (cases_Bool (is_adpcm p.codec)) [
   | inl is ↦ ap (frame_count p bytes) (same is)
@@ -58,10 +59,10 @@ same_frames p bytes (Some fact) x y same = elim (cases_Bool (is_adpcm p.codec)) 
 
 -- ---- places beside the fields
 
-not_side : (p : Parameters) (fact : Option Chunk) (i : ℕ) → is_adpcm p.codec ≡ true → is_in_some (side_field p fact) i ≡ false
+not_side : (p : Parameters) (fact : Option Chunk) (i : ℕ) → is_adpcm p.codec ≡ true → is_in_some (side_field 8 p fact) i ≡ false
 not_side p fact i adpcm = rw adpcm refl
 
-side_out : (p : Parameters) (fact : Option Chunk) (i : ℕ) → IsBeside fact i → is_in_some (side_field p fact) i ≡ false
+side_out : (p : Parameters) (fact : Option Chunk) (i : ℕ) → IsBeside fact i → is_in_some (side_field 8 p fact) i ≡ false
 side_out p None i beside = elim (cases_Bool (is_adpcm p.codec)) [ inl is ↦ rw is refl | inr other ↦ rw other refl ]
 side_out p (Some fact) i beside = elim (cases_Bool (is_adpcm p.codec)) [
   | inl is ↦ rw is refl
@@ -73,18 +74,18 @@ record IsJoined (p : Parameters) (fact : Option Chunk) (sound : Chunk) : Type 0 
   chunk : Chunk
   is : fact ≡ Some chunk
   adpcm : is_adpcm p.codec ≡ true
-  at : (inner_field p fact sound).at ≡ chunk.at
+  at : (inner_field 8 24 p fact sound).at ≡ chunk.at
   ends : chunk.at + 32 ≡ sound.at
 
-joined_is : (p : Parameters) (fact : Option Chunk) (sound : Chunk) → ((f : Chunk) → fact ≡ Some f → StandsBefore sound f) → (inner_field p fact sound).size ≡ 32 → IsJoined p fact sound
+joined_is : (p : Parameters) (fact : Option Chunk) (sound : Chunk) → ((f : Chunk) → fact ≡ Some f → StandsBefore sound f) → (inner_field 8 24 p fact sound).size ≡ 32 → IsJoined p fact sound
 joined_is p None sound stands size = elim (cases_Bool (is_adpcm p.codec)) [
   | inl is ↦ absurd (let h = rw is at size in omega (arith, h))
   | inr other ↦ absurd (let h = rw other at size in omega (arith, h))
 ]
-joined_is p (Some fact) sound stands size = elim (cases_Bool (is_adpcm p.codec && is_joined (Some fact) sound)) [
+joined_is p (Some fact) sound stands size = elim (cases_Bool (is_adpcm p.codec && is_joined 8 24 (Some fact) sound)) [
   | inl both ↦
       let before : StandsBefore sound fact = stands fact refl in
-      let all = and_parts (is_adpcm p.codec) (is_joined (Some fact) sound) both in
+      let all = and_parts (is_adpcm p.codec) (is_joined 8 24 (Some fact) sound) both in
       let parts = and_parts (fact.len == 8) (fact.next + 24 == sound.at) all.1 in
       let next : fact.next ≡ fact.at + 8 = before.joined (eqb-true fact.len 8 parts.0) in
       let joined : fact.next + 24 ≡ sound.at = eqb-true (fact.next + 24) sound.at parts.1 in
@@ -93,15 +94,15 @@ joined_is p (Some fact) sound stands size = elim (cases_Bool (is_adpcm p.codec &
 ]
 
 -- a place before the head of the data, and beside the count, is not in the field that decides the count
-inner_out : (p : Parameters) (fact : Option Chunk) (sound : Chunk) (i : ℕ) → ((f : Chunk) → fact ≡ Some f → StandsBefore sound f) → IsBeside fact i → i < sound.at - 24 → is_in (inner_field p fact sound) i ≡ false
+inner_out : (p : Parameters) (fact : Option Chunk) (sound : Chunk) (i : ℕ) → ((f : Chunk) → fact ≡ Some f → StandsBefore sound f) → IsBeside fact i → i < sound.at - 24 → is_in (inner_field 8 24 p fact sound) i ≡ false
 inner_out p None sound i stands beside early = elim (cases_Bool (is_adpcm p.codec)) [
   | inl is ↦ rw is (outside (record { at = sound.at - 8; size = 8 }) i (inl (omega (arith, early))))
   | inr other ↦ rw other (outside (record { at = sound.at - 8; size = 8 }) i (inl (omega (arith, early))))
 ]
-inner_out p (Some fact) sound i stands beside early = elim (cases_Bool (is_adpcm p.codec && is_joined (Some fact) sound)) [
+inner_out p (Some fact) sound i stands beside early = elim (cases_Bool (is_adpcm p.codec && is_joined 8 24 (Some fact) sound)) [
   | inl both ↦
       let before : StandsBefore sound fact = stands fact refl in
-      let parts = and_parts (fact.len == 8) (fact.next + 24 == sound.at) (and_parts (is_adpcm p.codec) (is_joined (Some fact) sound) both).1 in
+      let parts = and_parts (fact.len == 8) (fact.next + 24 == sound.at) (and_parts (is_adpcm p.codec) (is_joined 8 24 (Some fact) sound) both).1 in
       let next : fact.next ≡ fact.at + 8 = before.joined (eqb-true fact.len 8 parts.0) in
       let joined : fact.next + 24 ≡ sound.at = eqb-true (fact.next + 24) sound.at parts.1 in
       rw both (outside (record { at = fact.at; size = 32 }) i (elim (beside fact refl) [ inl lt ↦ inl lt | inr le ↦ absurd (omega (arith, le, next, joined, early)) ]))
@@ -123,12 +124,12 @@ record Stays (x y : List ℕ) (h : Shape) : Type 0 where
   sound : Chunk
   old : h ≡ w64_shape y (w64_front y) params sound
   new : w64_layout x ≡ Ok (w64_shape x (w64_front y) params sound)
-  count : (bytes : ℕ) → frame_count params bytes (option_map (fact_count x) (fact_chunk (w64_front y).chunks)) ≡ frame_count params bytes (option_map (fact_count y) (fact_chunk (w64_front y).chunks))
+  count : (bytes : ℕ) → frame_count params bytes (option_map (fact_count 8 x) (fact_chunk 8 (w64_front y).chunks)) ≡ frame_count params bytes (option_map (fact_count 8 y) (fact_chunk 8 (w64_front y).chunks))
   within : sound.at ≤ 2 ^ 63 - 8
 
 module _ (x y : List ℕ) (p : Parameters) (sound : Chunk) (same : KeepsCount (w64_shape y (w64_front y) p sound) y x) (within : sound.at ≤ reached (length x)) (there : Stand y sound) where
   abbrev fact : Option Chunk
-  fact = fact_chunk (w64_front y).chunks
+  fact = fact_chunk 8 (w64_front y).chunks
 
   chunks_same : SameChunks x y sound
   chunks_same i from to beside = same i (omega (arith, to)) (outside (record { at = 16; size = 8 }) i (inr (omega (arith, from)))) (side_out p fact i beside)
@@ -143,7 +144,7 @@ module _ (x y : List ℕ) (p : Parameters) (sound : Chunk) (same : KeepsCount (w
       let both : Some new.chunk ≡ Some sound = sym new.is ∙ is in
       cc
 
-  count_same : is_adpcm p.codec ≡ true → (f : Option Chunk) → fact ≡ f → option_map (fact_count x) f ≡ option_map (fact_count y) f
+  count_same : is_adpcm p.codec ≡ true → (f : Option Chunk) → fact ≡ f → option_map (fact_count 8 x) f ≡ option_map (fact_count 8 y) f
   count_same adpcm None found = refl
   count_same adpcm (Some f) found =
       let placed : StandsBefore sound f = there.fact f found in
@@ -162,8 +163,8 @@ stays x y h is within same =
       old = from.shape;
       new = lays x y from.params from.sound (chunks_same x y from.params from.sound same_too within_too there) within_too there h from refl refl
           ∙ ap (λ (c : Chunk). Ok (w64_shape x (w64_front y) from.params c)) (sound_stays x y from.params from.sound same_too within_too there);
-      count = λ bytes. same_frames from.params bytes (fact_chunk (w64_front y).chunks) x y
-          (λ adpcm. count_same x y from.params from.sound same_too within_too there adpcm (fact_chunk (w64_front y).chunks) refl);
+      count = λ bytes. same_frames from.params bytes (fact_chunk 8 (w64_front y).chunks) x y
+          (λ adpcm. count_same x y from.params from.sound same_too within_too there adpcm (fact_chunk 8 (w64_front y).chunks) refl);
       within = omega (arith, within_too);
     }
 
@@ -221,13 +222,13 @@ old_count_reads_back b x h said_b bytes free known hold keeps inner ends =
     let start : h.start ≡ there.sound.at = ap (λ (s : Shape). s.start) there.old in
     let declared : h.declared ≡ there.sound.len = ap (λ (s : Shape). s.declared) there.old in
     let trailing : h.trailing ≡ nat_lt (data_end (length b) there.sound) (outer_end (length b) (whole_size b)) = ap (λ (s : Shape). s.trailing) there.old in
-    let frames : h.frames ≡ frame_count there.params (held (length b) there.sound) (option_map (fact_count b) (fact_chunk (w64_front b).chunks)) = ap (λ (s : Shape). s.frames) there.old in
+    let frames : h.frames ≡ frame_count there.params (held (length b) there.sound) (option_map (fact_count 8 b) (fact_chunk 8 (w64_front b).chunks)) = ap (λ (s : Shape). s.frames) there.old in
     let reach_x : outer_end (length x) (whole_size x) ≤ raised (there.sound.at + there.sound.len) = rw (← start, ← declared) ends in
     let by_x : outer_end (length x) (whole_size x) ≤ data_end (length x) there.sound = ends_held (length x) (whole_size x) there.sound there.within (omega (arith, start, declared, hold.new)) reach_x in
     let same : held (length x) there.sound ≡ held (length b) there.sound = same_held (length x) (length b) there.sound (omega (arith, start, declared, hold.new)) (omega (arith, start, declared, hold.old)) in
-    let f : Option Chunk = fact_chunk (w64_front b).chunks in
-    says x h (there.new ∙ ap (λ (s : Shape). Ok s) (by_counts there.params f there.sound there.sound (option_map (fact_count b) f) (option_map (fact_count x) f) (length b) (length x) (whole_size b) (whole_size x) _ there.sound.len _ refl
-    (ap (λ (n : ℕ). frame_count there.params n (option_map (fact_count x) f)) same ∙ there.count (held (length b) there.sound)) refl
+    let f : Option Chunk = fact_chunk 8 (w64_front b).chunks in
+    says x h (there.new ∙ ap (λ (s : Shape). Ok s) (by_counts there.params f there.sound there.sound (option_map (fact_count 8 b) f) (option_map (fact_count 8 x) f) (length b) (length x) (whole_size b) (whole_size x) _ there.sound.len _ refl
+    (ap (λ (n : ℕ). frame_count there.params n (option_map (fact_count 8 x) f)) same ∙ there.count (held (length b) there.sound)) refl
     (le-ltb (data_end (length x) there.sound) (outer_end (length x) (whole_size x)) by_x ∙ sym free ∙ trailing) ∙ sym there.old))
 
 -- ---- the data alone
@@ -237,10 +238,10 @@ same_outside_data_reads_back b x h is good long same =
     let stands : FieldsStand h = fields_stand b h is in
     let within : h.start ≤ reached (length x) = omega (arith, long, start_within b h is) in
     let there : Stays x b h = stays x b h is within (λ i lt outer side. same i (inl lt)) in
-    let f : Option Chunk = fact_chunk (w64_front b).chunks in
+    let f : Option Chunk = fact_chunk 8 (w64_front b).chunks in
     let whole : whole_size x ≡ whole_size b = same_number_at Little 8 16 x b (λ i from to. same i (inl (omega (arith, to, stands.inner, stands.start)))) in
-    there.new ∙ ap (λ (s : Shape). Ok s) (by_counts there.params f there.sound there.sound (option_map (fact_count b) f) (option_map (fact_count x) f) (length b) (length x) (whole_size b) (whole_size x) _ there.sound.len _ refl
-    (ap (λ (n : ℕ). frame_count there.params (held n there.sound) (option_map (fact_count x) f)) long ∙ there.count (held (length b) there.sound)) refl
+    there.new ∙ ap (λ (s : Shape). Ok s) (by_counts there.params f there.sound there.sound (option_map (fact_count 8 b) f) (option_map (fact_count 8 x) f) (length b) (length x) (whole_size b) (whole_size x) _ there.sound.len _ refl
+    (ap (λ (n : ℕ). frame_count there.params (held n there.sound) (option_map (fact_count 8 x) f)) long ∙ there.count (held (length b) there.sound)) refl
     (ap (λ (n : ℕ). nat_lt (data_end n there.sound) (outer_end n (whole_size x))) long ∙ ap (λ (n : ℕ). nat_lt (data_end (length b) there.sound) (outer_end (length b) n)) whole) ∙ sym there.old)
 
 -- ---- how far a file counts
@@ -317,7 +318,7 @@ module _ (b x : List ℕ) (p : Parameters) (sound : Chunk) (n : ℕ) (there : St
   h = w64_shape b (w64_front b) p sound
 
   abbrev f : Option Chunk
-  f = fact_chunk (w64_front b).chunks
+  f = fact_chunk 8 (w64_front b).chunks
 
   module _ (stands : FieldsStand h) (good : AreParams p) (fits : fit_refusal W64 p ≡ None) (few : h.start + data_bytes p n + 8 ≤ 2 ^ 63) (joined : is_adpcm p.codec ≡ true → 12 ≤ h.inner.size)
       (keeps : KeepsHead h b x) (inner : HasAt x h.inner.at (inner_value h n)) (long : end h n ≤ length x) (ends : outer_end (length x) (whole_size x) ≤ raised (end h n)) where
@@ -368,7 +369,7 @@ module _ (b x : List ℕ) (p : Parameters) (sound : Chunk) (n : ℕ) (there : St
     held_is : held (length x) new ≡ data_bytes p n
     held_is = omega (arith, len_is, at_same, few, long, raised-least (end h n))
 
-    count_is : is_adpcm p.codec ≡ true → option_map (fact_count x) f ≡ Some n
+    count_is : is_adpcm p.codec ≡ true → option_map (fact_count 8 x) f ≡ Some n
     count_is adpcm =
         let wide : h.inner.size ≡ 32 = elim stands.sizes [ inl eight ↦ absurd (omega (arith, joined adpcm, eight)) | inr is ↦ is ] in
         let fact : IsJoined p f sound = joined_is p f sound there.fact wide in
@@ -383,8 +384,8 @@ module _ (b x : List ℕ) (p : Parameters) (sound : Chunk) (n : ℕ) (there : St
     says_new : (s : Shape) (from : Opens b (w64_front b) s) → from.sound ≡ sound → from.params ≡ p → w64_layout x ≡ Ok (record h { frames = n; declared = data_bytes p n; trailing = false })
     says_new s from sound_is params_is =
         lays x b p sound all_same within there s from sound_is params_is
-        ∙ ap (λ (t : Shape). Ok t) (by_counts p f sound new (option_map (fact_count b) f) (option_map (fact_count x) f) (length b) (length x) (whole_size b) (whole_size x) n (data_bytes p n) false at_same
-        (ap (λ (k : ℕ). frame_count p k (option_map (fact_count x) f)) held_is ∙ counted p n (option_map (fact_count x) f) good fits count_is) len_is
+        ∙ ap (λ (t : Shape). Ok t) (by_counts p f sound new (option_map (fact_count 8 b) f) (option_map (fact_count 8 x) f) (length b) (length x) (whole_size b) (whole_size x) n (data_bytes p n) false at_same
+        (ap (λ (k : ℕ). frame_count p k (option_map (fact_count 8 x) f)) held_is ∙ counted p n (option_map (fact_count 8 x) f) good fits count_is) len_is
         (le-ltb (data_end (length x) new) (outer_end (length x) (whole_size x)) (omega (arith, ends, ends_at))))
 
 record OfParts (b x : List ℕ) (h : Shape) (n : ℕ) : Type 0 where

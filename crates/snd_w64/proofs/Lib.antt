@@ -1,7 +1,6 @@
 pub mod Agreements
 pub mod AllLaws
 pub mod Blocks
-pub mod Bodies
 pub mod Chains
 pub mod Counts
 pub mod FieldLaws

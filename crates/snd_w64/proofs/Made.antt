@@ -24,7 +24,8 @@ use Rattle.snd_layout.specs.declared.codec.Codec.{Codec}
 use Rattle.snd_layout.specs.declared.codec.Codec.TheVariants.{U8, S8, S16, S24, S32, MuLaw, ALaw, Ima, Ms}
 use Rattle.snd_layout.specs.declared.kind.Kind.TheVariants.{W64}
 use Rattle.snd_w64.specs.Container.{w64}
-use Rattle.snd_w64.specs.Layout.{body_of, format_chunk, front_refusal, id_end, raised, w64_front, w64_layout, w64_shape}
+use Rattle.snd_chunks.specs.Parts.{body_of, format_chunk, front_refusal}
+use Rattle.snd_w64.specs.Layout.{id_end, raised, w64_front, w64_layout, w64_shape}
 use Rattle.snd_w64.specs.Written.{chunk_bytes, fact_bytes, has_fact, head_bytes, made_shape, riff_end, start_of, w64_head}
 use Rattle.snd_w64.proofs.FieldLaws.{from_test}
 use Rattle.snd_w64.proofs.Opens.{opened}

@@ -13,9 +13,9 @@ use Rattle.snd_layout.specs.Fit.{fit_refusal}
 use Rattle.snd_layout.specs.Params.{AreParams, Parameters, block_refusal, data_bytes}
 use Rattle.snd_layout.specs.Shape.{IsPlaced, KeepsRule, Shape, is_inner_size, is_side_size, room}
 use Rattle.snd_layout.specs.declared.field.Field.{Field}
-use Rattle.snd_w64.specs.Layout.{fact_place, frame_count, inner_field, is_joined, reached, side_field, whole_frames}
+use Rattle.snd_chunks.specs.Parts.{IsFact, fact_place, frame_count, inner_field, is_joined, reached, side_field, whole_frames}
 use Rattle.snd_layout.specs.Opened.{EndsIn}
-use Rattle.snd_w64.specs.Parts.{IsFact, IsHeld, IsSound}
+use Rattle.snd_w64.specs.Parts.{IsHeld, IsSound}
 use Rattle.snd_layout.proofs.Frames.{blocks_have_frames, good_size}
 
 align_of : (channels rate : ℕ) (codec : Codec) → 1 ≤ channels → fit_refusal W64 (record { channels = channels; rate = rate; codec = codec }) ≡ None → block_refusal channels codec ≡ None → 1 ≤ block_align channels codec
@@ -65,16 +65,16 @@ counted_bytes p n count good fits =
     (blocks_have_frames p good fits) (frames_few p n count) (quotient n (block_align p.channels p.codec) (blocks_have_bytes p good fits))
 
 -- a `fact` whose count is joined with the size of the data behind it is there, and ends 24 bytes before the data
-joined_end : (fact : Option Chunk) (sound : Chunk) → is_joined fact sound ≡ true → IfSome fact (IsFact sound) → fact_place fact + 32 ≤ sound.at
+joined_end : (fact : Option Chunk) (sound : Chunk) → is_joined 8 24 fact sound ≡ true → IfSome fact (IsFact 8 24 sound) → fact_place fact + 32 ≤ sound.at
 joined_end None sound joined placed = absurd (cc)
 joined_end (Some fact) sound joined placed =
     omega (arith, eqb-true fact.len 8 (and_parts (fact.len == 8) (fact.next + 24 == sound.at) joined).0, placed.before)
 
-inner_rule : (p : Parameters) (fact : Option Chunk) (sound : Chunk) (field : Field) → field ≡ inner_field p fact sound → IfSome fact (IsFact sound) → 20 ≤ sound.at
+inner_rule : (p : Parameters) (fact : Option Chunk) (sound : Chunk) (field : Field) → field ≡ inner_field 8 24 p fact sound → IfSome fact (IsFact 8 24 sound) → 20 ≤ sound.at
     → IsTrue (is_inner_size W64 p.codec field.size) × (field.at + field.size ≤ sound.at)
-inner_rule p fact sound field is placed behind = elim (cases_Bool (is_adpcm p.codec && is_joined fact sound)) [
+inner_rule p fact sound field is placed behind = elim (cases_Bool (is_adpcm p.codec && is_joined 8 24 fact sound)) [
   | inl both ↦
-      let parts = and_parts (is_adpcm p.codec) (is_joined fact sound) both in
+      let parts = and_parts (is_adpcm p.codec) (is_joined 8 24 fact sound) both in
       let field_is : field ≡ record { at = fact_place fact; size = 32 } = is ∙ rw both refl in
       rw field_is (rw parts.0 refl, joined_end fact sound parts.1 placed)
   | inr other ↦
@@ -82,7 +82,7 @@ inner_rule p fact sound field is placed behind = elim (cases_Bool (is_adpcm p.co
       rw field_is (refl, omega arith)
 ]
 
-side_rule : (p : Parameters) (fact : Option Chunk) (sound : Chunk) (side : Option Field) → side ≡ side_field p fact → IfSome fact (IsFact sound)
+side_rule : (p : Parameters) (fact : Option Chunk) (sound : Chunk) (side : Option Field) → side ≡ side_field 8 p fact → IfSome fact (IsFact 8 24 sound)
     → IsTrue (is_side_size W64 p.codec side) × IfSome side (λ field. field.at + field.size ≤ sound.at)
 side_rule p None sound side is placed = elim (cases_Bool (is_adpcm p.codec)) [
   | inl adpcm ↦ let side_is : side ≡ None = is ∙ rw adpcm refl in rw side_is (refl, tt)
@@ -97,8 +97,8 @@ side_rule p (Some fact) sound side is placed = elim (cases_Bool (is_adpcm p.code
 
 -- the layout that is made of parts which lie well keeps the rule of all layouts
 pub keeps_rule : (s : Shape) (fact : Option Chunk) (sound : Chunk) (bytes size : ℕ) (count : Option ℕ) → s.kind ≡ W64 → s.outer ≡ Some (record { at = 16; size = 8 })
-    → s.start ≡ sound.at → s.declared ≡ sound.len → s.frames ≡ frame_count s.params bytes count → s.inner ≡ inner_field s.params fact sound → s.side ≡ side_field s.params fact → s.pieces ≡ [] → s.reserve ≡ None
-    → AreParams s.params → fit_refusal W64 s.params ≡ None → IfSome fact (IsFact sound) → IsSound size sound → bytes ≤ sound.len → bytes ≤ reached size - sound.at → KeepsRule s
+    → s.start ≡ sound.at → s.declared ≡ sound.len → s.frames ≡ frame_count s.params bytes count → s.inner ≡ inner_field 8 24 s.params fact sound → s.side ≡ side_field 8 s.params fact → s.pieces ≡ [] → s.reserve ≡ None
+    → AreParams s.params → fit_refusal W64 s.params ≡ None → IfSome fact (IsFact 8 24 sound) → IsSound size sound → bytes ≤ sound.len → bytes ≤ reached size - sound.at → KeepsRule s
 keeps_rule s fact sound bytes size count kind outer start declared frames inner side pieces reserve good fits placed is few held =
     let inner_is = inner_rule s.params fact sound s.inner inner placed (omega (arith, is.behind)) in
     let side_is = side_rule s.params fact sound s.side side placed in

@@ -4,16 +4,17 @@ use Rattle.std.specs.Str.{bytes_eq}
 use Rattle.snd_chunks.specs.declared.chunk.Chunk.{Chunk}
 use Rattle.snd_chunks.specs.declared.front.Ending.TheVariants.{AtSound}
 use Rattle.snd_chunks.specs.declared.front.Front.{Front}
+use Rattle.snd_chunks.specs.declared.parts.Parts.{Parts}
+use Rattle.snd_chunks.specs.Parts.{IsFact, body_of, fact_count, reached}
 use Rattle.snd_chunks.specs.Walks.{EndsBy}
 use Rattle.snd_layout.specs.Format.{format_of}
 use Rattle.snd_layout.specs.Opened.{EndsIn}
 use Rattle.snd_layout.specs.Params.{Parameters}
 use Rattle.snd_layout.specs.Shape.{Shape, end, room}
 use Rattle.snd_layout.specs.declared.refusal.OpenRefusal.{OpenRefusal}
-use Rattle.snd_w64.specs.declared.parts.Parts.{Parts}
 use Rattle.snd_w64.specs.declared.seen.Seen.{Seen}
 use Rattle.snd_w64.specs.declared.seen.Seen.TheVariants.{Sound, Whole, Nothing}
-use Rattle.snd_w64.specs.Layout.{body_of, fact_chunk, fact_count, format_chunk, front_refusal, raised, reached, shape_of, whole_size}
+use Rattle.snd_w64.specs.Layout.{raised, shape_of, whole_size}
 
 -- a chunk whose head of 24 bytes stands at a place of a file of so many bytes
 pub record HasHeadAt (size place : ℕ) (chunk : Chunk) : Type 0 where
@@ -44,30 +45,17 @@ IsSeen size place (Sound chunk) = HasHeadAt size place chunk
 IsSeen size place (Whole chunk) = HasHeadAt size place chunk × EndsBy size chunk
 IsSeen size place Nothing = ⊤
 
--- the chunks that a walk up to the data found, where it is not refused
-pub record AreParts (front : Front) (parts : Parts) : Type 0 where
-  pub no_refusal : front_refusal front ≡ None
-  pub format : format_chunk front.chunks ≡ Some parts.format
-  pub long : 16 ≤ parts.format.len
-  pub fact : parts.fact ≡ fact_chunk front.chunks
-  pub sound : front.ending ≡ AtSound parts.sound
-
--- a `fact` that has its count, before the head of the data
-pub record IsFact (sound fact : Chunk) : Type 0 where
-  pub count : 8 ≤ fact.len
-  pub before : fact.at + fact.len + 24 ≤ sound.at
-
 -- where the parts lie in a file of so many bytes
 pub record ArePlaced (size : ℕ) (parts : Parts) : Type 0 where
   pub format : EndsBy size parts.format
   pub long : 16 ≤ parts.format.len
-  pub fact : IfSome parts.fact (IsFact parts.sound)
+  pub fact : IfSome parts.fact (IsFact 8 24 parts.sound)
   pub sound : IsSound size parts.sound
 
 -- the layout with these parts, where the format is not refused
 abbrev pub with_params : List ℕ → Parts → Result Parameters OpenRefusal → Result Shape OpenRefusal
 with_params b parts (Err refusal) = Err refusal
-with_params b parts (Ok p) = Ok (shape_of p parts.fact parts.sound (option_map (fact_count b) parts.fact) (length b) (whole_size b))
+with_params b parts (Ok p) = Ok (shape_of p parts.fact parts.sound (option_map (fact_count 8 b) parts.fact) (length b) (whole_size b))
 
 -- the layout with these parts, or why their format is refused
 abbrev pub layout_with : List ℕ → Parts → Result Shape OpenRefusal

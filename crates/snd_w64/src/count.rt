@@ -3,7 +3,8 @@
 ghost use Rattle.std.specs.Prelude.{◌≡◌, ◌+◌, ◌<◌, ◌^◌, None, nat_lt};
 ghost use Rattle.snd_layout.specs.Fit.{fit_refusal};
 ghost use Rattle.snd_layout.specs.declared.kind.Kind.TheVariants.{Wave};
-ghost use Rattle.snd_w64.specs.Layout.{data_end, frame_count, held, outer_end, raised, reached};
+ghost use Rattle.snd_chunks.specs.Parts.{frame_count, held, reached};
+ghost use Rattle.snd_w64.specs.Layout.{data_end, outer_end, raised};
 
 use snd_chunks::Chunk;
 use snd_layout::{LAST_PLACE, Params};

@@ -7,16 +7,22 @@ ghost use Rattle.snd_layout.specs.Opened.{CountsOpening, EndsIn, OpensAs};
 ghost use Rattle.snd_layout.specs.Shape.{end, room};
 ghost use Rattle.snd_layout.specs.declared.kind.Kind.TheVariants.{W64};
 ghost use Rattle.snd_w64.specs.Layout.{shape_of, w64_layout};
-ghost use Rattle.snd_w64.specs.Parts.{ArePlaced, IsFact, IsHeld, IsSound, layout_with};
+ghost use Rattle.snd_chunks.specs.Parts.{IsFact};
+ghost use Rattle.snd_w64.specs.Parts.{ArePlaced, IsHeld, IsSound, layout_with};
 
 use crate::count::{frame_count, goes_on, held};
-use crate::fields::{inner_field, side_field};
-use crate::parts::{Parts, parts_of};
-use crate::reads::{read_count, read_format, read_number};
+use crate::reads::{read_count, read_number};
 use crate::walk::walk_front;
+use snd_chunks::{Parts, inner_field, parts_of, read_format, side_field};
 use snd_disk::{Disk, Step};
 use snd_layout::{Field, Kind, Layout, OpenError, Params, PieceList};
 use std::alloc::Global;
+
+/// The bytes of a size and of a count.
+const COUNT_SIZE: u8 = 8;
+
+/// The head of a chunk: its identifier and its size.
+const HEAD_SIZE: u8 = 24;
 
 /// The size of the whole.
 pub(crate) const WHOLE_SIZE: Field = Field { at: 16, size: 8 };
@@ -31,7 +37,7 @@ fn layout_of(
     whole: u64,
 ) -> Layout
     requires fits { fit_refusal W64 params ≡ None }
-    requires fact { IfSome parts.fact (IsFact parts.sound) }
+    requires fact { IfSome parts.fact (IsFact 8 24 parts.sound) }
     requires sound { IsSound size parts.sound }
     ensures value { result ≡ shape_of params parts.fact parts.sound count size whole }
     ensures held { IsHeld size result }
@@ -39,8 +45,8 @@ fn layout_of(
     params.are_good();
     let held = held(size, parts.sound);
     let frames = frame_count(&params, held, count);
-    let inner = inner_field(&params, parts.fact, parts.sound);
-    let side = side_field(&params, parts.fact);
+    let inner = inner_field(&params, parts.fact, parts.sound, COUNT_SIZE, HEAD_SIZE);
+    let side = side_field(&params, parts.fact, COUNT_SIZE);
     Layout {
         kind: Kind::W64,
         params,
@@ -88,7 +94,7 @@ fn find_layout<D: Disk>(alloc: Global, disk: &mut D, size: u64) -> Result<Layout
     ensures asked { AsksAtMost D.state 6234 disk.old disk.new }
 {
     let front = walk_front(alloc, disk, size)?;
-    let parts = parts_of(&front)?;
+    let parts = parts_of(&front, COUNT_SIZE)?;
     layout_at(alloc, disk, size, parts)
 }
 

@@ -2,11 +2,9 @@
 #![tactic(auto)]
 
 mod count;
-mod fields;
 mod head;
 mod laws;
 mod layout;
-mod parts;
 mod put;
 mod reads;
 mod seen;

@@ -19,10 +19,12 @@ use Rattle.snd_layout.specs.Format.{format_of}
 use Rattle.snd_layout.specs.Params.{Parameters}
 use Rattle.snd_layout.specs.Shape.{Shape}
 use Rattle.snd_layout.specs.declared.piece.Piece.{Piece}
-use Rattle.snd_wave.specs.Layout.{body_of, fact_chunk, format_chunk, front_refusal, has_id, inner_field, is_fact, is_joined, is_own, piece_of, pieces_of, reserve_of, side_field, wave_front, wave_shape, wave_tail}
+use Rattle.snd_chunks.specs.Parts.{body_of, fact_chunk, format_chunk, front_refusal, has_id, inner_field, is_fact, is_joined, side_field}
+use Rattle.snd_wave.specs.Layout.{is_own, piece_of, pieces_of, reserve_of, wave_front, wave_shape, wave_tail}
 use Rattle.snd_wave.proofs.LayoutFacts.{LayoutsAgree, SameButNumbers, SameHead, is_among, is_number}
 use Rattle.snd_wave.proofs.Counts.{reached}
-use Rattle.snd_wave.proofs.Opens.{Opens, not_refused, opened, opens}
+use Rattle.snd_chunks.proofs.Opens.{not_refused}
+use Rattle.snd_wave.proofs.Opens.{Opens, opened, opens}
 
 -- a place is not in the count of a `fact`
 abbrev pub IsBeside : Option Chunk → ℕ → Type 0
@@ -32,30 +34,30 @@ pub outside : (at size i : ℕ) → (i < at) ⊎ (at + size ≤ i) → is_among 
 outside at size i (inl before) = and_left (nat_le at i) (nat_lt i (at + size)) (lt-leb at i before)
 outside at size i (inr behind) = and_right (nat_le at i) (nat_lt i (at + size)) (le-ltb i (at + size) behind)
 
-pub side_is : (p : Parameters) (fact : Option Chunk) (i : ℕ) → IsBeside fact i → is_in_some (side_field p fact) i ≡ false
+pub side_is : (p : Parameters) (fact : Option Chunk) (i : ℕ) → IsBeside fact i → is_in_some (side_field 4 p fact) i ≡ false
 side_is p None i beside = elim (cases_Bool (is_adpcm p.codec)) [ inl is ↦ rw is refl | inr other ↦ rw other refl ]
 side_is p (Some fact) i beside = elim (cases_Bool (is_adpcm p.codec)) [
   | inl is ↦ rw is refl
   | inr other ↦ rw other (outside fact.at 4 i (beside fact refl))
 ]
 
-inner_is : (p : Parameters) (fact : Option Chunk) (sound : Chunk) (i : ℕ) → IsBeside fact i → i < sound.at - 4 → is_among (inner_field p fact sound).at 4 i ≡ false
+inner_is : (p : Parameters) (fact : Option Chunk) (sound : Chunk) (i : ℕ) → IsBeside fact i → i < sound.at - 4 → is_among (inner_field 4 8 p fact sound).at 4 i ≡ false
 inner_is p None sound i beside before = elim (cases_Bool (is_adpcm p.codec)) [
   | inl is ↦ rw is (outside (sound.at - 4) 4 i (inl before))
   | inr other ↦ rw other (outside (sound.at - 4) 4 i (inl before))
 ]
-inner_is p (Some fact) sound i beside before = elim (cases_Bool (is_adpcm p.codec && is_joined (Some fact) sound)) [
+inner_is p (Some fact) sound i beside before = elim (cases_Bool (is_adpcm p.codec && is_joined 4 8 (Some fact) sound)) [
   | inl both ↦ rw both (outside fact.at 4 i (beside fact refl))
   | inr other ↦ rw other (outside (sound.at - 4) 4 i (inl before))
 ]
 
 -- a place between the size of the whole and that of the data, and beside the count, is not in a number
-clear : (b : List ℕ) (seen : Front) (p : Parameters) (sound : Chunk) (i : ℕ) → 8 ≤ i → i < sound.at - 4 → IsBeside (fact_chunk seen.chunks) i → is_number (wave_shape b seen p sound) i ≡ false
+clear : (b : List ℕ) (seen : Front) (p : Parameters) (sound : Chunk) (i : ℕ) → 8 ≤ i → i < sound.at - 4 → IsBeside (fact_chunk 4 seen.chunks) i → is_number (wave_shape b seen p sound) i ≡ false
 clear b seen p sound i behind before beside =
-    or_from _ _ (or_from _ _ (or_from _ _ (outside 4 4 i (inr behind)) (side_is p (fact_chunk seen.chunks) i beside)) (inner_is p (fact_chunk seen.chunks) sound i beside before)) (outside (sound.at - 4) 4 i (inl before))
+    or_from _ _ (or_from _ _ (or_from _ _ (outside 4 4 i (inr behind)) (side_is p (fact_chunk 4 seen.chunks) i beside)) (inner_is p (fact_chunk 4 seen.chunks) sound i beside before)) (outside (sound.at - 4) 4 i (inl before))
 
 -- the identifiers of a format and of a `fact` differ
-not_both : (chunk : Chunk) → has_id (codes "fmt ") chunk ≡ true → is_fact chunk ≡ true → ⊥
+not_both : (chunk : Chunk) → has_id (codes "fmt ") chunk ≡ true → is_fact 4 chunk ≡ true → ⊥
 not_both chunk format fact =
     let one : chunk.id.0 ≡ codes "fmt " = (bytes_eq-Decides chunk.id.0 (codes "fmt ")).0 format in
     let other : chunk.id.0 ≡ codes "fact" = (bytes_eq-Decides chunk.id.0 (codes "fact")).0 (and_parts (has_id (codes "fact") chunk) (nat_le 4 chunk.len) fact).0 in
@@ -93,7 +95,7 @@ before_is chunks after =
     ∙ ap (λ (l : List Piece). l ++ filter (λ (piece : Piece). not piece.after) (pieces_of true after)) (before_stay chunks)
     ∙ ap (λ (l : List Piece). pieces_of false chunks ++ l) (behind_go after) ∙ append-nil (pieces_of false chunks)
 
-inner_same : (p : Parameters) (fact : Option Chunk) (sound sound' : Chunk) → sound'.at ≡ sound.at → inner_field p fact sound' ≡ inner_field p fact sound
+inner_same : (p : Parameters) (fact : Option Chunk) (sound sound' : Chunk) → sound'.at ≡ sound.at → inner_field 4 8 p fact sound' ≡ inner_field 4 8 p fact sound
 inner_same p None sound sound' at = rw at refl
 inner_same p (Some fact) sound sound' at = rw at refl
 
@@ -102,7 +104,7 @@ says_same x y seen seen' p sound sound' chunks at = record {
   kind = refl;
   params = refl;
   start = at;
-  inner = rw chunks (inner_same p (fact_chunk seen.chunks) sound sound' at);
+  inner = rw chunks (inner_same p (fact_chunk 4 seen.chunks) sound sound' at);
   outer = refl;
   side = rw chunks refl;
   reserve = ap (reserve_of p) chunks;
@@ -112,7 +114,7 @@ says_same x y seen seen' p sound sound' chunks at = record {
 -- two files, of which one has a layout, and the other the same bytes before the data but for the numbers
 module _ (x y : List ℕ) (p : Parameters) (sound : Chunk) (same : SameButNumbers (wave_shape y (wave_front y) p sound) x y) (within : sound.at ≤ length x)
     (reach : Reaches (chunk_at Little y) (codes "data") (length y) 257 12 (wave_front y).chunks sound) where
-  bytes_same : (i : ℕ) → 8 ≤ i → i < sound.at - 4 → IsBeside (fact_chunk (wave_front y).chunks) i → get_or x i 0 ≡ get_or y i 0
+  bytes_same : (i : ℕ) → 8 ≤ i → i < sound.at - 4 → IsBeside (fact_chunk 4 (wave_front y).chunks) i → get_or x i 0 ≡ get_or y i 0
   bytes_same i behind before beside = same i (omega arith) (clear y (wave_front y) p sound i behind before beside)
 
   sound_at : sound.at ≡ reach.last + 8
@@ -121,13 +123,13 @@ module _ (x y : List ℕ) (p : Parameters) (sound : Chunk) (same : SameButNumber
   ordered : (12 ≤ reach.last) × All (IsBetween 12 reach.last) (wave_front y).chunks
   ordered = in_order Little y (codes "data") (length y) 12 reach.last (wave_front y).chunks reach.chain
 
-  counted : (f : Chunk) → fact_chunk (wave_front y).chunks ≡ Some f → 4 ≤ f.len
+  counted : (f : Chunk) → fact_chunk 4 (wave_front y).chunks ≡ Some f → 4 ≤ f.len
   counted f found =
-      let has = find_has is_fact (IsBetween 12 reach.last) (wave_front y).chunks f ordered.1 found in
+      let has = find_has (is_fact 4) (IsBetween 12 reach.last) (wave_front y).chunks f ordered.1 found in
       leb-true 4 f.len (and_parts (has_id (codes "fact") f) (nat_le 4 f.len) has.1).1
 
-  apart_from : (f : Chunk) → fact_chunk (wave_front y).chunks ≡ Some f → All (IsApart f) (wave_front y).chunks
-  apart_from f found = apart Little y (codes "data") (length y) 12 reach.last (wave_front y).chunks is_fact f reach.chain found
+  apart_from : (f : Chunk) → fact_chunk 4 (wave_front y).chunks ≡ Some f → All (IsApart f) (wave_front y).chunks
+  apart_from f found = apart Little y (codes "data") (length y) 12 reach.last (wave_front y).chunks (is_fact 4) f reach.chain found
 
   heads_same : All (SameBytes x y) (wave_front y).chunks
   heads_same k d lt i from to =
@@ -138,7 +140,7 @@ module _ (x y : List ℕ) (p : Parameters) (sound : Chunk) (same : SameButNumber
   pub sound_same : StandsIn Little x reach.last sound
   sound_same = stands_in Little x y reach.last sound reach.at (omega (arith, sound_at))
       (λ i from to. bytes_same i (omega (arith, ordered.0)) (omega (arith, sound_at)) (λ f found.
-      let has = find_has is_fact (IsBetween 12 reach.last) (wave_front y).chunks f ordered.1 found in
+      let has = find_has (is_fact 4) (IsBetween 12 reach.last) (wave_front y).chunks f ordered.1 found in
       inr (omega (arith, has.0.before, counted f found))))
 
   pub front_same : wave_front x ≡ record { chunks = (wave_front y).chunks; ending = AtSound sound_same.chunk }
@@ -155,7 +157,7 @@ module _ (x y : List ℕ) (p : Parameters) (sound : Chunk) (same : SameButNumber
       same_part format.len format.at x y (omega (arith, has.0.before, sound_at)) (omega (arith, has.0.before, head.within))
       (λ i from to. bytes_same i (omega (arith, has.0.after)) (omega (arith, has.0.before, sound_at)) (λ f fact.
       let beside = (find_has (has_id (codes "fmt ")) (IsApart f) (wave_front y).chunks format (apart_from f fact) found).0 in
-      let fact_is = (find_has is_fact (IsBetween 12 reach.last) (wave_front y).chunks f ordered.1 fact).1 in
+      let fact_is = (find_has (is_fact 4) (IsBetween 12 reach.last) (wave_front y).chunks f ordered.1 fact).1 in
       is_beside_body f format i beside (λ both. not_both f (rw both at has.1) fact_is) (counted f fact) from to))
 
   pub opens_too : (format : Chunk) → front_refusal (wave_front y) ≡ None → format_chunk (wave_front y).chunks ≡ Some format → (wave_front y).ending ≡ AtSound sound → format_of (body_of y format) ≡ Ok p

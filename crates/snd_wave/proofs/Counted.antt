@@ -25,7 +25,8 @@ use Rattle.snd_layout.specs.declared.field.Field.{Field}
 use Rattle.snd_layout.specs.declared.kind.Kind.{Kind}
 use Rattle.snd_layout.specs.declared.kind.Kind.TheVariants.{Wave}
 use Rattle.snd_layout.specs.declared.piece.Piece.{Piece}
-use Rattle.snd_wave.specs.Layout.{body_of, fact_chunk, inner_field, is_joined, outer_end, wave_front, wave_layout, frame_count}
+use Rattle.snd_chunks.specs.Parts.{body_of, fact_chunk, frame_count, inner_field, is_joined}
+use Rattle.snd_wave.specs.Layout.{outer_end, wave_front, wave_layout}
 use Rattle.snd_wave.proofs.LayoutFacts.{FieldsStandApart, HoldsBlocks, SameButNumbers, SameHead, count_of, is_among, padded_data_end, pieces_before}
 use Rattle.snd_wave.specs.Values.{count_bytes, inner_value, outer_value, riff_size}
 use Rattle.snd_wave.proofs.Agreements.{layouts_agree, outside}
@@ -49,8 +50,8 @@ pub out_of_fields : (h : Shape) (i : ℕ) → is_in h.inner i ≡ false → is_i
 out_of_fields h i inner outer side = or_from (is_in h.inner i || is_in_some h.outer i) (is_in_some h.side i) (or_from (is_in h.inner i) (is_in_some h.outer i) inner outer) side
 
 -- the field that decides the count has 4 bytes, or 12
-inner_sizes : (p : Parameters) (fact : Option Chunk) (sound : Chunk) → ((inner_field p fact sound).size ≡ 4) ⊎ ((inner_field p fact sound).size ≡ 12)
-inner_sizes p fact sound = elim (cases_Bool (is_adpcm p.codec && is_joined fact sound)) [
+inner_sizes : (p : Parameters) (fact : Option Chunk) (sound : Chunk) → ((inner_field 4 8 p fact sound).size ≡ 4) ⊎ ((inner_field 4 8 p fact sound).size ≡ 12)
+inner_sizes p fact sound = elim (cases_Bool (is_adpcm p.codec && is_joined 4 8 fact sound)) [
   | inl both ↦ rw both (inr refl)
   | inr other ↦ rw other (inl refl)
 ]
@@ -120,7 +121,7 @@ stands b h is =
     let id : take 4 (drop reach.last b) ≡ codes "data" = sym head.id ∙ (bytes_eq-Decides from.sound.id.0 (codes "data")).0 reach.is in
     let start : h.start ≡ reach.last + 8 = ap (λ (s : Shape). s.start) from.shape ∙ head.at in
     record {
-      sizes = rw from.shape (inner_sizes from.params (fact_chunk (wave_front b).chunks) from.sound);
+      sizes = rw from.shape (inner_sizes from.params (fact_chunk 4 (wave_front b).chunks) from.sound);
       sound = id_at b reach.last (h.start - 8) (codes "data") refl (omega (arith, start)) (omega (arith, head.within)) id;
       within = omega (arith, start, head.within);
       fits = rw from.shape (format_fits (body_of b from.format) from.params from.params_are);

@@ -18,7 +18,8 @@ use Rattle.snd_layout.specs.Blocks.{block_align, block_frames, is_adpcm}
 use Rattle.snd_layout.specs.Params.{Parameters}
 use Rattle.snd_layout.specs.Shape.{Shape}
 use Rattle.snd_layout.specs.declared.piece.Piece.{Piece}
-use Rattle.snd_wave.specs.Layout.{data_end, fact_chunk, fact_count, frame_count, held, inner_field, is_joined, is_own, outer_end, piece_of, pieces_of, wave_front, wave_shape, wave_tail, whole_frames}
+use Rattle.snd_chunks.specs.Parts.{fact_chunk, fact_count, frame_count, held, inner_field, is_joined, whole_frames}
+use Rattle.snd_wave.specs.Layout.{data_end, is_own, outer_end, piece_of, pieces_of, wave_front, wave_shape, wave_tail}
 use Rattle.snd_wave.proofs.LayoutFacts.{CountIsStated, HoldsBlocks, NoPieceBehind, NumbersStandBefore, TrailingIsStated, count_of}
 use Rattle.snd_wave.proofs.Opens.{Opens, opens}
 
@@ -62,12 +63,12 @@ at_size b q sound head =
     let place : q + 4 ≡ sound.at - 4 = omega (arith, head.at) in
     head.len ∙ ap (λ k. number Little b k 4) place
 
-joined_count : (b : List ℕ) (p : Parameters) (fact : Option Chunk) (sound : Chunk) → (inner_field p fact sound).size ≡ 12 → option_map (fact_count b) fact ≡ Some (number Little b (inner_field p fact sound).at 4)
+joined_count : (b : List ℕ) (p : Parameters) (fact : Option Chunk) (sound : Chunk) → (inner_field 4 8 p fact sound).size ≡ 12 → option_map (fact_count 4 b) fact ≡ Some (number Little b (inner_field 4 8 p fact sound).at 4)
 joined_count b p None sound twelve = elim (cases_Bool (is_adpcm p.codec)) [
   | inl adpcm ↦ absurd (let h = rw adpcm at twelve in omega (arith, h))
   | inr other ↦ absurd (let h = rw other at twelve in omega (arith, h))
 ]
-joined_count b p (Some fact) sound twelve = elim (cases_Bool (is_adpcm p.codec && is_joined (Some fact) sound)) [
+joined_count b p (Some fact) sound twelve = elim (cases_Bool (is_adpcm p.codec && is_joined 4 8 (Some fact) sound)) [
   | inl both ↦ rw both refl
   | inr other ↦ absurd (let h = rw other at twelve in omega (arith, h))
 ]
@@ -77,7 +78,7 @@ numbers_stand_before b h is =
     let from : Opens b (wave_front b) h = opens b h is in
     let reach = reached b from.sound from.sound_is in
     let head : IsHead Little b reach.last from.sound = is_head Little b reach.last from.sound reach.at in
-    rw from.shape (at_size b reach.last from.sound head, λ twelve. joined_count b from.params (fact_chunk (wave_front b).chunks) from.sound twelve)
+    rw from.shape (at_size b reach.last from.sound head, λ twelve. joined_count b from.params (fact_chunk 4 (wave_front b).chunks) from.sound twelve)
 
 before_all : (chunks : List Chunk) → All (λ piece. piece.after ≡ false) (pieces_of false chunks)
 before_all chunks = All-map (λ (piece : Piece). piece.after ≡ false) (piece_of false) (filter (λ chunk. not (is_own chunk)) chunks) (λ k d lt. refl)

@@ -22,7 +22,8 @@ use Rattle.snd_layout.specs.Params.{AreParams, Parameters}
 use Rattle.snd_layout.specs.Shape.{Shape, end}
 use Rattle.snd_layout.specs.declared.kind.Kind.TheVariants.{Wave}
 use Rattle.snd_wave.proofs.LayoutFacts.{FieldsStandApart, SameButNumbers, is_among, padded_data_end}
-use Rattle.snd_wave.specs.Layout.{body_of, data_end, fact_chunk, fact_count, format_chunk, frame_count, front_refusal, held, outer_end, pieces_of, side_field, wave_front, wave_layout, wave_shape, wave_tail}
+use Rattle.snd_chunks.specs.Parts.{body_of, fact_chunk, fact_count, format_chunk, frame_count, front_refusal, held, side_field}
+use Rattle.snd_wave.specs.Layout.{data_end, outer_end, pieces_of, wave_front, wave_layout, wave_shape, wave_tail}
 use Rattle.snd_wave.proofs.Agreements.{front_same, opens_too, outside, side_is, sound_same}
 use Rattle.snd_wave.proofs.Counted.{out_of_fields}
 use Rattle.snd_wave.proofs.Counts.{none_behind, numbers_stand_before, reached, trailing_is_stated}
@@ -40,14 +41,14 @@ record Stays (x y : List ℕ) (h : Shape) : Type 0 where
   sound : Chunk
   old : h ≡ wave_shape y (wave_front y) params sound
   new : wave_layout x ≡ Ok (wave_shape x (wave_front y) params sound)
-  count : (bytes : ℕ) → frame_count params bytes (option_map (fact_count x) (fact_chunk (wave_front y).chunks)) ≡ frame_count params bytes (option_map (fact_count y) (fact_chunk (wave_front y).chunks))
+  count : (bytes : ℕ) → frame_count params bytes (option_map (fact_count 4 x) (fact_chunk 4 (wave_front y).chunks)) ≡ frame_count params bytes (option_map (fact_count 4 y) (fact_chunk 4 (wave_front y).chunks))
 
-not_side : (p : Parameters) (fact : Option Chunk) (i : ℕ) → is_adpcm p.codec ≡ true → is_in_some (side_field p fact) i ≡ false
+not_side : (p : Parameters) (fact : Option Chunk) (i : ℕ) → is_adpcm p.codec ≡ true → is_in_some (side_field 4 p fact) i ≡ false
 not_side p fact i adpcm = rw adpcm refl
 
 -- in other codecs than ADPCM the count of a `fact` does not count
-same_frames : (p : Parameters) (bytes : ℕ) (fact : Option Chunk) (x y : List ℕ) → (is_adpcm p.codec ≡ true → option_map (fact_count x) fact ≡ option_map (fact_count y) fact)
-    → frame_count p bytes (option_map (fact_count x) fact) ≡ frame_count p bytes (option_map (fact_count y) fact)
+same_frames : (p : Parameters) (bytes : ℕ) (fact : Option Chunk) (x y : List ℕ) → (is_adpcm p.codec ≡ true → option_map (fact_count 4 x) fact ≡ option_map (fact_count 4 y) fact)
+    → frame_count p bytes (option_map (fact_count 4 x) fact) ≡ frame_count p bytes (option_map (fact_count 4 y) fact)
 same_frames p bytes None x y same = refl
 same_frames p bytes (Some fact) x y same = elim (cases_Bool (is_adpcm p.codec)) [
   | inl is ↦ ap (frame_count p bytes) (same is)
@@ -60,7 +61,7 @@ module _ (x y : List ℕ) (p : Parameters) (sound : Chunk) (same : KeepsCount (w
   shape = wave_shape y (wave_front y) p sound
 
   abbrev fact : Option Chunk
-  fact = fact_chunk (wave_front y).chunks
+  fact = fact_chunk 4 (wave_front y).chunks
 
   head : IsHead Little y reach.last sound
   head = is_head Little y reach.last sound reach.at
@@ -100,7 +101,7 @@ module _ (x y : List ℕ) (p : Parameters) (sound : Chunk) (same : KeepsCount (w
       ap (λ (c : Chunk). wave_shape x (wave_front x) p c) sound_stays ∙ ap (λ (f : Front). wave_shape x f p sound) (front_same x y p sound but_numbers within reach) in
       opened x (wave_shape x (wave_front x) p there.chunk) (opens_too x y p sound but_numbers within reach format none found ends read) ∙ ap (λ (s : Shape). Ok s) shape_is
 
-  count_same : is_adpcm p.codec ≡ true → (f : Option Chunk) → fact ≡ f → option_map (fact_count x) f ≡ option_map (fact_count y) f
+  count_same : is_adpcm p.codec ≡ true → (f : Option Chunk) → fact ≡ f → option_map (fact_count 4 x) f ≡ option_map (fact_count 4 y) f
   count_same adpcm None found = refl
   count_same adpcm (Some f) found =
       let placed : StandsBefore sound f = stands f found in
@@ -118,8 +119,8 @@ stays x y h is within same =
       sound = from.sound;
       old = from.shape;
       new = laid x y from.params from.sound same_too within_too reach from.format from.no_refusal from.format_is from.sound_is from.params_are;
-      count = λ bytes. same_frames from.params bytes (fact_chunk (wave_front y).chunks) x y
-          (λ adpcm. count_same x y from.params from.sound same_too within_too reach adpcm (fact_chunk (wave_front y).chunks) refl);
+      count = λ bytes. same_frames from.params bytes (fact_chunk 4 (wave_front y).chunks) x y
+          (λ adpcm. count_same x y from.params from.sound same_too within_too reach adpcm (fact_chunk 4 (wave_front y).chunks) refl);
     }
 
 -- what else a layout hangs on
@@ -146,7 +147,7 @@ frames_end b h is good =
     let from : Opens b (wave_front b) h = opens b h is in
     let fits : fit_refusal Wave from.params ≡ None = format_fits (body_of b from.format) from.params from.params_are in
     let good_too : AreParams from.params = rw from.shape at good in
-    let few = counted_bytes from.params (held (length b) from.sound) (option_map (fact_count b) (fact_chunk (wave_front b).chunks)) good_too fits in
+    let few = counted_bytes from.params (held (length b) from.sound) (option_map (fact_count 4 b) (fact_chunk 4 (wave_front b).chunks)) good_too fits in
     rw from.shape (omega (arith, few))
 
 -- in a file of bytes they begin early, and are declared with 32 bits
@@ -197,7 +198,7 @@ old_count_reads_back b x h is bytes free hold keeps inner ends =
     let front : Front = wave_front b in
     there.new
     ∙ ap (λ (s : Shape). Ok s) (same_shape x b front there.params there.sound
-    (ap (λ (n : ℕ). frame_count there.params n (option_map (fact_count x) (fact_chunk front.chunks))) (in_x ∙ sym in_b) ∙ there.count (held (length b) there.sound))
+    (ap (λ (n : ℕ). frame_count there.params n (option_map (fact_count 4 x) (fact_chunk 4 front.chunks))) (in_x ∙ sym in_b) ∙ there.count (held (length b) there.sound))
     (le-ltb (data_end x there.sound) (outer_end x) by_x ∙ sym (le-ltb (data_end b there.sound) (outer_end b) by_b))
     (none_behind x front there.sound by_x ∙ sym (none_behind b front there.sound by_b)) ∙ sym there.old)
 
@@ -220,5 +221,5 @@ same_outside_data_reads_back b x h is long same =
     ∙ tail_from_same Little x b (outer_end b) most (data_end b there.sound) long (λ i from. same i (inr (omega (arith, reach, from)))) in
     there.new
     ∙ ap (λ (s : Shape). Ok s) (same_shape x b front there.params there.sound
-    (ap (λ (n : ℕ). frame_count there.params (held n there.sound) (option_map (fact_count x) (fact_chunk front.chunks))) long ∙ there.count (held (length b) there.sound))
+    (ap (λ (n : ℕ). frame_count there.params (held n there.sound) (option_map (fact_count 4 x) (fact_chunk 4 front.chunks))) long ∙ there.count (held (length b) there.sound))
     (ap (λ (n : ℕ). nat_lt n (outer_end x)) ends ∙ ap (nat_lt (data_end b there.sound)) outer) behind ∙ sym there.old)

@@ -8,7 +8,8 @@ use Rattle.snd_layout.specs.Blocks.{block_align}
 use Rattle.snd_layout.specs.Container.{is_in, is_in_some}
 use Rattle.snd_layout.specs.Shape.{Shape}
 use Rattle.snd_layout.specs.declared.piece.Piece.{Piece}
-use Rattle.snd_wave.specs.Layout.{fact_chunk, fact_count, frame_count, outer_end, wave_front, wave_layout}
+use Rattle.snd_chunks.specs.Parts.{fact_chunk, fact_count, frame_count}
+use Rattle.snd_wave.specs.Layout.{outer_end, wave_front, wave_layout}
 
 -- a place is one of so many from another on
 abbrev pub is_among : ℕ → ℕ → ℕ → Bool
@@ -45,7 +46,7 @@ LayoutsAgree = (x y : List ℕ) (h : Shape) → wave_layout y ≡ Ok h → h.sta
 
 -- the count of the `fact` that counts
 abbrev pub count_of : List ℕ → Option ℕ
-count_of b = option_map (fact_count b) (fact_chunk (wave_front b).chunks)
+count_of b = option_map (fact_count 4 b) (fact_chunk 4 (wave_front b).chunks)
 
 -- all whole blocks of the declared data are in the file
 pub record HoldsBlocks (h : Shape) (size : ℕ) : Type 0 where

@@ -1,6 +1,4 @@
-mod Bodies
 pub mod Agreements
-pub mod Answered
 pub mod ByteValues
 pub mod Changed
 pub mod Contained

@@ -23,8 +23,9 @@ use Rattle.snd_layout.specs.declared.kind.Kind.TheVariants.{Wave}
 use Rattle.snd_wave.proofs.Counts.{reached}
 use Rattle.snd_wave.proofs.Opens.{Opens, opens}
 use Rattle.snd_wave.proofs.Shapes.{counted_bytes, keeps_rule, pieces_end, reserve_is}
-use Rattle.snd_wave.specs.Layout.{body_of, fact_chunk, fact_count, has_id, held, is_fact, outer_end, wave_front, wave_layout, wave_shape, wave_tail}
-use Rattle.snd_wave.specs.Parts.{IsBefore, IsFact}
+use Rattle.snd_chunks.specs.Parts.{IsFact, body_of, fact_chunk, fact_count, has_id, held, is_fact}
+use Rattle.snd_wave.specs.Layout.{outer_end, wave_front, wave_layout, wave_shape, wave_tail}
+use Rattle.snd_wave.specs.Parts.{IsBefore}
 
 -- ---- where the chunks lie
 
@@ -36,10 +37,10 @@ all_short b place last (chunk ∷ chunks) bytes chain =
     let few : number Little b (place + 4) 4 < 2 ^ 32 = number_fits Little b (place + 4) 4 bytes in
     All-cons IsShort chunk chunks (omega (arith, head.len, few)) (all_short b chunk.next last chunks bytes chain.1)
 
-fact_placed : (last : ℕ) (sound : Chunk) (chunks : List Chunk) (fact : Option Chunk) → fact_chunk chunks ≡ fact → All (IsBetween 12 last) chunks → sound.at ≡ last + 8 → IfSome fact (IsFact sound)
+fact_placed : (last : ℕ) (sound : Chunk) (chunks : List Chunk) (fact : Option Chunk) → fact_chunk 4 chunks ≡ fact → All (IsBetween 12 last) chunks → sound.at ≡ last + 8 → IfSome fact (IsFact 4 8 sound)
 fact_placed last sound chunks None found between at = tt
 fact_placed last sound chunks (Some fact) found between at =
-    let has = find_has is_fact (IsBetween 12 last) chunks fact between found in
+    let has = find_has (is_fact 4) (IsBetween 12 last) chunks fact between found in
     record { count = leb-true 4 fact.len (and_parts (has_id (codes "fact") fact) (nat_le 4 fact.len) has.1).1; before = omega (arith, has.0.before, at) }
 
 module _ (b : List ℕ) (p : Parameters) (sound : Chunk) (bytes : All IsByte b) (good : AreParams p) (fits : fit_refusal Wave p ≡ None)
@@ -83,19 +84,19 @@ module _ (b : List ℕ) (p : Parameters) (sound : Chunk) (bytes : All IsByte b) 
       All-weaker (EndsIn (2 ^ 63 - 1)) IsPlaced (λ piece is. omega (arith, is)) shape.pieces all
 
   count : Option ℕ
-  count = option_map (fact_count b) (fact_chunk (wave_front b).chunks)
+  count = option_map (fact_count 4 b) (fact_chunk 4 (wave_front b).chunks)
 
   lies : LiesIn b shape
   lies =
       let some = held (length b) sound in
-      let fact = fact_placed reach.last sound (wave_front b).chunks (fact_chunk (wave_front b).chunks) refl ordered.1 head.at in
+      let fact = fact_placed reach.last sound (wave_front b).chunks (fact_chunk 4 (wave_front b).chunks) refl ordered.1 head.at in
       record {
         params = good;
-        rule = keeps_rule shape (fact_chunk (wave_front b).chunks) sound some (option_map (fact_count b) (fact_chunk (wave_front b).chunks)) refl refl refl refl refl refl refl good fits fact sound_is (omega arith) (reserve_is p sound (wave_front b).chunks before_all) placed;
+        rule = keeps_rule shape (fact_chunk 4 (wave_front b).chunks) sound some (option_map (fact_count 4 b) (fact_chunk 4 (wave_front b).chunks)) refl refl refl refl refl refl refl good fits fact sound_is (omega arith) (reserve_is p sound (wave_front b).chunks before_all) placed;
         within = omega (arith, head.within, head.at);
-        held = omega (arith, counted_bytes p some (option_map (fact_count b) (fact_chunk (wave_front b).chunks)) good fits, head.within, head.at);
+        held = omega (arith, counted_bytes p some (option_map (fact_count 4 b) (fact_chunk 4 (wave_front b).chunks)) good fits, head.within, head.at);
         room_ends = omega (arith, begins);
-        declared = λ known. omega (arith, counted_bytes p some (option_map (fact_count b) (fact_chunk (wave_front b).chunks)) good fits);
+        declared = λ known. omega (arith, counted_bytes p some (option_map (fact_count 4 b) (fact_chunk 4 (wave_front b).chunks)) good fits);
       }
 
 pub lies_in : (b : List ℕ) (h : Shape) → All IsByte b → wave_layout b ≡ Ok h → LiesIn b h

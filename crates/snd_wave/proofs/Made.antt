@@ -31,11 +31,13 @@ use Rattle.snd_layout.specs.declared.codec.Codec.TheVariants.{U8, S8, S16, S24, 
 use Rattle.snd_layout.specs.declared.field.Field.{Field}
 use Rattle.snd_layout.specs.declared.kind.Kind.TheVariants.{Wave}
 use Rattle.snd_layout.specs.declared.piece.Piece.{Piece}
-use Rattle.snd_wave.specs.Layout.{body_of, data_end, fact_chunk, fact_count, format_chunk, frame_count, held, inner_field, is_fact, is_format, is_own, outer_end, piece_of, pieces_of, reserve_of, side_field, wave_front, wave_layout, wave_shape, wave_tail, whole_frames}
+use Rattle.snd_chunks.specs.Parts.{body_of, fact_chunk, fact_count, format_chunk, frame_count, held, inner_field, is_fact, is_format, side_field, whole_frames}
+use Rattle.snd_wave.specs.Layout.{data_end, is_own, outer_end, piece_of, pieces_of, reserve_of, wave_front, wave_layout, wave_shape, wave_tail}
 use Rattle.snd_wave.specs.Values.{riff_size}
 use Rattle.snd_wave.specs.Written.{HeadHasItsSize, HeadReadsBack, MadeReadsBack, MayBePiece, MayBeReserved, MayReserve, ReservedHeadHasItsSize, ReservedHeadReadsBack, ReservedReadsBack, has_fact, head_for, head_size, inner_size, lead_end, lead_of, new_fact, new_format, reserved_chunks, reserved_filler, reserved_first, reserved_head, reserved_made, reserved_pieces, reserved_shape, reserved_size, reserved_start, riff_head}
 use Rattle.snd_wave.proofs.NewHeads.{all_precede, bytes-append, chunks_few, fact_bytes, format_size, lead_bytes, not_fact, reserved_with, size_is, size_least, start_is}
-use Rattle.snd_wave.proofs.Opens.{Opens, opened, refused}
+use Rattle.snd_chunks.proofs.Opens.{refused}
+use Rattle.snd_wave.proofs.Opens.{Opens, opened}
 use Rattle.snd_wave.proofs.Shapes.{blocks_have_bytes}
 
 pub length-riff_head : (size : ℕ) → length (riff_head size) ≡ 12
@@ -100,7 +102,7 @@ no_format : (r : Option ℕ) (chunks : List Chunk) → format_chunk (lead_placed
 no_format None chunks = refl
 no_format (Some len) chunks = refl
 
-no_fact : (r : Option ℕ) (chunks : List Chunk) → fact_chunk (lead_placed r ++ chunks) ≡ fact_chunk chunks
+no_fact : (r : Option ℕ) (chunks : List Chunk) → fact_chunk 4 (lead_placed r ++ chunks) ≡ fact_chunk 4 chunks
 no_fact None chunks = refl
 no_fact (Some len) chunks = refl
 
@@ -119,15 +121,15 @@ is_reserved (Some size) p place len chunks may =
     rw (may.1, long) refl
 
 -- no piece is the `fact`
-past_pieces : (place : ℕ) (pieces rest : List NewChunk) → All MayBePiece pieces → find is_fact (all_placed place (pieces ++ rest)) ≡ find is_fact (all_placed (place + length (chunks_bytes Little pieces)) rest)
+past_pieces : (place : ℕ) (pieces rest : List NewChunk) → All MayBePiece pieces → find (is_fact 4) (all_placed place (pieces ++ rest)) ≡ find (is_fact 4) (all_placed (place + length (chunks_bytes Little pieces)) rest)
 unfolding all_placed chunks_bytes
-past_pieces place [] rest are = let same : place ≡ place + 0 = omega arith in ap (λ k. find is_fact (all_placed k rest)) same
+past_pieces place [] rest are = let same : place ≡ place + 0 = omega arith in ap (λ k. find (is_fact 4) (all_placed k rest)) same
 past_pieces place (piece ∷ pieces) rest are =
     let is : MayBePiece piece = All-head MayBePiece piece pieces are in
-    let none : is_fact (placed piece.id place (length piece.body)) ≡ false = and_left _ _ (not_fact piece.id is.other) in
+    let none : is_fact 4 (placed piece.id place (length piece.body)) ≡ false = and_left _ _ (not_fact piece.id is.other) in
     let later : padded_end (place + 8) (length piece.body) + length (chunks_bytes Little pieces) ≡ place + length (chunks_bytes Little (piece ∷ pieces)) =
     omega (arith, length-chunks_bytes Little piece pieces, length-chunk_bytes Little piece place is.four) in
-    rw none (past_pieces (padded_end (place + 8) (length piece.body)) pieces rest (All-tail MayBePiece piece pieces are) ∙ ap (λ k. find is_fact (all_placed k rest)) later)
+    rw none (past_pieces (padded_end (place + 8) (length piece.body)) pieces rest (All-tail MayBePiece piece pieces are) ∙ ap (λ k. find (is_fact 4) (all_placed k rest)) later)
 
 -- and each is kept
 kept_pieces : (place : ℕ) (pieces rest : List NewChunk) → All MayBePiece pieces
@@ -144,11 +146,11 @@ kept_pieces place (piece ∷ pieces) rest are =
     ∙ ap (λ k. all_placed (padded_end (place + 8) (length piece.body)) pieces ++ filter (λ chunk. not (is_own chunk)) (all_placed k rest)) later))
 
 module _ (r : Option ℕ) (p : Parameters) (pieces : List NewChunk) (n : ℕ) where
-  past_filler : (k : ℕ) → find is_fact (all_placed k (reserved_filler r p pieces ++ new_fact p.codec n)) ≡ find is_fact (all_placed (k + length (chunks_bytes Little (reserved_filler r p pieces))) (new_fact p.codec n))
+  past_filler : (k : ℕ) → find (is_fact 4) (all_placed k (reserved_filler r p pieces ++ new_fact p.codec n)) ≡ find (is_fact 4) (all_placed (k + length (chunks_bytes Little (reserved_filler r p pieces))) (new_fact p.codec n))
   unfolding all_placed chunks_bytes chunk_bytes head_bytes
   past_filler k = elim (cases_Bool (is_in_one_sector (reserved_start r p pieces - inner_size p.codec) (inner_size p.codec))) [
-    | inl is ↦ rw is (let same : k ≡ k + 0 = omega arith in ap (λ i. find is_fact (all_placed i (new_fact p.codec n))) same)
-    | inr other ↦ rw other (let same : padded_end (k + 8) 8 ≡ k + 16 = omega arith in ap (λ i. find is_fact (all_placed i (new_fact p.codec n))) same)
+    | inl is ↦ rw is (let same : k ≡ k + 0 = omega arith in ap (λ i. find (is_fact 4) (all_placed i (new_fact p.codec n))) same)
+    | inr other ↦ rw other (let same : padded_end (k + 8) 8 ≡ k + 16 = omega arith in ap (λ i. find (is_fact 4) (all_placed i (new_fact p.codec n))) same)
   ]
 
   none_kept : (k : ℕ) → filter (λ chunk. not (is_own chunk)) (all_placed k (reserved_filler r p pieces ++ new_fact p.codec n)) ≡ []
@@ -158,7 +160,7 @@ module _ (r : Option ℕ) (p : Parameters) (pieces : List NewChunk) (n : ℕ) wh
     | inr other ↦ elim (cases_Bool (has_fact p.codec)) [ inl has ↦ rw (other, has) refl | inr none ↦ rw (other, none) refl ]
   ]
 
-  fact_at : (k : ℕ) → find is_fact (all_placed k (new_fact p.codec n)) ≡ (if has_fact p.codec then Some (placed (codes "fact") k 4) else None)
+  fact_at : (k : ℕ) → find (is_fact 4) (all_placed k (new_fact p.codec n)) ≡ (if has_fact p.codec then Some (placed (codes "fact") k 4) else None)
   unfolding all_placed
   fact_at k = elim (cases_Bool (has_fact p.codec)) [ inl has ↦ rw has refl | inr none ↦ rw none refl ]
 
@@ -170,10 +172,10 @@ module _ (r : Option ℕ) (p : Parameters) (pieces : List NewChunk) (n : ℕ) wh
   unfolding all_placed reserved_chunks
   format_found = ap format_chunk (behind_lead r (new_format p ∷ (pieces ++ (reserved_filler r p pieces ++ new_fact p.codec n)))) ∙ no_format r _
 
-  pub fact_found : All MayBePiece pieces → fact_chunk (all_placed 12 (reserved_chunks r p pieces n)) ≡ (if has_fact p.codec then Some (placed (codes "fact") fact_head 4) else None)
+  pub fact_found : All MayBePiece pieces → fact_chunk 4 (all_placed 12 (reserved_chunks r p pieces n)) ≡ (if has_fact p.codec then Some (placed (codes "fact") fact_head 4) else None)
   unfolding all_placed reserved_chunks fact_head
   fact_found are =
-      ap fact_chunk (behind_lead r (new_format p ∷ (pieces ++ (reserved_filler r p pieces ++ new_fact p.codec n)))) ∙ no_fact r _
+      ap (fact_chunk 4) (behind_lead r (new_format p ∷ (pieces ++ (reserved_filler r p pieces ++ new_fact p.codec n)))) ∙ no_fact r _
       ∙ past_pieces (reserved_first r p) pieces (reserved_filler r p pieces ++ new_fact p.codec n) are
       ∙ past_filler (reserved_first r p + length (chunks_bytes Little pieces)) ∙ fact_at fact_head
 
@@ -288,7 +290,7 @@ pub same_shape : (p : Parameters) (a a' b b' c : ℕ) (d d' : Field) (e e' : Opt
 same_shape p a a' b b' c d d' e e' f f' r r' g g' ea eb ed ee ef er eg = cc
 
 inner_made : (p : Parameters) (start place q len : ℕ) → start ≡ q + 8 → (has_fact p.codec ≡ true → start ≡ place + 20) → 44 ≤ start
-    → inner_field p (if has_fact p.codec then Some (placed (codes "fact") place 4) else None) (placed (codes "data") q len) ≡ record { at = start - inner_size p.codec; size = inner_size p.codec }
+    → inner_field 4 8 p (if has_fact p.codec then Some (placed (codes "fact") place 4) else None) (placed (codes "data") q len) ≡ record { at = start - inner_size p.codec; size = inner_size p.codec }
 inner_made p start place q len at stands least = elim (cases_Bool (is_adpcm p.codec)) [
   | inl is ↦
       let has = adpcm_has_fact p.codec is in
@@ -302,7 +304,7 @@ inner_made p start place q len at stands least = elim (cases_Bool (is_adpcm p.co
 ]
 
 side_made : (p : Parameters) (start place : ℕ) → (has_fact p.codec ≡ true → start ≡ place + 20)
-    → side_field p (if has_fact p.codec then Some (placed (codes "fact") place 4) else None) ≡ (if has_fact p.codec && not (is_adpcm p.codec) then Some (record { at = start - 12; size = 4 }) else None)
+    → side_field 4 p (if has_fact p.codec then Some (placed (codes "fact") place 4) else None) ≡ (if has_fact p.codec && not (is_adpcm p.codec) then Some (record { at = start - 12; size = 4 }) else None)
 side_made p start place stands = elim (cases_Bool (has_fact p.codec)) [
   | inl has ↦
       let count : place + 8 ≡ start - 12 = omega (arith, stands has) in
@@ -356,8 +358,8 @@ module _ (b : List ℕ) (r : Option ℕ) (p : Parameters) (pieces : List NewChun
   chunks_are : (wave_front b).chunks ≡ all_placed 12 (reserved_chunks r p pieces n)
   chunks_are = ap (λ (f : Front). f.chunks) front_is
 
-  fact_is : fact_chunk (wave_front b).chunks ≡ (if has_fact p.codec then Some (placed (codes "fact") (fact_head r p pieces n) 4) else None)
-  fact_is = ap fact_chunk chunks_are ∙ fact_found r p pieces n may.pieces_are
+  fact_is : fact_chunk 4 (wave_front b).chunks ≡ (if has_fact p.codec then Some (placed (codes "fact") (fact_head r p pieces n) 4) else None)
+  fact_is = ap (fact_chunk 4) chunks_are ∙ fact_found r p pieces n may.pieces_are
 
   format_read : format_of (body_of b (placed (codes "fmt ") (lead_end r) (length (written_format p)))) ≡ Ok p
   format_read =
@@ -366,18 +368,18 @@ module _ (b : List ℕ) (r : Option ℕ) (p : Parameters) (pieces : List NewChun
       ap format_of (has_part (length (written_format p)) b (lead_end r + 8) (written_format p) refl (omega (arith, within, size_is r p pieces n, first_fits b r p pieces n, length-chunk_bytes Little (new_format p) (lead_end r) refl)) body)
       ∙ written_format_reads_back p may.params may.fits
 
-  count_is : is_adpcm p.codec ≡ true → option_map (fact_count b) (fact_chunk (wave_front b).chunks) ≡ Some n
+  count_is : is_adpcm p.codec ≡ true → option_map (fact_count 4 b) (fact_chunk 4 (wave_front b).chunks) ≡ Some n
   count_is is =
       let is_there : has_fact p.codec ≡ true = adpcm_has_fact p.codec is in
-      let there : fact_chunk (wave_front b).chunks ≡ Some (placed (codes "fact") (fact_head r p pieces n) 4) = fact_is ∙ rw is_there refl in
+      let there : fact_chunk 4 (wave_front b).chunks ≡ Some (placed (codes "fact") (fact_head r p pieces n) 4) = fact_is ∙ rw is_there refl in
       let read : number Little b (fact_head r p pieces n + 8) 4 ≡ n = count_read b (fact_head r p pieces n) n p.codec is_there (may.counted is) (has_count b r p pieces n (has_chunks r p pieces n b has)) in
-      ap (option_map (fact_count b)) there ∙ ap (λ k. Some k) read
+      ap (option_map (fact_count 4 b)) there ∙ ap (λ k. Some k) read
 
   held_is : held (length b) sound ≡ data_bytes p n
   held_is = omega (arith, long, at, may.in_room, size_least r p pieces)
 
-  frames_are : frame_count p (held (length b) sound) (option_map (fact_count b) (fact_chunk (wave_front b).chunks)) ≡ n
-  frames_are = ap (λ k. frame_count p k (option_map (fact_count b) (fact_chunk (wave_front b).chunks))) held_is ∙ counted p n _ may.params may.fits count_is
+  frames_are : frame_count p (held (length b) sound) (option_map (fact_count 4 b) (fact_chunk 4 (wave_front b).chunks)) ≡ n
+  frames_are = ap (λ k. frame_count p k (option_map (fact_count 4 b) (fact_chunk 4 (wave_front b).chunks))) held_is ∙ counted p n _ may.params may.fits count_is
 
   ends : outer_end b ≤ data_end b sound
   ends = rw held_is (omega (arith, long, at))
@@ -390,11 +392,11 @@ module _ (b : List ℕ) (r : Option ℕ) (p : Parameters) (pieces : List NewChun
       ap (λ (l : List Chunk). pieces_of false (wave_front b).chunks ++ pieces_of true l) no_tail_is ∙ append-nil (pieces_of false (wave_front b).chunks)
       ∙ ap (pieces_of false) chunks_are ∙ pieces_found r p pieces n may.pieces_are
 
-  inner_is : inner_field p (fact_chunk (wave_front b).chunks) sound ≡ record { at = reserved_size r p pieces - inner_size p.codec; size = inner_size p.codec }
-  inner_is = ap (λ (fact : Option Chunk). inner_field p fact sound) fact_is ∙ inner_made p (reserved_size r p pieces) (fact_head r p pieces n) q (data_bytes p n) at (fact_stands r p pieces n) (size_least r p pieces)
+  inner_is : inner_field 4 8 p (fact_chunk 4 (wave_front b).chunks) sound ≡ record { at = reserved_size r p pieces - inner_size p.codec; size = inner_size p.codec }
+  inner_is = ap (λ (fact : Option Chunk). inner_field 4 8 p fact sound) fact_is ∙ inner_made p (reserved_size r p pieces) (fact_head r p pieces n) q (data_bytes p n) at (fact_stands r p pieces n) (size_least r p pieces)
 
-  side_is : side_field p (fact_chunk (wave_front b).chunks) ≡ (if has_fact p.codec && not (is_adpcm p.codec) then Some (record { at = reserved_size r p pieces - 12; size = 4 }) else None)
-  side_is = ap (side_field p) fact_is ∙ side_made p (reserved_size r p pieces) (fact_head r p pieces n) (fact_stands r p pieces n)
+  side_is : side_field 4 p (fact_chunk 4 (wave_front b).chunks) ≡ (if has_fact p.codec && not (is_adpcm p.codec) then Some (record { at = reserved_size r p pieces - 12; size = 4 }) else None)
+  side_is = ap (side_field 4 p) fact_is ∙ side_made p (reserved_size r p pieces) (fact_head r p pieces n) (fact_stands r p pieces n)
 
   shape_is : wave_shape b (wave_front b) p sound ≡ reserved_shape r p pieces n
   unfolding shape_with reserved_shape

@@ -1,60 +1,19 @@
 -- What a layout was made from, and that it is made from it.
-use Rattle.std.proofs.Common.{◌≡◌, List, ℕ, Bool, true, false, not, Option, None, Some, Ok, Err, refl, sym, ap, ◌∙◌}
-use Rattle.std.specs.Prelude.{Result}
-use Rattle.snd_chunks.specs.declared.chunk.Chunk.{Chunk}
-use Rattle.snd_chunks.specs.declared.front.Ending.{Ending}
-use Rattle.snd_chunks.specs.declared.front.Ending.TheVariants.{AtSound, Cut, TooMany}
+use Rattle.std.proofs.Common.{◌≡◌, List, ℕ, Ok}
 use Rattle.snd_chunks.specs.declared.front.Front.{Front}
-use Rattle.snd_layout.specs.Format.{format_of}
-use Rattle.snd_layout.specs.Params.{Parameters}
-use Rattle.snd_layout.specs.Refusals.{refuse_if}
+use Rattle.snd_chunks.proofs.Opens.{OpensBy, opened_by, opens_by}
 use Rattle.snd_layout.specs.Shape.{Shape}
-use Rattle.snd_layout.specs.declared.refusal.OpenRefusal.{OpenRefusal}
-use Rattle.snd_layout.specs.declared.refusal.OpenRefusal.TheVariants.{NoFormat}
-use Rattle.snd_wave.specs.Layout.{body_of, format_chunk, front_refusal, is_format, layout_from, wave_front, wave_layout, wave_shape, with_chunk, with_format}
+use Rattle.snd_wave.specs.Layout.{wave_front, wave_layout, wave_shape}
 
-pub record Opens (b : List ℕ) (front : Front) (h : Shape) : Type 0 where
-  pub format : Chunk
-  pub sound : Chunk
-  pub params : Parameters
-  pub no_refusal : front_refusal front ≡ None
-  pub format_is : format_chunk front.chunks ≡ Some format
-  pub sound_is : front.ending ≡ AtSound sound
-  pub params_are : format_of (body_of b format) ≡ Ok params
-  pub shape : h ≡ wave_shape b front params sound
-
-module _ (b : List ℕ) (front : Front) (h : Shape) (none : front_refusal front ≡ None) where
-  by_format : (format : Chunk) → format_chunk front.chunks ≡ Some format → (r : Result Parameters OpenRefusal) → format_of (body_of b format) ≡ r → (ending : Ending) → front.ending ≡ ending
-      → with_format b front r ending ≡ Ok h → Opens b front h
-  by_format format found (Err refusal) read ending ends is = absurd (cc)
-  by_format format found (Ok p) read Cut ends is = absurd (cc)
-  by_format format found (Ok p) read TooMany ends is = absurd (cc)
-  by_format format found (Ok p) read (AtSound sound) ends is =
-      record { format = format; sound = sound; params = p; no_refusal = none; format_is = found; sound_is = ends; params_are = read; shape = cc }
-
-  by_chunk : (chunk : Option Chunk) → format_chunk front.chunks ≡ chunk → with_chunk b front chunk ≡ Ok h → Opens b front h
-  by_chunk None found is = absurd (cc)
-  by_chunk (Some format) found is = by_format format found (format_of (body_of b format)) refl front.ending refl is
-
-by_refusal : (b : List ℕ) (front : Front) (h : Shape) (refusal : Option OpenRefusal) → front_refusal front ≡ refusal → layout_from b front refusal ≡ Ok h → Opens b front h
-by_refusal b front h (Some refusal) refused is = absurd (cc)
-by_refusal b front h None refused is = by_chunk b front h refused (format_chunk front.chunks) refl is
+abbrev pub Opens : List ℕ → Front → Shape → Type 0
+Opens b front h = OpensBy (wave_shape b front) b front h
 
 -- a layout was made from parts
 pub opens : (b : List ℕ) (h : Shape) → wave_layout b ≡ Ok h → Opens b (wave_front b) h
 unfolding wave_layout
-opens b h is = by_refusal b (wave_front b) h (front_refusal (wave_front b)) refl is
+opens b h is = opens_by (wave_shape b (wave_front b)) b (wave_front b) h is
 
 -- and parts make a layout
 pub opened : (b : List ℕ) (h : Shape) → Opens b (wave_front b) h → wave_layout b ≡ Ok h
 unfolding wave_layout
-opened b h is = rw (is.no_refusal, is.format_is, is.params_are, is.sound_is) (ap (λ (s : Shape). Ok s) (sym is.shape))
-
--- a walk that found a long format and came to the sound is not refused, whatever the sound's size is
-pub refused : (long : Bool) (sound : Chunk) (front : Front) → front.ending ≡ AtSound sound → is_format (format_chunk front.chunks) ≡ long → front_refusal front ≡ refuse_if (not long) NoFormat
-refused true sound front ends is = rw (ends, is) refl
-refused false sound front ends is = rw (ends, is) refl
-
-pub not_refused : (front front' : Front) (sound sound' : Chunk) → front_refusal front ≡ None → front.ending ≡ AtSound sound → front'.ending ≡ AtSound sound' → front'.chunks ≡ front.chunks → front_refusal front' ≡ None
-not_refused front front' sound sound' none ends ends' same =
-    refused (is_format (format_chunk front.chunks)) sound' front' ends' (rw same refl) ∙ sym (refused (is_format (format_chunk front.chunks)) sound front ends refl) ∙ none
+opened b h is = opened_by (wave_shape b (wave_front b)) b (wave_front b) h is

@@ -17,8 +17,9 @@ use Rattle.snd_layout.specs.Opened.{EndsIn}
 use Rattle.snd_layout.specs.Shape.{IsPlaced, IsReserve, KeepsRule, Shape, is_inner_size, is_side_size}
 use Rattle.snd_layout.specs.declared.field.Field.{Field}
 use Rattle.snd_layout.specs.declared.piece.Piece.{Piece}
-use Rattle.snd_wave.specs.Layout.{fact_place, frame_count, has_id, inner_field, is_joined, is_own, is_reserve, piece_of, pieces_of, reserve_of, side_field, whole_frames}
-use Rattle.snd_wave.specs.Parts.{IsBefore, IsFact}
+use Rattle.snd_chunks.specs.Parts.{IsFact, fact_place, frame_count, has_id, inner_field, is_joined, side_field, whole_frames}
+use Rattle.snd_wave.specs.Layout.{is_own, is_reserve, piece_of, pieces_of, reserve_of}
+use Rattle.snd_wave.specs.Parts.{IsBefore}
 use Rattle.snd_layout.proofs.Frames.{blocks_have_frames, good_size}
 
 align_of : (channels rate : ℕ) (codec : Codec) → 1 ≤ channels → fit_refusal Wave (record { channels = channels; rate = rate; codec = codec }) ≡ None → block_refusal channels codec ≡ None → 1 ≤ block_align channels codec
@@ -79,16 +80,16 @@ counted_bytes p n count good fits =
     (blocks_have_frames p good fits) (frames_few p n count) (quotient n (block_align p.channels p.codec) (blocks_have_bytes p good fits))
 
 -- a `fact` whose count is joined with the size of the data behind it is there, and ends 8 bytes before the data
-joined_end : (fact : Option Chunk) (sound : Chunk) → is_joined fact sound ≡ true → IfSome fact (IsFact sound) → fact_place fact + 12 ≤ sound.at
+joined_end : (fact : Option Chunk) (sound : Chunk) → is_joined 4 8 fact sound ≡ true → IfSome fact (IsFact 4 8 sound) → fact_place fact + 12 ≤ sound.at
 joined_end None sound joined placed = absurd (cc)
 joined_end (Some fact) sound joined placed =
     omega (arith, eqb-true fact.len 4 (and_parts (fact.len == 4) (fact.next + 8 == sound.at) joined).0, placed.before)
 
-inner_rule : (p : Parameters) (fact : Option Chunk) (sound : Chunk) (field : Field) → field ≡ inner_field p fact sound → IfSome fact (IsFact sound) → 20 ≤ sound.at
+inner_rule : (p : Parameters) (fact : Option Chunk) (sound : Chunk) (field : Field) → field ≡ inner_field 4 8 p fact sound → IfSome fact (IsFact 4 8 sound) → 20 ≤ sound.at
     → IsTrue (is_inner_size Wave p.codec field.size) × (field.at + field.size ≤ sound.at)
-inner_rule p fact sound field is placed behind = elim (cases_Bool (is_adpcm p.codec && is_joined fact sound)) [
+inner_rule p fact sound field is placed behind = elim (cases_Bool (is_adpcm p.codec && is_joined 4 8 fact sound)) [
   | inl both ↦
-      let parts = and_parts (is_adpcm p.codec) (is_joined fact sound) both in
+      let parts = and_parts (is_adpcm p.codec) (is_joined 4 8 fact sound) both in
       let field_is : field ≡ record { at = fact_place fact; size = 12 } = is ∙ rw both refl in
       rw field_is (rw parts.0 refl, joined_end fact sound parts.1 placed)
   | inr other ↦
@@ -96,7 +97,7 @@ inner_rule p fact sound field is placed behind = elim (cases_Bool (is_adpcm p.co
       rw field_is (refl, omega arith)
 ]
 
-side_rule : (p : Parameters) (fact : Option Chunk) (sound : Chunk) (side : Option Field) → side ≡ side_field p fact → IfSome fact (IsFact sound)
+side_rule : (p : Parameters) (fact : Option Chunk) (sound : Chunk) (side : Option Field) → side ≡ side_field 4 p fact → IfSome fact (IsFact 4 8 sound)
     → IsTrue (is_side_size Wave p.codec side) × IfSome side (λ field. field.at + field.size ≤ sound.at)
 side_rule p None sound side is placed = elim (cases_Bool (is_adpcm p.codec)) [
   | inl adpcm ↦ let side_is : side ≡ None = is ∙ rw adpcm refl in rw side_is (refl, tt)
@@ -130,8 +131,8 @@ reserve_is p sound (chunk ∷ chunks) before = elim (cases_Bool (is_reserve p ch
 
 -- the layout that is made of parts which lie well keeps the rule of all layouts
 pub keeps_rule : (s : Shape) (fact : Option Chunk) (sound : Chunk) (held : ℕ) (count : Option ℕ) → s.kind ≡ Wave → s.outer ≡ Some (record { at = 4; size = 4 })
-    → s.start ≡ sound.at → s.declared ≡ sound.len → s.frames ≡ frame_count s.params held count → s.inner ≡ inner_field s.params fact sound → s.side ≡ side_field s.params fact
-    → AreParams s.params → fit_refusal Wave s.params ≡ None → IfSome fact (IsFact sound) → IsSound (2 ^ 63) 12 257 sound → held ≤ sound.len → IfSome s.reserve (IsReserve Wave s.params.codec s.start) → All IsPlaced s.pieces → KeepsRule s
+    → s.start ≡ sound.at → s.declared ≡ sound.len → s.frames ≡ frame_count s.params held count → s.inner ≡ inner_field 4 8 s.params fact sound → s.side ≡ side_field 4 s.params fact
+    → AreParams s.params → fit_refusal Wave s.params ≡ None → IfSome fact (IsFact 4 8 sound) → IsSound (2 ^ 63) 12 257 sound → held ≤ sound.len → IfSome s.reserve (IsReserve Wave s.params.codec s.start) → All IsPlaced s.pieces → KeepsRule s
 keeps_rule s fact sound held count kind outer start declared frames inner side good fits placed is few reserve pieces =
     let inner_is = inner_rule s.params fact sound s.inner inner placed (omega (arith, is.behind)) in
     let side_is = side_rule s.params fact sound s.side side placed in

@@ -1,9 +1,10 @@
 -- The parts of a WAVE file from which its layout is made, and what holds of them over every disk.
-use Rattle.std.specs.Prelude.{◌≡◌, ℕ, ◌+◌, ◌-◌, ◌^◌, ◌<◌, ◌≤◌, true, false, min, List, ◌++◌, All, Option, None, Some, IfSome, Result, Ok, Err, option_map, length, nat_lt}
+use Rattle.std.specs.Prelude.{ℕ, ◌+◌, ◌-◌, ◌^◌, ◌<◌, ◌≤◌, true, false, min, List, ◌++◌, All, Option, Some, IfSome, Result, Ok, Err, option_map, length, nat_lt}
 use Rattle.snd_chunks.specs.declared.chunk.Chunk.{Chunk}
-use Rattle.snd_chunks.specs.declared.front.Ending.TheVariants.{AtSound}
 use Rattle.snd_chunks.specs.declared.front.Front.{Front}
+use Rattle.snd_chunks.specs.declared.parts.Parts.{Parts}
 use Rattle.snd_chunks.specs.Chunks.{chunk_at, padded_end, tail}
+use Rattle.snd_chunks.specs.Parts.{IsFact, body_of, fact_count, frame_count, held, inner_field, side_field}
 use Rattle.snd_chunks.specs.Walks.{EndsBy, IsSound}
 use Rattle.snd_fields.specs.Field.{number}
 use Rattle.snd_fields.specs.declared.field.Order.TheVariants.{Little}
@@ -15,21 +16,7 @@ use Rattle.snd_layout.specs.declared.kind.Kind.TheVariants.{Wave}
 use Rattle.snd_layout.specs.declared.piece.Piece.{Piece}
 use Rattle.snd_layout.specs.declared.refusal.OpenRefusal.{OpenRefusal}
 use Rattle.snd_wave.specs.declared.ends.Ends.{Ends}
-use Rattle.snd_wave.specs.declared.parts.Parts.{Parts}
-use Rattle.snd_wave.specs.Layout.{body_of, fact_chunk, fact_count, pieces_of, format_chunk, frame_count, front_refusal, held, inner_field, reserve_of, side_field}
-
--- the chunks that a walk up to the data found, where it is not refused
-pub record AreParts (front : Front) (parts : Parts) : Type 0 where
-  pub no_refusal : front_refusal front ≡ None
-  pub format : format_chunk front.chunks ≡ Some parts.format
-  pub long : 16 ≤ parts.format.len
-  pub fact : parts.fact ≡ fact_chunk front.chunks
-  pub sound : front.ending ≡ AtSound parts.sound
-
--- a `fact` that has its count, before the head of the data
-pub record IsFact (sound fact : Chunk) : Type 0 where
-  pub count : 4 ≤ fact.len
-  pub before : fact.at + fact.len + 8 ≤ sound.at
+use Rattle.snd_wave.specs.Layout.{pieces_of, reserve_of}
 
 -- a chunk that ends before the head of the data, and whose size has four bytes
 pub record IsBefore (sound chunk : Chunk) : Type 0 where
@@ -40,7 +27,7 @@ pub record IsBefore (sound chunk : Chunk) : Type 0 where
 pub record ArePlaced (size : ℕ) (parts : Parts) : Type 0 where
   pub format : EndsBy size parts.format
   pub long : 16 ≤ parts.format.len
-  pub fact : IfSome parts.fact (IsFact parts.sound)
+  pub fact : IfSome parts.fact (IsFact 4 8 parts.sound)
   pub sound : IsSound size 12 257 parts.sound
 
 -- the ends that the data and the whole have in a file of so many bytes with a RIFF size
@@ -59,9 +46,9 @@ shape_of p parts count ends reserve pieces = record {
   start = parts.sound.at;
   frames = frame_count p ends.held count;
   declared = parts.sound.len;
-  inner = inner_field p parts.fact parts.sound;
+  inner = inner_field 4 8 p parts.fact parts.sound;
   outer = Some (record { at = 4; size = 4 });
-  side = side_field p parts.fact;
+  side = side_field 4 p parts.fact;
   trailing = nat_lt ends.data_end ends.outer_end;
   unknown_length = false;
   reserve = reserve;
@@ -71,7 +58,7 @@ shape_of p parts count ends reserve pieces = record {
 -- the layout with these parts, where the format is not refused
 abbrev pub with_params : List ℕ → Front → Parts → Result Parameters OpenRefusal → Result Shape OpenRefusal
 with_params b front parts (Err refusal) = Err refusal
-with_params b front parts (Ok p) = Ok (shape_of p parts (option_map (fact_count b) parts.fact) (ends_of (length b) (number Little b 4 4) parts.sound) (reserve_of p front.chunks) (all_pieces b front (ends_of (length b) (number Little b 4 4) parts.sound)))
+with_params b front parts (Ok p) = Ok (shape_of p parts (option_map (fact_count 4 b) parts.fact) (ends_of (length b) (number Little b 4 4) parts.sound) (reserve_of p front.chunks) (all_pieces b front (ends_of (length b) (number Little b 4 4) parts.sound)))
 
 -- the layout with these parts, or why their format is refused
 abbrev pub layout_with : List ℕ → Front → Parts → Result Shape OpenRefusal

@@ -3,7 +3,7 @@
 ghost use Rattle.std.specs.Prelude.{◌≡◌, ◌<◌, ◌≤◌, ◌^◌, None};
 ghost use Rattle.snd_layout.specs.Fit.{fit_refusal};
 ghost use Rattle.snd_layout.specs.declared.kind.Kind.TheVariants.{Wave};
-ghost use Rattle.snd_wave.specs.Layout.{frame_count, held};
+ghost use Rattle.snd_chunks.specs.Parts.{frame_count, held};
 ghost use Rattle.snd_wave.specs.Parts.{ends_of};
 
 use snd_chunks::Chunk;

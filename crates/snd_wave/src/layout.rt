@@ -9,15 +9,16 @@ ghost use Rattle.snd_layout.specs.Params.{data_bytes};
 ghost use Rattle.snd_layout.specs.Shape.{IsPlaced, IsReserve, end, room};
 ghost use Rattle.snd_layout.specs.declared.kind.Kind.TheVariants.{Wave};
 ghost use Rattle.snd_wave.specs.Layout.{wave_layout};
-ghost use Rattle.snd_wave.specs.Parts.{ArePlaced, IsBefore, IsFact, IsHeld, all_pieces, layout_with, shape_of};
+ghost use Rattle.snd_chunks.specs.Parts.{IsFact};
+ghost use Rattle.snd_wave.specs.Parts.{ArePlaced, IsBefore, IsHeld, all_pieces, layout_with, shape_of};
 
 use crate::ends::{Ends, ends_of, frame_count};
-use crate::fields::{inner_field, side_field};
-use crate::parts::{Parts, parts_of};
 use crate::pieces::add_pieces;
-use crate::reads::{read_count, read_format, read_number};
+use crate::reads::{read_count, read_number};
 use crate::reserve::reserve_of;
-use snd_chunks::{Front, WalkError, walk_front, walk_tail};
+use snd_chunks::{
+    Front, Parts, WalkError, inner_field, parts_of, read_format, side_field, walk_front, walk_tail,
+};
 use snd_disk::{Disk, Step};
 use snd_fields::{Id4, Order};
 use snd_layout::{Field, Kind, Layout, OpenError, Params, PieceList};
@@ -32,6 +33,12 @@ const MOST_CHUNKS: usize = 256;
 /// The identifier of the chunk that holds the data.
 const DATA: Id4 = Id4(*b"data");
 
+/// The bytes of a size and of a count.
+const COUNT_SIZE: u8 = 4;
+
+/// The head of a chunk: its identifier and its size.
+const HEAD_SIZE: u8 = 8;
+
 /// The size of the whole.
 const RIFF_SIZE: Field = Field { at: 4, size: 4 };
 
@@ -45,7 +52,7 @@ fn layout_of(
     pieces: PieceList,
 ) -> Layout
     requires fits { fit_refusal Wave params ≡ None }
-    requires fact { IfSome parts.fact (IsFact parts.sound) }
+    requires fact { IfSome parts.fact (IsFact 4 8 parts.sound) }
     requires sound { IsSound (2 ^ 63) 12 257 parts.sound }
     requires held { ends.held ≤ parts.sound.len }
     requires reserve { IfSome reserve (IsReserve Wave params.codec parts.sound.at) }
@@ -55,8 +62,8 @@ fn layout_of(
 {
     params.are_good();
     let frames = frame_count(&params, ends.held, count);
-    let inner = inner_field(&params, parts.fact, parts.sound);
-    let side = side_field(&params, parts.fact);
+    let inner = inner_field(&params, parts.fact, parts.sound, COUNT_SIZE, HEAD_SIZE);
+    let side = side_field(&params, parts.fact, COUNT_SIZE);
     Layout {
         kind: Kind::Wave,
         params,
@@ -151,7 +158,7 @@ fn find_layout<D: Disk>(alloc: Global, disk: &mut D, size: u64) -> Result<Layout
         FIRST_CHUNK,
         MOST_CHUNKS + 1,
     )?;
-    let parts = parts_of(&front)?;
+    let parts = parts_of(&front, COUNT_SIZE)?;
     layout_at(alloc, disk, size, &front, parts)
 }
 
@@ -160,7 +167,7 @@ fn find_layout<D: Disk>(alloc: Global, disk: &mut D, size: u64) -> Result<Layout
 ///
 /// The answer is `Refused` with the first reason, by number, for which the file has no layout;
 /// `DiskFault` where a call of the disk failed; `Memory` where there is none.
-#[tactic(auto, using(crate::proofs::Answered::opens_from))]
+#[tactic(auto, using(snd_layout::proofs::Answered::opens_from))]
 pub fn open_layout<D: Disk>(alloc: Global, disk: &mut D) -> Result<Layout, OpenError>
     ensures opened { OpensAs D.state disk.old wave_layout result }
     ensures held { IfOk result (λ l. end l l.frames ≤ (D.state disk.old).size) }

@@ -5,12 +5,10 @@ mod change;
 mod changing;
 mod closing;
 mod ends;
-mod fields;
 mod head;
 mod laws;
 mod laying;
 mod layout;
-mod parts;
 mod pieces;
 mod plan;
 mod reads;
@@ -28,10 +26,8 @@ pub use laws::{
     reserved_files_read_back,
 };
 pub use layout::open_layout;
-pub use parts::{Parts, parts_of};
 pub use pieces::add_pieces;
 pub use plan::{Plan, plan_piece};
-pub use reads::read_format;
 pub use rest::Closing;
 pub use start::{filled_start, start_with};
 pub use values::{closing_bytes, inner_bytes, outer_bytes, outer_to, room, side_bytes};

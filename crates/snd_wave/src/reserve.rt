@@ -5,8 +5,7 @@ ghost use Rattle.snd_chunks.specs.Walks.{IsShort};
 ghost use Rattle.snd_wave.specs.Layout.{is_reserve, reserve_of};
 ghost use Rattle.snd_wave.specs.Written.{lead_end};
 
-use crate::parts::has_id;
-use snd_chunks::Chunk;
+use snd_chunks::{Chunk, has_id};
 use snd_layout::Params;
 
 /// The place of its body: behind `RIFF`, the size of the whole, `WAVE`, and its own head.

@@ -1,5 +1,5 @@
 use Rattle.std.proofs.Common.{rules, refl, sym, ◌∙◌}
-use Rattle.snd_wave.proofs.Answered.{opens_on, passed_on, refusal_found}
+use Rattle.snd_layout.proofs.Answered.{opens_on, passed_on, refusal_found}
 use Rattle.snd_rf64.specs.Layout.{rf64_layout, sizes_of}
 use Rattle.snd_rf64.specs.Parts.{layout_with}
 use Rattle.snd_rf64.proofs.Layouts.{layout_is, parts_placed, refusal_is, sizes_refused, walked}

@@ -1,7 +1,7 @@
 use Rattle.std.proofs.Common.{rules, ap}
 use Rattle.snd_layout.specs.Format.{format_of}
-use Rattle.snd_wave.proofs.Answered.{passed_on}
-use Rattle.snd_wave.specs.Layout.{body_of}
+use Rattle.snd_layout.proofs.Answered.{passed_on}
+use Rattle.snd_chunks.specs.Parts.{body_of}
 use Rattle.snd_rf64.specs.Layout.{fitted}
 use Rattle.snd_rf64.proofs.layout.read_params.Goals as goal
 

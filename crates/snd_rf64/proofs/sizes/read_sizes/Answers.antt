@@ -1,5 +1,5 @@
 use Rattle.std.proofs.Common.{rules, ◌≡◌, ◌∙◌, length, sym, arith, Ok, Err}
-use Rattle.snd_wave.proofs.Answered.{refusal_found}
+use Rattle.snd_layout.proofs.Answered.{refusal_found}
 use Rattle.snd_rf64.specs.Layout.{sizes_of}
 use Rattle.snd_rf64.proofs.Layouts.{sizes_read}
 use Rattle.snd_rf64.proofs.sizes.read_sizes.Goals as goal

@@ -1,5 +1,5 @@
 use Rattle.std.proofs.Common.{rules, refl, sym, arith}
-use Rattle.snd_wave.proofs.Answered.{opens_on, refusal_found}
+use Rattle.snd_layout.proofs.Answered.{opens_on, refusal_found}
 use Rattle.snd_svx.specs.Layout.{svx_layout}
 use Rattle.snd_svx.specs.Parts.{layout_with}
 use Rattle.snd_svx.proofs.Layouts.{layout_is, parts_placed, refusal_is, seen_few, walked}

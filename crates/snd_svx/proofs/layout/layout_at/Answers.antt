@@ -1,6 +1,6 @@
 use Rattle.std.proofs.Common.{rules, ◌≡◌, ◌∙◌, ap, sym, length, List}
 use Rattle.snd_chunks.specs.declared.chunk.Chunk.{Chunk}
-use Rattle.snd_wave.proofs.Answered.{passed_on}
+use Rattle.snd_layout.proofs.Answered.{passed_on}
 use Rattle.snd_svx.proofs.Layouts.{built, same_ends}
 use Rattle.snd_svx.specs.Layout.{voice_of}
 use Rattle.snd_svx.specs.Parts.{layout_with, with_header}

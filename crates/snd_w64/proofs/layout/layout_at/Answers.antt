@@ -2,7 +2,7 @@ use Rattle.std.proofs.Common.{rules, ◌≡◌, ◌∙◌, ap, length}
 use Rattle.snd_layout.specs.Format.{format_of}
 use Rattle.snd_layout.proofs.Answered.{passed_on}
 use Rattle.snd_w64.proofs.Layouts.{built}
-use Rattle.snd_w64.specs.Layout.{body_of}
+use Rattle.snd_chunks.specs.Parts.{body_of}
 use Rattle.snd_w64.specs.Parts.{layout_with, with_params}
 use Rattle.snd_w64.proofs.layout.layout_at.Goals as goal
 

@@ -1,7 +1,7 @@
 use Rattle.std.proofs.Common.{rules, refl, sym}
 use Rattle.snd_wave.specs.Layout.{wave_layout}
 use Rattle.snd_wave.specs.Parts.{layout_with}
-use Rattle.snd_wave.proofs.Answered.{opens_on, refusal_found}
+use Rattle.snd_layout.proofs.Answered.{opens_on, refusal_found}
 use Rattle.snd_wave.proofs.Layouts.{all_before, layout_is, parts_placed, refusal_is, walked}
 use Rattle.snd_wave.proofs.layout.find_layout.Goals as goal
 

@@ -1,8 +1,9 @@
 use Rattle.std.proofs.Common.{rules, ◌≡◌, ◌∙◌, ap, length}
 use Rattle.snd_layout.specs.Format.{format_of}
-use Rattle.snd_wave.proofs.Answered.{passed_on}
+use Rattle.snd_layout.proofs.Answered.{passed_on}
 use Rattle.snd_wave.proofs.Layouts.{built, same_ends}
-use Rattle.snd_wave.specs.Layout.{body_of, reserve_of}
+use Rattle.snd_chunks.specs.Parts.{body_of}
+use Rattle.snd_wave.specs.Layout.{reserve_of}
 use Rattle.snd_wave.specs.Parts.{layout_with, with_params}
 use Rattle.snd_wave.proofs.layout.layout_at.Goals as goal
 

@@ -1,10 +1,10 @@
 //! The chunks before the data from which a layout is made.
 
 ghost use Rattle.std.specs.Prelude.{◌≡◌, IfOk, IfErr, Some};
-ghost use Rattle.snd_w64.specs.Layout.{fact_chunk, format_chunk, front_refusal, has_id, is_fact};
-ghost use Rattle.snd_w64.specs.Parts.{AreParts};
+ghost use Rattle.snd_chunks.specs.Parts.{AreParts, fact_chunk, format_chunk, front_refusal, has_id, is_fact};
 
-use snd_chunks::{Chunk, Ending, Front};
+use crate::chunk::Chunk;
+use crate::front::{Ending, Front};
 use snd_layout::OpenRefusal;
 
 const LEAST_FORMAT: u64 = 16;
@@ -12,22 +12,23 @@ const LEAST_FORMAT: u64 = 16;
 /// The chunks from which a layout is made: the format, the `fact` that counts where there is one, and
 /// the data.
 #[derive(Clone, Copy, Debug, PartialEq, Eq)]
-pub(crate) struct Parts {
-    pub(crate) format: Chunk,
-    pub(crate) fact: Option<Chunk>,
-    pub(crate) sound: Chunk,
+pub struct Parts {
+    pub format: Chunk,
+    pub fact: Option<Chunk>,
+    pub sound: Chunk,
 }
 
-pub(crate) fn has_id(chunk: &Chunk, id: &[u8]) -> bool
+/// Whether a chunk has this identifier.
+pub fn has_id(chunk: &Chunk, id: &[u8]) -> bool
     ensures { result ≡ has_id id.now chunk.now }
 {
     chunk.id.0.as_slice() == id
 }
 
-fn is_fact(chunk: &Chunk) -> bool
-    ensures { result ≡ is_fact chunk.now }
+fn is_fact(chunk: &Chunk, size: u8) -> bool
+    ensures { result ≡ is_fact size chunk.now }
 {
-    has_id(chunk, b"fact") && 8 <= chunk.len
+    has_id(chunk, b"fact") && u64::from(size) <= chunk.len
 }
 
 // The first format.
@@ -38,15 +39,16 @@ fn format_chunk(chunks: &[Chunk]) -> Option<Chunk>
 }
 
 // The first `fact` that has its count.
-fn fact_chunk(chunks: &[Chunk]) -> Option<Chunk>
-    ensures { result ≡ fact_chunk chunks.now }
+fn fact_chunk(chunks: &[Chunk], size: u8) -> Option<Chunk>
+    ensures { result ≡ fact_chunk size chunks.now }
 {
-    chunks.iter().copied().find(|c| is_fact(c))
+    chunks.iter().copied().find(|c| is_fact(c, size))
 }
 
-/// The parts of a file, or why its walk up to the data is refused.
-pub(crate) fn parts_of(front: &Front) -> Result<Parts, OpenRefusal>
-    ensures found { IfOk result (AreParts front.now) }
+/// The parts of a file in which a `fact` counts with a number of `size` bytes, or why its walk up to the
+/// data is refused.
+pub fn parts_of(front: &Front, size: u8) -> Result<Parts, OpenRefusal>
+    ensures found { IfOk result (AreParts size front.now) }
     ensures refused { IfErr result (λ r. front_refusal front.now ≡ Some r) }
 {
     if front.ending == Ending::TooMany {
@@ -62,7 +64,7 @@ pub(crate) fn parts_of(front: &Front) -> Result<Parts, OpenRefusal>
     let Ending::AtSound(sound) = front.ending else {
         return Err(OpenRefusal::NoData);
     };
-    let fact = fact_chunk(chunks);
+    let fact = fact_chunk(chunks, size);
     Ok(Parts {
         format,
         fact,

@@ -1,9 +1,9 @@
 use Rattle.std.proofs.Common.{rules, ◌≡◌, ◌∙◌, Ok, Err, sym, drop, arith}
 use Rattle.snd_layout.specs.Format.{format_of}
-use Rattle.snd_wave.proofs.Answered.{refusal_found}
-use Rattle.snd_wave.proofs.Bodies.{part_fits, part_tells}
-use Rattle.snd_wave.specs.Layout.{body_of}
-use Rattle.snd_wave.proofs.reads.read_format.Goals as goal
+use Rattle.snd_layout.proofs.Answered.{refusal_found}
+use Rattle.snd_chunks.proofs.Formats.{part_fits, part_tells}
+use Rattle.snd_chunks.specs.Parts.{body_of}
+use Rattle.snd_chunks.proofs.format.read_format.Goals as goal
 
 pub returns-clause-told : goal.returns-clause-told
 returns-clause-told g c = λ b told.
