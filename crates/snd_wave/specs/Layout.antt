@@ -13,6 +13,7 @@ use Rattle.snd_chunks.specs.declared.front.Front.{Front}
 use Rattle.snd_chunks.specs.Chunks.{chunk_at, front, tail, padded_end}
 use Rattle.snd_layout.specs.Blocks.{block_align, block_frames, is_adpcm}
 use Rattle.snd_layout.specs.Format.{format_of}
+use Rattle.snd_layout.specs.Kinds.{is_wave_own}
 use Rattle.snd_layout.specs.Params.{Parameters}
 use Rattle.snd_layout.specs.Refusals.{first_refusal, refuse_if}
 use Rattle.snd_layout.specs.Shape.{Shape}
@@ -97,8 +98,7 @@ side_field p fact = if is_adpcm p.codec then None else option_map (λ chunk. rec
 
 -- The pieces: all chunks but fillers, formats and data
 abbrev pub is_own : Chunk → Bool
-is_own chunk = has_id (codes "fmt ") chunk || has_id (codes "fact") chunk || has_id (codes "data") chunk || has_id (codes "ds64") chunk
-    || has_id (codes "JUNK") chunk || has_id (codes "junk") chunk || has_id (codes "FLLR") chunk || has_id (codes "PAD ") chunk
+is_own chunk = is_wave_own chunk.id.0
 
 abbrev pub piece_of : Bool → Chunk → Piece
 piece_of after chunk = record { id = chunk.id; at = chunk.at; len = chunk.len; after = after }
