@@ -8,12 +8,11 @@ use Rattle.snd_layout.specs.declared.codec.Codec.{Codec}
 use Rattle.snd_layout.specs.declared.codec.Codec.TheVariants.{S16}
 use Rattle.snd_layout.specs.declared.kind.Kind.TheVariants.{Wave}
 use Rattle.snd_wave.proofs.Starts.{begins_wave}
-use Rattle.snd_wave.specs.Start.{plain_shape}
 use Rattle.snd_wave.specs.Written.{head_size, inner_at, made_shape, reserved_pieces, reserved_shape, side_at}
 
 module _ (p : Parameters) where
   -- by its codec, and the place of its data
-  abbrev laid_by : Codec → ℕ → Shape
+  abbrev pub laid_by : Codec → ℕ → Shape
   laid_by codec start = record {
     kind = Wave;
     params = p;
@@ -40,5 +39,6 @@ module _ (p : Parameters) where
   size_is : p.codec ≡ S16 Little → 44 ≡ head_size p []
   size_is same = begins_wave (S16 Little) 0 44 4 44 refl refl refl p [] same no_chunks
 
-  pub plain_is : p.codec ≡ S16 Little → made_shape p [] 0 ≡ plain_shape p
+  -- its data begin at 44
+  pub plain_is : p.codec ≡ S16 Little → made_shape p [] 0 ≡ laid_by (S16 Little) 44
   plain_is same = shape_is ∙ ap (laid_by p.codec) (sym (size_is same)) ∙ ap (λ (codec : Codec). laid_by codec 44) same

@@ -10,6 +10,7 @@ use Rattle.snd_chunks.specs.declared.front.Front.{Front}
 use Rattle.snd_chunks.specs.Chunks.{chunk_at, front, tail, padded_end}
 use Rattle.snd_chunks.specs.Parts.{fact_chunk, fact_count, frame_count, front_refusal, has_id, held, inner_field, layout_from, side_field}
 use Rattle.snd_layout.specs.Blocks.{is_adpcm}
+use Rattle.snd_layout.specs.Kinds.{is_wave_own}
 use Rattle.snd_layout.specs.Params.{Parameters}
 use Rattle.snd_layout.specs.Shape.{Shape}
 use Rattle.snd_layout.specs.declared.kind.Kind.TheVariants.{Wave}
@@ -22,8 +23,7 @@ wave_front b = front (chunk_at Little b) (codes "data") (length b) 257 12
 
 -- The pieces: all chunks but fillers, formats and data
 abbrev pub is_own : Chunk → Bool
-is_own chunk = has_id (codes "fmt ") chunk || has_id (codes "fact") chunk || has_id (codes "data") chunk || has_id (codes "ds64") chunk
-    || has_id (codes "JUNK") chunk || has_id (codes "junk") chunk || has_id (codes "FLLR") chunk || has_id (codes "PAD ") chunk
+is_own chunk = is_wave_own chunk.id.0
 
 abbrev pub piece_of : Bool → Chunk → Piece
 piece_of after chunk = record { id = chunk.id; at = chunk.at; len = chunk.len; after = after }

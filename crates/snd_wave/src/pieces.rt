@@ -1,32 +1,18 @@
 //! The chunks of a file that are kept as they are.
 
 ghost use Rattle.std.specs.Prelude.{◌≡◌, ◌++◌, OnOk};
-ghost use Rattle.snd_wave.specs.Layout.{is_own, pieces_of};
+ghost use Rattle.snd_wave.specs.Layout.{pieces_of};
 
-use snd_chunks::{Chunk, has_id};
-use snd_layout::{Piece, PieceList};
+use snd_chunks::Chunk;
+use snd_layout::{Kind, Piece, PieceList};
 use std::alloc::AllocError;
-
-// Whether it is a format, data, a count or a filler.
-fn is_own(chunk: &Chunk) -> bool
-    ensures { result ≡ is_own chunk.now }
-{
-    has_id(chunk, b"fmt ")
-        || has_id(chunk, b"fact")
-        || has_id(chunk, b"data")
-        || has_id(chunk, b"ds64")
-        || has_id(chunk, b"JUNK")
-        || has_id(chunk, b"junk")
-        || has_id(chunk, b"FLLR")
-        || has_id(chunk, b"PAD ")
-}
 
 /// Adds the pieces among these chunks.
 pub fn add_pieces(pieces: &mut PieceList, chunks: &[Chunk], after: bool) -> Result<(), AllocError>
     ensures { OnOk result (pieces.new ≡ pieces.old ++ pieces_of after chunks.now) }
 {
     for chunk in chunks {
-        if !is_own(chunk) {
+        if !Kind::Wave.is_own_id(chunk.id) {
             let piece = Piece {
                 id: chunk.id,
                 at: chunk.at,
