@@ -11,6 +11,7 @@ use Rattle.snd_chunks.specs.declared.front.Ending.{Ending}
 use Rattle.snd_chunks.specs.declared.front.Ending.TheVariants.{AtSound}
 use Rattle.snd_chunks.specs.declared.front.Front.{Front}
 use Rattle.snd_chunks.specs.Chunks.{chunk_at, front, tail, padded_end}
+use Rattle.snd_layout.specs.Kinds.{is_svx_own}
 use Rattle.snd_layout.specs.Params.{Parameters}
 use Rattle.snd_layout.specs.Refusals.{first_refusal, refuse_if, unless}
 use Rattle.snd_layout.specs.Shape.{Shape}
@@ -66,8 +67,7 @@ voice_of b chunks chunk = unless (voice_refusal (list_any (is_pair b) chunks) (h
 
 -- The pieces: all chunks but voice headers, channel chunks, bodies and fillers
 abbrev pub is_own : Chunk → Bool
-is_own chunk = has_id (codes "VHDR") chunk || has_id (codes "CHAN") chunk || has_id (codes "BODY") chunk
-    || has_id (codes "JUNK") chunk || has_id (codes "junk") chunk || has_id (codes "FLLR") chunk || has_id (codes "PAD ") chunk
+is_own chunk = is_svx_own chunk.id.0
 
 abbrev pub pieces_of : Bool → List Chunk → List Piece
 pieces_of after chunks = map (piece_of after) (filter (λ chunk. not (is_own chunk)) chunks)
