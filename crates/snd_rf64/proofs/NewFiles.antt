@@ -73,10 +73,9 @@ no_piece : (p : Parameters) → made_pieces p [] ≡ []
 unfolding made_pieces all_placed
 no_piece p = refl
 
-pub plain_shape : (p : Parameters) (start : ℕ) (pieces : List Piece) → fit_refusal Rf64 p ≡ None → start ≡ plain_start p.codec → pieces ≡ [] → shape_at p start 0 0 false pieces ≡ made_shape p []
+pub plain_shape : (p : Parameters) (start : ℕ) → fit_refusal Rf64 p ≡ None → start ≡ plain_start p.codec → shape_at p start 0 0 false [] ≡ made_shape p []
 unfolding made_shape
-plain_shape p start pieces fits at none =
-    ap (λ k. shape_at p k 0 0 false pieces) (at ∙ sym (plain_size p fits)) ∙ ap (λ (l : List Piece). shape_at p (head_size p []) 0 0 false l) (none ∙ sym (no_piece p))
+plain_shape p start fits at = ap (λ k. shape_at p k 0 0 false []) (at ∙ sym (plain_size p fits)) ∙ ap (λ (l : List Piece). shape_at p (head_size p []) 0 0 false l) (sym (no_piece p))
 
 -- ---- a new file
 

@@ -14,7 +14,7 @@ use arrayvec::ArrayVec;
 use snd_chunks::put_chunk;
 use snd_disk::Disk;
 use snd_fields::{Order, put_all, put_long, put_number};
-use snd_layout::{Codec, Kind, Layout, OpenError, Params, PieceList, put_fmt, write_whole};
+use snd_layout::{Codec, Kind, Layout, OpenError, Params, lay_made, put_fmt};
 use std::alloc::Global;
 
 /// A size of 32 bits that says nothing.
@@ -74,20 +74,16 @@ fn plain_layout(alloc: Global, params: Params) -> Layout
     ensures { result ≡ made_shape params [] }
 {
     params.are_good();
-    Layout {
-        kind: Kind::Rf64,
+    let start = plain_start(&params);
+    Layout::made(
+        alloc,
+        Kind::Rf64,
         params,
-        start: plain_start(&params),
-        frames: 0,
-        declared: 0,
-        inner: INNER,
-        outer: Some(OUTER),
-        side: Some(SIDE),
-        trailing: false,
-        unknown_length: false,
-        reserve: None,
-        pieces: PieceList::new(alloc),
-    }
+        start,
+        INNER,
+        Some(OUTER),
+        Some(SIDE),
+    )
 }
 
 /// Makes a disk an RF64 file with these parameters, no frames and no pieces, whatever it held before. An
@@ -107,8 +103,6 @@ pub fn lay_head<D: Disk>(alloc: Global, disk: &mut D, params: Params) -> Result<
 {
     params.are_good();
     let head = plain_head(&params);
-    match write_whole(disk, head.as_slice()) {
-        Ok(()) => Ok(plain_layout(alloc, params)),
-        Err(step) => Err(OpenError::DiskFault(step)),
-    }
+    let layout = plain_layout(alloc, params);
+    lay_made(disk, head.as_slice(), layout)
 }
