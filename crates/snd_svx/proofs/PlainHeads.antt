@@ -7,7 +7,6 @@ use Rattle.snd_fields.specs.declared.field.Order.TheVariants.{Big}
 use Rattle.snd_layout.specs.Fit.{fit_refusal}
 use Rattle.snd_layout.specs.Params.{AreParams, Parameters}
 use Rattle.snd_layout.specs.declared.kind.Kind.TheVariants.{Svx}
-use Rattle.snd_layout.specs.declared.piece.Piece.{Piece}
 use Rattle.snd_svx.specs.Layout.{shape_of, voice}
 use Rattle.snd_svx.specs.Written.{made_shape, svx_head}
 use Rattle.snd_svx.proofs.NewFiles.{head_is, is_voice}
@@ -28,7 +27,6 @@ made_voice : (rate : ℕ) → shape_of (voice rate) 48 0 0 20 false [] ≡ made_
 unfolding made_shape chunks_bytes chunk_bytes head_bytes all_placed
 made_voice rate = refl
 
-pub plain_shape : (p : Parameters) (pieces : List Piece) → AreParams p → fit_refusal Svx p ≡ None → pieces ≡ [] → shape_of p 48 0 0 20 false pieces ≡ made_shape p [] 0
-plain_shape p pieces good fits none =
-    ap (λ (l : List Piece). shape_of p 48 0 0 20 false l) none
-    ∙ subst (λ (q : Parameters). shape_of q 48 0 0 20 false [] ≡ made_shape q [] 0) (sym (is_voice p good fits).0) (made_voice p.rate)
+pub plain_shape : (p : Parameters) → AreParams p → fit_refusal Svx p ≡ None → shape_of p 48 0 0 20 false [] ≡ made_shape p [] 0
+plain_shape p good fits =
+    subst (λ (q : Parameters). shape_of q 48 0 0 20 false [] ≡ made_shape q [] 0) (sym (is_voice p good fits).0) (made_voice p.rate)

@@ -14,7 +14,7 @@ ghost use Rattle.snd_svx.specs.Written.{made_shape, svx_head};
 use arrayvec::ArrayVec;
 use snd_disk::Disk;
 use snd_fields::{Order, put_all, put_number};
-use snd_layout::{Field, Kind, Layout, OpenError, Params, PieceList, write_whole};
+use snd_layout::{Field, Kind, Layout, OpenError, Params, lay_made};
 use std::alloc::Global;
 
 /// The place of the data.
@@ -65,26 +65,16 @@ fn plain_layout(alloc: Global, params: Params) -> Layout
     ensures { result ≡ made_shape params [] 0 }
 {
     params.are_good();
-    Layout {
-        kind: Kind::Svx,
-        params,
-        start: START,
-        frames: 0,
-        declared: 0,
-        inner: Field {
-            at: START - 4,
-            size: 4,
-        },
-        outer: Some(Field { at: 4, size: 4 }),
-        side: Some(Field {
-            at: COUNT_AT,
-            size: 4,
-        }),
-        trailing: false,
-        unknown_length: false,
-        reserve: None,
-        pieces: PieceList::new(alloc),
-    }
+    let inner = Field {
+        at: START - 4,
+        size: 4,
+    };
+    let outer = Some(Field { at: 4, size: 4 });
+    let side = Some(Field {
+        at: COUNT_AT,
+        size: 4,
+    });
+    Layout::made(alloc, Kind::Svx, params, START, inner, outer, side)
 }
 
 /// Makes a disk an 8SVX file with these parameters, no frames and no pieces, whatever it held before. An
@@ -104,8 +94,6 @@ pub fn lay_head<D: Disk>(alloc: Global, disk: &mut D, params: Params) -> Result<
 {
     params.are_good();
     let head = plain_head(&params);
-    match write_whole(disk, head.as_slice()) {
-        Ok(()) => Ok(plain_layout(alloc, params)),
-        Err(step) => Err(OpenError::DiskFault(step)),
-    }
+    let layout = plain_layout(alloc, params);
+    lay_made(disk, head.as_slice(), layout)
 }
