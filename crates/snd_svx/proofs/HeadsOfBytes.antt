@@ -1,5 +1,5 @@
 -- The head that is made with chunks of bytes is of bytes.
-use Rattle.std.proofs.Common.{refl, ◌-◌, Bool, true, false, cond, List, [], ◌∷◌, ◌++◌, All, arith}
+use Rattle.std.proofs.Common.{refl, ℕ, ◌-◌, Bool, true, false, cond, List, [], ◌∷◌, ◌++◌, All, arith}
 use Rattle.std.proofs.lemmas.List.Elements.{All-append, All-cons, All-nil, All-replicate}
 use Rattle.std.specs.Prelude.{codes, replicate}
 use Rattle.snd_chunks.proofs.ChunksOfBytes.{all_chunks, both, number_bytes, three}

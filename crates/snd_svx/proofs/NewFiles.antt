@@ -113,6 +113,17 @@ pub size_is : (rate : ℕ) → length (svx_head (voice rate) []) ≡ 48
 unfolding head_for chunks_bytes chunk_bytes head_bytes
 size_is rate = refl
 
+-- the bytes before the rate, and those behind it
+abbrev before_rate : List ℕ
+before_rate = codes "FORM" ++ 0 ∷ 0 ∷ 0 ∷ 40 ∷ [] ++ codes "8SVXVHDR" ++ 0 ∷ 0 ∷ 0 ∷ 20 ∷ 0 ∷ 0 ∷ 0 ∷ 0 ∷ 0 ∷ 0 ∷ 0 ∷ 0 ∷ 0 ∷ 0 ∷ 0 ∷ 0 ∷ []
+
+abbrev behind_rate : List ℕ
+behind_rate = 1 ∷ 0 ∷ 0 ∷ 1 ∷ 0 ∷ 0 ∷ [] ++ codes "BODY" ++ 0 ∷ 0 ∷ 0 ∷ 0 ∷ []
+
+pub head_is : (rate : ℕ) → svx_head (voice rate) [] ≡ before_rate ++ (bytes_of Big 2 rate ++ behind_rate)
+unfolding head_for chunks_bytes chunk_bytes head_bytes
+head_is rate = refl
+
 -- ---- all of it
 
 new_voice_file : (rate : ℕ) → 1 ≤ rate → rate < 2 ^ 16 → IsNew Svx svx (voice rate)
