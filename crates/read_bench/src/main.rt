@@ -4,11 +4,12 @@
 #![tactic(auto)]
 
 ghost use Rattle.std.specs.Prelude.{◌≡◌};
-ghost use Rattle.snd_modes.specs.Handle.{disk_of, loan_of};
+ghost use Rattle.snd_file.specs.Handle.{disk_of, loan_of};
 
 use snd_disk::{Disk, Shelf};
+use snd_edits::{Read, ReadError};
+use snd_file::{File, open_read};
 use snd_files::FolderShelf;
-use snd_modes::{File, Read, ReadError, open_read};
 use std::alloc::Global;
 use std::env;
 use std::io::{self, Write};

@@ -10,11 +10,11 @@ use Rattle.snd_layout.specs.Shape.{Shape}
 use Rattle.snd_layout.specs.declared.kind.Kind.{Kind}
 use Rattle.snd_layout.specs.declared.piece.Piece.{Piece}
 use Rattle.snd_chunks.specs.Heads.{new_piece, with_piece, outline, blank, blanks}
-use Rattle.snd_modes.specs.Handle.{Known}
+use Rattle.snd_edits.specs.Known.{Known}
 use Rattle.snd_layout.specs.Kinds.{holds_meta}
-use Rattle.snd_modes.specs.PieceCalls.{known_put}
+use Rattle.snd_edits.specs.PieceCalls.{known_put}
 use Rattle.snd_container.specs.Put.{heads_for}
-use Rattle.snd_modes.specs.Relaid.{shape_put, shape_with}
+use Rattle.snd_edits.specs.Relaid.{shape_put, shape_with}
 use Rattle.snd_chunks.proofs.Blanks.{blanks_blanks, blanks_with}
 use Rattle.snd_layout.proofs.Public.{meta_holds}
 use Rattle.snd_output.proofs.Carried.{laws_of, says_of}

@@ -17,15 +17,16 @@ use Rattle.snd_layout.specs.Shape.{Shape}
 use Rattle.snd_layout.specs.declared.kind.Kind.{Kind}
 use Rattle.snd_layout.specs.declared.piece.Piece.{Piece}
 use Rattle.snd_chunks.specs.Heads.{chunk_read, new_piece, with_piece}
-use Rattle.snd_modes.specs.declared.handle.File.{File}
-use Rattle.snd_modes.specs.declared.mode.Mode.{Ghosts as ModeGhosts}
-use Rattle.snd_modes.specs.Editing.{Editing, first_editing}
-use Rattle.snd_modes.specs.Handle.{Known, Stands, StandsAfter, known_of}
+use Rattle.snd_file.specs.declared.handle.File.{File}
+use Rattle.snd_edits.specs.declared.mode.Mode.{Ghosts as ModeGhosts}
+use Rattle.snd_edits.specs.Editing.{Editing, first_editing}
+use Rattle.snd_edits.specs.Known.{Known}
+use Rattle.snd_file.specs.Handle.{Stands, StandsAfter, known_of}
 use Rattle.snd_layout.specs.Kinds.{holds_meta}
 use Rattle.snd_layout.specs.declared.refusal.OpenRefusal.{OpenRefusal}
-use Rattle.snd_modes.specs.Making.{making_as, making_of}
-use Rattle.snd_modes.specs.Pieces.{body_of}
-use Rattle.snd_modes.specs.Relaid.{added_to, head_with, pieces_held, shape_put, shape_with}
+use Rattle.snd_edits.specs.Making.{making_as, making_of}
+use Rattle.snd_edits.specs.Pieces.{body_of}
+use Rattle.snd_edits.specs.Relaid.{added_to, head_with, pieces_held, shape_put, shape_with}
 use Rattle.snd_carry.specs.Carried.{carried_pieces}
 use Rattle.snd_output.specs.Made.{IsChunk, made_with}
 use Rattle.snd_output.proofs.Begun.{new_head, new_says}

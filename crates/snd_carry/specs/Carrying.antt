@@ -9,14 +9,15 @@ use Rattle.snd_layout.specs.Shape.{Shape}
 use Rattle.snd_layout.specs.declared.kind.Kind.{Kind}
 use Rattle.snd_layout.specs.declared.piece.Piece.{Piece}
 use Rattle.snd_chunks.specs.Heads.{chunk_read, outline}
-use Rattle.snd_modes.specs.declared.handle.File.{File}
-use Rattle.snd_modes.specs.declared.mode.Mode.{Ghosts as ModeGhosts}
-use Rattle.snd_modes.specs.Chunks.{StandsAsOpened}
-use Rattle.snd_modes.specs.Editing.{Editing}
-use Rattle.snd_modes.specs.Handle.{Known, Stands, disk_of}
-use Rattle.snd_modes.specs.Making.{making_of}
-use Rattle.snd_modes.specs.Pieces.{body_of}
-use Rattle.snd_modes.specs.Relaid.{added_to, pieces_held, shape_with}
+use Rattle.snd_file.specs.declared.handle.File.{File}
+use Rattle.snd_edits.specs.declared.mode.Mode.{Ghosts as ModeGhosts}
+use Rattle.snd_file.specs.Chunks.{StandsAsOpened}
+use Rattle.snd_edits.specs.Editing.{Editing}
+use Rattle.snd_edits.specs.Known.{Known}
+use Rattle.snd_file.specs.Handle.{Stands, disk_of}
+use Rattle.snd_edits.specs.Making.{making_of}
+use Rattle.snd_edits.specs.Pieces.{body_of}
+use Rattle.snd_edits.specs.Relaid.{added_to, pieces_held, shape_with}
 use Rattle.snd_output.specs.Made.{AreChunks, IsChunk, made_with}
 use Rattle.snd_carry.specs.Carried.{body_bytes, carried}
 

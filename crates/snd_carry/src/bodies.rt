@@ -3,22 +3,23 @@
 ghost use Rattle.std.specs.Prelude.{◌≡◌, ◌<◌, ◌≤◌, All, IfOk, None, OnOk, Some, false, length, slice_get, true};
 ghost use Rattle.snd_disk.specs.Device.{AsksAtMost, GoesOnFrom, OnlyReadsOn, WritesAtMost};
 ghost use Rattle.snd_fields.specs.Laws.{IsByte};
-ghost use Rattle.snd_modes.specs.Chunks.{HoldsPut, StandsAsOpened};
-ghost use Rattle.snd_modes.specs.Handle.{IfOkStanding, StandsAfter, disk_of, known_of, loan_of};
+ghost use Rattle.snd_file.specs.Chunks.{HoldsPut, StandsAsOpened};
+ghost use Rattle.snd_file.specs.Handle.{IfOkStanding, StandsAfter, disk_of, known_of, loan_of};
 ghost use Rattle.snd_layout.specs.Kinds.{holds_meta, is_wave_own};
-ghost use Rattle.snd_modes.specs.Outcomes.{AsksNothing, TellsOn};
-ghost use Rattle.snd_modes.specs.PieceCalls.{IsUntouched, known_put};
-ghost use Rattle.snd_modes.specs.Pieces.{body_of};
-ghost use Rattle.snd_modes.specs.Relaid.{added_to};
+ghost use Rattle.snd_file.specs.Outcomes.{AsksNothing, TellsOn};
+ghost use Rattle.snd_edits.specs.PieceCalls.{IsUntouched, known_put};
+ghost use Rattle.snd_edits.specs.Pieces.{body_of};
+ghost use Rattle.snd_edits.specs.Relaid.{added_to};
 ghost use Rattle.snd_chunks.specs.Heads.{outline, new_piece};
 ghost use Rattle.snd_output.specs.Ends.{BreaksByFault, CountsOneOf, CountsStop, IsUnchanged};
 ghost use Rattle.snd_carry.specs.Carried.{is_carried};
 ghost use Rattle.snd_carry.specs.Carrying.{CarriesOne, HoldsChunk, HoldsOne};
 
 use snd_disk::Disk;
+use snd_edits::{CanMake, PieceReadError, Read};
 use snd_fields::Id4;
+use snd_file::File;
 use snd_layout::{Piece, PieceError};
-use snd_modes::{CanMake, File, PieceReadError, Read};
 use snd_output::Stop;
 use std::alloc::Global;
 

@@ -2,9 +2,10 @@
 
 ghost use Rattle.std.specs.Prelude.{◌≡◌, None, OnOk, true};
 ghost use Rattle.snd_disk.specs.Device.{GoesOnFrom, OnlyReadsOn, WritesAtMost};
-ghost use Rattle.snd_modes.specs.Handle.{IsFresh, StandsAfter, disk_of, known_of, loan_of};
+ghost use Rattle.snd_edits.specs.Known.{IsFresh};
+ghost use Rattle.snd_file.specs.Handle.{StandsAfter, disk_of, known_of, loan_of};
 ghost use Rattle.snd_layout.specs.Kinds.{holds_meta};
-ghost use Rattle.snd_modes.specs.Outcomes.{AsksNothing, TellsOn};
+ghost use Rattle.snd_file.specs.Outcomes.{AsksNothing, TellsOn};
 ghost use Rattle.snd_output.specs.Ends.{BreaksByFault, CountsOneOf, IsUnchanged};
 ghost use Rattle.snd_carry.specs.Carried.{carried_pieces};
 ghost use Rattle.snd_carry.specs.Carrying.{AsksForBodies, Carries, HoldsChunks, IsNewShape, StaysAsOpened, known_with};
@@ -12,8 +13,9 @@ ghost use Rattle.snd_carry.specs.Carrying.{AsksForBodies, Carries, HoldsChunks, 
 use crate::bodies::carry_chunk;
 use crate::choice::is_carried;
 use snd_disk::Disk;
+use snd_edits::{CanMake, Read};
+use snd_file::File;
 use snd_layout::MOST_PIECES;
-use snd_modes::{CanMake, File, Read};
 use snd_output::Stop;
 use std::alloc::Global;
 

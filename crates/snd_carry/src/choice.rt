@@ -8,8 +8,8 @@ ghost use Rattle.snd_chunks.specs.Heads.{outline};
 ghost use Rattle.snd_carry.specs.Carried.{TakesBytes, carried_pieces, is_carried};
 
 use snd_container::chunk_size;
+use snd_edits::may_be_piece;
 use snd_layout::{Kind, LONGEST_PIECE, MOST_PIECES, Piece, PieceList};
-use snd_modes::may_be_piece;
 
 /// Whether a copy of a file carries the chunk of a piece: it has at most 65536 bytes, and is none of the chunks
 /// that a WAVE file has of its own.

@@ -15,7 +15,7 @@ use Rattle.snd_layout.specs.declared.codec.Codec.{Codec}
 use Rattle.snd_layout.specs.declared.refusal.OpenRefusal.{OpenRefusal}
 use Rattle.snd_lines.specs.declared.refusal.Refusal.{Refusal}
 use Rattle.snd_lines.specs.declared.refusal.Refusal.TheVariants.{ContainerFull, MissingFile, Open}
-use Rattle.snd_modes.specs.Editing.{Editing}
+use Rattle.snd_edits.specs.Editing.{Editing}
 use Rattle.snd_output.proofs.Likeness.{like_is}
 use Rattle.snd_output.specs.Codecs.{params_like}
 use Rattle.snd_tools.proofs.Names.{after_same}

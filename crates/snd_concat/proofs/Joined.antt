@@ -11,8 +11,8 @@ use Rattle.snd_inputs.specs.Rooms.{exceeds}
 use Rattle.snd_layout.specs.Blocks.{block_frames}
 use Rattle.snd_layout.specs.Shape.{Shape, room}
 use Rattle.snd_layout.specs.declared.codec.Codec.{Codec}
-use Rattle.snd_modes.specs.Editing.{Editing}
-use Rattle.snd_modes.specs.Handle.{Known}
+use Rattle.snd_edits.specs.Editing.{Editing}
+use Rattle.snd_edits.specs.Known.{Known}
 use Rattle.snd_concat.specs.Appending.{AllFollow, Follows}
 use Rattle.snd_concat.specs.Concat.{all_frames, all_numbers, is_alike, numbers_for, shapes_of}
 

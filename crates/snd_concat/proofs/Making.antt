@@ -8,9 +8,9 @@ use Rattle.snd_layout.specs.Fit.{fit_refusal}
 use Rattle.snd_layout.specs.Params.{AreParams, Parameters}
 use Rattle.snd_layout.specs.Shape.{Shape, room}
 use Rattle.snd_layout.specs.declared.kind.Kind.{Kind}
-use Rattle.snd_modes.specs.Editing.{Editing}
-use Rattle.snd_modes.specs.Handle.{IsFresh, Known}
-use Rattle.snd_modes.specs.Relaid.{shape_with}
+use Rattle.snd_edits.specs.Editing.{Editing}
+use Rattle.snd_edits.specs.Known.{IsFresh, Known}
+use Rattle.snd_edits.specs.Relaid.{shape_with}
 use Rattle.snd_output.specs.Appended.{IsAtEnd}
 use Rattle.snd_output.specs.Made.{made_file}
 use Rattle.snd_concat.specs.Appending.{AllFollow}

@@ -12,7 +12,7 @@ use Rattle.snd_layout.specs.declared.kind.Kind.{Kind}
 use Rattle.snd_layout.specs.declared.refusal.OpenRefusal.{OpenRefusal}
 use Rattle.snd_lines.specs.declared.refusal.Refusal.{Refusal}
 use Rattle.snd_lines.specs.declared.refusal.Refusal.TheVariants.{BadBlock, ContainerFull, MissingFile, MixedParams, Open, SameName}
-use Rattle.snd_modes.specs.Editing.{Editing}
+use Rattle.snd_edits.specs.Editing.{Editing}
 use Rattle.snd_output.specs.Codecs.{params_like}
 use Rattle.snd_output.specs.Made.{made_file}
 use Rattle.snd_output.specs.Widths.{change_numbers, joined}

@@ -10,7 +10,7 @@ use Rattle.snd_inputs.specs.Rooms.{is_full}
 use Rattle.snd_layout.specs.Params.{Parameters}
 use Rattle.snd_layout.specs.Shape.{Shape}
 use Rattle.snd_layout.specs.declared.kind.Kind.{Kind}
-use Rattle.snd_modes.specs.Editing.{Editing}
+use Rattle.snd_edits.specs.Editing.{Editing}
 use Rattle.snd_output.specs.Ends.{IfChanged}
 use Rattle.snd_output.specs.Made.{made_file}
 use Rattle.snd_output.specs.declared.stop.Stop.{Stop}

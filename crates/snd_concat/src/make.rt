@@ -14,9 +14,9 @@ ghost use Rattle.snd_concat.specs.Making.{AllApart, Makes, MakesUnder, StayGood}
 
 use crate::append::append_all;
 use snd_disk::{Disk, Shelf};
+use snd_edits::{Encode, Write};
 use snd_inputs::{bare_room, see, take_output};
 use snd_layout::{Kind, Params};
-use snd_modes::{Encode, Write};
 use snd_output::{Making, Stop, finish};
 use snd_tools::Answer;
 use snd_words::Names;

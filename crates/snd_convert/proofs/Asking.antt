@@ -18,7 +18,7 @@ use Rattle.snd_layout.specs.Fit.{fit_refusal}
 use Rattle.snd_layout.specs.Params.{AreParams}
 use Rattle.snd_layout.specs.Shape.{Shape, end}
 use Rattle.snd_layout.specs.declared.refusal.OpenRefusal.{OpenRefusal}
-use Rattle.snd_modes.specs.Editing.{Editing, first_editing, opening_as, opening_of}
+use Rattle.snd_edits.specs.Editing.{Editing, first_editing, opening_as, opening_of}
 use Rattle.snd_layout.specs.Kinds.{holds_meta}
 use Rattle.snd_convert.specs.Convert.{carries}
 use Rattle.snd_convert.specs.Making.{bodies_in}

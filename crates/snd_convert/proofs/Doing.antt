@@ -10,7 +10,7 @@ use Rattle.snd_layout.specs.declared.kind.Kind.{Kind}
 use Rattle.snd_layout.specs.declared.refusal.OpenRefusal.{OpenRefusal}
 use Rattle.snd_lines.specs.declared.refusal.Refusal.{Refusal}
 use Rattle.snd_lines.specs.declared.refusal.Refusal.TheVariants.{BadBlock, ContainerFull, SameName}
-use Rattle.snd_modes.specs.Editing.{Editing, first_editing, opening_of}
+use Rattle.snd_edits.specs.Editing.{Editing, first_editing, opening_of}
 use Rattle.snd_tools.proofs.Names.{MakesOnly}
 use Rattle.snd_tools.specs.Done.{Done, Said, files_after, said_of}
 use Rattle.snd_tools.specs.Shelves.{HasFiles}

@@ -7,11 +7,11 @@ use Rattle.snd_chunks.specs.Written.{NewChunk}
 use Rattle.snd_layout.specs.Params.{AreParams, Parameters}
 use Rattle.snd_layout.specs.Shape.{Shape}
 use Rattle.snd_layout.specs.declared.kind.Kind.{Kind}
-use Rattle.snd_modes.specs.Editing.{Editing}
-use Rattle.snd_modes.specs.Handle.{Known}
+use Rattle.snd_edits.specs.Editing.{Editing}
+use Rattle.snd_edits.specs.Known.{Known}
 use Rattle.snd_layout.specs.Kinds.{holds_meta}
-use Rattle.snd_modes.specs.Making.{making_of}
-use Rattle.snd_modes.specs.Relaid.{shape_with}
+use Rattle.snd_edits.specs.Making.{making_of}
+use Rattle.snd_edits.specs.Relaid.{shape_with}
 use Rattle.snd_chunks.specs.Heads.{outline}
 use Rattle.snd_output.proofs.Begun.{begun_is_making, new_says}
 use Rattle.snd_output.proofs.Carried.{carried_is_making, says_of}

@@ -14,10 +14,10 @@ use Rattle.snd_layout.specs.declared.codec.Codec.{Codec}
 use Rattle.snd_layout.proofs.Public.{meta_order}
 use Rattle.snd_layout.specs.declared.kind.Kind.{Kind}
 use Rattle.snd_fields.specs.declared.field.Order.{Order}
-use Rattle.snd_modes.specs.Editing.{Editing}
-use Rattle.snd_modes.specs.Handle.{IsFresh, Known}
+use Rattle.snd_edits.specs.Editing.{Editing}
+use Rattle.snd_edits.specs.Known.{IsFresh, Known}
 use Rattle.snd_layout.specs.Kinds.{holds_meta}
-use Rattle.snd_modes.specs.Relaid.{shape_with}
+use Rattle.snd_edits.specs.Relaid.{shape_with}
 use Rattle.snd_chunks.specs.Heads.{outline}
 use Rattle.snd_output.proofs.Carried.{says_of}
 use Rattle.snd_output.specs.Appended.{HasRoom, MayAppend, left_in, numbers_left}

@@ -12,9 +12,9 @@ use Rattle.snd_inputs.specs.Inputs.{input_in, is_bad}
 use Rattle.snd_inputs.specs.Rooms.{exceeds}
 use Rattle.snd_lines.specs.declared.refusal.Refusal.{Refusal}
 use Rattle.snd_lines.specs.declared.refusal.Refusal.TheVariants.{BadBlock, ContainerFull, Open, SameName, UnknownSuffix}
-use Rattle.snd_modes.specs.Editing.{Editing}
+use Rattle.snd_edits.specs.Editing.{Editing}
 use Rattle.snd_layout.specs.Kinds.{holds_meta}
-use Rattle.snd_modes.specs.Relaid.{shape_with}
+use Rattle.snd_edits.specs.Relaid.{shape_with}
 use Rattle.snd_output.specs.Made.{made_file}
 use Rattle.snd_output.specs.Widths.{change_numbers, joined}
 use Rattle.snd_words.specs.Asked.{Converting}

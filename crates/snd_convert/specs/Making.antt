@@ -11,13 +11,14 @@ use Rattle.snd_disk.specs.Shelves.{TellsFiles}
 use Rattle.snd_disk.specs.State.{State}
 use Rattle.snd_layout.specs.Shape.{Shape, room}
 use Rattle.snd_layout.specs.declared.kind.Kind.{Kind}
-use Rattle.snd_modes.specs.declared.handle.File.{File}
-use Rattle.snd_modes.specs.declared.mode.Mode.{Ghosts as ModeGhosts}
-use Rattle.snd_modes.specs.Editing.{Editing, first_editing}
-use Rattle.snd_modes.specs.Handle.{Known, Stands, disk_of, known_of}
+use Rattle.snd_file.specs.declared.handle.File.{File}
+use Rattle.snd_edits.specs.declared.mode.Mode.{Ghosts as ModeGhosts}
+use Rattle.snd_edits.specs.Editing.{Editing, first_editing}
+use Rattle.snd_edits.specs.Known.{Known}
+use Rattle.snd_file.specs.Handle.{Stands, disk_of, known_of}
 use Rattle.snd_layout.specs.Kinds.{holds_meta}
-use Rattle.snd_modes.specs.Making.{making_of}
-use Rattle.snd_modes.specs.Relaid.{shape_with}
+use Rattle.snd_edits.specs.Making.{making_of}
+use Rattle.snd_edits.specs.Relaid.{shape_with}
 use Rattle.snd_chunks.specs.Heads.{outline}
 use Rattle.snd_output.specs.Ends.{IfChanged}
 use Rattle.snd_output.specs.Made.{IsMaking}

@@ -9,7 +9,7 @@ use Rattle.snd_layout.specs.declared.codec.Codec.TheVariants as codec
 use Rattle.snd_layout.specs.declared.kind.Kind.{Kind}
 use Rattle.snd_layout.specs.declared.refusal.OpenRefusal.{OpenRefusal}
 use Rattle.snd_layout.specs.declared.refusal.OpenRefusal.TheVariants.{BadPair}
-use Rattle.snd_modes.specs.Blocks.{ima_made, ms_made}
+use Rattle.snd_edits.specs.Blocks.{ima_made, ms_made}
 use Rattle.snd_output.specs.Codecs.{codec_like}
 use Rattle.snd_words.specs.Asked.{Converting}
 use Rattle.snd_words.specs.declared.convert.CodecChoice.{CodecChoice}

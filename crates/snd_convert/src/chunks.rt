@@ -3,9 +3,10 @@
 ghost use Rattle.std.specs.Prelude.{◌≡◌, ◌≤◌, [], None, OnOk};
 ghost use Rattle.snd_inputs.specs.Copying.{CopiesInto};
 ghost use Rattle.snd_layout.specs.Params.{AreParams};
-ghost use Rattle.snd_modes.specs.Handle.{IsFresh, StandsAfter, known_of};
-ghost use Rattle.snd_modes.specs.Outcomes.{AsksNothing};
-ghost use Rattle.snd_modes.specs.Relaid.{shape_with};
+ghost use Rattle.snd_edits.specs.Known.{IsFresh};
+ghost use Rattle.snd_file.specs.Handle.{StandsAfter, known_of};
+ghost use Rattle.snd_file.specs.Outcomes.{AsksNothing};
+ghost use Rattle.snd_edits.specs.Relaid.{shape_with};
 ghost use Rattle.snd_output.specs.Ends.{IsUnchanged};
 ghost use Rattle.snd_convert.specs.Convert.{carries};
 ghost use Rattle.snd_convert.specs.Making.{AsksToCarry, ChunksTake, IsFilled, OutlinesTake, TakesChunks};
@@ -13,8 +14,9 @@ ghost use Rattle.snd_convert.specs.Making.{AsksToCarry, ChunksTake, IsFilled, Ou
 use crate::plan::Plan;
 use snd_carry::{carried_size, carry_pieces};
 use snd_disk::Disk;
+use snd_edits::Read;
+use snd_file::File;
 use snd_layout::Kind;
-use snd_modes::{File, Read};
 use snd_output::{Making, Stop};
 use std::alloc::Global;
 

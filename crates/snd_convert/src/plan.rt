@@ -7,9 +7,9 @@ ghost use Rattle.snd_convert.specs.Plan.{chosen, codec_in, fitted, planned, same
 ghost use Rattle.snd_convert.specs.Planning.{asked_of, plan_by};
 
 use snd_container::fit;
+use snd_edits::{ima_codec, ms_codec};
 use snd_fields::Order;
 use snd_layout::{Codec, Kind, OpenRefusal, Params};
-use snd_modes::{ima_codec, ms_codec};
 use snd_output::codec_like;
 use snd_words::{CodecChoice, Conversion};
 

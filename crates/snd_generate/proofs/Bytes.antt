@@ -6,10 +6,9 @@ use Rattle.snd_disk.specs.Bytes.{over}
 use Rattle.snd_layout.specs.Params.{Parameters}
 use Rattle.snd_layout.specs.Shape.{KeepsRule, Shape, end}
 use Rattle.snd_layout.specs.declared.kind.Kind.TheVariants.{Wave}
-use Rattle.snd_modes.proofs.EditedFiles.{counted_rule, sealed_is}
-use Rattle.snd_modes.proofs.ImageFields.{fields_lie_apart}
-use Rattle.snd_modes.specs.Editing.{Editing}
-use Rattle.snd_modes.specs.Edits.{coded, put_frames}
+use Rattle.snd_edits.proofs.Public.{counted_rule, fields_lie_apart, sealed_is}
+use Rattle.snd_edits.specs.Editing.{Editing}
+use Rattle.snd_edits.specs.Edits.{coded, put_frames}
 use Rattle.snd_output.proofs.Bytes.{closed_now, coded_data, coded_joined, fields_in_front}
 use Rattle.snd_output.proofs.Finished.{rule}
 use Rattle.snd_output.specs.Made.{IsMaking, frame_count}

@@ -12,9 +12,9 @@ use Rattle.snd_disk.proofs.Public.{goes_on_then}
 use Rattle.snd_disk.specs.Device.{Tells}
 use Rattle.snd_disk.specs.State.{State}
 use Rattle.snd_disk.specs.declared.disk.Disk.{Ghosts}
-use Rattle.snd_modes.specs.declared.handle.File.{File}
-use Rattle.snd_modes.specs.declared.mode.Mode.{Ghosts as ModeGhosts}
-use Rattle.snd_modes.specs.Handle.{disk_of}
+use Rattle.snd_file.specs.declared.handle.File.{File}
+use Rattle.snd_edits.specs.declared.mode.Mode.{Ghosts as ModeGhosts}
+use Rattle.snd_file.specs.Handle.{disk_of}
 use Rattle.snd_output.specs.Ends.{CountsStop}
 use Rattle.snd_output.specs.declared.stop.Stop.{Stop}
 use Rattle.snd_patch.specs.Steps.{StillTells}

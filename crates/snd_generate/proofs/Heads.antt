@@ -15,7 +15,7 @@ use Rattle.snd_layout.specs.Fit.{fit_refusal}
 use Rattle.snd_layout.specs.Params.{AreParams, Parameters, data_bytes}
 use Rattle.snd_layout.specs.Shape.{Shape, end, room}
 use Rattle.snd_layout.specs.declared.kind.Kind.TheVariants.{Wave}
-use Rattle.snd_modes.specs.Relaid.{head_with, shape_with}
+use Rattle.snd_edits.specs.Relaid.{head_with, shape_with}
 use Rattle.snd_patch.specs.Sealed.{counted, with_fields}
 use Rattle.snd_generate.specs.Edited.{params}
 use Rattle.snd_generate.specs.Steps.{shape_of}

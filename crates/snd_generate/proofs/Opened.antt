@@ -10,12 +10,12 @@ use Rattle.snd_layout.specs.declared.error.OpenError.{OpenError}
 use Rattle.snd_layout.specs.declared.kind.Kind.{Kind}
 use Rattle.snd_layout.specs.declared.kind.Kind.TheVariants.{Wave, Voc}
 use Rattle.snd_layout.specs.declared.refusal.OpenRefusal.{OpenRefusal}
-use Rattle.snd_modes.proofs.EditedFiles.{sealed_reads_back}
-use Rattle.snd_modes.specs.Editing.{Editing, first_editing, opening_of}
-use Rattle.snd_modes.specs.Edits.{sealed_to, written_to}
-use Rattle.snd_modes.specs.Laws.{OpensAgain, as_opened, going_on}
-use Rattle.snd_modes.specs.Updating.{updating_of}
-use Rattle.snd_modes.specs.WriteCalls.{MayWrite, end_written}
+use Rattle.snd_edits.proofs.Public.{sealed_reads_back}
+use Rattle.snd_edits.specs.Editing.{Editing, first_editing, opening_of}
+use Rattle.snd_edits.specs.Edits.{sealed_to, written_to}
+use Rattle.snd_edits.specs.Laws.{OpensAgain, as_opened, going_on}
+use Rattle.snd_edits.specs.Updating.{updating_of}
+use Rattle.snd_edits.specs.WriteCalls.{MayWrite, end_written}
 use Rattle.snd_output.proofs.Begun.{first_is_making}
 use Rattle.snd_output.proofs.Finished.{sealed_is_made}
 use Rattle.snd_output.proofs.Lengthened.{written_is_making}

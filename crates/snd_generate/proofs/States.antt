@@ -5,8 +5,8 @@ use Rattle.std.proofs.lemmas.Bool.{cases_lt, le-ltb, lt-ltb}
 use Rattle.std.proofs.lemmas.List.{length-take-le, places, take_all}
 use Rattle.std.proofs.lemmas.List.Elements.{All-append, All-drop, All-take}
 use Rattle.snd_layout.specs.Shape.{Shape}
-use Rattle.snd_modes.specs.Editing.{Editing}
-use Rattle.snd_modes.specs.Edits.{automatic_to, count_written, cut_to, moved_write_to, over_data, put_frames, sealed_to, truncated_to, written_bytes, written_shape, written_to}
+use Rattle.snd_edits.specs.Editing.{Editing}
+use Rattle.snd_edits.specs.Edits.{automatic_to, count_written, cut_to, moved_write_to, over_data, put_frames, sealed_to, truncated_to, written_bytes, written_shape, written_to}
 use Rattle.snd_patch.specs.Sealed.{counted, over_closing, sealed, shrunk}
 use Rattle.snd_pcm.specs.Width.{HasWidth}
 use Rattle.snd_generate.specs.Edited.{file_of}

@@ -14,8 +14,8 @@ use Rattle.snd_taps.specs.Laws.{all_of}
 use Rattle.snd_taps.specs.Measure.{energy_of, peak_of, square}
 use Rattle.snd_taps.specs.Meter.{Meter, after_frames, capped, fed, step}
 use Rattle.snd_taps.specs.declared.tap.TapKind.TheVariants.{Energy, Peak}
-use Rattle.snd_modes.proofs.SoundFrames.{groups_of_front}
-use Rattle.snd_modes.specs.Editing.{Editing, frames_read, moved_by}
+use Rattle.snd_edits.proofs.Public.{groups_of_front}
+use Rattle.snd_edits.specs.Editing.{Editing, frames_read, moved_by}
 use Rattle.snd_generate.specs.declared.generating.Summary.{Summary}
 use Rattle.snd_generate.specs.Edited.{summary_of}
 use Rattle.snd_generate.specs.Generating.{AreNumbers}

@@ -5,7 +5,7 @@ use Rattle.snd_fields.specs.declared.field.Order.TheVariants.{Little}
 use Rattle.snd_layout.specs.Params.{Parameters}
 use Rattle.snd_layout.specs.declared.codec.Codec.TheVariants.{S16}
 use Rattle.snd_layout.specs.declared.kind.Kind.TheVariants.{Wave}
-use Rattle.snd_modes.specs.Edits.{put_frames}
+use Rattle.snd_edits.specs.Edits.{put_frames}
 use Rattle.snd_output.specs.Made.{made_file}
 use Rattle.snd_taps.specs.Measure.{energy_of, peak_of}
 use Rattle.snd_generate.specs.declared.generating.Summary.{Summary}

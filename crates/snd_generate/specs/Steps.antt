@@ -8,14 +8,15 @@ use Rattle.snd_layout.specs.Shape.{Shape}
 use Rattle.snd_layout.specs.declared.error.OpenError.{OpenError}
 use Rattle.snd_layout.specs.declared.error.OpenError.TheVariants.{DiskFault}
 use Rattle.snd_layout.specs.declared.kind.Kind.TheVariants.{Wave}
-use Rattle.snd_modes.specs.declared.handle.File.{File}
-use Rattle.snd_modes.specs.declared.mode.Mode.{Ghosts as ModeGhosts}
-use Rattle.snd_modes.specs.Calls.{count_read}
-use Rattle.snd_modes.specs.Editing.{Editing, frames_read}
-use Rattle.snd_modes.specs.Handle.{Known, Stands, disk_of, known_of}
-use Rattle.snd_modes.specs.Outcomes.{TellsOn}
-use Rattle.snd_modes.specs.Relaid.{shape_with}
-use Rattle.snd_modes.specs.WriteCalls.{MayWrite}
+use Rattle.snd_file.specs.declared.handle.File.{File}
+use Rattle.snd_edits.specs.declared.mode.Mode.{Ghosts as ModeGhosts}
+use Rattle.snd_edits.specs.Calls.{count_read}
+use Rattle.snd_edits.specs.Editing.{Editing, frames_read}
+use Rattle.snd_edits.specs.Known.{Known}
+use Rattle.snd_file.specs.Handle.{Stands, disk_of, known_of}
+use Rattle.snd_file.specs.Outcomes.{TellsOn}
+use Rattle.snd_edits.specs.Relaid.{shape_with}
+use Rattle.snd_edits.specs.WriteCalls.{MayWrite}
 use Rattle.snd_output.specs.Appended.{read_on}
 use Rattle.snd_output.specs.declared.stop.Stop.{Stop}
 use Rattle.snd_output.specs.declared.stop.Stop.TheVariants.{Changed, Fault, Memory}

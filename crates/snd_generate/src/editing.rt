@@ -2,8 +2,8 @@
 
 ghost use Rattle.std.specs.Prelude.{◌≡◌, ◌<◌, ◌≤◌, None, OnOk, false, true};
 ghost use Rattle.snd_disk.specs.Device.{GoesOnFrom};
-ghost use Rattle.snd_modes.specs.Edits.{automatic_to, moved_write_to, truncated_to};
-ghost use Rattle.snd_modes.specs.Handle.{StandsAfter, known_of, loan_of};
+ghost use Rattle.snd_edits.specs.Edits.{automatic_to, moved_write_to, truncated_to};
+ghost use Rattle.snd_file.specs.Handle.{StandsAfter, known_of, loan_of};
 ghost use Rattle.snd_output.specs.Ends.{CountsStop};
 ghost use Rattle.snd_patch.specs.Steps.{StillTells};
 ghost use Rattle.snd_generate.specs.Generating.{Edits};
@@ -11,7 +11,8 @@ ghost use Rattle.snd_generate.specs.Steps.{Calls, EditsFile, Overwrites};
 
 use crate::writing::{CHANGED, stop_of, write};
 use snd_disk::Disk;
-use snd_modes::{AutoError, File, SeekError, ShrinkError, Update, open_update};
+use snd_edits::{AutoError, SeekError, ShrinkError, Update};
+use snd_file::{File, open_update};
 use snd_output::Stop;
 use std::alloc::Global;
 

@@ -2,7 +2,7 @@
 
 ghost use Rattle.std.specs.Prelude.{◌≡◌, ◌<◌, ◌^◌, IfOk, None, OnOk, length};
 ghost use Rattle.snd_disk.specs.Device.{GoesOnFrom};
-ghost use Rattle.snd_modes.specs.Handle.{known_of, loan_of};
+ghost use Rattle.snd_file.specs.Handle.{known_of, loan_of};
 ghost use Rattle.snd_output.specs.Ends.{CountsStop};
 ghost use Rattle.snd_patch.specs.Steps.{StillTells};
 ghost use Rattle.snd_generate.specs.Edited.{params};
@@ -13,9 +13,10 @@ ghost use Rattle.snd_generate.specs.Steps.{Calls, Lengthens, LengthensBy};
 use crate::numbers::fill;
 use crate::writing::write;
 use snd_disk::Disk;
+use snd_edits::Write;
 use snd_fields::Order;
+use snd_file::File;
 use snd_layout::{Codec, Kind, Params};
-use snd_modes::{File, Write};
 use snd_output::{Making, Stop, finish};
 use snd_words::Generation;
 use std::alloc::Global;

@@ -1,13 +1,14 @@
 //! What stops a part, and numbers that are written to an open file.
 
 ghost use Rattle.std.specs.Prelude.{◌≡◌, None, OnOk};
-ghost use Rattle.snd_modes.specs.Edits.{written_to};
-ghost use Rattle.snd_modes.specs.Handle.{StandsAfter, known_of, loan_of};
+ghost use Rattle.snd_edits.specs.Edits.{written_to};
+ghost use Rattle.snd_file.specs.Handle.{StandsAfter, known_of, loan_of};
 ghost use Rattle.snd_generate.specs.Steps.{Calls, MayWriteTo, stop_of};
 
 use snd_disk::Disk;
+use snd_edits::{CanWrite, WriteError};
+use snd_file::File;
 use snd_layout::OpenError;
-use snd_modes::{CanWrite, File, WriteError};
 use snd_output::Stop;
 
 /// Why a file is given up that is not what was made: over a disk that tells what it holds this does not

@@ -17,8 +17,8 @@ use Rattle.snd_inputs.specs.Looking.{AsksToLook}
 use Rattle.snd_inputs.specs.Opening.{IsOpen, IsUnread}
 use Rattle.snd_inputs.specs.declared.input.Input.{Input}
 use Rattle.snd_layout.specs.Shape.{Shape, end}
-use Rattle.snd_modes.specs.Editing.{first_editing, opening_of}
-use Rattle.snd_modes.specs.Handle.{Known}
+use Rattle.snd_edits.specs.Editing.{first_editing, opening_of}
+use Rattle.snd_edits.specs.Known.{Known}
 use Rattle.snd_output.specs.Appended.{bytes_by_calls, left_in}
 
 -- one thing is asked behind another, and no more than so much in all

@@ -8,8 +8,8 @@ use Rattle.snd_layout.specs.Fit.{fit_refusal}
 use Rattle.snd_layout.specs.Params.{AreParams, Parameters, data_bytes}
 use Rattle.snd_layout.specs.Shape.{Shape, room}
 use Rattle.snd_layout.specs.declared.kind.Kind.{Kind}
-use Rattle.snd_modes.specs.Handle.{IsFresh, Known}
-use Rattle.snd_modes.specs.Relaid.{shape_with}
+use Rattle.snd_edits.specs.Known.{IsFresh, Known}
+use Rattle.snd_edits.specs.Relaid.{shape_with}
 use Rattle.snd_output.proofs.Begun.{new_says}
 use Rattle.snd_output.specs.Appended.{HasRoom, IsAtEnd}
 

@@ -6,13 +6,12 @@ use Rattle.snd_blocks.specs.Sound.{frames_in}
 use Rattle.snd_container.specs.Sound.{fixed_of}
 use Rattle.snd_disk.specs.declared.disk.Step.{Step}
 use Rattle.snd_layout.specs.Shape.{Shape}
-use Rattle.snd_modes.proofs.FixedFrames.{good_frames}
-use Rattle.snd_modes.proofs.Rooms.{not_adpcm}
-use Rattle.snd_modes.specs.Calls.{CheckLeaves}
-use Rattle.snd_modes.specs.Editing.{Editing}
-use Rattle.snd_modes.specs.Handle.{Known}
-use Rattle.snd_modes.specs.declared.error.ReadError.{ReadError}
-use Rattle.snd_modes.specs.declared.error.ReadError.TheVariants.{BadBlock, Broken, DiskFault, PartFrame}
+use Rattle.snd_edits.proofs.Public.{good_frames, not_adpcm}
+use Rattle.snd_edits.specs.Calls.{CheckLeaves}
+use Rattle.snd_edits.specs.Editing.{Editing}
+use Rattle.snd_edits.specs.Known.{Known}
+use Rattle.snd_edits.specs.declared.error.ReadError.{ReadError}
+use Rattle.snd_edits.specs.declared.error.ReadError.TheVariants.{BadBlock, Broken, DiskFault, PartFrame}
 use Rattle.snd_inputs.specs.Inputs.{is_bad}
 
 -- frames that stand in no blocks are good

@@ -4,10 +4,11 @@ use Rattle.snd_blocks.specs.Frames.{has_bad}
 use Rattle.snd_disk.proofs.Public.{goes_on_then, only_reads_then}
 use Rattle.snd_disk.specs.declared.disk.Disk.{Ghosts}
 use Rattle.snd_disk.specs.State.{Rises}
-use Rattle.snd_modes.specs.declared.handle.File.{File}
-use Rattle.snd_modes.specs.declared.mode.Mode.{Ghosts as ModeGhosts}
-use Rattle.snd_modes.specs.Editing.{Editing}
-use Rattle.snd_modes.specs.Handle.{Known, known_of}
+use Rattle.snd_file.specs.declared.handle.File.{File}
+use Rattle.snd_edits.specs.declared.mode.Mode.{Ghosts as ModeGhosts}
+use Rattle.snd_edits.specs.Editing.{Editing}
+use Rattle.snd_edits.specs.Known.{Known}
+use Rattle.snd_file.specs.Handle.{known_of}
 use Rattle.snd_output.specs.Appended.{AppendLeaves, CountsEither, frames_ahead}
 use Rattle.snd_output.specs.Ends.{BreaksByFault, CountsOneOf}
 use Rattle.snd_output.specs.declared.stop.Stop.{Stop}

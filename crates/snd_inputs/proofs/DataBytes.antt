@@ -7,7 +7,7 @@ use Rattle.snd_container.specs.declared.fixed.Fixed.{Fixed}
 use Rattle.snd_layout.specs.Blocks.{block_align}
 use Rattle.snd_layout.specs.Params.{Parameters, data_bytes}
 use Rattle.snd_layout.specs.declared.kind.Kind.{Kind}
-use Rattle.snd_modes.proofs.SoundFrames.{linear_frames}
+use Rattle.snd_edits.proofs.Public.{linear_frames}
 use Rattle.snd_container.specs.Room.{Take}
 
 -- no chunks take no bytes

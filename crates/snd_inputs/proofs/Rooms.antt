@@ -11,7 +11,7 @@ use Rattle.snd_layout.specs.declared.codec.Codec.{Codec}
 use Rattle.snd_layout.specs.declared.codec.Codec.TheVariants.{U8, S8, S16, S24, S32, MuLaw, ALaw, Ima, Ms}
 use Rattle.snd_layout.specs.declared.kind.Kind.{Kind}
 use Rattle.snd_layout.specs.declared.kind.Kind.TheVariants.{Wave}
-use Rattle.snd_modes.proofs.EncodedPlaces.{data_more, room_for}
+use Rattle.snd_edits.proofs.Public.{data_more, room_for}
 use Rattle.snd_inputs.specs.Rooms.{exceeds, is_past_count}
 use Rattle.snd_layout.specs.Kinds.{is_wave}
 use Rattle.snd_inputs.proofs.Formed.{keeps_blocks}

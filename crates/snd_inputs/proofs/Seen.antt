@@ -9,10 +9,9 @@ use Rattle.snd_layout.specs.Shape.{Shape}
 use Rattle.snd_layout.specs.declared.refusal.OpenRefusal.{OpenRefusal}
 use Rattle.snd_lines.specs.declared.refusal.Refusal.{Refusal}
 use Rattle.snd_lines.specs.declared.refusal.Refusal.TheVariants.{Open}
-use Rattle.snd_modes.specs.Editing.{Editing, first_editing, opening_of}
+use Rattle.snd_edits.specs.Editing.{Editing, first_editing, opening_of}
 use Rattle.snd_inputs.specs.Inputs.{input_as, input_in}
-use Rattle.snd_modes.proofs.FixedFrames.{count_any}
-use Rattle.snd_modes.proofs.Opening.{opening_ok, opening_refused}
+use Rattle.snd_edits.proofs.Public.{count_any, opening_ok, opening_refused}
 use Rattle.snd_inputs.specs.Looking.{IsReadable, LiesWithin, seen_of}
 use Rattle.snd_inputs.specs.Opening.{Holds}
 use Rattle.snd_inputs.specs.declared.input.Input.{Input}

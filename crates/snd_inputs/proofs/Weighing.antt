@@ -11,8 +11,8 @@ use Rattle.snd_layout.specs.Shape.{Shape, end}
 use Rattle.snd_layout.specs.declared.codec.Codec.{Codec}
 use Rattle.snd_layout.specs.declared.codec.Codec.TheVariants.{Ima, Ms}
 use Rattle.snd_layout.specs.declared.refusal.OpenRefusal.{OpenRefusal}
-use Rattle.snd_modes.proofs.FixedFrames.{is_fixed}
-use Rattle.snd_modes.specs.Editing.{Editing, first_editing, opening_of}
+use Rattle.snd_edits.proofs.Public.{is_fixed}
+use Rattle.snd_edits.specs.Editing.{Editing, first_editing, opening_of}
 use Rattle.snd_output.proofs.Appending.{div_sum}
 use Rattle.snd_inputs.proofs.DataBytes.{align_bytes}
 use Rattle.snd_inputs.proofs.Formed.{keeps_blocks}

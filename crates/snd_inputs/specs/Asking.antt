@@ -5,7 +5,7 @@ use Rattle.snd_disk.specs.Shelves.{TellsFiles}
 use Rattle.snd_disk.specs.State.{AtMost}
 use Rattle.snd_layout.specs.Blocks.{is_adpcm}
 use Rattle.snd_layout.specs.declared.refusal.OpenRefusal.{OpenRefusal}
-use Rattle.snd_modes.specs.Editing.{Editing, opening_of}
+use Rattle.snd_edits.specs.Editing.{Editing, opening_of}
 
 -- whether a file is opened as one of ADPCM
 abbrev pub has_blocks : Result Editing OpenRefusal → Bool

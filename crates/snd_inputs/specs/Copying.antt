@@ -7,10 +7,10 @@ use Rattle.snd_disk.specs.State.{State}
 use Rattle.snd_layout.specs.Blocks.{is_adpcm}
 use Rattle.snd_layout.specs.Params.{Parameters, data_bytes}
 use Rattle.snd_layout.specs.Shape.{Shape}
-use Rattle.snd_modes.specs.declared.handle.File.{File}
-use Rattle.snd_modes.specs.declared.mode.Mode.{Ghosts as ModeGhosts}
-use Rattle.snd_modes.specs.Handle.{disk_of, known_of, loan_of}
-use Rattle.snd_modes.specs.Outcomes.{TellsOn}
+use Rattle.snd_file.specs.declared.handle.File.{File}
+use Rattle.snd_edits.specs.declared.mode.Mode.{Ghosts as ModeGhosts}
+use Rattle.snd_file.specs.Handle.{disk_of, known_of, loan_of}
+use Rattle.snd_file.specs.Outcomes.{TellsOn}
 use Rattle.snd_output.specs.declared.stop.Stop.{Stop}
 use Rattle.snd_output.specs.Appended.{bytes_by_calls}
 use Rattle.snd_output.specs.Ends.{BreaksByFault, CountsOneOf, CountsStop}

@@ -5,7 +5,7 @@ use Rattle.snd_blocks.specs.Frames.{has_bad}
 use Rattle.snd_layout.specs.declared.refusal.OpenRefusal.{OpenRefusal}
 use Rattle.snd_lines.specs.declared.refusal.Refusal.{Refusal}
 use Rattle.snd_lines.specs.declared.refusal.Refusal.TheVariants.{MissingFile, Open}
-use Rattle.snd_modes.specs.Editing.{Editing, opening_of}
+use Rattle.snd_edits.specs.Editing.{Editing, opening_of}
 
 -- a file as it is opened to be read; or why it is not
 abbrev pub input_as : Result Editing OpenRefusal → Result Editing Refusal

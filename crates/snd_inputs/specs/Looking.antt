@@ -8,7 +8,7 @@ use Rattle.snd_layout.specs.Opened.{EndsIn}
 use Rattle.snd_layout.specs.Params.{AreParams}
 use Rattle.snd_layout.specs.Shape.{KeepsRule, Shape, end, room}
 use Rattle.snd_lines.specs.declared.refusal.Refusal.{Refusal}
-use Rattle.snd_modes.specs.Editing.{Editing}
+use Rattle.snd_edits.specs.Editing.{Editing}
 use Rattle.snd_inputs.specs.Inputs.{first_bad, input_in, inputs_in, is_bad}
 use Rattle.snd_inputs.specs.declared.looking.Inputs.{Inputs}
 use Rattle.snd_inputs.specs.declared.looking.Inputs.TheVariants as inputs

@@ -7,8 +7,8 @@ use Rattle.snd_disk.specs.Shelf.{Files, KeepsBytes, Takes}
 use Rattle.snd_disk.specs.Shelves.{HandsOut, KeepsOthers, TellsFiles}
 use Rattle.snd_disk.specs.State.{State}
 use Rattle.snd_lines.specs.declared.refusal.Refusal.{Refusal}
-use Rattle.snd_modes.specs.Editing.{Editing, first_editing, opening_of}
-use Rattle.snd_modes.specs.Handle.{Known}
+use Rattle.snd_edits.specs.Editing.{Editing, first_editing, opening_of}
+use Rattle.snd_edits.specs.Known.{Known}
 use Rattle.snd_output.specs.declared.stop.Stop.{Stop}
 use Rattle.snd_inputs.specs.Inputs.{input_in}
 use Rattle.snd_inputs.specs.Looking.{AsksToLook, ReadsFiles}

@@ -4,7 +4,7 @@ use Rattle.snd_disk.specs.Device.{IfOkTold}
 use Rattle.snd_disk.specs.State.{State}
 use Rattle.snd_layout.specs.Shape.{Shape}
 use Rattle.snd_lines.specs.declared.refusal.Refusal.{Refusal}
-use Rattle.snd_modes.specs.Editing.{opening_of}
+use Rattle.snd_edits.specs.Editing.{opening_of}
 use Rattle.snd_inputs.specs.Inputs.{input_as}
 use Rattle.snd_inputs.specs.Looking.{LiesWithin, seen_of}
 

@@ -4,7 +4,7 @@ ghost use Rattle.std.specs.Prelude.{◌≡◌, None, []};
 ghost use Rattle.snd_inputs.specs.Rooms.{exceeds, is_full, is_past_count};
 ghost use Rattle.snd_layout.specs.Fit.{fit_refusal};
 ghost use Rattle.snd_layout.specs.Shape.{room as shape_room};
-ghost use Rattle.snd_modes.specs.Relaid.{shape_with};
+ghost use Rattle.snd_edits.specs.Relaid.{shape_with};
 
 use snd_container::room_with;
 use snd_layout::{Codec, Kind, Params};

@@ -19,9 +19,9 @@ use Rattle.snd_inputs.specs.declared.input.Input.{Input}
 use Rattle.snd_layout.specs.Blocks.{block_align, block_frames, is_adpcm}
 use Rattle.snd_layout.specs.Params.{Parameters}
 use Rattle.snd_layout.specs.Shape.{Shape, end}
-use Rattle.snd_modes.specs.Calls.{count_read}
-use Rattle.snd_modes.specs.Handle.{Known}
-use Rattle.snd_modes.specs.Reading.{bytes_to_read}
+use Rattle.snd_edits.specs.Calls.{count_read}
+use Rattle.snd_edits.specs.Known.{Known}
+use Rattle.snd_edits.specs.Reading.{bytes_to_read}
 use Rattle.snd_output.proofs.Appending.{div_sum}
 use Rattle.snd_words.proofs.Runs.{drop_get}
 use Rattle.snd_interleave.specs.Asking.{AsksEach, AsksFirst, AsksInput, AsksOnce, AsksWhole, asked_of, bytes_copied, bytes_from, bytes_upto, bytes_whole}

@@ -7,7 +7,7 @@ use Rattle.snd_inputs.proofs.Lists.{none_bad}
 use Rattle.snd_inputs.specs.Inputs.{first_bad, is_bad}
 use Rattle.snd_inputs.specs.Opening.{Holds}
 use Rattle.snd_inputs.specs.declared.input.Input.{Input}
-use Rattle.snd_modes.specs.Editing.{Editing, first_editing}
+use Rattle.snd_edits.specs.Editing.{Editing, first_editing}
 use Rattle.snd_output.specs.Appended.{CountsFault}
 use Rattle.snd_output.specs.Ends.{IfChanged}
 use Rattle.snd_output.specs.declared.stop.Stop.{Stop}

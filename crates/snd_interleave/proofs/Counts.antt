@@ -7,7 +7,7 @@ use Rattle.std.specs.Prelude.{is_some}
 use Rattle.snd_disk.specs.declared.disk.Disk.{Ghosts}
 use Rattle.snd_disk.specs.declared.disk.Step.{Step}
 use Rattle.snd_disk.specs.State.{Adds, Rises, State}
-use Rattle.snd_modes.specs.Handle.{Known}
+use Rattle.snd_edits.specs.Known.{Known}
 use Rattle.snd_output.specs.Ends.{BreaksByFault, CountsStop}
 use Rattle.snd_output.specs.declared.stop.Stop.{Stop}
 use Rattle.snd_output.specs.declared.stop.Stop.TheVariants.{Changed, Fault, Memory}

@@ -4,7 +4,7 @@ use Rattle.std.proofs.lemmas.List.{length-map}
 use Rattle.snd_disk.specs.declared.disk.Disk.{Ghosts}
 use Rattle.snd_layout.specs.Shape.{Shape}
 use Rattle.snd_layout.specs.declared.codec.Codec.{Codec}
-use Rattle.snd_modes.specs.Editing.{Editing, first_editing}
+use Rattle.snd_edits.specs.Editing.{Editing, first_editing}
 use Rattle.snd_output.specs.Widths.{width_of}
 use Rattle.snd_recode.specs.Recoded.{changed_all}
 use Rattle.snd_interleave.specs.Beside.{frame_at, frames_from}

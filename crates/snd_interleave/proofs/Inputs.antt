@@ -9,7 +9,7 @@ use Rattle.snd_disk.specs.State.{State}
 use Rattle.snd_inputs.proofs.Reading.{reads_none}
 use Rattle.snd_inputs.specs.Opening.{Holds}
 use Rattle.snd_layout.specs.Shape.{Shape}
-use Rattle.snd_modes.specs.Editing.{Editing, first_editing}
+use Rattle.snd_edits.specs.Editing.{Editing, first_editing}
 use Rattle.snd_interleave.specs.Channels.{AreMono, HoldAll, ReadAll, Reads, layouts_of}
 use Rattle.snd_inputs.specs.declared.input.Input.{Input}
 

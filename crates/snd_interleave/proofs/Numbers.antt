@@ -9,7 +9,7 @@ use Rattle.snd_disk.specs.State.{State}
 use Rattle.snd_layout.specs.Shape.{Shape}
 use Rattle.snd_layout.specs.declared.codec.Codec.{Codec}
 use Rattle.snd_layout.specs.declared.codec.Codec.TheVariants.{U8, S8, S16, S24, S32, MuLaw, ALaw, Ima, Ms}
-use Rattle.snd_modes.specs.Editing.{Editing}
+use Rattle.snd_edits.specs.Editing.{Editing}
 use Rattle.snd_output.specs.Widths.{width_of}
 use Rattle.snd_recode.specs.Recoded.{changed_all}
 use Rattle.snd_pcm.specs.Width.{HasWidth, IsWidth, changed, floor_div}

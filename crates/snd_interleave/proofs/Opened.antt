@@ -10,7 +10,7 @@ use Rattle.snd_disk.specs.Shelf.{Files, SameFiles, ShelfState, put}
 use Rattle.snd_inputs.specs.Inputs.{input_as, input_before, input_in, inputs_in}
 use Rattle.snd_lines.specs.declared.refusal.Refusal.{Refusal}
 use Rattle.snd_lines.specs.declared.refusal.Refusal.TheVariants.{SameName}
-use Rattle.snd_modes.specs.Editing.{Editing, opening_of}
+use Rattle.snd_edits.specs.Editing.{Editing, opening_of}
 use Rattle.snd_tools.proofs.Names.{apart_back, put_beside}
 use Rattle.snd_tools.specs.Done.{Done}
 use Rattle.snd_words.specs.Repeats.{first_repeated, is_repeated_at}

@@ -13,11 +13,11 @@ use Rattle.snd_layout.specs.Params.{Parameters}
 use Rattle.snd_layout.specs.Shape.{Shape}
 use Rattle.snd_layout.specs.declared.codec.Codec.{Codec}
 use Rattle.snd_layout.specs.declared.codec.Codec.TheVariants.{U8, S8, S16, S24, S32, MuLaw, ALaw, Ima, Ms}
-use Rattle.snd_modes.specs.Bytes.{AreWhole, numbers_in, sources_in}
-use Rattle.snd_modes.specs.Calls.{count_read}
-use Rattle.snd_modes.specs.Editing.{Editing}
-use Rattle.snd_modes.specs.Handle.{Known}
-use Rattle.snd_modes.specs.Reading.{bytes_to_read}
+use Rattle.snd_edits.specs.Bytes.{AreWhole, numbers_in, sources_in}
+use Rattle.snd_edits.specs.Calls.{count_read}
+use Rattle.snd_edits.specs.Editing.{Editing}
+use Rattle.snd_edits.specs.Known.{Known}
+use Rattle.snd_edits.specs.Reading.{bytes_to_read}
 use Rattle.snd_output.proofs.Appending.{frames_are}
 use Rattle.snd_recode.proofs.Numbers.{all_same_width}
 use Rattle.snd_output.specs.Appended.{HasRoom, IsAtEnd, MayPass}

@@ -3,8 +3,8 @@ use Rattle.std.proofs.Common.{◌≡◌, ◌∙◌, ap, sym, subst, inl, inr, �
 use Rattle.std.proofs.lemmas.Bool.{cases_lt}
 use Rattle.std.proofs.lemmas.List.{drop-map, places, take-map}
 use Rattle.snd_layout.specs.declared.codec.Codec.{Codec}
-use Rattle.snd_modes.specs.Editing.{Editing, frames_read, moved_to}
-use Rattle.snd_modes.specs.Reading.{FitCodec}
+use Rattle.snd_edits.specs.Editing.{Editing, frames_read, moved_to}
+use Rattle.snd_edits.specs.Reading.{FitCodec}
 use Rattle.snd_pcm.specs.Groups.{first_groups}
 use Rattle.snd_interleave.specs.Reading.{GivesNumbers}
 use Rattle.snd_interleave.proofs.Lists.{heads}

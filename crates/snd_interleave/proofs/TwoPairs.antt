@@ -4,8 +4,8 @@ use Rattle.snd_disk.specs.declared.disk.Disk.{Ghosts}
 use Rattle.snd_inputs.specs.Opening.{Holds}
 use Rattle.snd_inputs.specs.declared.input.Input.{Input}
 use Rattle.snd_layout.specs.declared.codec.Codec.{Codec}
-use Rattle.snd_modes.specs.Bytes.{numbers_in}
-use Rattle.snd_modes.specs.Editing.{Editing}
+use Rattle.snd_edits.specs.Bytes.{numbers_in}
+use Rattle.snd_edits.specs.Editing.{Editing}
 use Rattle.snd_interleave.specs.Beside.{frame_at}
 use Rattle.snd_interleave.specs.Channels.{AreNumbersAt, HoldAll, ReadAll}
 use Rattle.snd_interleave.specs.Interleave.{channels_in, numbers_of}

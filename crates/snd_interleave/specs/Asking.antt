@@ -7,10 +7,10 @@ use Rattle.snd_inputs.specs.Copying.{bytes_checked, bytes_to_copy}
 use Rattle.snd_inputs.specs.declared.input.Input.{Input}
 use Rattle.snd_layout.specs.Blocks.{block_align, block_frames, is_adpcm}
 use Rattle.snd_layout.specs.Shape.{Shape}
-use Rattle.snd_modes.specs.declared.handle.File.{File}
-use Rattle.snd_modes.specs.declared.mode.Mode.{Ghosts as ModeGhosts}
-use Rattle.snd_modes.specs.Handle.{disk_of, known_of}
-use Rattle.snd_modes.specs.Reading.{bytes_to_read}
+use Rattle.snd_file.specs.declared.handle.File.{File}
+use Rattle.snd_edits.specs.declared.mode.Mode.{Ghosts as ModeGhosts}
+use Rattle.snd_file.specs.Handle.{disk_of, known_of}
+use Rattle.snd_edits.specs.Reading.{bytes_to_read}
 
 -- what was asked of an input so far
 abbrev pub asked_of : {D : Type 0} {ghosts : Ghosts D} → (D → State) → Input D ghosts → ℕ

@@ -14,10 +14,10 @@ use Rattle.snd_layout.specs.Params.{Parameters}
 use Rattle.snd_layout.specs.Shape.{Shape}
 use Rattle.snd_layout.specs.declared.codec.Codec.{Codec}
 use Rattle.snd_layout.specs.declared.kind.Kind.{Kind}
-use Rattle.snd_modes.specs.declared.handle.File.{File}
-use Rattle.snd_modes.specs.declared.mode.Mode.{Ghosts as ModeGhosts}
-use Rattle.snd_modes.specs.Editing.{Editing, first_editing}
-use Rattle.snd_modes.specs.Handle.{Stands, codec_of}
+use Rattle.snd_file.specs.declared.handle.File.{File}
+use Rattle.snd_edits.specs.declared.mode.Mode.{Ghosts as ModeGhosts}
+use Rattle.snd_edits.specs.Editing.{Editing, first_editing}
+use Rattle.snd_file.specs.Handle.{Stands, codec_of}
 use Rattle.snd_inputs.specs.Inputs.{first_bad, is_bad}
 use Rattle.snd_output.specs.Appended.{CountsRead}
 use Rattle.snd_output.specs.Ends.{IfChanged}

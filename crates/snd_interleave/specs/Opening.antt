@@ -9,7 +9,7 @@ use Rattle.snd_disk.specs.State.{State}
 use Rattle.snd_inputs.specs.Inputs.{inputs_in}
 use Rattle.snd_inputs.specs.declared.input.Input.{Input}
 use Rattle.snd_lines.specs.declared.refusal.Refusal.{Refusal}
-use Rattle.snd_modes.specs.Editing.{Editing}
+use Rattle.snd_edits.specs.Editing.{Editing}
 use Rattle.snd_tools.specs.Done.{Done}
 use Rattle.snd_tools.specs.declared.answer.Answer.{Answer}
 use Rattle.snd_words.specs.Repeats.{is_repeated_at}

@@ -5,8 +5,8 @@ use Rattle.snd_disk.specs.State.{State}
 use Rattle.snd_inputs.specs.declared.input.Input.{Input}
 use Rattle.snd_layout.specs.declared.codec.Codec.{Codec}
 use Rattle.snd_layout.specs.declared.codec.Codec.TheVariants.{S16}
-use Rattle.snd_modes.specs.Bytes.{numbers_in}
-use Rattle.snd_modes.specs.Editing.{Editing}
+use Rattle.snd_edits.specs.Bytes.{numbers_in}
+use Rattle.snd_edits.specs.Editing.{Editing}
 use Rattle.snd_interleave.specs.Beside.{frames_from}
 use Rattle.snd_interleave.specs.Channels.{HoldAll}
 use Rattle.snd_interleave.specs.Interleave.{channels_in}

@@ -5,7 +5,7 @@ use Rattle.snd_disk.specs.State.{State}
 use Rattle.snd_inputs.specs.Opening.{Holds}
 use Rattle.snd_inputs.specs.declared.input.Input.{Input}
 use Rattle.snd_layout.specs.Shape.{Shape}
-use Rattle.snd_modes.specs.Editing.{Editing, first_editing}
+use Rattle.snd_edits.specs.Editing.{Editing, first_editing}
 use Rattle.snd_interleave.specs.Channels.{AreNumbersAt}
 use Rattle.snd_interleave.specs.Interleave.{numbers_of}
 

@@ -3,9 +3,9 @@
 
 ghost use Rattle.std.specs.Prelude.{◌≡◌, ◌*◌, OnOk, length};
 ghost use Rattle.snd_disk.specs.Device.{GoesOnFrom};
-ghost use Rattle.snd_modes.specs.Handle.{channels_of, disk_of, known_of, loan_of};
-ghost use Rattle.snd_modes.specs.Outcomes.{AsksNothing, TellsOn};
-ghost use Rattle.snd_modes.specs.Reading.{FitCodec};
+ghost use Rattle.snd_file.specs.Handle.{channels_of, disk_of, known_of, loan_of};
+ghost use Rattle.snd_file.specs.Outcomes.{AsksNothing, TellsOn};
+ghost use Rattle.snd_edits.specs.Reading.{FitCodec};
 ghost use Rattle.snd_output.specs.Appended.{HasRoom, IsAtEnd, IsLonger};
 ghost use Rattle.snd_output.specs.Ends.{BreaksByFault};
 ghost use Rattle.snd_interleave.specs.Asking.{AsksEach, AsksOnce, bytes_from};
@@ -15,9 +15,9 @@ use crate::channel::{read_numbers, width_in};
 use crate::passing::{are_pairs, pass_frames};
 use crate::scatter::put_channel;
 use snd_disk::Disk;
+use snd_file::File;
 use snd_inputs::Input;
 use snd_layout::Codec;
-use snd_modes::File;
 use snd_output::{Making, Stop, numbers_of, width_of};
 use std::alloc::Global;
 

@@ -4,8 +4,8 @@ ghost use Rattle.std.specs.Prelude.{◌≡◌, ◌+◌, ◌<◌, ◌≤◌, ◌^
 ghost use Rattle.snd_disk.specs.Device.{IfOkTold, OnlyReadsOn};
 ghost use Rattle.snd_inputs.specs.Copying.{OnlyReadsFile};
 ghost use Rattle.snd_layout.specs.Shape.{end, room};
-ghost use Rattle.snd_modes.specs.Handle.{IfOkStanding, channels_of, codec_of, known_of, loan_of};
-ghost use Rattle.snd_modes.specs.Reading.{FitCodec};
+ghost use Rattle.snd_file.specs.Handle.{IfOkStanding, channels_of, codec_of, known_of, loan_of};
+ghost use Rattle.snd_edits.specs.Reading.{FitCodec};
 ghost use Rattle.snd_output.specs.Appended.{FindsChanged};
 ghost use Rattle.snd_output.specs.Ends.{CountsStop};
 ghost use Rattle.snd_output.specs.Widths.{width_of};
@@ -15,9 +15,10 @@ ghost use Rattle.snd_interleave.specs.Channels.{CountsReadOf, InputChanged, Laid
 ghost use Rattle.snd_interleave.specs.Reading.{GivesHeld, GivesLaid, GivesNumbers, HasNumbers, IsCount};
 
 use snd_disk::Disk;
+use snd_edits::{Read, ReadError};
+use snd_file::{File, open_laid};
 use snd_inputs::{Input, close_read};
 use snd_layout::{Layout, PieceList};
-use snd_modes::{File, Read, ReadError, open_laid};
 use snd_output::{Stop, width_of};
 use std::alloc::Global;
 

@@ -4,7 +4,7 @@ ghost use Rattle.std.specs.Prelude.{◌≡◌, IfOk, List};
 ghost use Rattle.snd_inputs.specs.Copying.{bytes_checked};
 ghost use Rattle.snd_inputs.specs.Inputs.{first_bad, is_bad};
 ghost use Rattle.snd_inputs.specs.Opening.{Holds};
-ghost use Rattle.snd_modes.specs.Editing.{Editing};
+ghost use Rattle.snd_edits.specs.Editing.{Editing};
 ghost use Rattle.snd_output.specs.Ends.{CountsStop, IsUnchanged};
 ghost use Rattle.snd_interleave.specs.Asking.{AsksEach, AsksInput};
 ghost use Rattle.snd_interleave.specs.Channels.{CountsInputs, HoldAll, ReadAll, Reads, faults_of};

@@ -12,9 +12,9 @@ ghost use Rattle.snd_interleave.specs.Channels.{AreMono, CountsBeside, CountsMak
 
 use crate::blocks::add_frames;
 use snd_disk::{Disk, Shelf};
+use snd_edits::{Encode, Write};
 use snd_inputs::{Input, take_output};
 use snd_layout::{Kind, Params};
-use snd_modes::{Encode, Write};
 use snd_output::{Making, Stop, finish};
 use std::alloc::Global;
 

@@ -4,8 +4,8 @@ ghost use Rattle.std.specs.Prelude.{◌≡◌, ◌+◌, ◌*◌, ◌%◌, ◌<�
 ghost use Rattle.snd_disk.specs.Device.{IfOkTold, OnlyReadsOn};
 ghost use Rattle.snd_inputs.specs.Copying.{OnlyReadsFile};
 ghost use Rattle.snd_layout.specs.Shape.{end, room};
-ghost use Rattle.snd_modes.specs.Bytes.{numbers_in};
-ghost use Rattle.snd_modes.specs.Handle.{IfOkStanding, channels_of, codec_of, known_of, loan_of};
+ghost use Rattle.snd_edits.specs.Bytes.{numbers_in};
+ghost use Rattle.snd_file.specs.Handle.{IfOkStanding, channels_of, codec_of, known_of, loan_of};
 ghost use Rattle.snd_output.specs.Ends.{CountsStop, IsUnchanged};
 ghost use Rattle.snd_interleave.specs.Asking.{AsksFile, AsksInput, AsksLaid, bytes_from};
 ghost use Rattle.snd_interleave.specs.Channels.{CountsReadOf, Reads, faults_of};
@@ -14,9 +14,10 @@ ghost use Rattle.snd_interleave.specs.Reading.{GivesHeld, GivesLaid, GivesNumber
 
 use crate::channel::bare_layout;
 use snd_disk::Disk;
+use snd_edits::{Read, ReadError};
+use snd_file::{File, open_laid};
 use snd_inputs::{Input, close_read};
 use snd_layout::Layout;
-use snd_modes::{File, Read, ReadError, open_laid};
 use snd_output::Stop;
 use std::alloc::Global;
 

@@ -3,8 +3,8 @@
 
 ghost use Rattle.std.specs.Prelude.{◌≡◌, ◌*◌, ◌%◌, ℕ, IsTrue, OnOk, length};
 ghost use Rattle.snd_disk.specs.Device.{GoesOnFrom};
-ghost use Rattle.snd_modes.specs.Handle.{channels_of, codec_of, disk_of, known_of, loan_of};
-ghost use Rattle.snd_modes.specs.Outcomes.{AsksNothing, TellsOn};
+ghost use Rattle.snd_file.specs.Handle.{channels_of, codec_of, disk_of, known_of, loan_of};
+ghost use Rattle.snd_file.specs.Outcomes.{AsksNothing, TellsOn};
 ghost use Rattle.snd_output.specs.Appended.{HasRoom, IsAtEnd, IsLonger};
 ghost use Rattle.snd_output.specs.Ends.{BreaksByFault, IsUnchanged};
 ghost use Rattle.snd_interleave.specs.Asking.{AsksEach, AsksOnce, bytes_from};
@@ -14,9 +14,9 @@ ghost use Rattle.snd_interleave.specs.Pairs.{AreAlike, ArePairs, HasPairFrames, 
 use crate::pairs::read_pairs;
 use crate::scatter::{join_pairs, put_pairs};
 use snd_disk::Disk;
+use snd_file::File;
 use snd_inputs::Input;
 use snd_layout::Codec;
-use snd_modes::File;
 use snd_output::{Making, Stop, frames_first, numbers_of};
 use std::alloc::Global;
 

@@ -19,8 +19,8 @@ use Rattle.snd_inputs.specs.declared.input.Input.{Input}
 use Rattle.snd_layout.specs.Shape.{Shape, end}
 use Rattle.snd_layout.specs.declared.piece.Piece.{Piece}
 use Rattle.snd_layout.specs.declared.refusal.OpenRefusal.{OpenRefusal}
-use Rattle.snd_modes.specs.Editing.{Editing, first_editing, opening_as, opening_of}
-use Rattle.snd_modes.specs.Handle.{Known}
+use Rattle.snd_edits.specs.Editing.{Editing, first_editing, opening_as, opening_of}
+use Rattle.snd_edits.specs.Known.{Known}
 use Rattle.snd_layout.specs.Kinds.{holds_meta}
 use Rattle.snd_metadata.specs.Asking.{bodies_in}
 use Rattle.snd_metadata.specs.Planned.{IsReady, bytes_planned, bytes_read, put_in}

@@ -10,11 +10,11 @@ use Rattle.snd_layout.specs.Fit.{fit_refusal}
 use Rattle.snd_layout.specs.declared.refusal.OpenRefusal.{OpenRefusal}
 use Rattle.snd_lines.specs.declared.refusal.Refusal.{Refusal}
 use Rattle.snd_lines.specs.declared.refusal.Refusal.TheVariants.{Open, SameName}
-use Rattle.snd_modes.specs.declared.handle.File.{File}
-use Rattle.snd_modes.specs.declared.mode.Mode.{Ghosts as ModeGhosts}
+use Rattle.snd_file.specs.declared.handle.File.{File}
+use Rattle.snd_edits.specs.declared.mode.Mode.{Ghosts as ModeGhosts}
 use Rattle.snd_inputs.proofs.Seen.{read_as}
-use Rattle.snd_modes.specs.Editing.{Editing, first_editing, opening_of}
-use Rattle.snd_modes.specs.Handle.{Stands}
+use Rattle.snd_edits.specs.Editing.{Editing, first_editing, opening_of}
+use Rattle.snd_file.specs.Handle.{Stands}
 use Rattle.snd_output.specs.Made.{made_file}
 use Rattle.snd_output.specs.Widths.{joined}
 use Rattle.snd_output.specs.declared.stop.Stop.{Stop}

@@ -16,15 +16,16 @@ use Rattle.snd_layout.specs.Shape.{Shape, room}
 use Rattle.snd_layout.specs.declared.codec.Codec.{Codec}
 use Rattle.snd_layout.specs.declared.kind.Kind.{Kind}
 use Rattle.snd_layout.specs.declared.piece.Piece.{Piece}
-use Rattle.snd_modes.specs.declared.handle.File.{File}
-use Rattle.snd_modes.specs.declared.mode.Mode.{Ghosts as ModeGhosts}
-use Rattle.snd_modes.specs.Chunks.{HoldsPut}
-use Rattle.snd_modes.specs.Editing.{Editing}
-use Rattle.snd_modes.specs.Handle.{IsFresh, Known, Stands, StandsAfter, known_of}
+use Rattle.snd_file.specs.declared.handle.File.{File}
+use Rattle.snd_edits.specs.declared.mode.Mode.{Ghosts as ModeGhosts}
+use Rattle.snd_file.specs.Chunks.{HoldsPut}
+use Rattle.snd_edits.specs.Editing.{Editing}
+use Rattle.snd_edits.specs.Known.{IsFresh, Known}
+use Rattle.snd_file.specs.Handle.{Stands, StandsAfter, known_of}
 use Rattle.snd_layout.specs.Kinds.{holds_meta}
-use Rattle.snd_modes.specs.PieceCalls.{known_put}
-use Rattle.snd_modes.specs.Pieces.{body_of}
-use Rattle.snd_modes.specs.Relaid.{added_to, head_with, pieces_held, shape_with}
+use Rattle.snd_edits.specs.PieceCalls.{known_put}
+use Rattle.snd_edits.specs.Pieces.{body_of}
+use Rattle.snd_edits.specs.Relaid.{added_to, head_with, pieces_held, shape_with}
 use Rattle.snd_output.proofs.Carried.{SaysOf, says_of}
 use Rattle.snd_output.specs.Appended.{AppendLeaves, HasRoom, MayAppend, left_in, numbers_left}
 use Rattle.snd_output.specs.Made.{made_with}

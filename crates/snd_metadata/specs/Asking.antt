@@ -6,9 +6,9 @@ use Rattle.snd_disk.specs.Device.{AsksAtMost}
 use Rattle.snd_disk.specs.State.{State}
 use Rattle.snd_inputs.specs.Copying.{AsksToCopy, bytes_to_copy}
 use Rattle.snd_layout.specs.Shape.{Shape}
-use Rattle.snd_modes.specs.declared.handle.File.{File}
-use Rattle.snd_modes.specs.declared.mode.Mode.{Ghosts as ModeGhosts}
-use Rattle.snd_modes.specs.Handle.{known_of}
+use Rattle.snd_file.specs.declared.handle.File.{File}
+use Rattle.snd_edits.specs.declared.mode.Mode.{Ghosts as ModeGhosts}
+use Rattle.snd_file.specs.Handle.{known_of}
 use Rattle.snd_layout.specs.Kinds.{holds_meta}
 
 -- the bodies of the further chunks of a file: none of a kind that has no such chunks

@@ -7,10 +7,10 @@ use Rattle.snd_lines.specs.declared.refusal.Refusal.{Refusal}
 use Rattle.snd_lines.specs.declared.refusal.Refusal.TheVariants.{BadBext, BadInfo, ChunkTooLarge}
 use Rattle.snd_meta.specs.Broadcast.{Broadcast, blank}
 use Rattle.snd_meta.specs.Info.{Entry}
-use Rattle.snd_modes.specs.declared.handle.File.{File}
-use Rattle.snd_modes.specs.declared.mode.Mode.{Ghosts as ModeGhosts}
-use Rattle.snd_modes.specs.Editing.{Editing}
-use Rattle.snd_modes.specs.Handle.{Stands, StandsAfter, disk_of, known_of, loan_of}
+use Rattle.snd_file.specs.declared.handle.File.{File}
+use Rattle.snd_edits.specs.declared.mode.Mode.{Ghosts as ModeGhosts}
+use Rattle.snd_edits.specs.Editing.{Editing}
+use Rattle.snd_file.specs.Handle.{Stands, StandsAfter, disk_of, known_of, loan_of}
 use Rattle.snd_output.specs.Ends.{CountsStop, IsUnchanged}
 use Rattle.snd_output.specs.declared.stop.Stop.{Stop}
 use Rattle.snd_tags.specs.declared.error.TagError.{TagError}

@@ -10,14 +10,15 @@ use Rattle.snd_disk.specs.State.{State}
 use Rattle.snd_layout.specs.Params.{Parameters}
 use Rattle.snd_layout.specs.declared.kind.Kind.{Kind}
 use Rattle.snd_layout.specs.Shape.{Shape}
-use Rattle.snd_modes.specs.declared.handle.File.{File}
-use Rattle.snd_modes.specs.declared.mode.Mode.{Ghosts as ModeGhosts}
-use Rattle.snd_modes.specs.Editing.{Editing, first_editing}
-use Rattle.snd_modes.specs.Handle.{Known, Stands, known_of}
+use Rattle.snd_file.specs.declared.handle.File.{File}
+use Rattle.snd_edits.specs.declared.mode.Mode.{Ghosts as ModeGhosts}
+use Rattle.snd_edits.specs.Editing.{Editing, first_editing}
+use Rattle.snd_edits.specs.Known.{Known}
+use Rattle.snd_file.specs.Handle.{Stands, known_of}
 use Rattle.snd_layout.specs.Kinds.{holds_meta}
-use Rattle.snd_modes.specs.Making.{making_of}
-use Rattle.snd_modes.specs.PieceCalls.{known_put}
-use Rattle.snd_modes.specs.Relaid.{pieces_held, shape_with}
+use Rattle.snd_edits.specs.Making.{making_of}
+use Rattle.snd_edits.specs.PieceCalls.{known_put}
+use Rattle.snd_edits.specs.Relaid.{pieces_held, shape_with}
 use Rattle.snd_output.specs.Made.{IsChunk, IsMaking, made_file, made_with}
 use Rattle.snd_output.specs.Widths.{joined}
 use Rattle.snd_output.specs.declared.stop.Stop.{Stop}

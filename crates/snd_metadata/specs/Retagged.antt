@@ -13,10 +13,10 @@ use Rattle.snd_lines.specs.declared.refusal.Refusal.{Refusal}
 use Rattle.snd_lines.specs.declared.refusal.Refusal.TheVariants.{AdpcmUpdate, BadBext, BadInfo, ChunkTooLarge, ContainerFull, NoChunks, Open, SameName, TextTooLong}
 use Rattle.snd_meta.specs.Broadcast.{Broadcast, bext_body, blank}
 use Rattle.snd_meta.specs.Info.{Entry, info_body}
-use Rattle.snd_modes.specs.declared.error.GetError.TheVariants as get
-use Rattle.snd_modes.specs.Editing.{Editing}
+use Rattle.snd_edits.specs.declared.error.GetError.TheVariants as get
+use Rattle.snd_edits.specs.Editing.{Editing}
 use Rattle.snd_layout.specs.Kinds.{holds_meta}
-use Rattle.snd_modes.specs.Relaid.{shape_with}
+use Rattle.snd_edits.specs.Relaid.{shape_with}
 use Rattle.snd_output.specs.Made.{made_file}
 use Rattle.snd_output.specs.Widths.{joined}
 use Rattle.snd_tags.specs.Found.{broadcast_of, texts_of}

@@ -2,15 +2,16 @@
 
 ghost use Rattle.std.specs.Prelude.{◌≡◌, None};
 ghost use Rattle.snd_disk.specs.Device.{AsksAtMost};
-ghost use Rattle.snd_modes.specs.Handle.{disk_of, known_of};
+ghost use Rattle.snd_file.specs.Handle.{disk_of, known_of};
 ghost use Rattle.snd_metadata.specs.Looking.{DraftsFrom, Looks, ReadsExtension, ReadsTexts, halted_by, judging, reading};
 
 use crate::halt::{Halt, Unread};
 use crate::settings::{Drafts, Summary};
 use snd_disk::Disk;
+use snd_edits::{GetError, Read};
+use snd_file::File;
 use snd_lines::Refusal;
 use snd_meta::{Bext, InfoList};
-use snd_modes::{File, GetError, Read};
 use snd_output::Stop;
 use snd_tags::{TagError, broadcast, texts};
 use std::alloc::Global;

@@ -4,11 +4,12 @@ ghost use Rattle.std.specs.Prelude.{◌≡◌, ◌<◌, None, OnOk, length, true
 ghost use Rattle.snd_disk.specs.Device.{AsksAtMost, GoesOnFrom};
 ghost use Rattle.snd_inputs.specs.Copying.{AsksToCopy, CopiesInto, CountsFileAndDisk, OnlyReadsFile};
 ghost use Rattle.snd_inputs.specs.Opening.{IsUnread};
-ghost use Rattle.snd_modes.specs.Handle.{IsFresh, StandsAfter, disk_of, known_of, loan_of};
+ghost use Rattle.snd_edits.specs.Known.{IsFresh};
+ghost use Rattle.snd_file.specs.Handle.{StandsAfter, disk_of, known_of, loan_of};
 ghost use Rattle.snd_layout.specs.Params.{AreParams};
 ghost use Rattle.snd_layout.specs.Kinds.{holds_meta};
-ghost use Rattle.snd_modes.specs.Outcomes.{AsksNothing};
-ghost use Rattle.snd_modes.specs.PieceCalls.{IsUntouched};
+ghost use Rattle.snd_file.specs.Outcomes.{AsksNothing};
+ghost use Rattle.snd_edits.specs.PieceCalls.{IsUntouched};
 ghost use Rattle.snd_output.specs.Ends.{IsUnchanged};
 ghost use Rattle.snd_patch.specs.Steps.{StillTells};
 ghost use Rattle.snd_metadata.specs.Making.{Carries, Fills, HasOneMore, IsBegunLike, IsFilled, Makes, PutsPlanned};
@@ -17,8 +18,9 @@ ghost use Rattle.snd_metadata.specs.Planned.{IsReady, MayStand, bytes_planned, b
 use crate::chunks::PlannedChunk;
 use snd_carry::{carry_chunk, put_chunk};
 use snd_disk::Disk;
+use snd_edits::{Read, Write};
+use snd_file::File;
 use snd_inputs::params_of;
-use snd_modes::{File, Read, Write};
 use snd_output::{Making, Stop, append, finish};
 use std::alloc::Global;
 

@@ -4,7 +4,7 @@ ghost use Rattle.std.specs.Prelude.{◌≡◌, ◌+◌, ◌*◌, ◌<◌, ◌≤
 ghost use Rattle.std.specs.Str.{bytes_eq};
 ghost use Rattle.snd_disk.specs.Device.{AsksAtMost};
 ghost use Rattle.snd_fields.specs.Laws.{IsByte};
-ghost use Rattle.snd_modes.specs.Handle.{IfOkStanding, disk_of, known_of};
+ghost use Rattle.snd_file.specs.Handle.{IfOkStanding, disk_of, known_of};
 ghost use Rattle.snd_metadata.specs.Looking.{Looks};
 ghost use Rattle.snd_metadata.specs.Places.{HasChunks, IsInfoPlace, PutsInfoList, SaysInfo, SaysInfoList};
 ghost use Rattle.snd_metadata.specs.Planned.{IsPlan, MayStand, bytes_planned};
@@ -14,8 +14,9 @@ use crate::bodies::Bodies;
 use crate::chunks::{PlannedChunk, kept_chunks, put_at, put_extension};
 use crate::settings::Summary;
 use snd_disk::Disk;
+use snd_edits::{PieceReadError, Read};
 use snd_fields::Id4;
-use snd_modes::{File, PieceReadError, Read};
+use snd_file::File;
 use snd_output::Stop;
 use std::alloc::Global;
 

@@ -4,7 +4,7 @@ ghost use Rattle.std.specs.Prelude.{◌≡◌, All, IfOk, None, false, map, true
 ghost use Rattle.snd_disk.specs.Device.{AsksAtMost};
 ghost use Rattle.snd_layout.specs.Blocks.{is_adpcm};
 ghost use Rattle.snd_layout.specs.Fit.{fit_refusal};
-ghost use Rattle.snd_modes.specs.Handle.{codec_of, disk_of, known_of};
+ghost use Rattle.snd_file.specs.Handle.{codec_of, disk_of, known_of};
 ghost use Rattle.snd_layout.specs.Kinds.{holds_meta};
 ghost use Rattle.snd_words.specs.Stated.{IsStated};
 ghost use Rattle.snd_metadata.specs.Judged.{HasRoom};
@@ -21,8 +21,9 @@ use crate::places::chunks_of;
 use crate::settings::summary_of;
 use snd_container::{fit, room_with};
 use snd_disk::Disk;
+use snd_edits::Read;
+use snd_file::File;
 use snd_lines::Refusal;
-use snd_modes::{File, Read};
 use snd_words::MetadataSettings;
 use std::alloc::Global;
 

@@ -15,13 +15,13 @@ use Rattle.snd_layout.specs.declared.codec.Codec.{Codec}
 use Rattle.snd_pcm.specs.Groups.{first_groups}
 use Rattle.snd_pcm.specs.Width.{changed}
 use Rattle.snd_disk.specs.declared.disk.Step.{Step}
-use Rattle.snd_modes.specs.declared.error.ReadError.{ReadError}
-use Rattle.snd_modes.specs.declared.error.ReadError.TheVariants.{BadBlock, Broken, DiskFault, PartFrame}
-use Rattle.snd_modes.specs.Calls.{IsReady, ReadLeaves, count_read}
-use Rattle.snd_modes.specs.Editing.{Editing, frames_read, moved_by}
-use Rattle.snd_modes.specs.Handle.{Known}
-use Rattle.snd_modes.specs.Reading.{FitCodec, bytes_to_read}
-use Rattle.snd_modes.proofs.EncodedPlaces.{data_more}
+use Rattle.snd_edits.specs.declared.error.ReadError.{ReadError}
+use Rattle.snd_edits.specs.declared.error.ReadError.TheVariants.{BadBlock, Broken, DiskFault, PartFrame}
+use Rattle.snd_edits.specs.Calls.{IsReady, ReadLeaves, count_read}
+use Rattle.snd_edits.specs.Editing.{Editing, frames_read, moved_by}
+use Rattle.snd_edits.specs.Known.{Known}
+use Rattle.snd_edits.specs.Reading.{FitCodec, bytes_to_read}
+use Rattle.snd_edits.proofs.Public.{data_more}
 use Rattle.snd_output.specs.declared.stop.Stop.{Stop}
 use Rattle.snd_output.specs.declared.stop.Stop.TheVariants.{Changed, Fault, Memory}
 use Rattle.snd_output.specs.Ends.{IfChanged}

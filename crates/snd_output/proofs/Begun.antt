@@ -17,16 +17,14 @@ use Rattle.snd_layout.specs.declared.error.OpenError.{OpenError}
 use Rattle.snd_layout.specs.declared.error.OpenError.TheVariants.{DiskFault, Memory, Refused}
 use Rattle.snd_layout.specs.declared.kind.Kind.{Kind}
 use Rattle.snd_layout.specs.declared.refusal.OpenRefusal.{OpenRefusal}
-use Rattle.snd_modes.specs.Editing.{Editing, first_editing}
-use Rattle.snd_modes.specs.Edits.{coded}
-use Rattle.snd_modes.specs.Laws.{IsEdited, IsEncoded}
-use Rattle.snd_modes.specs.Making.{making_of}
-use Rattle.snd_modes.specs.Relaid.{head_with, shape_with}
+use Rattle.snd_edits.specs.Editing.{Editing, first_editing}
+use Rattle.snd_edits.specs.Edits.{coded}
+use Rattle.snd_edits.specs.Laws.{IsEdited, IsEncoded}
+use Rattle.snd_edits.specs.Making.{making_of}
+use Rattle.snd_edits.specs.Relaid.{head_with, shape_with}
 use Rattle.snd_container.proofs.Public.{head_laws}
 use Rattle.snd_layout.proofs.Public.{few_channels, is_held}
-use Rattle.snd_modes.proofs.FixedFrames.{is_fixed}
-use Rattle.snd_modes.proofs.MadeFiles.{made_is_edited, made_is_encoded}
-use Rattle.snd_modes.proofs.NewFiles.{making_ok, making_refused, never_refused}
+use Rattle.snd_edits.proofs.Public.{is_fixed, made_is_edited, made_is_encoded, making_ok, making_refused, never_refused}
 use Rattle.snd_output.specs.declared.stop.Stop.{Stop}
 use Rattle.snd_output.specs.Ends.{IsStopCause, IsUnchanged, stop_of}
 use Rattle.snd_output.specs.Laws.{BegunIsMaking}

@@ -18,9 +18,8 @@ use Rattle.snd_layout.specs.Params.{Parameters, data_bytes}
 use Rattle.snd_layout.specs.Shape.{EndsBy, KeepsRule, Shape, end}
 use Rattle.snd_layout.specs.declared.field.Field.{Field}
 use Rattle.snd_patch.specs.Sealed.{closed, over_closing, with_fields, with_inner}
-use Rattle.snd_modes.specs.Edits.{coded, coded_as}
-use Rattle.snd_modes.proofs.Sealing.{length-coded}
-use Rattle.snd_modes.proofs.SoundFrames.{linear_bytes}
+use Rattle.snd_edits.specs.Edits.{coded, coded_as}
+use Rattle.snd_edits.proofs.Public.{length-coded, linear_bytes}
 use Rattle.snd_output.specs.Made.{closing_so_far}
 use Rattle.snd_output.proofs.Lists.{over_behind, over_in_front}
 

@@ -17,26 +17,20 @@ use Rattle.snd_layout.specs.Shape.{Shape, end}
 use Rattle.snd_layout.specs.declared.kind.Kind.{Kind}
 use Rattle.snd_layout.specs.declared.piece.Piece.{Piece}
 use Rattle.snd_chunks.specs.Heads.{chunk_read}
-use Rattle.snd_modes.specs.Editing.{Editing, first_editing}
-use Rattle.snd_modes.specs.Edits.{coded}
+use Rattle.snd_edits.specs.Editing.{Editing, first_editing}
+use Rattle.snd_edits.specs.Edits.{coded}
 use Rattle.snd_layout.specs.Kinds.{holds_meta, holds_pieces}
-use Rattle.snd_modes.specs.Laws.{IsEncoded}
-use Rattle.snd_modes.specs.Pacing.{HasPlaceFor}
-use Rattle.snd_modes.specs.Relaid.{head_with, shape_with}
-use Rattle.snd_modes.specs.Making.{making_of}
-use Rattle.snd_modes.specs.Updating.{updating_of}
+use Rattle.snd_edits.specs.Laws.{IsEncoded}
+use Rattle.snd_edits.specs.Pacing.{HasPlaceFor}
+use Rattle.snd_edits.specs.Relaid.{head_with, shape_with}
+use Rattle.snd_edits.specs.Making.{making_of}
+use Rattle.snd_edits.specs.Updating.{updating_of}
 use Rattle.snd_layout.proofs.Public.{few_channels, is_held, meta_holds, meta_own}
-use Rattle.snd_modes.proofs.EditedFiles.{first_keeps, updated_is_edited}
-use Rattle.snd_modes.proofs.Encoded.{given_none}
-use Rattle.snd_modes.proofs.EncodedPlaces.{may_encode}
-use Rattle.snd_modes.proofs.FileRules.{lies_in}
-use Rattle.snd_modes.proofs.NewFiles.{begins_new}
+use Rattle.snd_edits.proofs.Public.{begins_again, begins_new, count_opened, first_keeps, given_none, is_fixed, lies_in, may_encode, updated_is_edited}
 use Rattle.snd_block_writer.proofs.Parameters.{are_blocks}
 use Rattle.snd_block_writer.proofs.Standing.{none_coded}
 use Rattle.snd_blocks.specs.Calls.{AreBlocks}
 use Rattle.snd_blocks.specs.Sound.{frames_in}
-use Rattle.snd_modes.proofs.FixedFrames.{count_opened, is_fixed}
-use Rattle.snd_modes.proofs.PutHeads.{begins_again}
 use Rattle.snd_output.specs.Laws.{CarriedIsMaking}
 use Rattle.snd_output.specs.Made.{AreChunks, ArePieces, HoldsBlocks, HoldsNumbers, IsChunk, IsMaking, closing_so_far, frame_count, kept_chunk, made_with}
 use Rattle.snd_output.proofs.Begun.{may_make}

@@ -11,15 +11,13 @@ use Rattle.snd_layout.specs.Params.{Parameters, data_bytes}
 use Rattle.snd_layout.specs.Shape.{KeepsRule, Shape, end, room}
 use Rattle.snd_layout.specs.declared.kind.Kind.{Kind}
 use Rattle.snd_patch.specs.Sealed.{FieldsLieApart, sealed, with_fields}
-use Rattle.snd_modes.specs.Editing.{Editing}
-use Rattle.snd_modes.specs.Edits as fixed
-use Rattle.snd_modes.specs.Edits.{sealed_where, written_shape}
-use Rattle.snd_modes.specs.Encoding.{MayEncode, counting, encoded_to, encoded_whole, over_blocks}
-use Rattle.snd_modes.specs.Reading.{FitCodec}
-use Rattle.snd_modes.specs.Relaid.{head_with, shape_with}
-use Rattle.snd_modes.proofs.EncodedFiles.{encoded_stays}
-use Rattle.snd_modes.proofs.EncodedPlaces.{room_on_disk}
-use Rattle.snd_modes.proofs.ImageFields.{fields_lie_apart}
+use Rattle.snd_edits.specs.Editing.{Editing}
+use Rattle.snd_edits.specs.Edits as fixed
+use Rattle.snd_edits.specs.Edits.{sealed_where, written_shape}
+use Rattle.snd_edits.specs.Encoding.{MayEncode, counting, encoded_to, encoded_whole, over_blocks}
+use Rattle.snd_edits.specs.Reading.{FitCodec}
+use Rattle.snd_edits.specs.Relaid.{head_with, shape_with}
+use Rattle.snd_edits.proofs.Public.{encoded_stays, fields_lie_apart, room_on_disk}
 use Rattle.snd_output.specs.Laws.{EncodedIsMaking, FilledIsMade}
 use Rattle.snd_output.specs.Made.{HoldsBlocks, IsMaking, frame_count, made_file}
 use Rattle.snd_output.proofs.MadeBlocks.{channels, whole_least, whole_more}

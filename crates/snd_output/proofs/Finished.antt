@@ -12,13 +12,10 @@ use Rattle.snd_layout.specs.Params.{Parameters, data_bytes}
 use Rattle.snd_layout.specs.Shape.{KeepsRule, Shape, end}
 use Rattle.snd_layout.specs.declared.kind.Kind.{Kind}
 use Rattle.snd_patch.specs.Sealed.{FieldsLieApart, closed, sealed, with_fields}
-use Rattle.snd_modes.specs.Editing.{Editing}
-use Rattle.snd_modes.specs.Edits.{coded}
-use Rattle.snd_modes.specs.Relaid.{head_with, shape_with}
-use Rattle.snd_modes.proofs.EditedFiles.{longer_closed, sealed_is, some_channel}
-use Rattle.snd_modes.proofs.EditedFrames.{whole_frames}
-use Rattle.snd_modes.proofs.FixedFrames.{is_fixed}
-use Rattle.snd_modes.proofs.ImageFields.{fields_lie_apart}
+use Rattle.snd_edits.specs.Editing.{Editing}
+use Rattle.snd_edits.specs.Edits.{coded}
+use Rattle.snd_edits.specs.Relaid.{head_with, shape_with}
+use Rattle.snd_edits.proofs.Public.{fields_lie_apart, is_fixed, longer_closed, sealed_is, some_channel, whole_frames}
 use Rattle.snd_output.specs.Laws.{SealedIsMade}
 use Rattle.snd_output.specs.Made.{HoldsNumbers, IsMaking, closing_so_far, frame_count, made_file}
 use Rattle.snd_output.proofs.Bytes.{closed_now, coded_data, fields_in_front, same_closing, same_fields, so_far_either}

@@ -8,14 +8,13 @@ use Rattle.snd_layout.specs.Params.{AreParams}
 use Rattle.snd_layout.specs.Shape.{KeepsRule, Shape}
 use Rattle.snd_layout.specs.declared.codec.Codec.{Codec}
 use Rattle.snd_layout.specs.declared.codec.Codec.TheVariants.{Ima, Ms}
-use Rattle.snd_modes.specs.declared.error.WriteError.{WriteError}
-use Rattle.snd_modes.specs.declared.error.WriteError.TheVariants as write
-use Rattle.snd_modes.specs.Edits.{count_written, written_shape}
-use Rattle.snd_modes.specs.Encoding.{EncodeLeaves, MayEncode, counting_whole, encoded_shape, known_encoded, whole_frames}
-use Rattle.snd_modes.specs.Handle.{Known}
-use Rattle.snd_modes.specs.WriteCalls.{MayWrite, WriteLeaves, end_written, known_written}
-use Rattle.snd_modes.proofs.Encoded.{frames_where}
-use Rattle.snd_modes.proofs.EncodedPlaces.{blocks_of}
+use Rattle.snd_edits.specs.declared.error.WriteError.{WriteError}
+use Rattle.snd_edits.specs.declared.error.WriteError.TheVariants as write
+use Rattle.snd_edits.specs.Edits.{count_written, written_shape}
+use Rattle.snd_edits.specs.Encoding.{EncodeLeaves, MayEncode, counting_whole, encoded_shape, known_encoded, whole_frames}
+use Rattle.snd_edits.specs.Known.{Known}
+use Rattle.snd_edits.specs.WriteCalls.{MayWrite, WriteLeaves, end_written, known_written}
+use Rattle.snd_edits.proofs.Public.{blocks_of, frames_where}
 use Rattle.snd_output.specs.Appended.{IsLonger, MayGive}
 
 -- a block has a frame at least

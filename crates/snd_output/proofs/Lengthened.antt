@@ -16,15 +16,13 @@ use Rattle.snd_layout.specs.Shape.{Shape, end}
 use Rattle.snd_layout.specs.declared.codec.Codec.{Codec}
 use Rattle.snd_layout.specs.declared.kind.Kind.{Kind}
 use Rattle.snd_patch.specs.Sealed.{over_closing}
-use Rattle.snd_modes.specs.Editing.{Editing}
-use Rattle.snd_modes.specs.Edits.{closed_behind, coded, count_written, over_data, written_bytes, written_shape, written_to}
-use Rattle.snd_modes.specs.Laws.{writes}
-use Rattle.snd_modes.specs.Reading.{FitCodec}
-use Rattle.snd_modes.specs.Relaid.{head_with, shape_with}
-use Rattle.snd_modes.specs.WriteCalls.{MayWrite}
-use Rattle.snd_modes.proofs.EditedFrames.{whole_frames, written_end}
-use Rattle.snd_modes.proofs.EditedSteps.{leads_to_edited}
-use Rattle.snd_modes.proofs.Sealing.{ends_before}
+use Rattle.snd_edits.specs.Editing.{Editing}
+use Rattle.snd_edits.specs.Edits.{closed_behind, coded, count_written, over_data, written_bytes, written_shape, written_to}
+use Rattle.snd_edits.specs.Laws.{writes}
+use Rattle.snd_edits.specs.Reading.{FitCodec}
+use Rattle.snd_edits.specs.Relaid.{head_with, shape_with}
+use Rattle.snd_edits.specs.WriteCalls.{MayWrite}
+use Rattle.snd_edits.proofs.Public.{ends_before, leads_to_edited, whole_frames, written_end}
 use Rattle.snd_output.specs.Laws.{WrittenIsMaking}
 use Rattle.snd_output.specs.Made.{HoldsNumbers, IsMaking, closing_so_far, frame_count}
 use Rattle.snd_output.proofs.Bytes.{coded_data, coded_joined, coded_none, same_closing, so_far_few}

@@ -14,17 +14,14 @@ use Rattle.snd_layout.specs.Params.{Parameters, data_bytes}
 use Rattle.snd_layout.specs.Shape.{Shape}
 use Rattle.snd_layout.specs.declared.kind.Kind.{Kind}
 use Rattle.snd_pcm.specs.Groups.{groups}
-use Rattle.snd_modes.specs.Editing.{Editing}
-use Rattle.snd_modes.specs.Edits.{coded, coded_as, sealed_to}
-use Rattle.snd_modes.specs.Encoding.{encoded_whole}
-use Rattle.snd_modes.specs.Laws.{HasSoundOf}
-use Rattle.snd_modes.specs.Reading.{FitCodec}
-use Rattle.snd_modes.specs.Relaid.{head_with, shape_with}
+use Rattle.snd_edits.specs.Editing.{Editing}
+use Rattle.snd_edits.specs.Edits.{coded, coded_as, sealed_to}
+use Rattle.snd_edits.specs.Encoding.{encoded_whole}
+use Rattle.snd_edits.specs.Laws.{HasSoundOf}
+use Rattle.snd_edits.specs.Reading.{FitCodec}
+use Rattle.snd_edits.specs.Relaid.{head_with, shape_with}
 use Rattle.snd_layout.specs.declared.refusal.OpenRefusal.{OpenRefusal}
-use Rattle.snd_modes.proofs.EditedFiles.{now_decoded, sealed_is_edited, sealed_told}
-use Rattle.snd_modes.proofs.EditedSounds.{edited_pieces, sound_by, sound_with}
-use Rattle.snd_modes.proofs.EncodedFiles.{encoded_sound}
-use Rattle.snd_modes.proofs.Ranges.{in_form}
+use Rattle.snd_edits.proofs.Public.{edited_pieces, encoded_sound, in_form, now_decoded, sealed_is_edited, sealed_told, sound_by, sound_with}
 use Rattle.snd_output.specs.Laws.{MadeHasSound}
 use Rattle.snd_output.specs.Made.{HoldsBlocks, HoldsNumbers, IsMaking, closing_so_far, frame_count, kept_chunk, made_sound}
 use Rattle.snd_output.proofs.Bytes.{coded_data}

@@ -4,7 +4,7 @@ use Rattle.std.proofs.Math.Nat.{mul-div_cancel_left, mul-mod_right}
 use Rattle.std.proofs.lemmas.List.{length-append, length-drop, places, same_lists, take_all}
 use Rattle.std.proofs.lemmas.List.Concat.{flat_map-append}
 use Rattle.snd_pcm.specs.Groups.{first_groups}
-use Rattle.snd_modes.proofs.EditedFrames.{whole_frames}
+use Rattle.snd_edits.proofs.Public.{whole_frames}
 use Rattle.snd_output.specs.Widths.{joined}
 
 taken_more : (c n : ℕ) (xs : List ℤ) → take c xs ++ take (n * c) (drop c xs) ≡ take (c + n * c) xs

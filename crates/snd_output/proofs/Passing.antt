@@ -16,18 +16,15 @@ use Rattle.snd_container.specs.declared.fixed.Fixed.{Fixed}
 use Rattle.snd_container.specs.declared.fixed.Fixed.TheVariants.{Linear}
 use Rattle.snd_container.proofs.FixedSamples.{byte_count_pos, count_of_bytes, length-samples, samples_of_parts}
 use Rattle.snd_container.proofs.Sources.{samples_fit, sources_written}
-use Rattle.snd_modes.specs.Bytes.{AreWhole, numbers_as, numbers_in, sources_as, sources_in}
-use Rattle.snd_modes.specs.Calls.{ReadLeaves, count_read}
-use Rattle.snd_modes.specs.Editing.{Editing, frames_read}
-use Rattle.snd_modes.specs.Edits.{coded_as}
-use Rattle.snd_modes.specs.Handle.{Known}
-use Rattle.snd_modes.specs.Reading.{FitCodec, bytes_of_frames}
-use Rattle.snd_modes.specs.declared.error.ReadError.{ReadError}
-use Rattle.snd_modes.specs.declared.error.ReadError.TheVariants.{BadBlock}
-use Rattle.snd_modes.proofs.BytesRead.{count_numbers, numbers_are_whole}
-use Rattle.snd_modes.proofs.GivenBytes.{count_of_given, fits_given}
-use Rattle.snd_modes.proofs.Ranges.{fits_form}
-use Rattle.snd_modes.proofs.SoundFrames.{frame_bytes, linear_align, linear_frames}
+use Rattle.snd_edits.specs.Bytes.{AreWhole, numbers_as, numbers_in, sources_as, sources_in}
+use Rattle.snd_edits.specs.Calls.{ReadLeaves, count_read}
+use Rattle.snd_edits.specs.Editing.{Editing, frames_read}
+use Rattle.snd_edits.specs.Edits.{coded_as}
+use Rattle.snd_edits.specs.Known.{Known}
+use Rattle.snd_edits.specs.Reading.{FitCodec, bytes_of_frames}
+use Rattle.snd_edits.specs.declared.error.ReadError.{ReadError}
+use Rattle.snd_edits.specs.declared.error.ReadError.TheVariants.{BadBlock}
+use Rattle.snd_edits.proofs.Public.{count_numbers, count_of_given, fits_form, fits_given, frame_bytes, linear_align, linear_frames, numbers_are_whole}
 use Rattle.snd_pcm.specs.Groups.{first_groups}
 use Rattle.snd_pcm.specs.Pcm.{bit_count}
 use Rattle.snd_pcm.specs.Width.{changed}

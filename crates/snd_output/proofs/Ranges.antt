@@ -7,7 +7,7 @@ use Rattle.snd_container.specs.declared.fixed.Fixed.TheVariants.{Linear}
 use Rattle.snd_fields.specs.declared.field.Order.TheVariants.{Little}
 use Rattle.snd_layout.specs.declared.codec.Codec.{Codec}
 use Rattle.snd_layout.specs.declared.codec.Codec.TheVariants.{U8, S8, S16, S24, S32, MuLaw, ALaw, Ima, Ms}
-use Rattle.snd_modes.specs.Reading.{FitCodec}
+use Rattle.snd_edits.specs.Reading.{FitCodec}
 use Rattle.snd_pcm.specs.Width.{HasWidth}
 use Rattle.snd_pcm.specs.declared.linear.Linear as linear
 use Rattle.snd_output.specs.Widths.{width_of}

@@ -9,13 +9,13 @@ use Rattle.snd_layout.specs.Params.{Parameters}
 use Rattle.snd_layout.specs.Shape.{Shape}
 use Rattle.snd_layout.specs.declared.codec.Codec.{Codec}
 use Rattle.snd_layout.specs.declared.kind.Kind.{Kind}
-use Rattle.snd_modes.specs.Editing.{Editing}
-use Rattle.snd_modes.specs.Edits.{coded}
-use Rattle.snd_modes.specs.Handle.{codec_of}
-use Rattle.snd_modes.specs.Reading.{FitCodec}
-use Rattle.snd_modes.specs.Relaid.{head_with, shape_with}
-use Rattle.snd_modes.specs.declared.handle.File.{File}
-use Rattle.snd_modes.specs.declared.mode.Mode.{Ghosts as ModeGhosts}
+use Rattle.snd_edits.specs.Editing.{Editing}
+use Rattle.snd_edits.specs.Edits.{coded}
+use Rattle.snd_file.specs.Handle.{codec_of}
+use Rattle.snd_edits.specs.Reading.{FitCodec}
+use Rattle.snd_edits.specs.Relaid.{head_with, shape_with}
+use Rattle.snd_file.specs.declared.handle.File.{File}
+use Rattle.snd_edits.specs.declared.mode.Mode.{Ghosts as ModeGhosts}
 use Rattle.snd_output.specs.Appended.{Gains, coded_in}
 use Rattle.snd_output.specs.Made.{IsMaking, closing_so_far, frame_count}
 use Rattle.snd_output.proofs.Bytes.{coded_joined}

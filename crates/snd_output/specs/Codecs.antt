@@ -7,7 +7,7 @@ use Rattle.snd_layout.specs.declared.codec.Codec.{Codec}
 use Rattle.snd_layout.specs.declared.codec.Codec.TheVariants.{Ima, Ms}
 use Rattle.snd_layout.specs.declared.kind.Kind.{Kind}
 use Rattle.snd_layout.specs.declared.refusal.OpenRefusal.{OpenRefusal}
-use Rattle.snd_modes.specs.Blocks.{ima_made, ms_made}
+use Rattle.snd_edits.specs.Blocks.{ima_made, ms_made}
 
 -- with so many channels and such a rate: the same, but that blocks of ADPCM have the size that this library gives them
 abbrev pub codec_like : ℕ → ℕ → Codec → Codec

@@ -5,12 +5,12 @@ use Rattle.snd_blocks.specs.Sound.{sound_of}
 use Rattle.snd_layout.specs.Blocks.{is_adpcm}
 use Rattle.snd_layout.specs.Params.{AreParams, Parameters}
 use Rattle.snd_layout.specs.declared.kind.Kind.{Kind}
-use Rattle.snd_modes.specs.Editing.{Editing}
-use Rattle.snd_modes.specs.Edits.{sealed_to, written_to}
-use Rattle.snd_modes.specs.Encoding.{MayEncode, encoded_to, encoded_whole}
+use Rattle.snd_edits.specs.Editing.{Editing}
+use Rattle.snd_edits.specs.Edits.{sealed_to, written_to}
+use Rattle.snd_edits.specs.Encoding.{MayEncode, encoded_to, encoded_whole}
 use Rattle.snd_layout.specs.Kinds.{holds_pieces}
-use Rattle.snd_modes.specs.Making.{making_of}
-use Rattle.snd_modes.specs.WriteCalls.{MayWrite}
+use Rattle.snd_edits.specs.Making.{making_of}
+use Rattle.snd_edits.specs.WriteCalls.{MayWrite}
 use Rattle.snd_output.specs.Made.{ArePieces, IsMaking, made_file, made_sound, made_with}
 
 -- a file begins without chunks and numbers

@@ -15,11 +15,11 @@ use Rattle.snd_layout.specs.Shape.{Shape}
 use Rattle.snd_layout.specs.declared.kind.Kind.{Kind}
 use Rattle.snd_pcm.specs.Groups.{groups}
 use Rattle.snd_patch.specs.Sealed.{with_fields}
-use Rattle.snd_modes.specs.Editing.{Editing}
-use Rattle.snd_modes.specs.Edits.{coded}
-use Rattle.snd_modes.specs.Laws.{IsEdited, IsEncoded}
-use Rattle.snd_modes.specs.Reading.{FitCodec}
-use Rattle.snd_modes.specs.Relaid.{head_with, shape_with}
+use Rattle.snd_edits.specs.Editing.{Editing}
+use Rattle.snd_edits.specs.Edits.{coded}
+use Rattle.snd_edits.specs.Laws.{IsEdited, IsEncoded}
+use Rattle.snd_edits.specs.Reading.{FitCodec}
+use Rattle.snd_edits.specs.Relaid.{head_with, shape_with}
 
 -- how many frames numbers are
 abbrev pub frame_count : Parameters → List ℤ → ℕ

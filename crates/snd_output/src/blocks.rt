@@ -3,10 +3,11 @@
 ghost use Rattle.std.specs.Prelude.{◌≡◌, ◌-◌, ◌*◌, ◌/◌, ◌%◌, ◌≤◌, IfOk, OnOk, false, length, true};
 ghost use Rattle.snd_disk.specs.Device.{GoesOnFrom, OnlyReadsOn};
 ghost use Rattle.snd_layout.specs.Blocks.{block_frames, is_adpcm};
-ghost use Rattle.snd_modes.specs.Calls.{AsksForFrames, count_read};
-ghost use Rattle.snd_modes.specs.Handle.{StandsAfter, channels_of, codec_of, disk_of, known_of, loan_of};
-ghost use Rattle.snd_modes.specs.Editing.{frames_read, moved_by};
-ghost use Rattle.snd_modes.specs.Outcomes.{AsksNothing, TellsOn};
+ghost use Rattle.snd_edits.specs.Calls.{count_read};
+ghost use Rattle.snd_file.specs.Calls.{AsksForFrames};
+ghost use Rattle.snd_file.specs.Handle.{StandsAfter, channels_of, codec_of, disk_of, known_of, loan_of};
+ghost use Rattle.snd_edits.specs.Editing.{frames_read, moved_by};
+ghost use Rattle.snd_file.specs.Outcomes.{AsksNothing, TellsOn};
 ghost use Rattle.snd_output.specs.Appended.{AsksForLeft, CountsFiles, FindsChanged, LeavesFiles, Lengthens, MayAppend, OnlyReadsIn, Pass, bytes_for, bytes_in, frames_ahead, left_in, next_count, next_frames, next_numbers, numbers_left};
 
 use crate::making::Making;
@@ -16,8 +17,9 @@ use crate::steps::{read_some, read_some_bytes};
 use crate::stop::Stop;
 use crate::widths::change_numbers;
 use snd_disk::Disk;
+use snd_edits::{Mode, Read};
+use snd_file::File;
 use snd_layout::{Codec, Params};
-use snd_modes::{File, Mode, Read};
 
 /// How many numbers a frame of a file has, and their codec.
 pub fn numbers_of<D: Disk, M: Mode>(file: &File<'_, D, M>) -> (usize, Codec)

@@ -5,8 +5,8 @@ ghost use Rattle.snd_layout.specs.Fit.{fit_refusal};
 ghost use Rattle.snd_output.specs.Codecs.{codec_like, params_like};
 
 use snd_container::fit;
+use snd_edits::{ima_codec, ms_codec};
 use snd_layout::{Codec, Kind, OpenRefusal, Params};
-use snd_modes::{ima_codec, ms_codec};
 
 /// The codec of a file with so many channels and frames a second that is made like one with another: the same,
 /// but that blocks of ADPCM have the size that `ima_codec` and `ms_codec` give them.

@@ -2,16 +2,16 @@
 
 ghost use Rattle.std.specs.Prelude.{◌≡◌, OnOk};
 ghost use Rattle.snd_disk.specs.Device.{GoesOnFrom, IsStable, WritesAtMost};
-ghost use Rattle.snd_modes.specs.Closing.{most_closed};
-ghost use Rattle.snd_modes.specs.Handle.{disk_of, known_of, loan_of};
-ghost use Rattle.snd_modes.specs.Loans.{disk_back, loan_back};
+ghost use Rattle.snd_edits.specs.Closing.{most_closed};
+ghost use Rattle.snd_file.specs.Handle.{disk_of, known_of, loan_of};
+ghost use Rattle.snd_file.specs.Loans.{disk_back, loan_back};
 ghost use Rattle.snd_patch.specs.Steps.{StillTells};
 ghost use Rattle.snd_output.specs.Ends.{IsFinishCause, MakesWhole};
 
 use crate::making::Making;
 use crate::stop::Stop;
 use snd_disk::Disk;
-use snd_modes::File;
+use snd_file::File;
 
 /// Finishes a file: its head says how many frames it has, what closes them stands behind them, and all is
 /// stable; in ADPCM zeros fill the last block before that. It writes at most 64 bytes, and such a block, reads

@@ -4,19 +4,21 @@ ghost use Rattle.std.specs.Prelude.{◌≡◌, [], ◌/◌, IfOk, None, OnOk, le
 ghost use Rattle.snd_disk.specs.Device.{GoesOnFrom, WritesAtMost};
 ghost use Rattle.snd_layout.specs.Blocks.{is_adpcm};
 ghost use Rattle.snd_layout.specs.Fit.{fit_refusal};
-ghost use Rattle.snd_modes.specs.Bytes.{sources_of};
-ghost use Rattle.snd_modes.specs.Handle.{IsFresh, channels_of, disk_of, known_of, loan_of};
-ghost use Rattle.snd_modes.specs.Loans.{answer_of, disk_after, loan_after};
-ghost use Rattle.snd_modes.specs.Outcomes.{AsksNothing, TellsOn};
-ghost use Rattle.snd_modes.specs.Relaid.{shape_with};
+ghost use Rattle.snd_file.specs.Bytes.{sources_of};
+ghost use Rattle.snd_edits.specs.Known.{IsFresh};
+ghost use Rattle.snd_file.specs.Handle.{channels_of, disk_of, known_of, loan_of};
+ghost use Rattle.snd_file.specs.Loans.{answer_of, disk_after, loan_after};
+ghost use Rattle.snd_file.specs.Outcomes.{AsksNothing, TellsOn};
+ghost use Rattle.snd_edits.specs.Relaid.{shape_with};
 ghost use Rattle.snd_patch.specs.Steps.{StillTells};
 ghost use Rattle.snd_output.specs.Appended.{CountsFile, Gains, IsAtEnd, LeavesFile, MayGive, MayPass};
 ghost use Rattle.snd_output.specs.Ends.{BeginsFile, CountsStop, IsUnchanged, stop_of};
 
 use crate::stop::Stop;
 use snd_disk::Disk;
+use snd_edits::{CanMake, Encode, Write, WriteError};
+use snd_file::{File, create, create_blocks};
 use snd_layout::{Kind, OpenError, Params};
-use snd_modes::{CanMake, Encode, File, Write, WriteError, create, create_blocks};
 use std::alloc::Global;
 
 // What stops a tool whose file is not made.

@@ -2,11 +2,12 @@
 
 ghost use Rattle.std.specs.Prelude.{◌≡◌, ◌≤◌, false};
 ghost use Rattle.snd_layout.specs.Blocks.{is_adpcm};
-ghost use Rattle.snd_modes.specs.Handle.{codec_of, known_of};
+ghost use Rattle.snd_file.specs.Handle.{codec_of, known_of};
 ghost use Rattle.snd_output.specs.Pages.{frames_first};
 
 use snd_disk::Disk;
-use snd_modes::{File, Mode};
+use snd_edits::Mode;
+use snd_file::File;
 
 /// The bytes of a page, by which systems keep files in memory: one that two calls write a part of each costs more.
 const PAGE: u64 = 4096;

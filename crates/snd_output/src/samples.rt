@@ -2,9 +2,9 @@
 
 ghost use Rattle.std.specs.Prelude.{◌≡◌, ◌/◌, ◌%◌, ◌≤◌, false, IsTrue, OnOk, length, take};
 ghost use Rattle.snd_disk.specs.Device.{GoesOnFrom};
-ghost use Rattle.snd_modes.specs.Bytes.{numbers_in};
-ghost use Rattle.snd_modes.specs.Handle.{channels_of, codec_of, disk_of, known_of, loan_of};
-ghost use Rattle.snd_modes.specs.Outcomes.{AsksNothing, TellsOn};
+ghost use Rattle.snd_edits.specs.Bytes.{numbers_in};
+ghost use Rattle.snd_file.specs.Handle.{channels_of, codec_of, disk_of, known_of, loan_of};
+ghost use Rattle.snd_file.specs.Outcomes.{AsksNothing, TellsOn};
 ghost use Rattle.snd_output.specs.Appended.{CountsFile, Gains, HasRoom, IsAtEnd, LeavesFile, Pass, bytes_in, coded_in, has_two_zeros};
 ghost use Rattle.snd_output.specs.Widths.{change_numbers};
 
@@ -12,8 +12,8 @@ use crate::making::Making;
 use crate::stop::Stop;
 use snd_container::fixed_form;
 use snd_disk::Disk;
+use snd_file::File;
 use snd_layout::Codec;
-use snd_modes::File;
 use snd_recode::recode;
 
 /// Whether samples of one codec pass as those of another by their bytes alone: each has bytes of its own in both.

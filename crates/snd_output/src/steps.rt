@@ -3,16 +3,19 @@
 ghost use Rattle.std.specs.Prelude.{◌≡◌, IfOk, false, length};
 ghost use Rattle.snd_disk.specs.Device.{OnlyReadsOn};
 ghost use Rattle.snd_layout.specs.Blocks.{is_adpcm};
-ghost use Rattle.snd_modes.specs.Bytes.{AreWhole};
-ghost use Rattle.snd_modes.specs.Handle.{IfOkStanding, StandsAfter, channels_of, codec_of, disk_of, known_of, loan_of};
-ghost use Rattle.snd_modes.specs.Editing.{frames_read, state_read};
-ghost use Rattle.snd_modes.specs.Calls.{AsksForFrames, IsReady, count_read};
-ghost use Rattle.snd_modes.specs.Reading.{FitCodec, GivesFrames, front_of};
+ghost use Rattle.snd_edits.specs.Bytes.{AreWhole};
+ghost use Rattle.snd_file.specs.Handle.{IfOkStanding, StandsAfter, channels_of, codec_of, disk_of, known_of, loan_of};
+ghost use Rattle.snd_edits.specs.Editing.{frames_read, state_read};
+ghost use Rattle.snd_edits.specs.Calls.{IsReady, count_read};
+ghost use Rattle.snd_file.specs.Calls.{AsksForFrames};
+ghost use Rattle.snd_edits.specs.Reading.{FitCodec, GivesFrames};
+ghost use Rattle.snd_file.specs.Reading.{front_of};
 ghost use Rattle.snd_output.specs.Appended.{CountsReadOf, FindsChanged, GivesBytes, OnlyReadsIn, SomeLeave, count_in, frames_for, next_count, next_frames};
 
 use crate::stop::Stop;
 use snd_disk::Disk;
-use snd_modes::{File, Read, ReadError};
+use snd_edits::{Read, ReadError};
+use snd_file::File;
 
 // Reads frames, as many as the slice has places for, fewer only at the end.
 pub(crate) fn read_some<D: Disk>(

@@ -1,7 +1,7 @@
 //! Numbers of one codec as numbers of another.
 
 ghost use Rattle.std.specs.Prelude.{◌≡◌};
-ghost use Rattle.snd_modes.specs.Reading.{FitCodec};
+ghost use Rattle.snd_edits.specs.Reading.{FitCodec};
 ghost use Rattle.snd_pcm.specs.Width.{IsWidth};
 ghost use Rattle.snd_output.specs.Widths.{change_numbers, width_of};
 

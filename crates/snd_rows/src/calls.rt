@@ -4,10 +4,11 @@ ghost use Rattle.std.specs.Prelude.{◌≡◌, IfSome, false, is_none};
 ghost use Rattle.snd_container.specs.Sound.{fixed_of};
 
 use snd_container::fixed_form;
+use snd_edits::{GetError, may_be_piece};
 use snd_fields::Id4;
+use snd_file::{create, open_read, open_update};
 use snd_layout::{Codec, Kind, Params};
 use snd_memory::{Call, Made, SteadyDisk};
-use snd_modes::{GetError, create, may_be_piece, open_read, open_update};
 use std::alloc::Global;
 use std::test::Fail;
 

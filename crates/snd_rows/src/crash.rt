@@ -1,9 +1,9 @@
 //! What a crash may leave of a file that is updated automatically, against images written out by hand: after
 //! each call of the disk, and where each call of it fails. Every image is opened and read.
 use crate::failing::{Failing, NONE, run_script};
+use snd_file::{open_read, open_update};
 use snd_layout::{Codec, Kind, Params};
 use snd_memory::{MemoryDisk, images_between};
-use snd_modes::{open_read, open_update};
 use std::alloc::{AllocError, Global};
 use std::process::Abort;
 use std::test::Fail;

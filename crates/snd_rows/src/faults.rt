@@ -1,8 +1,9 @@
 //! Which step a fault carries: an automatic append, and the close of a file, of which each call of the disk fails in turn.
 
 use snd_disk::Step;
+use snd_edits::WriteError;
+use snd_file::open_update;
 use snd_memory::{FailingCall, MemoryDisk};
-use snd_modes::{WriteError, open_update};
 use std::alloc::{AllocError, Global};
 use std::test::Fail;
 

@@ -4,12 +4,12 @@ use Rattle.std.proofs.Math.Nat.{mul-div_cancel, mul-mod_left}
 use Rattle.snd_disk.specs.State.{AtMost}
 use Rattle.snd_layout.specs.Params.{AreParams}
 use Rattle.snd_layout.specs.Shape.{KeepsRule, Shape}
-use Rattle.snd_modes.specs.Calls.{count_read}
-use Rattle.snd_modes.specs.Editing.{Editing, frames_left}
-use Rattle.snd_modes.specs.Handle.{Known}
-use Rattle.snd_modes.specs.Reading.{bytes_to_read}
+use Rattle.snd_edits.specs.Calls.{count_read}
+use Rattle.snd_edits.specs.Editing.{Editing, frames_left}
+use Rattle.snd_edits.specs.Known.{Known}
+use Rattle.snd_edits.specs.Reading.{bytes_to_read}
 use Rattle.snd_script.specs.Rules.{read_known}
-use Rattle.snd_modes.proofs.BlockBytes.{most_read}
+use Rattle.snd_edits.proofs.Public.{most_read}
 
 whole_frames : (size count channels : ℕ) → size ≡ count * channels → 1 ≤ channels → size / channels ≡ count
 whole_frames size count channels e some = ap (λ n. n / channels) e ∙ mul-div_cancel count some

@@ -8,10 +8,11 @@ use Rattle.snd_layout.specs.declared.codec.Codec.{Codec}
 use Rattle.snd_meta.specs.declared.bext.BextKey.{BextKey}
 use Rattle.snd_meta.specs.declared.bext.BextKey.TheVariants.{Description, Originator, OrigRef, OrigDate, OrigTime, TimeRef, CodingHist}
 use Rattle.snd_meters.specs.Gauge.{Gauge}
-use Rattle.snd_modes.specs.Editing.{Editing}
-use Rattle.snd_modes.specs.Handle.{Known, Stands, known_of}
-use Rattle.snd_modes.specs.declared.handle.File.{File}
-use Rattle.snd_modes.specs.declared.mode.Mode.{Ghosts as ModeGhosts}
+use Rattle.snd_edits.specs.Editing.{Editing}
+use Rattle.snd_edits.specs.Known.{Known}
+use Rattle.snd_file.specs.Handle.{Stands, known_of}
+use Rattle.snd_file.specs.declared.handle.File.{File}
+use Rattle.snd_edits.specs.declared.mode.Mode.{Ghosts as ModeGhosts}
 use Rattle.snd_pcm.specs.Groups.{first_groups, groups}
 use Rattle.snd_script.specs.Desk.{Mode, encodes, encoding, makes, pinned, reading, reads, updating, writes, writing}
 use Rattle.snd_script.specs.Rules.{Rule, auto_rule, by_blocks, encode_rule, in_mode, read_rule, refused_rule, seek_read_rule, seek_rule, seek_write_rule, set_bext_rule, trim_rule, truncate_rule, unless_pinned, update_rule, write_rule}

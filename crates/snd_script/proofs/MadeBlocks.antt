@@ -3,9 +3,9 @@ use Rattle.std.proofs.Common.{◌≡◌, ◌∙◌, ◌≤◌, ℕ, List, Bool, 
 use Rattle.snd_disk.specs.State.{State}
 use Rattle.snd_disk.specs.declared.disk.Disk.{Ghosts}
 use Rattle.snd_layout.specs.Params.{Parameters}
-use Rattle.snd_modes.specs.Closing.{most_closed}
-use Rattle.snd_modes.specs.Editing.{Editing}
-use Rattle.snd_modes.specs.Safe.{IsSafe}
+use Rattle.snd_edits.specs.Closing.{most_closed}
+use Rattle.snd_edits.specs.Editing.{Editing}
+use Rattle.snd_edits.specs.Safe.{IsSafe}
 use Rattle.snd_patch.specs.Images.{LeavesEach}
 use Rattle.snd_script.specs.Desk.{Mode, encodes, all_put, updating}
 use Rattle.snd_script.specs.Handled.{AreSmall, FinishesSafely, HandleAtRest, IsSmall, IsSmallIn, LeavesHandle, handle_disk, handle_params, mode_of, most_finished}

@@ -16,10 +16,10 @@ use Rattle.snd_layout.specs.declared.codec.Codec.TheVariants.{U8, S8, S16, S24, 
 use Rattle.snd_layout.specs.declared.kind.Kind.{Kind}
 use Rattle.snd_layout.specs.declared.params.Params.{Params}
 use Rattle.snd_layout.specs.declared.refusal.OpenRefusal.{OpenRefusal}
-use Rattle.snd_modes.specs.Editing.{Editing, first_editing}
-use Rattle.snd_modes.specs.Making.{making_as, making_of}
+use Rattle.snd_edits.specs.Editing.{Editing, first_editing}
+use Rattle.snd_edits.specs.Making.{making_as, making_of}
 use Rattle.snd_layout.proofs.Public.{few_channels as few_held, is_held}
-use Rattle.snd_modes.proofs.MadeBlocks.{small_blocks}
+use Rattle.snd_edits.proofs.Public.{small_blocks}
 use Rattle.snd_script.specs.Desk.{makes}
 use Rattle.snd_script.specs.Edit.{Opening, as_opened, make_edit, mode_made, open_edit_of}
 use Rattle.snd_script.specs.Handled.{HasSmallBlocks}

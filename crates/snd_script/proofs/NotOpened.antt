@@ -11,8 +11,8 @@ use Rattle.snd_layout.specs.declared.error.OpenError.TheVariants as cause
 use Rattle.snd_layout.specs.declared.kind.Kind.{Kind}
 use Rattle.snd_layout.specs.declared.params.Params.{Params}
 use Rattle.snd_meters.specs.Gauge.{Gauge}
-use Rattle.snd_modes.specs.Editing.{Editing}
-use Rattle.snd_modes.specs.Making.{making_of}
+use Rattle.snd_edits.specs.Editing.{Editing}
+use Rattle.snd_edits.specs.Making.{making_of}
 use Rattle.snd_script.specs.Desk.{Desk, Mode, OpenFile, Store, closed_desk, makes, makes_name}
 use Rattle.snd_script.specs.Edit.{Edited, Opening, as_opened, mode_for, mode_made, open_edit_of, open_refusal, opened_as, opened_edit, refused}
 use Rattle.snd_script.specs.Lines.{Reading}

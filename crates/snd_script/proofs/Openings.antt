@@ -8,7 +8,7 @@ use Rattle.snd_disk.specs.Device.{Tells}
 use Rattle.snd_disk.specs.State.{Rises, State}
 use Rattle.snd_disk.specs.declared.disk.Disk.{Ghosts}
 use Rattle.snd_layout.specs.Shape.{Shape}
-use Rattle.snd_modes.specs.Editing.{Editing}
+use Rattle.snd_edits.specs.Editing.{Editing}
 use Rattle.snd_meters.specs.Gauge.{Gauge}
 use Rattle.snd_meters.specs.Gauges.{after_rest}
 use Rattle.snd_script.specs.Desk.{Desk, Mode, OpenFile, Store, closed_as, closed_bytes, closed_desk, encoding, files_closed, frames_told, open_desk, pinned, reading, store_closed, taps_closed, updating, writes, writing}

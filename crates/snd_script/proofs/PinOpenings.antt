@@ -7,11 +7,10 @@ use Rattle.snd_fields.specs.Laws.{IsByte}
 use Rattle.snd_layout.specs.declared.error.OpenError.{OpenError}
 use Rattle.snd_layout.specs.declared.error.OpenError.TheVariants as cause
 use Rattle.snd_meters.specs.Gauge.{Gauge}
-use Rattle.snd_modes.specs.Editing.{Editing}
-use Rattle.snd_modes.specs.Safe.{IsFit, IsSafe}
-use Rattle.snd_modes.specs.Updating.{updating_of}
-use Rattle.snd_modes.proofs.EditedFiles.{updated_is_edited, updating_begins}
-use Rattle.snd_modes.proofs.SafeImages.{at_rest, wider}
+use Rattle.snd_edits.specs.Editing.{Editing}
+use Rattle.snd_edits.specs.Safe.{IsFit, IsSafe}
+use Rattle.snd_edits.specs.Updating.{updating_of}
+use Rattle.snd_edits.proofs.Public.{at_rest, updated_is_edited, updating_begins, wider}
 use Rattle.snd_script.specs.Desk.{Store}
 use Rattle.snd_script.specs.Edit.{Edited, Opening, open_edit, open_edit_of}
 use Rattle.snd_script.specs.Lines.{Reading}

@@ -5,7 +5,7 @@ use Rattle.std.proofs.lemmas.List.{length-append}
 use Rattle.snd_command.specs.Said.{Said}
 use Rattle.snd_disk.specs.declared.disk.Disk.{Ghosts}
 use Rattle.snd_meters.specs.Gauge.{Gauge}
-use Rattle.snd_modes.specs.Editing.{Editing}
+use Rattle.snd_edits.specs.Editing.{Editing}
 use Rattle.snd_script.specs.Desk.{Mode, OpenFile, Store, open_desk, updating}
 use Rattle.snd_script.specs.Edit.{Edited, edit_file, edit_unless}
 use Rattle.snd_script.specs.Handled.{HandleAtRest, handle_disk, handle_known, mode_of}

@@ -10,14 +10,14 @@ use Rattle.snd_disk.specs.declared.disk.Disk.{Ghosts}
 use Rattle.snd_meters.specs.Gauge.{Gauge}
 use Rattle.snd_meters.specs.Gauges.{stop_answer}
 use Rattle.snd_blocks.specs.Frames.{has_bad}
-use Rattle.snd_modes.specs.Editing.{Editing, frames_left, moved_by}
-use Rattle.snd_modes.specs.Edits.{cut_to, sealed_to}
-use Rattle.snd_modes.specs.Safe.{IsSafe}
-use Rattle.snd_modes.specs.declared.error.GetError.TheVariants as get
+use Rattle.snd_edits.specs.Editing.{Editing, frames_left, moved_by}
+use Rattle.snd_edits.specs.Edits.{cut_to, sealed_to}
+use Rattle.snd_edits.specs.Safe.{IsSafe}
+use Rattle.snd_edits.specs.declared.error.GetError.TheVariants as get
 use Rattle.snd_tags.specs.Found.{broadcast_of, points_of, texts_of}
 use Rattle.snd_tags.specs.declared.error.TagError.{TagError}
 use Rattle.snd_tags.specs.declared.error.TagError.TheVariants.{Get, BadBody}
-use Rattle.snd_modes.proofs.LeftSafe.{unchanged}
+use Rattle.snd_file.proofs.Public.{unchanged}
 use Rattle.snd_patch.specs.Images.{LeavesEach}
 use Rattle.snd_taps.specs.Names.{tap_name}
 use Rattle.snd_taps.specs.declared.tap.TapKind.{TapKind}

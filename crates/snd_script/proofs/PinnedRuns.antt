@@ -8,7 +8,7 @@ use Rattle.snd_disk.specs.declared.disk.Disk.{Ghosts}
 use Rattle.snd_layout.specs.declared.error.OpenError.{OpenError}
 use Rattle.snd_layout.specs.declared.error.OpenError.TheVariants as cause
 use Rattle.snd_meters.specs.Gauge.{Gauge}
-use Rattle.snd_modes.specs.Editing.{Editing}
+use Rattle.snd_edits.specs.Editing.{Editing}
 use Rattle.snd_script.specs.Desk.{Desk, Mode, OpenFile, Store, closed_desk, open_desk, updating}
 use Rattle.snd_script.specs.Edit.{Edited, Opening, keep_open, open_edit_of, open_refusal, opened_as, opened_edit, refused}
 use Rattle.snd_script.specs.Lines.{Reading}

@@ -8,7 +8,7 @@ use Rattle.snd_command.specs.declared.refusal.ScriptRefusal.{ScriptRefusal}
 use Rattle.snd_disk.specs.declared.disk.Disk.{Ghosts}
 use Rattle.snd_disk.specs.declared.disk.Step.{Step}
 use Rattle.snd_meters.specs.Gauge.{Gauge}
-use Rattle.snd_modes.specs.Editing.{Editing}
+use Rattle.snd_edits.specs.Editing.{Editing}
 use Rattle.snd_script.specs.Desk.{Desk, Store, open_desk}
 use Rattle.snd_script.specs.Edit.{Edited, edit_line, line_edit}
 use Rattle.snd_script.specs.Handled.{handle_known}

@@ -14,13 +14,15 @@ use Rattle.snd_layout.specs.Shape.{Shape}
 use Rattle.snd_layout.specs.declared.error.PieceError.{PieceError}
 use Rattle.snd_layout.specs.declared.error.PieceError.TheVariants as piece_error
 use Rattle.snd_layout.specs.declared.refusal.OpenRefusal.TheVariants.{TooManyChunks}
-use Rattle.snd_modes.specs.Editing.{Editing}
-use Rattle.snd_modes.specs.Handle.{Known, Stands, disk_of, known_of, loan_of}
+use Rattle.snd_edits.specs.Editing.{Editing}
+use Rattle.snd_edits.specs.Known.{Known}
+use Rattle.snd_file.specs.Handle.{Stands, disk_of, known_of, loan_of}
 use Rattle.snd_layout.specs.Kinds.{holds_meta, holds_pieces, is_reserved}
-use Rattle.snd_modes.specs.PieceCalls.{AddLeaves, AddsTooMany, CountsPut, IsPutRefusal, IsUntouched, MayPut, StandsPut, to_add, to_replace}
-use Rattle.snd_modes.specs.Relaid.{added_to, place_named, replaced_to}
-use Rattle.snd_modes.specs.declared.handle.File.{File}
-use Rattle.snd_modes.specs.declared.mode.Mode.{Ghosts as ModeGhosts}
+use Rattle.snd_edits.specs.PieceCalls.{AddLeaves, AddsTooMany, IsPutRefusal, IsUntouched, MayPut, to_add, to_replace}
+use Rattle.snd_file.specs.PieceCalls.{CountsPut, StandsPut}
+use Rattle.snd_edits.specs.Relaid.{added_to, place_named, replaced_to}
+use Rattle.snd_file.specs.declared.handle.File.{File}
+use Rattle.snd_edits.specs.declared.mode.Mode.{Ghosts as ModeGhosts}
 use Rattle.snd_patch.specs.Steps.{StillTells}
 use Rattle.snd_tags.specs.Drafts.{CountsSetting, bext_with, IsSet, MaySet, OnlyPuts, SetLeaves, SetsSome}
 use Rattle.snd_tags.specs.declared.error.SetError.{SetError}

@@ -4,7 +4,7 @@ use Rattle.snd_blocks.specs.Frames.{has_bad}
 use Rattle.snd_lines.specs.declared.refusal.Refusal.TheVariants.{BadBlock}
 use Rattle.snd_meters.specs.Gauge.{Gauge, on, waiting}
 use Rattle.snd_meters.specs.Gauges.{after_feed}
-use Rattle.snd_modes.specs.Editing.{Editing, frames_left, moved_by}
+use Rattle.snd_edits.specs.Editing.{Editing, frames_left, moved_by}
 use Rattle.snd_script.specs.Replies.{frames_text, refuses}
 use Rattle.snd_script.specs.Rules.{answered, frames_fed, frames_wanted, read_edit, says_of}
 

@@ -11,11 +11,11 @@ use Rattle.snd_layout.specs.declared.codec.Codec.{Codec}
 use Rattle.snd_layout.specs.declared.codec.Codec.TheVariants.{U8, S8, S16, S24, S32, MuLaw, ALaw, Ima, Ms}
 use Rattle.snd_layout.specs.declared.kind.Kind.{Kind}
 use Rattle.snd_layout.proofs.Public.{wave_only}
-use Rattle.snd_modes.specs.Encoding.{MayEncode}
-use Rattle.snd_modes.specs.Handle.{Known}
-use Rattle.snd_modes.specs.Pacing.{HasRoomToEncode}
-use Rattle.snd_modes.specs.Reading.{FitCodec, range_of}
-use Rattle.snd_modes.specs.WriteCalls.{AreFrames, MayCut, MayTrim, MayWrite, end_written, is_whole_field}
+use Rattle.snd_edits.specs.Encoding.{MayEncode}
+use Rattle.snd_edits.specs.Known.{Known}
+use Rattle.snd_edits.specs.Pacing.{HasRoomToEncode}
+use Rattle.snd_edits.specs.Reading.{FitCodec, range_of}
+use Rattle.snd_edits.specs.WriteCalls.{AreFrames, MayCut, MayTrim, MayWrite, end_written, is_whole_field}
 use Rattle.snd_container.specs.Fixed.{InRange, range_form}
 use Rattle.snd_container.specs.declared.fixed.Fixed.{Fixed}
 use Rattle.snd_pcm.specs.Pcm.{high, low}

@@ -9,19 +9,18 @@ use Rattle.snd_disk.specs.declared.streams.Sink.{Ghosts as SinkMeaning}
 use Rattle.snd_layout.specs.Shape.{Shape}
 use Rattle.snd_meta.specs.declared.bext.BextKey.{BextKey}
 use Rattle.snd_meta.specs.declared.bext.BextKey.TheVariants.{Description, Originator, OrigRef, OrigDate, OrigTime, TimeRef, CodingHist}
-use Rattle.snd_modes.specs.Closing.{closed_to}
-use Rattle.snd_modes.specs.Editing.{Editing, frames_left}
-use Rattle.snd_modes.specs.Edits.{sealed_to}
-use Rattle.snd_modes.specs.Handle.{Stands, disk_of, known_of}
-use Rattle.snd_modes.specs.Laws.{HoldsFrames, IsStateOf, KeepsFile}
-use Rattle.snd_modes.specs.Pacing.{HasPlaceFor}
-use Rattle.snd_modes.specs.Rest.{IsAtRest}
-use Rattle.snd_modes.specs.Safe.{IsSafe}
-use Rattle.snd_modes.specs.declared.handle.File.{File}
-use Rattle.snd_modes.specs.declared.mode.Mode.{Ghosts as ModeGhosts}
-use Rattle.snd_modes.proofs.EditedFiles.{keeps_beside, sealed_keeps_file}
-use Rattle.snd_modes.proofs.LeftSafe.{keeps_of, left_at_rest}
-use Rattle.snd_modes.proofs.SafeImages.{same_file}
+use Rattle.snd_edits.specs.Closing.{closed_to}
+use Rattle.snd_edits.specs.Editing.{Editing, frames_left}
+use Rattle.snd_edits.specs.Edits.{sealed_to}
+use Rattle.snd_file.specs.Handle.{Stands, disk_of, known_of}
+use Rattle.snd_edits.specs.Laws.{HoldsFrames, IsStateOf, KeepsFile}
+use Rattle.snd_edits.specs.Pacing.{HasPlaceFor}
+use Rattle.snd_file.specs.Rest.{IsAtRest}
+use Rattle.snd_edits.specs.Safe.{IsSafe}
+use Rattle.snd_file.specs.declared.handle.File.{File}
+use Rattle.snd_edits.specs.declared.mode.Mode.{Ghosts as ModeGhosts}
+use Rattle.snd_edits.proofs.Public.{keeps_beside, same_file, sealed_keeps_file}
+use Rattle.snd_file.proofs.Public.{keeps_of, left_at_rest}
 use Rattle.snd_patch.proofs.Moments.{leaves_weaker}
 use Rattle.snd_patch.specs.Images.{LeavesEach}
 use Rattle.snd_meters.specs.Gauge.{Gauge}

@@ -4,7 +4,7 @@ use Rattle.std.specs.Str.{bytes_eq}
 use Rattle.snd_disk.specs.Shelf.{Files, SameFiles}
 use Rattle.snd_layout.specs.Blocks.{is_adpcm}
 use Rattle.snd_layout.specs.declared.refusal.OpenRefusal.{OpenRefusal}
-use Rattle.snd_modes.specs.Editing.{Editing}
+use Rattle.snd_edits.specs.Editing.{Editing}
 use Rattle.snd_script.specs.Desk.{Desk, Store, closed_desk, makes_name}
 use Rattle.snd_script.specs.Edit.{Edited, Opening, as_opened, open_edit, open_edit_of, opened_as}
 use Rattle.snd_script.specs.Lines.{Reading}

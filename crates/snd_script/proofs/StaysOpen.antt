@@ -4,7 +4,7 @@ use Rattle.std.proofs.Common.{◌≡◌, ℕ, List, Bool, true, false, not, ◌&
 use Rattle.snd_command.specs.Said.{Said}
 use Rattle.snd_disk.specs.declared.disk.Disk.{Ghosts}
 use Rattle.snd_meters.specs.Gauge.{Gauge}
-use Rattle.snd_modes.specs.Editing.{Editing}
+use Rattle.snd_edits.specs.Editing.{Editing}
 use Rattle.snd_script.specs.Desk.{Mode, OpenFile, Store, is_pinned, open_desk, pinned, updating}
 use Rattle.snd_script.specs.Edit.{close_edit, edit_open, keep_open, refused}
 use Rattle.snd_script.specs.Handled.{mode_of, open_as}

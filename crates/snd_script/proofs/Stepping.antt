@@ -5,7 +5,7 @@ use Rattle.snd_disk.proofs.Public.{goes_on_then, only_reads_then, same_bytes}
 use Rattle.snd_disk.specs.State.{State}
 use Rattle.snd_disk.specs.declared.disk.Disk.{Ghosts}
 use Rattle.snd_meters.specs.Gauge.{Gauge}
-use Rattle.snd_modes.specs.Editing.{Editing}
+use Rattle.snd_edits.specs.Editing.{Editing}
 use Rattle.snd_script.specs.Desk.{Desk, Store, open_desk, writes}
 use Rattle.snd_script.specs.Edit.{Edited}
 use Rattle.snd_script.specs.Handled.{HandleStands, LeavesHandle, handle_disk, mode_of, open_as}

@@ -5,11 +5,11 @@ use Rattle.std.proofs.lemmas.Bool.Decides.{nat_tests}
 use Rattle.std.proofs.lemmas.List.{reverse-append, reverse-reverse}
 use Rattle.snd_disk.specs.declared.disk.Disk.{Ghosts}
 use Rattle.snd_disk.specs.declared.disk.Step.{Step}
-use Rattle.snd_modes.specs.Editing.{Editing}
-use Rattle.snd_modes.specs.Laws.{KeepsFile}
-use Rattle.snd_modes.specs.Safe.{IsSafe}
-use Rattle.snd_modes.proofs.LeftSafe.{left_at_rest}
-use Rattle.snd_modes.proofs.SafeImages.{from_after, same_file, wider}
+use Rattle.snd_edits.specs.Editing.{Editing}
+use Rattle.snd_edits.specs.Laws.{KeepsFile}
+use Rattle.snd_edits.specs.Safe.{IsSafe}
+use Rattle.snd_file.proofs.Public.{left_at_rest}
+use Rattle.snd_edits.proofs.Public.{from_after, same_file, wider}
 use Rattle.snd_patch.proofs.Moments.{leaves_weaker}
 use Rattle.snd_patch.specs.Images.{LeavesEach}
 use Rattle.snd_script.specs.Edit.{Edited}

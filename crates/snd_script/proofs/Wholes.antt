@@ -6,10 +6,10 @@ use Rattle.snd_disk.specs.declared.disk.Step.{Step}
 use Rattle.snd_layout.specs.Shape.{Shape}
 use Rattle.snd_meta.specs.declared.bext.BextKey.{BextKey}
 use Rattle.snd_meta.specs.declared.bext.BextKey.TheVariants.{Description, Originator, OrigRef, OrigDate, OrigTime, TimeRef, CodingHist}
-use Rattle.snd_modes.specs.Edits.{written_shape}
-use Rattle.snd_modes.specs.Encoding.{counting_whole}
-use Rattle.snd_modes.specs.Handle.{Known}
-use Rattle.snd_modes.specs.WriteCalls.{end_written}
+use Rattle.snd_edits.specs.Edits.{written_shape}
+use Rattle.snd_edits.specs.Encoding.{counting_whole}
+use Rattle.snd_edits.specs.Known.{Known}
+use Rattle.snd_edits.specs.WriteCalls.{end_written}
 use Rattle.snd_meters.specs.Gauge.{Gauge}
 use Rattle.snd_script.specs.Desk.{Mode, encodes, encoding, is_pinned, makes, pinned, reading, reads, updating, writes, writing}
 use Rattle.snd_script.specs.Rules.{Rule, auto_rule, by_blocks, encode_rule, in_mode, is_held, plain_rule, read_rule, refused_rule, rule_of, seek_read_rule, seek_rule, seek_write_rule, set_bext_rule, set_chunk_rule, set_cue_rule, set_string_rule, trim_rule, truncate_rule, unless_pinned, update_rule, write_rule}

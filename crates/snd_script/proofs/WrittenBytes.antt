@@ -10,7 +10,7 @@ use Rattle.snd_fields.specs.Blocks.{ima_samples_per_block, is_ima_align, is_ms_a
 use Rattle.snd_layout.specs.Blocks.{block_align, block_frames}
 use Rattle.snd_layout.specs.declared.codec.Codec.{Codec}
 use Rattle.snd_layout.specs.declared.codec.Codec.TheVariants.{U8, S8, S16, S24, S32, MuLaw, ALaw, Ima, Ms}
-use Rattle.snd_modes.specs.Writing.{most_fields}
+use Rattle.snd_edits.specs.Writing.{most_fields}
 
 -- a number of a codec with a fixed number of bytes has at most 4
 linear_numbers : (channels : ℕ) (codec : Codec) → is_none (fixed_of codec) ≡ false → block_align channels codec ≤ 4 * channels

@@ -5,7 +5,7 @@ use Rattle.snd_disk.specs.declared.streams.Sink.{Ghosts as SinkMeaning}
 use Rattle.snd_layout.specs.declared.error.PieceError.{PieceError}
 use Rattle.snd_layout.specs.declared.error.PieceError.TheVariants as piece_error
 use Rattle.snd_layout.specs.declared.refusal.OpenRefusal.TheVariants.{TooManyChunks}
-use Rattle.snd_modes.specs.declared.error.GetError.TheVariants as get
+use Rattle.snd_edits.specs.declared.error.GetError.TheVariants as get
 use Rattle.snd_tags.specs.declared.error.SetError.{SetError}
 use Rattle.snd_tags.specs.declared.error.SetError.TheVariants as set_error
 use Rattle.snd_tags.specs.declared.error.TagError.{TagError}

@@ -5,9 +5,9 @@ use Rattle.snd_disk.specs.Shelf.{Files, put}
 use Rattle.snd_layout.specs.Shape.{Shape}
 use Rattle.snd_meters.specs.Gauge.{Gauge, waiting}
 use Rattle.snd_meters.specs.Gauges.{after_rest}
-use Rattle.snd_modes.specs.Editing.{Editing}
-use Rattle.snd_modes.specs.Edits.{sealed_to}
-use Rattle.snd_modes.specs.Encoding.{encoded_whole}
+use Rattle.snd_edits.specs.Editing.{Editing}
+use Rattle.snd_edits.specs.Edits.{sealed_to}
+use Rattle.snd_edits.specs.Encoding.{encoded_whole}
 use Rattle.snd_taps.specs.declared.tap.TapKind.{TapKind}
 
 -- how a file was opened

@@ -11,9 +11,9 @@ use Rattle.snd_layout.specs.declared.error.OpenError.TheVariants as error
 use Rattle.snd_layout.specs.declared.kind.Kind.{Kind}
 use Rattle.snd_layout.specs.declared.refusal.OpenRefusal.{OpenRefusal}
 use Rattle.snd_meters.specs.Gauge.{Gauge}
-use Rattle.snd_modes.specs.Editing.{Editing, opening_of}
-use Rattle.snd_modes.specs.Making.{making_of}
-use Rattle.snd_modes.specs.Updating.{updating_of}
+use Rattle.snd_edits.specs.Editing.{Editing, opening_of}
+use Rattle.snd_edits.specs.Making.{making_of}
+use Rattle.snd_edits.specs.Updating.{updating_of}
 use Rattle.snd_script.specs.Desk.{Desk, Mode, OpenFile, Store, encoding, frames_told, is_pinned, pinned, reading, updating, writing, closed_desk, open_desk, store_closed}
 use Rattle.snd_script.specs.Rules.{FileEdited, Rule, codec_of, grounds_of, is_close, rule_of}
 use Rattle.snd_script.specs.Replies.{Answer, nothing, says, refuses, file_line, ok_line}

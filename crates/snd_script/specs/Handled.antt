@@ -11,11 +11,12 @@ use Rattle.snd_layout.specs.Blocks.{block_align, block_frames, is_adpcm}
 use Rattle.snd_layout.specs.Params.{Parameters}
 use Rattle.snd_layout.specs.declared.codec.Codec.{Codec}
 use Rattle.snd_meters.specs.Gauge.{Gauge}
-use Rattle.snd_modes.specs.Closing.{most_closed}
-use Rattle.snd_modes.specs.Editing.{Editing}
-use Rattle.snd_modes.specs.Handle.{Known, Stands, disk_of, known_of, loan_of}
-use Rattle.snd_modes.specs.Rest.{IsAtRest}
-use Rattle.snd_modes.specs.Safe.{IsSafe}
+use Rattle.snd_edits.specs.Closing.{most_closed}
+use Rattle.snd_edits.specs.Editing.{Editing}
+use Rattle.snd_edits.specs.Known.{Known}
+use Rattle.snd_file.specs.Handle.{Stands, disk_of, known_of, loan_of}
+use Rattle.snd_file.specs.Rest.{IsAtRest}
+use Rattle.snd_edits.specs.Safe.{IsSafe}
 use Rattle.snd_patch.specs.Images.{LeavesEach}
 use Rattle.snd_patch.specs.Steps.{StillTells}
 use Rattle.snd_script.specs.Desk.{Mode, closed_as, encodes, encoding, all_put, frames_told, pinned, reading, updating, writes, writing}

@@ -10,12 +10,12 @@ use Rattle.snd_layout.specs.declared.params.Params.{Params}
 use Rattle.snd_layout.specs.declared.refusal.OpenRefusal.{OpenRefusal}
 use Rattle.snd_layout.specs.declared.error.OpenError.{OpenError}
 use Rattle.snd_layout.specs.declared.error.OpenError.TheVariants.{DiskFault, Memory}
-use Rattle.snd_modes.specs.Editing.{Editing}
-use Rattle.snd_modes.specs.Making.{making_of}
+use Rattle.snd_edits.specs.Editing.{Editing}
+use Rattle.snd_edits.specs.Making.{making_of}
 use Rattle.snd_script.specs.Desk.{Store, closed_desk}
 use Rattle.snd_script.specs.Edit.{Edited, Opening, make_edit, open_edit, open_edit_of, opened_as, refused}
-use Rattle.snd_modes.specs.Safe.{IsFit}
-use Rattle.snd_modes.specs.Updating.{updating_of}
+use Rattle.snd_edits.specs.Safe.{IsFit}
+use Rattle.snd_edits.specs.Updating.{updating_of}
 use Rattle.snd_script.specs.Handled.{HandleAtRest, HandleStands, HasSmallBlocks, handle_disk, handle_loan}
 use Rattle.snd_script.specs.declared.handle.Handle.{Handle}
 use Rattle.snd_script.specs.declared.open.OpenAs.{OpenAs}

@@ -9,7 +9,7 @@ use Rattle.snd_disk.specs.declared.disk.Disk.{Ghosts}
 use Rattle.snd_disk.specs.declared.shelf.Shelf.{Ghosts as ShelfMeaning}
 use Rattle.snd_disk.specs.declared.streams.Source.{Ghosts as SourceMeaning}
 use Rattle.snd_meters.specs.Gauge.{Gauge}
-use Rattle.snd_modes.specs.Editing.{Editing}
+use Rattle.snd_edits.specs.Editing.{Editing}
 use Rattle.snd_script.specs.Desk.{Desk, Store, closed_desk, pinned}
 use Rattle.snd_script.specs.Edit.{Edited, Opening, open_edit_of, opened_as, opened_edit}
 use Rattle.snd_script.specs.Handled.{HandleStands, handle_disk}

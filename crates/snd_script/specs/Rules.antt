@@ -26,17 +26,17 @@ use Rattle.snd_meta.specs.declared.info.InfoKey.{InfoKey}
 use Rattle.snd_meters.specs.Gauge.{Gauge}
 use Rattle.snd_meters.specs.Gauges.{after_feed, after_start, after_stop, start_answer, stop_answer}
 use Rattle.snd_meters.specs.Report.{report_line}
-use Rattle.snd_modes.specs.declared.error.GetError.TheVariants as get
-use Rattle.snd_modes.specs.Editing.{Editing, frames_left, frames_read, moved_by, moved_to}
-use Rattle.snd_modes.specs.Edits.{automatic_to, moved_write_to, sealed_to, trimmed_to, truncated_to, written_to}
-use Rattle.snd_modes.specs.Blocks.{ima_made, ms_made}
-use Rattle.snd_modes.specs.Encoding.{encoded_to, known_encoded}
-use Rattle.snd_modes.specs.Handle.{Known}
+use Rattle.snd_edits.specs.declared.error.GetError.TheVariants as get
+use Rattle.snd_edits.specs.Editing.{Editing, frames_left, frames_read, moved_by, moved_to}
+use Rattle.snd_edits.specs.Edits.{automatic_to, moved_write_to, sealed_to, trimmed_to, truncated_to, written_to}
+use Rattle.snd_edits.specs.Blocks.{ima_made, ms_made}
+use Rattle.snd_edits.specs.Encoding.{encoded_to, known_encoded}
+use Rattle.snd_edits.specs.Known.{Known}
 use Rattle.snd_layout.specs.Kinds.{holds_meta, holds_pieces, is_reserved, is_wave}
-use Rattle.snd_modes.specs.PieceCalls.{known_put}
-use Rattle.snd_modes.specs.Pieces.{first_piece}
-use Rattle.snd_modes.specs.Relaid.{added_to, place_named, replaced_to}
-use Rattle.snd_modes.specs.WriteCalls.{end_written, is_whole_field, known_cut, known_sealed, known_trimmed, known_written}
+use Rattle.snd_edits.specs.PieceCalls.{known_put}
+use Rattle.snd_edits.specs.Pieces.{first_piece}
+use Rattle.snd_edits.specs.Relaid.{added_to, place_named, replaced_to}
+use Rattle.snd_edits.specs.WriteCalls.{end_written, is_whole_field, known_cut, known_sealed, known_trimmed, known_written}
 use Rattle.snd_fields.specs.declared.field.Order.TheVariants.{Little}
 use Rattle.snd_pcm.specs.Pcm.{high, low}
 use Rattle.snd_pcm.specs.declared.linear.Linear.{Linear}

@@ -14,7 +14,7 @@ use Rattle.snd_layout.specs.declared.error.OpenError.{OpenError}
 use Rattle.snd_layout.specs.declared.error.OpenError.TheVariants as cause
 use Rattle.snd_layout.specs.Shape.{Shape}
 use Rattle.snd_meters.specs.Gauge.{Gauge}
-use Rattle.snd_modes.specs.Editing.{Editing}
+use Rattle.snd_edits.specs.Editing.{Editing}
 use Rattle.snd_script.specs.Desk.{Desk, OpenFile, Store, closed_desk, files_closed, open_desk, taps_closed}
 use Rattle.snd_script.specs.Edit.{Edited, close_edit, edit_line, keep_open, open_refusal, opened_edit}
 use Rattle.snd_script.specs.Handled.{HandleStands, handle_disk, mode_of, open_as}

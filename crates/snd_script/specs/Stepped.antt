@@ -4,11 +4,11 @@ use Rattle.snd_disk.specs.State.{Rises}
 use Rattle.snd_disk.specs.Streams.{AppendsFront}
 use Rattle.snd_disk.specs.declared.disk.Step.{Step}
 use Rattle.snd_meters.specs.Gauge.{Gauge}
-use Rattle.snd_modes.specs.Editing.{Editing}
-use Rattle.snd_modes.specs.Handle.{Known}
-use Rattle.snd_modes.specs.PieceCalls.{known_put}
-use Rattle.snd_modes.specs.Relaid.{place_named}
-use Rattle.snd_modes.specs.WriteCalls.{known_sealed}
+use Rattle.snd_edits.specs.Editing.{Editing}
+use Rattle.snd_edits.specs.Known.{Known}
+use Rattle.snd_edits.specs.PieceCalls.{known_put}
+use Rattle.snd_edits.specs.Relaid.{place_named}
+use Rattle.snd_edits.specs.WriteCalls.{known_sealed}
 use Rattle.snd_chunks.specs.Heads.{new_piece}
 use Rattle.snd_script.specs.Rules.{FileEdited, Rule, known_grounds}
 use Rattle.snd_script.specs.Replies.{Answer, refuses, text_of}

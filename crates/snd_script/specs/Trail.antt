@@ -11,9 +11,9 @@ use Rattle.snd_disk.specs.declared.shelf.Shelf.{Ghosts as ShelfMeaning}
 use Rattle.snd_disk.specs.declared.streams.Sink.{Ghosts as SinkMeaning}
 use Rattle.snd_disk.specs.declared.streams.Source.{Ghosts as SourceMeaning}
 use Rattle.snd_meters.specs.Gauge.{Gauge}
-use Rattle.snd_modes.specs.Editing.{Editing}
-use Rattle.snd_modes.specs.Safe.{IsFit, IsSafe}
-use Rattle.snd_modes.specs.Updating.{updating_of}
+use Rattle.snd_edits.specs.Editing.{Editing}
+use Rattle.snd_edits.specs.Safe.{IsFit, IsSafe}
+use Rattle.snd_edits.specs.Updating.{updating_of}
 use Rattle.snd_patch.specs.Images.{LeavesEach}
 use Rattle.snd_script.specs.Desk.{OpenFile, Store, open_desk, pinned, stored}
 use Rattle.snd_script.specs.Edit.{Edited, edit_file}

@@ -11,14 +11,15 @@ use Rattle.snd_blocks.specs.Frames.{has_bad}
 use Rattle.snd_layout.specs.Blocks.{is_adpcm}
 use Rattle.snd_layout.specs.Params.{params_of}
 use Rattle.snd_meters.specs.Gauge.{Gauge}
-use Rattle.snd_modes.specs.Closing.{closed_to, most_closed}
-use Rattle.snd_modes.specs.Editing.{Editing, frames_left, moved_by}
-use Rattle.snd_modes.specs.Handle.{Known, Stands, channels_of, disk_of, known_of, loan_of}
-use Rattle.snd_modes.specs.declared.handle.File.{File}
-use Rattle.snd_modes.specs.declared.mode.Mode.{Ghosts as ModeGhosts}
-use Rattle.snd_modes.specs.Reading.{GivesFrames}
-use Rattle.snd_modes.specs.Rest.{IsAtRest}
-use Rattle.snd_modes.specs.Safe.{IsSafe}
+use Rattle.snd_edits.specs.Closing.{closed_to, most_closed}
+use Rattle.snd_edits.specs.Editing.{Editing, frames_left, moved_by}
+use Rattle.snd_edits.specs.Known.{Known}
+use Rattle.snd_file.specs.Handle.{Stands, channels_of, disk_of, known_of, loan_of}
+use Rattle.snd_file.specs.declared.handle.File.{File}
+use Rattle.snd_edits.specs.declared.mode.Mode.{Ghosts as ModeGhosts}
+use Rattle.snd_edits.specs.Reading.{GivesFrames}
+use Rattle.snd_file.specs.Rest.{IsAtRest}
+use Rattle.snd_edits.specs.Safe.{IsSafe}
 use Rattle.snd_patch.specs.Images.{LeavesEach}
 use Rattle.snd_patch.specs.Steps.{StillTells}
 use Rattle.snd_script.specs.Desk.{Mode, Store, closed_desk, makes, reads, writes, all_put}

@@ -1,7 +1,7 @@
 //! What is asked of the chunks of an open file, and the reply.
 
 ghost use Rattle.std.specs.Prelude.{◌≡◌, None, true};
-ghost use Rattle.snd_modes.specs.Handle.{known_of};
+ghost use Rattle.snd_file.specs.Handle.{known_of};
 ghost use Rattle.snd_script.specs.Rules.{get_bext_rule, get_chunk_rule, get_chunks_rule, get_cues_rule, get_strings_rule};
 ghost use Rattle.snd_script.specs.Answered.{IsWhole, Lacks, SendsText, gathered};
 ghost use Rattle.snd_script.specs.Work.{Follows, asking_rule};
@@ -11,9 +11,10 @@ use crate::replies::{bext_text, body_text, chunks_text, points_text, texts_text}
 use crate::say::{refuse, say_text};
 use crate::work::Asking;
 use snd_disk::{Disk, Sink};
+use snd_edits::{GetError, Mode};
 use snd_fields::Id4;
+use snd_file::File;
 use snd_lines::Refusal;
-use snd_modes::{File, GetError, Mode};
 use snd_tags::{TagError, broadcast, points, texts};
 use std::alloc::{AllocError, Global};
 

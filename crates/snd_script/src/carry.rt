@@ -2,7 +2,7 @@
 
 ghost use Rattle.std.specs.Prelude.{◌≡◌, None};
 ghost use Rattle.snd_script.specs.Desk.{encoding, reading};
-ghost use Rattle.snd_modes.specs.Handle.{known_of};
+ghost use Rattle.snd_file.specs.Handle.{known_of};
 ghost use Rattle.snd_script.specs.Rules.{read_rule, refused_rule, seek_both_rule, seek_read_rule, seek_write_rule, tell_rule};
 ghost use Rattle.snd_script.specs.Tapped.{meter_taps};
 ghost use Rattle.snd_script.specs.Work.{FeedsFile, Follows};
@@ -12,9 +12,10 @@ use crate::reading::read_some;
 use crate::room::Room;
 use crate::say::{refuse, say_file, say_frames, say_ok};
 use snd_disk::{Disk, Sink};
+use snd_edits::{CanRead, CanWrite, Encode, Mode, SeekError, Update};
+use snd_file::File;
 use snd_lines::Refusal;
 use snd_meters::Meters;
-use snd_modes::{CanRead, CanWrite, Encode, File, Mode, SeekError, Update};
 use snd_taps::Tap;
 
 /// Refuses a command.

@@ -1,17 +1,18 @@
 //! What a command does to an open file that it changes, and its reply.
 
 ghost use Rattle.std.specs.Prelude.{◌≡◌, None};
-ghost use Rattle.snd_modes.specs.Handle.{known_of};
+ghost use Rattle.snd_file.specs.Handle.{known_of};
 ghost use Rattle.snd_script.specs.Rules.{auto_rule, encode_rule, trim_rule, truncate_rule, update_rule, write_rule};
 ghost use Rattle.snd_script.specs.Work.{Follows};
 
 use crate::handle::{Reply, StepFault};
 use crate::say::{refuse, say_ok};
 use snd_disk::{Disk, Sink};
-use snd_lines::Refusal;
-use snd_modes::{
-    AutoError, CanSeal, CanShrink, CanWrite, Encode, File, ShrinkError, UpdateError, WriteError,
+use snd_edits::{
+    AutoError, CanSeal, CanShrink, CanWrite, Encode, ShrinkError, UpdateError, WriteError,
 };
+use snd_file::File;
+use snd_lines::Refusal;
 
 /// Writes the frames of these numbers.
 #[tactic(auto, using(crate::proofs::Refused::write_part))]

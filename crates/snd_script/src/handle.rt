@@ -1,7 +1,8 @@
 //! The handle of one open file in whichever mode, and how a command on it ends.
 
 use snd_disk::Disk;
-use snd_modes::{Encode, File, Read, Update, Write};
+use snd_edits::{Encode, Read, Update, Write};
+use snd_file::File;
 
 /// An open file, by its mode.
 pub enum Handle<'d, D: Disk> {

@@ -2,7 +2,7 @@
 
 ghost use Rattle.std.specs.Prelude.{◌≡◌, ◌≤◌, List, ℕ, None, OnOk};
 ghost use Rattle.snd_disk.specs.Device.{GoesOnFrom};
-ghost use Rattle.snd_modes.specs.Handle.{known_of};
+ghost use Rattle.snd_file.specs.Handle.{known_of};
 ghost use Rattle.snd_patch.specs.Steps.{StillTells};
 ghost use Rattle.snd_script.specs.Handled.{IsSmall, LeavesDisk, LeavesHandle, handle_known, handle_loan};
 ghost use Rattle.snd_script.specs.Kept.{LeavesLines};
@@ -19,9 +19,10 @@ use crate::run::Run;
 use crate::stop::Stop;
 use crate::text::{put_file_line, put_ok};
 use snd_disk::{Disk, Sink, Source};
+use snd_edits::Mode;
+use snd_file::File;
 use snd_layout::OpenError;
 use snd_lines::Refusal;
-use snd_modes::{File, Mode};
 use snd_taps::Tap;
 use std::alloc::Global;
 

@@ -1,12 +1,13 @@
 //! Frames read for a command.
 
 ghost use Rattle.std.specs.Prelude.{◌≡◌, ◌+◌, ◌*◌, ◌≤◌, None, IfOk, IfErr, IfSome, OnOk, length};
-ghost use Rattle.snd_modes.specs.Handle.{channels_of, known_of, loan_of};
+ghost use Rattle.snd_file.specs.Handle.{channels_of, known_of, loan_of};
 ghost use Rattle.snd_script.specs.Work.{CountsLeft, FileAsks, FileCalm, FileFault, FileReads, HasBadFrame, KnowsRead, MovesOn, ReadsFrames};
 
 use crate::handle::StepFault;
 use snd_disk::Disk;
-use snd_modes::{CanRead, File, ReadError};
+use snd_edits::{CanRead, ReadError};
+use snd_file::File;
 
 /// Reads as many frames as are wanted and are left, into the front of the samples. Memory for as many as
 /// the file could give is taken first.

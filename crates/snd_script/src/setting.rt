@@ -1,7 +1,7 @@
 //! What is set in the head of a file that is made, and the reply.
 
 ghost use Rattle.std.specs.Prelude.{◌≡◌, ◌≢◌, IfErr, None, true};
-ghost use Rattle.snd_modes.specs.Handle.{known_of};
+ghost use Rattle.snd_file.specs.Handle.{known_of};
 ghost use Rattle.snd_script.specs.Answered.{IsPutWhole, Puts, put_refused};
 ghost use Rattle.snd_script.specs.Rules.{set_bext_rule, set_chunk_rule, set_cue_rule, set_string_rule, set_time_rule};
 ghost use Rattle.snd_script.specs.Work.{Follows, setting_rule};
@@ -13,11 +13,12 @@ use crate::work::Setting;
 use arrayvec::ArrayVec;
 use snd_command::{MOST_CUES, is_text};
 use snd_disk::{Disk, Sink};
+use snd_edits::CanMake;
 use snd_fields::{Id4, decimal};
+use snd_file::File;
 use snd_layout::{OpenRefusal, PieceError};
 use snd_lines::Refusal;
 use snd_meta::{BextKey, InfoKey};
-use snd_modes::{CanMake, File};
 use snd_tags::{SetError, set_field, set_points, set_text, set_time};
 use std::alloc::Global;
 

@@ -1,7 +1,7 @@
 //! A command on an open file, by the mode in which it is open.
 
 ghost use Rattle.std.specs.Prelude.{◌≡◌, None, false};
-ghost use Rattle.snd_modes.specs.Handle.{known_of};
+ghost use Rattle.snd_file.specs.Handle.{known_of};
 ghost use Rattle.snd_script.specs.Desk.{encoding, reading, updating, writing};
 ghost use Rattle.snd_script.specs.Tapped.{meter_taps};
 ghost use Rattle.snd_script.specs.Work.{FeedsWork, FollowsWork, work_closes, work_sets};
@@ -15,9 +15,10 @@ use crate::setting::set;
 use crate::tapping::{tap, untap};
 use crate::work::Work;
 use snd_disk::{Disk, Sink};
+use snd_edits::{CanShrink, Encode, Read, Update, Write};
+use snd_file::File;
 use snd_lines::Refusal;
 use snd_meters::Meters;
-use snd_modes::{CanShrink, Encode, File, Read, Update, Write};
 use snd_taps::Tap;
 use std::alloc::Global;
 

@@ -2,7 +2,7 @@
 
 ghost use Rattle.std.specs.Prelude.{◌≡◌, None};
 ghost use Rattle.snd_script.specs.Tapped.{meter_taps};
-ghost use Rattle.snd_modes.specs.Handle.{known_of};
+ghost use Rattle.snd_file.specs.Handle.{known_of};
 ghost use Rattle.snd_script.specs.Rules.{tap_range, tap_rule, untap_rule};
 ghost use Rattle.snd_script.specs.Work.{FeedsFile, Follows};
 
@@ -10,10 +10,11 @@ use crate::handle::{Reply, StepFault};
 use crate::say::{refuse, say_report, say_text};
 use snd_container::fixed_form;
 use snd_disk::{Disk, Sink};
+use snd_edits::Mode;
 use snd_fields::Order;
+use snd_file::File;
 use snd_layout::Codec;
 use snd_meters::Meters;
-use snd_modes::{File, Mode};
 use snd_pcm::Linear;
 use snd_taps::{Tap, TapKind};
 

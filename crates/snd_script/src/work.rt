@@ -7,10 +7,10 @@ ghost use Rattle.snd_script.specs.Work.{SetsFor, WorksFor, WritesFor};
 
 use arrayvec::ArrayVec;
 use snd_command::{CodecWord, LineCommand, MOST_CUES, MOST_SAMPLES};
+use snd_edits::{ima_codec, ms_codec};
 use snd_fields::Id4;
 use snd_layout::{Codec, Kind};
 use snd_meta::{BextKey, InfoKey};
-use snd_modes::{ima_codec, ms_codec};
 use snd_taps::TapKind;
 
 /// What is set in a file that is made.

@@ -5,9 +5,9 @@ use Rattle.snd_disk.specs.State.{Rises}
 use Rattle.snd_disk.specs.declared.disk.Disk.{Ghosts}
 use Rattle.snd_disk.proofs.Public.{only_reads_then}
 use Rattle.snd_layout.specs.declared.error.PieceError.TheVariants as piece_error
-use Rattle.snd_modes.specs.Handle.{disk_of, known_of}
-use Rattle.snd_modes.specs.declared.handle.File.{File}
-use Rattle.snd_modes.specs.declared.mode.Mode.{Ghosts as ModeGhosts}
+use Rattle.snd_file.specs.Handle.{disk_of, known_of}
+use Rattle.snd_file.specs.declared.handle.File.{File}
+use Rattle.snd_edits.specs.declared.mode.Mode.{Ghosts as ModeGhosts}
 use Rattle.snd_tags.specs.Drafts.{CountsSetting, MaySet, OnlyPuts}
 use Rattle.snd_tags.specs.declared.error.SetError.{SetError}
 use Rattle.snd_tags.specs.declared.error.SetError.TheVariants.{TextTooLong, Put}

@@ -4,11 +4,12 @@ use Rattle.std.specs.Prelude.{is_some}
 use Rattle.snd_disk.specs.Device.{GoesOnFrom, OnlyReadsOn, WritesAtMost}
 use Rattle.snd_disk.specs.declared.disk.Disk.{Ghosts}
 use Rattle.snd_disk.proofs.Public.{at_most_then, goes_on_kept, goes_on_then}
-use Rattle.snd_modes.specs.Editing.{Editing}
-use Rattle.snd_modes.specs.Handle.{Known, Stands, disk_of, known_of}
-use Rattle.snd_modes.specs.Outcomes.{TellsOn}
-use Rattle.snd_modes.specs.declared.handle.File.{File}
-use Rattle.snd_modes.specs.declared.mode.Mode.{Ghosts as ModeGhosts}
+use Rattle.snd_edits.specs.Editing.{Editing}
+use Rattle.snd_edits.specs.Known.{Known}
+use Rattle.snd_file.specs.Handle.{Stands, disk_of, known_of}
+use Rattle.snd_file.specs.Outcomes.{TellsOn}
+use Rattle.snd_file.specs.declared.handle.File.{File}
+use Rattle.snd_edits.specs.declared.mode.Mode.{Ghosts as ModeGhosts}
 use Rattle.snd_tags.specs.Drafts.{IsSet, SetLeaves, SetsBody}
 use Rattle.snd_tags.specs.Steps.{FailsToRead, Puts, Reads, Sets, no_memory}
 use Rattle.snd_tags.specs.declared.error.SetError.{SetError}

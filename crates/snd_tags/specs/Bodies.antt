@@ -2,10 +2,10 @@
 use Rattle.std.specs.Prelude.{◌≡◌, ℕ, ◌<◌, ◌≤◌, Bool, List, Option, None, Some, Result, Ok, Err, codes, find, slice_get, take}
 use Rattle.std.specs.Str.{bytes_eq}
 use Rattle.snd_layout.specs.declared.piece.Piece.{Piece}
-use Rattle.snd_modes.specs.declared.error.GetError.{GetError}
-use Rattle.snd_modes.specs.declared.error.GetError.TheVariants as get
-use Rattle.snd_modes.specs.Handle.{Known}
-use Rattle.snd_modes.specs.Pieces.{MayGive, body_of, first_piece, has_name}
+use Rattle.snd_edits.specs.declared.error.GetError.{GetError}
+use Rattle.snd_edits.specs.declared.error.GetError.TheVariants as get
+use Rattle.snd_edits.specs.Known.{Known}
+use Rattle.snd_edits.specs.Pieces.{MayGive, body_of, first_piece, has_name}
 use Rattle.snd_tags.specs.declared.error.TagError.{TagError}
 use Rattle.snd_tags.specs.declared.error.TagError.TheVariants.{Get, BadBody}
 

@@ -11,14 +11,15 @@ use Rattle.snd_meta.specs.Broadcast.{Broadcast, bext_body, bext_of, blank, with_
 use Rattle.snd_meta.specs.Info.{Entry, info_body, info_of, with_text}
 use Rattle.snd_meta.specs.declared.bext.BextKey.{BextKey}
 use Rattle.snd_meta.specs.declared.info.InfoKey.{InfoKey}
-use Rattle.snd_modes.specs.declared.handle.File.{File}
-use Rattle.snd_modes.specs.declared.mode.Mode.{Ghosts as ModeGhosts}
-use Rattle.snd_modes.specs.Editing.{Editing}
-use Rattle.snd_modes.specs.Handle.{Known, Stands, disk_of, known_of}
+use Rattle.snd_file.specs.declared.handle.File.{File}
+use Rattle.snd_edits.specs.declared.mode.Mode.{Ghosts as ModeGhosts}
+use Rattle.snd_edits.specs.Editing.{Editing}
+use Rattle.snd_edits.specs.Known.{Known}
+use Rattle.snd_file.specs.Handle.{Stands, disk_of, known_of}
 use Rattle.snd_layout.specs.Kinds.{holds_meta}
-use Rattle.snd_modes.specs.PieceCalls.{IsPutRefusal, IsUntouched, MayPut, known_put, to_replace}
-use Rattle.snd_modes.specs.Pieces.{body_of, first_piece}
-use Rattle.snd_modes.specs.Relaid.{place_named, replaced_to}
+use Rattle.snd_edits.specs.PieceCalls.{IsPutRefusal, IsUntouched, MayPut, known_put, to_replace}
+use Rattle.snd_edits.specs.Pieces.{body_of, first_piece}
+use Rattle.snd_edits.specs.Relaid.{place_named, replaced_to}
 use Rattle.snd_chunks.specs.Heads.{new_piece}
 use Rattle.snd_tags.specs.declared.error.SetError.{SetError}
 use Rattle.snd_tags.specs.declared.error.SetError.TheVariants.{TextTooLong, Put}

@@ -1,10 +1,10 @@
 -- How an error of a call below is told.
 use Rattle.snd_meta.specs.declared.error.MetaError.{MetaError}
 use Rattle.snd_meta.specs.declared.error.MetaError.TheVariants.{Memory}
-use Rattle.snd_modes.specs.declared.error.GetError.{GetError}
-use Rattle.snd_modes.specs.declared.error.GetError.TheVariants as get
-use Rattle.snd_modes.specs.declared.error.PieceReadError.{PieceReadError}
-use Rattle.snd_modes.specs.declared.error.PieceReadError.TheVariants as piece_read
+use Rattle.snd_edits.specs.declared.error.GetError.{GetError}
+use Rattle.snd_edits.specs.declared.error.GetError.TheVariants as get
+use Rattle.snd_edits.specs.declared.error.PieceReadError.{PieceReadError}
+use Rattle.snd_edits.specs.declared.error.PieceReadError.TheVariants as piece_read
 use Rattle.snd_tags.specs.declared.error.TagError.{TagError}
 use Rattle.snd_tags.specs.declared.error.TagError.TheVariants.{Get, BadBody}
 

@@ -8,14 +8,16 @@ use Rattle.snd_meta.specs.Broadcast.{Broadcast, bext_of}
 use Rattle.snd_meta.specs.Cue.{cues_of}
 use Rattle.snd_meta.specs.Info.{Entry, info_of}
 use Rattle.snd_meta.specs.declared.cue.CuePoint.{CuePoint}
-use Rattle.snd_modes.specs.declared.error.GetError.{GetError}
-use Rattle.snd_modes.specs.declared.error.GetError.TheVariants as get
-use Rattle.snd_modes.specs.declared.handle.File.{File}
-use Rattle.snd_modes.specs.declared.mode.Mode.{Ghosts as ModeGhosts}
+use Rattle.snd_edits.specs.declared.error.GetError.{GetError}
+use Rattle.snd_edits.specs.declared.error.GetError.TheVariants as get
+use Rattle.snd_file.specs.declared.handle.File.{File}
+use Rattle.snd_edits.specs.declared.mode.Mode.{Ghosts as ModeGhosts}
 use Rattle.snd_disk.specs.declared.disk.Disk.{Ghosts}
-use Rattle.snd_modes.specs.Editing.{Editing}
-use Rattle.snd_modes.specs.Handle.{Known, Stands, disk_of}
-use Rattle.snd_modes.specs.Pieces.{CountsGetting, body_of, first_piece, has_name}
+use Rattle.snd_edits.specs.Editing.{Editing}
+use Rattle.snd_edits.specs.Known.{Known}
+use Rattle.snd_file.specs.Handle.{Stands, disk_of}
+use Rattle.snd_edits.specs.Pieces.{body_of, first_piece, has_name}
+use Rattle.snd_file.specs.Pieces.{CountsGetting}
 use Rattle.snd_tags.specs.declared.error.TagError.{TagError}
 use Rattle.snd_tags.specs.declared.error.TagError.TheVariants.{Get, BadBody}
 

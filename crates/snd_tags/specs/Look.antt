@@ -1,7 +1,7 @@
 -- How a body is read off a disk.
 use Rattle.std.specs.Prelude.{◌<◌}
 use Rattle.snd_layout.specs.declared.piece.Piece.{Piece}
-use Rattle.snd_modes.specs.declared.error.GetError.TheVariants as get
+use Rattle.snd_edits.specs.declared.error.GetError.TheVariants as get
 use Rattle.snd_tags.specs.declared.error.TagError.{TagError}
 use Rattle.snd_tags.specs.declared.error.TagError.TheVariants.{Get}
 

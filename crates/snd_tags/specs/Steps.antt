@@ -4,11 +4,11 @@ use Rattle.std.specs.declared.alloc.Global.{Global}
 use Rattle.snd_disk.specs.Device.{AsksAtMost, GoesOnFrom, OnlyReadsOn, WritesAtMost}
 use Rattle.snd_disk.specs.declared.disk.Disk.{Ghosts}
 use Rattle.snd_layout.specs.declared.error.PieceError.TheVariants as piece_error
-use Rattle.snd_modes.specs.declared.handle.File.{File}
-use Rattle.snd_modes.specs.declared.mode.Mode.{Ghosts as ModeGhosts}
-use Rattle.snd_modes.specs.Editing.{Editing}
-use Rattle.snd_modes.specs.Handle.{Stands, StandsAfter, disk_of, known_of, loan_of}
-use Rattle.snd_modes.specs.Outcomes.{TellsOn}
+use Rattle.snd_file.specs.declared.handle.File.{File}
+use Rattle.snd_edits.specs.declared.mode.Mode.{Ghosts as ModeGhosts}
+use Rattle.snd_edits.specs.Editing.{Editing}
+use Rattle.snd_file.specs.Handle.{Stands, StandsAfter, disk_of, known_of, loan_of}
+use Rattle.snd_file.specs.Outcomes.{TellsOn}
 use Rattle.snd_tags.specs.Drafts.{CountsSetting, IsSet, OnlyPuts, SetLeaves, SetsBody, SetsSome}
 use Rattle.snd_tags.specs.declared.error.SetError.{SetError}
 use Rattle.snd_tags.specs.declared.error.SetError.TheVariants.{TextTooLong, Put}

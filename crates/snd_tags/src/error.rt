@@ -1,13 +1,13 @@
 //! Why texts, fields and points are not given, and not set.
 
 ghost use Rattle.std.specs.Prelude.{◌≡◌};
-ghost use Rattle.snd_modes.specs.declared.error.GetError.TheVariants as get;
+ghost use Rattle.snd_edits.specs.declared.error.GetError.TheVariants as get;
 ghost use Rattle.snd_tags.specs.declared.error.TagError.TheVariants.{Get};
 ghost use Rattle.snd_tags.specs.Errors.{body_error, read_error};
 
+use snd_edits::{GetError, PieceReadError};
 use snd_layout::PieceError;
 use snd_meta::MetaError;
-use snd_modes::{GetError, PieceReadError};
 use std::alloc::AllocError;
 use thiserror::Error;
 

@@ -2,16 +2,17 @@
 
 ghost use Rattle.std.specs.Prelude.{◌≡◌, codes};
 ghost use Rattle.snd_disk.specs.Device.{AsksAtMost, OnlyReadsOn};
-ghost use Rattle.snd_modes.specs.Handle.{StandsAfter, disk_of, known_of, loan_of};
-ghost use Rattle.snd_modes.specs.Pieces.{GetLeaves};
+ghost use Rattle.snd_file.specs.Handle.{StandsAfter, disk_of, known_of, loan_of};
+ghost use Rattle.snd_edits.specs.Pieces.{GetLeaves};
 ghost use Rattle.snd_tags.specs.Found.{Answers, CountsFinding, FindsInfo, body_given, broadcast_of, points_of, texts_of};
 
 use crate::error::TagError;
 use crate::lists::info_body;
 use snd_disk::Disk;
+use snd_edits::Mode;
 use snd_fields::Id4;
+use snd_file::File;
 use snd_meta::{Bext, CueList, InfoList};
-use snd_modes::{File, Mode};
 use std::alloc::Global;
 
 /// The texts of the first INFO list of a file. It asks at most 81920 bytes of the disk, and never writes.

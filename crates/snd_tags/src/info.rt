@@ -2,7 +2,7 @@
 
 ghost use Rattle.std.specs.Prelude.{◌≡◌, ◌≤◌, codes, length, take};
 ghost use Rattle.std.specs.Str.{bytes_eq};
-ghost use Rattle.snd_modes.specs.Pieces.{has_name};
+ghost use Rattle.snd_edits.specs.Pieces.{has_name};
 
 use snd_layout::Piece;
 

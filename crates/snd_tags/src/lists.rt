@@ -2,18 +2,20 @@
 
 ghost use Rattle.std.specs.Prelude.{◌≡◌, ◌<◌, ◌≤◌, None, IfErr, IfOk, IfSome, length, slice_get, take};
 ghost use Rattle.snd_disk.specs.Device.{AsksAtMost, OnlyReadsOn};
-ghost use Rattle.snd_modes.specs.Editing.{Editing};
-ghost use Rattle.snd_modes.specs.Handle.{IfOkStanding, Stands, StandsAfter, disk_of, known_of, loan_of};
-ghost use Rattle.snd_modes.specs.Pieces.{CountsGetting, CountsPieceReading, PieceReadLeaves};
+ghost use Rattle.snd_edits.specs.Editing.{Editing};
+ghost use Rattle.snd_file.specs.Handle.{IfOkStanding, Stands, StandsAfter, disk_of, known_of, loan_of};
+ghost use Rattle.snd_edits.specs.Pieces.{PieceReadLeaves};
+ghost use Rattle.snd_file.specs.Pieces.{CountsGetting, CountsPieceReading};
 ghost use Rattle.snd_tags.specs.Bodies.{BodyLeaves, IsBodyOf, IsGiveRefusal, WholeLeaves, begins_info, chunk_at, first_list};
 ghost use Rattle.snd_tags.specs.Found.{CountsFinding, FindsInfo, info_piece};
 
 use crate::error::TagError;
 use crate::info::{front, is_list, names_info};
 use snd_disk::Disk;
+use snd_edits::{GetError, Mode, PieceReadError};
 use snd_fields::Id4;
+use snd_file::File;
 use snd_layout::{LONGEST_PIECE, Piece};
-use snd_modes::{File, GetError, Mode, PieceReadError};
 use std::alloc::Global;
 
 // The first list of any kind.

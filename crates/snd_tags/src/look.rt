@@ -3,16 +3,17 @@
 ghost use Rattle.std.specs.Prelude.{◌≡◌, ◌≤◌, All, IfErr, IfOk, IfSome, IsErrOf, List, ℕ, find, length, take};
 ghost use Rattle.snd_disk.specs.Device.{AsksAtMost, IfOkTold, OnlyReadsOn, Tells};
 ghost use Rattle.snd_layout.specs.Shape.{IsPlaced};
-ghost use Rattle.snd_modes.specs.Pieces.{CountsGetting, body_of};
+ghost use Rattle.snd_edits.specs.Pieces.{body_of};
+ghost use Rattle.snd_file.specs.Pieces.{CountsGetting};
 ghost use Rattle.snd_tags.specs.Found.{IsAnswer, body_given, is_info, texts_of};
 ghost use Rattle.snd_tags.specs.Look.{IsBodyRefusal};
 
 use crate::error::TagError;
 use crate::info::{front, is_list, names_info};
 use snd_disk::{Disk, Failed, Step};
+use snd_edits::GetError;
 use snd_layout::{LONGEST_PIECE, Layout, Piece};
 use snd_meta::InfoList;
-use snd_modes::GetError;
 use std::alloc::Global;
 
 // Reads the front of the body of a piece into a slice that is no longer. The answer is how many bytes stand

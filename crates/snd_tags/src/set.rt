@@ -4,18 +4,19 @@ ghost use Rattle.std.specs.Prelude.{◌≡◌, ◌≢◌, ◌↔◌, ◌<◌, �
 ghost use Rattle.snd_disk.specs.Device.{AsksAtMost, GoesOnFrom, WritesAtMost};
 ghost use Rattle.snd_meta.specs.Broadcast.{field_size};
 ghost use Rattle.snd_meta.specs.Cue.{cue_body, named};
-ghost use Rattle.snd_modes.specs.Handle.{disk_of, known_of, loan_of};
-ghost use Rattle.snd_modes.specs.Outcomes.{TellsOn};
+ghost use Rattle.snd_file.specs.Handle.{disk_of, known_of, loan_of};
+ghost use Rattle.snd_file.specs.Outcomes.{TellsOn};
 ghost use Rattle.snd_tags.specs.Drafts.{CountsSetting, OnlyPuts, SetsBody, SetsSome, bext_timed, bext_with, info_with};
 
 use crate::bodies::{bext_timed, bext_with, cue_body, info_with};
 use crate::error::SetError;
 use crate::steps::{body_held, put_body};
 use snd_disk::Disk;
+use snd_edits::CanMake;
 use snd_fields::Id4;
+use snd_file::File;
 use snd_layout::PieceError;
 use snd_meta::{BextKey, InfoKey};
-use snd_modes::{CanMake, File};
 use std::alloc::Global;
 
 /// The most bytes of a text of an INFO list.

@@ -1,16 +1,17 @@
 //! The calls of the file by which a chunk is set: its body is read, and it is put.
 
 ghost use Rattle.std.specs.Prelude.{◌≡◌, IfErr, IfOk, OnOk, true};
-ghost use Rattle.snd_modes.specs.Handle.{IfOkStanding};
+ghost use Rattle.snd_file.specs.Handle.{IfOkStanding};
 ghost use Rattle.snd_layout.specs.Kinds.{is_meta_id};
 ghost use Rattle.snd_tags.specs.Drafts.{body_held};
 ghost use Rattle.snd_tags.specs.Steps.{FailsToRead, IsShort, Puts, Reads, bytes_in};
 
 use crate::error::SetError;
 use snd_disk::Disk;
+use snd_edits::{CanMake, GetError};
 use snd_fields::Id4;
+use snd_file::File;
 use snd_layout::PieceError;
-use snd_modes::{CanMake, File, GetError};
 use std::alloc::Global;
 
 /// The body of the first chunk with an identifier, where there is one of at most 65536 bytes.

@@ -1,6 +1,6 @@
+use snd_edits::{ima_codec, ms_codec};
 use snd_fields::Order;
 use snd_layout::{Codec, Params};
-use snd_modes::{ima_codec, ms_codec};
 use std::env;
 
 const RATE: u64 = 44100;

@@ -9,14 +9,15 @@ mod job;
 mod writing;
 
 ghost use Rattle.std.specs.Prelude.{◌≡◌, ◌<◌, ◌≤◌, false};
-ghost use Rattle.snd_modes.specs.Handle.{disk_of, loan_of};
+ghost use Rattle.snd_file.specs.Handle.{disk_of, loan_of};
 
 use job::{Change, Creation, Job, job_of};
 use snd_container::{Fixed, fixed_form};
 use snd_disk::{Disk, Shelf};
+use snd_edits::Update;
+use snd_file::{File, create, create_blocks, open_update};
 use snd_files::FolderShelf;
 use snd_layout::Kind;
-use snd_modes::{File, Update, create, create_blocks, open_update};
 use std::alloc::Global;
 use std::io::Write;
 use std::process::ExitCode;

@@ -1,10 +1,11 @@
 //! The call by which frames are written in each mode.
 
 ghost use Rattle.std.specs.Prelude.{◌≡◌};
-ghost use Rattle.snd_modes.specs.Handle.{disk_of, loan_of};
+ghost use Rattle.snd_file.specs.Handle.{disk_of, loan_of};
 
 use snd_disk::Disk;
-use snd_modes::{Encode, File, Mode, Update, Write};
+use snd_edits::{Encode, Mode, Update, Write};
+use snd_file::File;
 
 /// A mode in which frames are written.
 pub trait Writing: Mode {

@@ -1,5 +1,5 @@
 use Rattle.std.proofs.Common.{◌≡◌}
-use Rattle.snd_modes.specs.Handle.{disk_of, loan_of}
+use Rattle.snd_file.specs.Handle.{disk_of, loan_of}
 use Rattle.read_bench.proofs.fold_frames.Given as goal
 
 abbrev pub invariant-loop-left : goal.invariant-loop-left

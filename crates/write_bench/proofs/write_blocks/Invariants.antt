@@ -1,5 +1,5 @@
 use Rattle.std.proofs.Common.{◌≡◌}
-use Rattle.snd_modes.specs.Handle.{disk_of, loan_of}
+use Rattle.snd_file.specs.Handle.{disk_of, loan_of}
 use Rattle.write_bench.proofs.write_blocks.Given as goal
 
 abbrev pub invariant-loop-i : goal.invariant-loop-i

@@ -4,9 +4,9 @@ use Rattle.std.proofs.lemmas.Result.{on_ok_weaker}
 use Rattle.snd_fields.specs.Laws.{IsByte}
 use Rattle.snd_layout.specs.Shape.{Shape}
 use Rattle.snd_chunks.specs.Heads.{chunk_read, new_piece}
-use Rattle.snd_modes.specs.Handle.{known_of}
-use Rattle.snd_modes.specs.Pieces.{body_of}
-use Rattle.snd_modes.specs.Relaid.{pieces_held}
+use Rattle.snd_file.specs.Handle.{known_of}
+use Rattle.snd_edits.specs.Pieces.{body_of}
+use Rattle.snd_edits.specs.Relaid.{pieces_held}
 use Rattle.snd_carry.proofs.Heads.{outline_put, put_last}
 use Rattle.snd_carry.proofs.Taken.{not_own, small}
 use Rattle.snd_carry.proofs.bodies.carry_chunk.Goals as goal

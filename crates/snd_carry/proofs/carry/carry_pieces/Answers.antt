@@ -4,9 +4,10 @@ use Rattle.std.specs.Prelude.{slice_get}
 use Rattle.snd_disk.specs.Device.{WritesAtMost}
 use Rattle.snd_disk.proofs.Public.{goes_on_then, only_reads_then}
 use Rattle.snd_layout.specs.declared.piece.Piece.{Piece}
-use Rattle.snd_modes.specs.Handle.{Known, known_of}
+use Rattle.snd_edits.specs.Known.{Known}
+use Rattle.snd_file.specs.Handle.{known_of}
 use Rattle.snd_layout.specs.Kinds.{holds_meta}
-use Rattle.snd_modes.specs.PieceCalls.{known_put}
+use Rattle.snd_edits.specs.PieceCalls.{known_put}
 use Rattle.snd_chunks.specs.Heads.{outline}
 use Rattle.snd_carry.specs.Carried.{carried_pieces, is_carried}
 use Rattle.snd_carry.specs.Carrying.{AsksForBodies, known_with}

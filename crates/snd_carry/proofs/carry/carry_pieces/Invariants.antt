@@ -1,7 +1,7 @@
 use Rattle.std.proofs.Common.{◌≡◌, ◌*◌, length, take}
 use Rattle.snd_disk.specs.Device.{GoesOnFrom, OnlyReadsOn, WritesAtMost}
-use Rattle.snd_modes.specs.Handle.{StandsAfter, disk_of, known_of, loan_of}
-use Rattle.snd_modes.specs.Outcomes.{AsksNothing, TellsOn}
+use Rattle.snd_file.specs.Handle.{StandsAfter, disk_of, known_of, loan_of}
+use Rattle.snd_file.specs.Outcomes.{AsksNothing, TellsOn}
 use Rattle.snd_carry.specs.Carried.{carried_pieces}
 use Rattle.snd_carry.specs.Carrying.{AsksForBodies, StaysAsOpened, known_with}
 use Rattle.snd_carry.proofs.Steps.{ChunksSoFar, SoFar}

@@ -9,8 +9,8 @@ use Rattle.snd_inputs.proofs.Reading.{reads_then}
 use Rattle.snd_inputs.specs.Inputs.{input_in, is_bad}
 use Rattle.snd_output.proofs.Changing.{changed_as}
 use Rattle.snd_layout.specs.Shape.{Shape, room}
-use Rattle.snd_modes.specs.Editing.{Editing}
-use Rattle.snd_modes.specs.Handle.{codec_of, disk_of, known_of}
+use Rattle.snd_edits.specs.Editing.{Editing}
+use Rattle.snd_file.specs.Handle.{codec_of, disk_of, known_of}
 use Rattle.snd_tools.specs.Done.{Said}
 use Rattle.snd_concat.specs.Concat.{all_frames, all_numbers, numbers_for, shapes_of}
 use Rattle.snd_concat.proofs.Doing.{refused_not_ok}

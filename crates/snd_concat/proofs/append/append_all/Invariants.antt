@@ -5,9 +5,9 @@ use Rattle.snd_disk.specs.Shelves.{TellsFiles}
 use Rattle.snd_inputs.specs.Asking.{AsksForEach}
 use Rattle.snd_inputs.specs.Inputs.{inputs_in}
 use Rattle.snd_inputs.specs.Looking.{ReadsFiles}
-use Rattle.snd_modes.specs.Editing.{Editing}
-use Rattle.snd_modes.specs.Handle.{codec_of, disk_of, known_of, loan_of}
-use Rattle.snd_modes.specs.Outcomes.{AsksNothing, TellsOn}
+use Rattle.snd_edits.specs.Editing.{Editing}
+use Rattle.snd_file.specs.Handle.{codec_of, disk_of, known_of, loan_of}
+use Rattle.snd_file.specs.Outcomes.{AsksNothing, TellsOn}
 use Rattle.snd_output.specs.Appended.{Gains}
 use Rattle.snd_concat.specs.Appending.{AllFollow, StillMade}
 use Rattle.snd_concat.specs.Concat.{all_frames, all_numbers, shapes_of}

@@ -1,7 +1,7 @@
 use Rattle.std.proofs.Common.{◌≡◌, ◌∙◌, ap, sym, refl, arith, rules}
 use Rattle.snd_inputs.proofs.Asking.{asks_to_copy}
 use Rattle.snd_layout.specs.Shape.{Shape}
-use Rattle.snd_modes.specs.Handle.{known_of}
+use Rattle.snd_file.specs.Handle.{known_of}
 use Rattle.snd_inputs.proofs.Copying.{all_ahead}
 use Rattle.snd_output.proofs.Changing.{changed_as}
 use Rattle.snd_output.specs.Appended.{left_in}

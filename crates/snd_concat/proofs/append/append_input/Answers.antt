@@ -8,8 +8,8 @@ use Rattle.snd_inputs.proofs.Seen.{read_as}
 use Rattle.snd_inputs.specs.Inputs.{input_in, is_bad}
 use Rattle.snd_inputs.specs.Opening.{IsOpen, OpensInput}
 use Rattle.snd_lines.specs.declared.refusal.Refusal.{Refusal}
-use Rattle.snd_modes.specs.Editing.{Editing, first_editing}
-use Rattle.snd_modes.specs.Handle.{codec_of, known_of}
+use Rattle.snd_edits.specs.Editing.{Editing, first_editing}
+use Rattle.snd_file.specs.Handle.{codec_of, known_of}
 use Rattle.snd_output.proofs.Changing.{if_changed, unchanged_as}
 use Rattle.snd_output.specs.Appended.{Gains}
 use Rattle.snd_concat.specs.Appending.{Follows}

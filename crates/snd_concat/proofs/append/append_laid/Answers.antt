@@ -1,6 +1,6 @@
 use Rattle.std.proofs.Common.{refl}
 use Rattle.std.proofs.lemmas.Result.{IfOk-weaker}
-use Rattle.snd_modes.specs.Editing.{first_editing}
+use Rattle.snd_edits.specs.Editing.{first_editing}
 use Rattle.snd_output.proofs.Changing.{if_changed}
 use Rattle.snd_concat.proofs.append.append_laid.Goals as goal
 

@@ -5,7 +5,7 @@ use Rattle.snd_inputs.specs.Rooms.{is_full}
 use Rattle.snd_layout.specs.Shape.{Shape}
 use Rattle.snd_layout.specs.declared.kind.Kind.{Kind}
 use Rattle.snd_lines.specs.declared.refusal.Refusal.TheVariants.{ContainerFull, MixedParams, Open}
-use Rattle.snd_modes.specs.Editing.{Editing}
+use Rattle.snd_edits.specs.Editing.{Editing}
 use Rattle.snd_output.specs.Codecs.{params_like}
 use Rattle.snd_tools.specs.Done.{Done, Said, files_after, said_of}
 use Rattle.snd_tools.specs.Shelves.{HasFiles, IsDone}

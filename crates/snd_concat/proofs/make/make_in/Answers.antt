@@ -1,6 +1,6 @@
 use Rattle.std.proofs.Common.{◌∙◌, [], ◌++◌, ap, rules}
 use Rattle.snd_output.proofs.Changing.{fault_only, unchanged_err}
-use Rattle.snd_modes.specs.Handle.{codec_of, known_of}
+use Rattle.snd_file.specs.Handle.{codec_of, known_of}
 use Rattle.snd_tools.specs.Done.{Said}
 use Rattle.snd_concat.specs.Concat.{all_frames, all_numbers, shapes_of}
 use Rattle.snd_concat.specs.Making.{bytes_made}

@@ -3,7 +3,7 @@ use Rattle.std.proofs.lemmas.Result.{on_ok_weaker}
 use Rattle.snd_carry.specs.Carried.{carried}
 use Rattle.snd_layout.specs.Shape.{Shape}
 use Rattle.snd_inputs.proofs.Asking.{asks_less}
-use Rattle.snd_modes.specs.Handle.{known_of}
+use Rattle.snd_file.specs.Handle.{known_of}
 use Rattle.snd_output.specs.Made.{made_with}
 use Rattle.snd_convert.specs.Convert.{carries}
 use Rattle.snd_convert.specs.Planning.{planned_by}

@@ -5,7 +5,7 @@ use Rattle.snd_layout.specs.Shape.{Shape}
 use Rattle.snd_layout.specs.declared.piece.Piece.{Piece}
 use Rattle.snd_chunks.specs.Written.{chunks_bytes}
 use Rattle.snd_fields.specs.declared.field.Order.TheVariants.{Little}
-use Rattle.snd_modes.specs.Handle.{known_of}
+use Rattle.snd_file.specs.Handle.{known_of}
 use Rattle.snd_chunks.specs.Heads.{outline}
 use Rattle.snd_convert.specs.Convert.{carries}
 use Rattle.snd_convert.proofs.Making.{all_end, no_take, some_take}

@@ -1,8 +1,8 @@
 use Rattle.std.proofs.Common.{◌≡◌, ◌∙◌, ap, ℕ, rules}
 use Rattle.snd_inputs.specs.Rooms.{exceeds}
 use Rattle.snd_layout.specs.Shape.{Shape, room}
-use Rattle.snd_modes.specs.Handle.{known_of}
-use Rattle.snd_modes.specs.Relaid.{shape_with}
+use Rattle.snd_file.specs.Handle.{known_of}
+use Rattle.snd_edits.specs.Relaid.{shape_with}
 use Rattle.snd_convert.specs.Convert.{chunks_for}
 use Rattle.snd_convert.specs.Making.{outlines_for}
 use Rattle.snd_convert.specs.Planning.{planned_by}

@@ -2,7 +2,8 @@ use Rattle.std.proofs.Common.{◌≡◌, ◌∙◌, ap, sym, subst, refl, [], �
 use Rattle.snd_layout.specs.Params.{Parameters}
 use Rattle.snd_layout.specs.Shape.{Shape}
 use Rattle.snd_disk.specs.State.{AtMost}
-use Rattle.snd_modes.specs.Handle.{Known, codec_of, disk_of, known_of}
+use Rattle.snd_edits.specs.Known.{Known}
+use Rattle.snd_file.specs.Handle.{codec_of, disk_of, known_of}
 use Rattle.snd_output.proofs.Changing.{if_changed, unchanged_as}
 use Rattle.snd_output.specs.Appended.{bytes_by_calls, left_in}
 use Rattle.snd_output.specs.Made.{IsMaking}

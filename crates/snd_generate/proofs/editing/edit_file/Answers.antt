@@ -1,6 +1,6 @@
 use Rattle.std.proofs.Common.{◌≡◌, ◌∙◌, subst, ℕ, suc, ◌+◌, ◌≤◌, true, false, Ok, arith}
 use Rattle.std.proofs.lemmas.Result.{on_ok_weaker}
-use Rattle.snd_modes.specs.Edits.{automatic_to, truncated_to}
+use Rattle.snd_edits.specs.Edits.{automatic_to, truncated_to}
 use Rattle.snd_generate.specs.Edited.{frames_kept, overwritten}
 use Rattle.snd_generate.specs.Steps.{Holds}
 use Rattle.snd_generate.proofs.Calling.{calls_then}

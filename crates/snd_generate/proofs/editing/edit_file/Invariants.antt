@@ -1,5 +1,5 @@
 use Rattle.std.proofs.Common.{◌≡◌, false, Ok}
-use Rattle.snd_modes.specs.Handle.{loan_of}
+use Rattle.snd_file.specs.Handle.{loan_of}
 use Rattle.snd_generate.specs.Edited.{overwritten}
 use Rattle.snd_generate.specs.Steps.{Becomes, Calls}
 use Rattle.snd_generate.proofs.editing.edit_file.Given as goal

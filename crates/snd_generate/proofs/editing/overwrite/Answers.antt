@@ -1,7 +1,7 @@
 use Rattle.std.proofs.Common.{◌≡◌, ◌*◌, ◌/◌, ◌∙◌, ap, subst, refl, ℕ, ℤ, ◌-ℤ◌, List, [], ◌∷◌, pos, neg_ℤ, to_z, of_z, w32, rules}
 use Rattle.std.proofs.lemmas.Result.{on_ok_weaker}
-use Rattle.snd_modes.specs.Edits.{moved_write_to, written_to}
-use Rattle.snd_modes.specs.Handle.{Stands}
+use Rattle.snd_edits.specs.Edits.{moved_write_to, written_to}
+use Rattle.snd_file.specs.Handle.{Stands}
 use Rattle.snd_generate.proofs.Edits.{negated, pair_fits, within}
 use Rattle.snd_generate.proofs.States.{overwritten_holds}
 use Rattle.snd_generate.proofs.editing.overwrite.Goals as goal

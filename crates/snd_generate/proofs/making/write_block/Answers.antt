@@ -1,9 +1,9 @@
 use Rattle.std.proofs.Common.{◌++◌, refl, subst, ℤ, List, []}
 use Rattle.snd_layout.specs.Shape.{Shape}
 use Rattle.snd_layout.specs.declared.kind.Kind.TheVariants.{Wave}
-use Rattle.snd_modes.specs.Edits.{written_to}
-use Rattle.snd_modes.specs.Handle.{known_of}
-use Rattle.snd_modes.specs.WriteCalls.{MayWrite}
+use Rattle.snd_edits.specs.Edits.{written_to}
+use Rattle.snd_file.specs.Handle.{known_of}
+use Rattle.snd_edits.specs.WriteCalls.{MayWrite}
 use Rattle.snd_output.proofs.Lengthened.{written_is_making}
 use Rattle.snd_output.specs.Made.{IsMaking}
 use Rattle.snd_generate.specs.Edited.{params}

@@ -1,5 +1,5 @@
 use Rattle.std.proofs.Common.{◌≡◌, ◌*◌, ◌-◌, ◌<◌, ◌≤◌, ◌^◌, Ok}
-use Rattle.snd_modes.specs.Handle.{loan_of}
+use Rattle.snd_file.specs.Handle.{loan_of}
 use Rattle.snd_generate.specs.Numbers.{numbers_from, state_after}
 use Rattle.snd_generate.specs.Steps.{Calls, Lengthens}
 use Rattle.snd_generate.proofs.making.write_numbers.Given as goal

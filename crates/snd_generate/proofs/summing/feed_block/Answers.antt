@@ -1,5 +1,5 @@
 use Rattle.std.proofs.Common.{◌≡◌, ◌∙◌, ap, subst, ℕ, ◌*◌, ◌≤◌, ℤ, List, length, arith, rules}
-use Rattle.snd_modes.specs.Handle.{channels_of, known_of}
+use Rattle.snd_file.specs.Handle.{channels_of, known_of}
 use Rattle.snd_output.proofs.Appending.{count_fits}
 use Rattle.snd_pcm.specs.Groups.{first_groups}
 use Rattle.snd_generate.specs.Steps.{FedOn}

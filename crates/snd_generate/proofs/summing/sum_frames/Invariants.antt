@@ -1,7 +1,7 @@
 use Rattle.std.proofs.Common.{◌≡◌, None, ◌+◌, ◌≤◌, min, take}
 use Rattle.snd_disk.specs.Device.{OnlyReadsOn}
-use Rattle.snd_modes.specs.Editing.{Editing, moved_by}
-use Rattle.snd_modes.specs.Handle.{Stands, StandsAfter, disk_of, known_of, loan_of}
+use Rattle.snd_edits.specs.Editing.{Editing, moved_by}
+use Rattle.snd_file.specs.Handle.{Stands, StandsAfter, disk_of, known_of, loan_of}
 use Rattle.snd_output.specs.Appended.{left_in, read_on}
 use Rattle.snd_taps.specs.Meter.{after_frames, idle}
 use Rattle.snd_taps.specs.Meters.{energy_meter, peak_meter}

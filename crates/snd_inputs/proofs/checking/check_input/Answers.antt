@@ -1,7 +1,7 @@
 use Rattle.std.proofs.Common.{◌≡◌, ◌∙◌, Result, Ok, Err, ap, refl, subst, sym}
 use Rattle.std.proofs.lemmas.Result.{IfOk-weaker}
 use Rattle.snd_lines.specs.declared.refusal.Refusal.{Refusal}
-use Rattle.snd_modes.specs.Editing.{Editing, first_editing}
+use Rattle.snd_edits.specs.Editing.{Editing, first_editing}
 use Rattle.snd_inputs.proofs.Asking.{asks_checked}
 use Rattle.snd_inputs.proofs.Held.{held_counts_alone, only_read}
 use Rattle.snd_inputs.proofs.Lists.{opened_same}

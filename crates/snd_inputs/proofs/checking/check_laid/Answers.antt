@@ -1,5 +1,5 @@
 use Rattle.std.proofs.lemmas.Result.{IfOk-weaker}
-use Rattle.snd_modes.specs.Editing.{first_editing}
+use Rattle.snd_edits.specs.Editing.{first_editing}
 use Rattle.snd_inputs.proofs.checking.check_laid.Goals as goal
 
 pub returns-clause-found : goal.returns-clause-found

@@ -1,7 +1,7 @@
 use Rattle.std.proofs.Common.{◌≡◌, ℕ, ◌<◌, List, Ok, false, get_or, take}
 use Rattle.snd_disk.specs.Shelf.{Files}
 use Rattle.snd_disk.specs.Shelves.{TellsFiles}
-use Rattle.snd_modes.specs.Editing.{Editing}
+use Rattle.snd_edits.specs.Editing.{Editing}
 use Rattle.snd_inputs.specs.Asking.{AsksForEach}
 use Rattle.snd_inputs.specs.Inputs.{inputs_in, is_bad}
 use Rattle.snd_inputs.specs.Looking.{ReadsFiles}

@@ -2,7 +2,7 @@ use Rattle.std.proofs.Common.{◌≡◌, false, rules}
 use Rattle.std.specs.Prelude.{is_none}
 use Rattle.snd_container.specs.Sound.{fixed_of}
 use Rattle.snd_inputs.proofs.Checked.{check_fails, good_unless}
-use Rattle.snd_modes.specs.Handle.{known_of}
+use Rattle.snd_file.specs.Handle.{known_of}
 use Rattle.snd_inputs.proofs.checking.has_bad_block.Goals as goal
 
 pub returns-then-is_some-clause-found : goal.returns-then-is_some-clause-found

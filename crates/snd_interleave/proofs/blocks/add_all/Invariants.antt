@@ -1,7 +1,7 @@
 use Rattle.std.proofs.Common.{◌≡◌, ◌-◌, ◌≤◌}
 use Rattle.snd_disk.specs.Device.{GoesOnFrom}
-use Rattle.snd_modes.specs.Handle.{disk_of, known_of, loan_of}
-use Rattle.snd_modes.specs.Outcomes.{AsksNothing, TellsOn}
+use Rattle.snd_file.specs.Handle.{disk_of, known_of, loan_of}
+use Rattle.snd_file.specs.Outcomes.{AsksNothing, TellsOn}
 use Rattle.snd_output.specs.Appended.{IsLonger}
 use Rattle.snd_interleave.specs.Asking.{AsksEach, bytes_upto}
 use Rattle.snd_interleave.specs.Channels.{AreCalm, Lengthens, ReadAll}

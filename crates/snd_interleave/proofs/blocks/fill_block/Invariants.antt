@@ -1,5 +1,5 @@
 use Rattle.std.proofs.Common.{◌≡◌, ◌+◌, ◌*◌, ◌<◌, ℕ, List, get_or, length, pos}
-use Rattle.snd_modes.specs.Editing.{Editing}
+use Rattle.snd_edits.specs.Editing.{Editing}
 use Rattle.snd_output.specs.Widths.{width_of}
 use Rattle.snd_pcm.specs.Width.{HasWidth}
 use Rattle.snd_interleave.specs.Asking.{AsksFirst, bytes_from}

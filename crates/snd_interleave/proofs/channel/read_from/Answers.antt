@@ -3,10 +3,11 @@ use Rattle.snd_blocks.proofs.BlockFrames.{has_bad_part}
 use Rattle.snd_blocks.specs.Frames.{has_bad}
 use Rattle.snd_disk.specs.State.{AtMost}
 use Rattle.snd_layout.specs.declared.codec.Codec.{Codec}
-use Rattle.snd_modes.specs.Editing.{Editing, frames_read, moved_to}
-use Rattle.snd_modes.specs.Calls.{count_read}
-use Rattle.snd_modes.specs.Handle.{Known, Stands, channels_of, codec_of, disk_of, known_of}
-use Rattle.snd_modes.specs.Reading.{FitCodec, bytes_to_read}
+use Rattle.snd_edits.specs.Editing.{Editing, frames_read, moved_to}
+use Rattle.snd_edits.specs.Calls.{count_read}
+use Rattle.snd_edits.specs.Known.{Known}
+use Rattle.snd_file.specs.Handle.{Stands, channels_of, codec_of, disk_of, known_of}
+use Rattle.snd_edits.specs.Reading.{FitCodec, bytes_to_read}
 use Rattle.snd_interleave.proofs.Asking.{asks_frames}
 use Rattle.snd_interleave.proofs.Reading.{few_read, front_fits, numbers_read}
 use Rattle.snd_interleave.proofs.channel.read_from.Goals as goal

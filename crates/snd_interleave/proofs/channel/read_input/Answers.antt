@@ -1,7 +1,7 @@
 use Rattle.std.proofs.Common.{◌≡◌, ◌∙◌, ap, subst, sym, ℤ, List, drop, length, take}
 use Rattle.snd_disk.specs.State.{AtMost}
 use Rattle.snd_layout.specs.Shape.{Shape}
-use Rattle.snd_modes.specs.Editing.{first_editing}
+use Rattle.snd_edits.specs.Editing.{first_editing}
 use Rattle.snd_interleave.specs.Asking.{bytes_from}
 use Rattle.snd_interleave.specs.Interleave.{numbers_of}
 use Rattle.snd_inputs.specs.Inputs.{is_bad}

@@ -5,7 +5,7 @@ use Rattle.std.proofs.lemmas.Option.{slice_get-get_or}
 use Rattle.snd_inputs.proofs.Lists.{bad_first, bad_none}
 use Rattle.snd_inputs.specs.Copying.{bytes_checked}
 use Rattle.snd_inputs.specs.Inputs.{is_bad}
-use Rattle.snd_modes.specs.Editing.{first_editing}
+use Rattle.snd_edits.specs.Editing.{first_editing}
 use Rattle.snd_interleave.specs.Channels.{CountsInputs}
 use Rattle.snd_interleave.proofs.Asking.{first_each, first_more, first_none}
 use Rattle.snd_interleave.proofs.Bad.{held_at}

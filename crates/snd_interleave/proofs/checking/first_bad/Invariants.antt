@@ -1,7 +1,7 @@
 use Rattle.std.proofs.Common.{◌≡◌, ℕ, ◌<◌, List, false, get_or}
 use Rattle.snd_inputs.specs.Copying.{bytes_checked}
 use Rattle.snd_inputs.specs.Inputs.{is_bad}
-use Rattle.snd_modes.specs.Editing.{Editing}
+use Rattle.snd_edits.specs.Editing.{Editing}
 use Rattle.snd_interleave.specs.Asking.{AsksFirst}
 use Rattle.snd_interleave.specs.Channels.{AreCalm, HoldAll, ReadAll}
 use Rattle.snd_interleave.proofs.checking.first_bad.Given as goal

@@ -5,7 +5,7 @@ use Rattle.snd_inputs.specs.Copying.{bytes_checked}
 use Rattle.snd_inputs.specs.Inputs.{is_bad}
 use Rattle.snd_layout.specs.Opened.{EndsIn}
 use Rattle.snd_layout.specs.Shape.{Shape}
-use Rattle.snd_modes.specs.Editing.{first_editing}
+use Rattle.snd_edits.specs.Editing.{first_editing}
 use Rattle.snd_interleave.proofs.checking.is_bad.Goals as goal
 
 pub check_laid-requires-clause-pieces_held : goal.check_laid-requires-clause-pieces_held

@@ -12,7 +12,7 @@ use Rattle.snd_inputs.proofs.Reading.{reads_changes, reads_none}
 use Rattle.snd_inputs.specs.Asking.{AsksForEach}
 use Rattle.snd_inputs.specs.Inputs.{inputs_in}
 use Rattle.snd_inputs.specs.Opening.{IsOpen, OpensInput}
-use Rattle.snd_modes.specs.Editing.{first_editing}
+use Rattle.snd_edits.specs.Editing.{first_editing}
 use Rattle.snd_interleave.specs.Asking.{AsksWhole, bytes_whole}
 use Rattle.snd_interleave.specs.Channels.{CountsWith, HoldAll}
 use Rattle.snd_interleave.specs.Opening.{AreOut, done_rest, opened_behind}

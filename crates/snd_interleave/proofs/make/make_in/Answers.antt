@@ -5,8 +5,8 @@ use Rattle.snd_inputs.proofs.Begun.{begun_as, begun_at_end, begun_room}
 use Rattle.snd_layout.specs.Params.{Parameters}
 use Rattle.snd_layout.specs.Shape.{Shape}
 use Rattle.snd_layout.specs.declared.codec.Codec.{Codec}
-use Rattle.snd_modes.specs.Handle.{codec_of, disk_of, known_of}
-use Rattle.snd_modes.specs.Relaid.{shape_with}
+use Rattle.snd_file.specs.Handle.{codec_of, disk_of, known_of}
+use Rattle.snd_edits.specs.Relaid.{shape_with}
 use Rattle.snd_output.specs.Made.{made_file}
 use Rattle.snd_interleave.specs.Beside.{frames_from}
 use Rattle.snd_interleave.specs.Channels.{CountsWith, bytes_made}

@@ -3,11 +3,12 @@ use Rattle.snd_disk.specs.State.{AtMost}
 use Rattle.snd_layout.specs.Blocks.{is_adpcm}
 use Rattle.snd_layout.specs.Params.{Parameters}
 use Rattle.snd_layout.specs.declared.codec.Codec.{Codec}
-use Rattle.snd_modes.specs.Bytes.{AreWhole, numbers_in}
-use Rattle.snd_modes.specs.Calls.{count_read}
-use Rattle.snd_modes.specs.Editing.{moved_to}
-use Rattle.snd_modes.specs.Handle.{Known, codec_of, disk_of, known_of}
-use Rattle.snd_modes.specs.Reading.{bytes_to_read}
+use Rattle.snd_edits.specs.Bytes.{AreWhole, numbers_in}
+use Rattle.snd_edits.specs.Calls.{count_read}
+use Rattle.snd_edits.specs.Editing.{moved_to}
+use Rattle.snd_edits.specs.Known.{Known}
+use Rattle.snd_file.specs.Handle.{codec_of, disk_of, known_of}
+use Rattle.snd_edits.specs.Reading.{bytes_to_read}
 use Rattle.snd_interleave.specs.Pairs.{is_pair}
 use Rattle.snd_interleave.specs.Reading.{GivesNumbers}
 use Rattle.snd_interleave.proofs.PairNumbers.{asks_pairs, pairs_ahead, pairs_counted, pairs_plain, pairs_whole}

@@ -1,8 +1,8 @@
 use Rattle.std.proofs.Common.{ap, sym, take, ◌∙◌}
 use Rattle.std.proofs.lemmas.Result.{IfOk-weaker}
 use Rattle.snd_layout.specs.Shape.{Shape}
-use Rattle.snd_modes.specs.Bytes.{numbers_in}
-use Rattle.snd_modes.specs.Editing.{first_editing}
+use Rattle.snd_edits.specs.Bytes.{numbers_in}
+use Rattle.snd_edits.specs.Editing.{first_editing}
 use Rattle.snd_interleave.proofs.pairs.read_laid.Goals as goal
 
 pub returns-clause-read : goal.returns-clause-read

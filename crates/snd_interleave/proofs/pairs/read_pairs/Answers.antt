@@ -1,5 +1,5 @@
 use Rattle.std.proofs.Common.{◌≡◌, ◌∙◌, ap, sym, ℕ, ◌-◌, ◌/◌, length, min}
-use Rattle.snd_modes.specs.Editing.{Editing}
+use Rattle.snd_edits.specs.Editing.{Editing}
 use Rattle.snd_interleave.proofs.PairNumbers.{pairs_read}
 use Rattle.snd_interleave.proofs.pairs.read_pairs.Goals as goal
 

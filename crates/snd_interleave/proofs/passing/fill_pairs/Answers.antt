@@ -1,6 +1,6 @@
 use Rattle.std.proofs.Common.{rules, ◌≡◌, ◌∙◌, ap, refl, subst, sym, ℕ, ◌+◌, ◌*◌, ◌/◌, ◌%◌, ◌<◌, pos, get_or, length, set, Ok, Err, arith}
 use Rattle.std.proofs.lemmas.List.{get_or_default}
-use Rattle.snd_modes.specs.Bytes.{numbers_in}
+use Rattle.snd_edits.specs.Bytes.{numbers_in}
 use Rattle.snd_interleave.specs.Asking.{AsksInput, bytes_from}
 use Rattle.snd_interleave.specs.Beside.{KeepsChannels, frame_at}
 use Rattle.snd_interleave.specs.Channels.{CountsInputs}

@@ -1,7 +1,7 @@
 use Rattle.std.proofs.Common.{◌≡◌, ◌+◌, ◌*◌, ◌<◌, ℕ, List, get_or, pos}
 use Rattle.snd_layout.specs.declared.codec.Codec.{Codec}
-use Rattle.snd_modes.specs.Bytes.{numbers_in}
-use Rattle.snd_modes.specs.Editing.{Editing}
+use Rattle.snd_edits.specs.Bytes.{numbers_in}
+use Rattle.snd_edits.specs.Editing.{Editing}
 use Rattle.snd_interleave.specs.Asking.{AsksFirst, bytes_from}
 use Rattle.snd_interleave.specs.Beside.{frame_at}
 use Rattle.snd_interleave.specs.Channels.{AreCalm, HoldAll, ReadAll}

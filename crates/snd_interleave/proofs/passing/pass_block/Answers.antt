@@ -1,8 +1,8 @@
 use Rattle.std.proofs.Common.{◌≡◌, ◌≤◌, ◌∙◌, ap, subst, sym, ℕ, ◌*◌, ◌/◌, ℤ, List, ◌++◌, length, arith}
 use Rattle.std.proofs.lemmas.Result.{on_ok_weaker}
 use Rattle.snd_layout.specs.Params.{Parameters}
-use Rattle.snd_modes.specs.Bytes.{sources_in}
-use Rattle.snd_modes.specs.Handle.{channels_of, codec_of, known_of}
+use Rattle.snd_edits.specs.Bytes.{sources_in}
+use Rattle.snd_file.specs.Handle.{channels_of, codec_of, known_of}
 use Rattle.snd_output.proofs.Appending.{frames_are}
 use Rattle.snd_output.proofs.Changing.{never_is}
 use Rattle.snd_output.specs.Made.{IsMaking}

@@ -13,9 +13,10 @@ use Rattle.snd_container.specs.Sound.{fixed_of}
 use Rattle.snd_layout.specs.Params.{Parameters}
 use Rattle.snd_layout.specs.Shape.{Shape}
 use Rattle.snd_layout.specs.declared.piece.Piece.{Piece}
-use Rattle.snd_modes.specs.Handle.{Known, Stands, known_of}
+use Rattle.snd_edits.specs.Known.{Known}
+use Rattle.snd_file.specs.Handle.{Stands, known_of}
 use Rattle.snd_layout.specs.Kinds.{holds_meta}
-use Rattle.snd_modes.specs.PieceCalls.{IsUntouched, known_put}
+use Rattle.snd_edits.specs.PieceCalls.{IsUntouched, known_put}
 use Rattle.snd_output.proofs.Carried.{carried_is_making, says_of}
 use Rattle.snd_output.specs.Made.{IsChunk, made_with}
 use Rattle.snd_output.specs.declared.stop.Stop.{Stop}

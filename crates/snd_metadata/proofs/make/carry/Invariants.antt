@@ -1,10 +1,10 @@
 use Rattle.std.proofs.Common.{◌≡◌, All, Ok, take}
 use Rattle.snd_disk.specs.Device.{AsksAtMost}
 use Rattle.snd_inputs.specs.Copying.{CopiesInto}
-use Rattle.snd_modes.specs.Editing.{Editing}
-use Rattle.snd_modes.specs.Handle.{Stands, StandsAfter, disk_of, known_of}
-use Rattle.snd_modes.specs.Making.{making_of}
-use Rattle.snd_modes.specs.Outcomes.{AsksNothing}
+use Rattle.snd_edits.specs.Editing.{Editing}
+use Rattle.snd_file.specs.Handle.{Stands, StandsAfter, disk_of, known_of}
+use Rattle.snd_edits.specs.Making.{making_of}
+use Rattle.snd_file.specs.Outcomes.{AsksNothing}
 use Rattle.snd_output.specs.Made.{IsChunk}
 use Rattle.snd_metadata.specs.Making.{HasPut, chunks_planned, known_filled}
 use Rattle.snd_metadata.specs.Planned.{bytes_planned}

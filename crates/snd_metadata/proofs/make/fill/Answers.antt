@@ -6,7 +6,8 @@ use Rattle.snd_layout.specs.Blocks.{is_adpcm}
 use Rattle.snd_inputs.proofs.Copying.{copies_then, counts_appended, still_works}
 use Rattle.snd_layout.specs.Params.{Parameters}
 use Rattle.snd_layout.specs.Shape.{Shape}
-use Rattle.snd_modes.specs.Handle.{Known, codec_of, disk_of, known_of}
+use Rattle.snd_edits.specs.Known.{Known}
+use Rattle.snd_file.specs.Handle.{codec_of, disk_of, known_of}
 use Rattle.snd_output.specs.Appended.{bytes_by_calls, left_in}
 use Rattle.snd_output.specs.Made.{IsMaking}
 use Rattle.snd_metadata.specs.Making.{chunks_planned}

@@ -3,8 +3,8 @@ use Rattle.std.proofs.lemmas.Result.{on_ok_weaker}
 use Rattle.snd_layout.specs.Params.{Parameters}
 use Rattle.snd_layout.specs.Shape.{Shape}
 use Rattle.snd_layout.specs.declared.kind.Kind.{Kind}
-use Rattle.snd_modes.specs.Handle.{known_of}
-use Rattle.snd_modes.specs.Making.{making_of}
+use Rattle.snd_file.specs.Handle.{known_of}
+use Rattle.snd_edits.specs.Making.{making_of}
 use Rattle.snd_output.specs.Made.{made_file}
 use Rattle.snd_output.specs.Widths.{joined}
 use Rattle.snd_metadata.specs.Making.{chunks_planned, file_planned}

@@ -1,6 +1,6 @@
 use Rattle.std.proofs.Common.{refl, subst, sym, ℕ, List, [], ◌∷◌, ◌++◌, OnOk, length, arith}
 use Rattle.snd_layout.specs.declared.piece.Piece.{Piece}
-use Rattle.snd_modes.specs.Handle.{known_of}
+use Rattle.snd_file.specs.Handle.{known_of}
 use Rattle.snd_output.specs.Made.{IsChunk}
 use Rattle.snd_chunks.specs.Heads.{new_piece}
 use Rattle.snd_metadata.specs.Making.{HasPut, PutsPlanned}

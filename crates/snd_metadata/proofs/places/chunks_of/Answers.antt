@@ -4,7 +4,7 @@ use Rattle.snd_chunks.specs.Written.{NewChunk}
 use Rattle.snd_inputs.proofs.Asking.{asks_less}
 use Rattle.snd_layout.specs.Shape.{Shape}
 use Rattle.snd_layout.specs.declared.piece.Piece.{Piece}
-use Rattle.snd_modes.specs.Handle.{known_of}
+use Rattle.snd_file.specs.Handle.{known_of}
 use Rattle.snd_metadata.specs.Chunks.{kept_chunks, with_extension, with_info_list}
 use Rattle.snd_metadata.specs.Planned.{MayStand}
 use Rattle.snd_metadata.proofs.places.chunks_of.Goals as goal

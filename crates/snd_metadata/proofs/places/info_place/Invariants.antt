@@ -1,8 +1,8 @@
 use Rattle.std.proofs.Common.{◌≡◌, ◌+◌, ◌*◌, drop, map}
 use Rattle.std.specs.List.{position_or_len}
 use Rattle.snd_disk.specs.Device.{AsksAtMost, OnlyReadsOn}
-use Rattle.snd_modes.specs.Editing.{Editing}
-use Rattle.snd_modes.specs.Handle.{Stands, StandsAfter, disk_of, known_of, loan_of}
+use Rattle.snd_edits.specs.Editing.{Editing}
+use Rattle.snd_file.specs.Handle.{Stands, StandsAfter, disk_of, known_of, loan_of}
 use Rattle.snd_metadata.specs.Chunks.{is_info_list}
 use Rattle.snd_metadata.specs.Planned.{chunk_planned}
 use Rattle.snd_metadata.proofs.places.info_place.Given as goal

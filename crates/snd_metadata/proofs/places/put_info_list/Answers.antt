@@ -3,7 +3,7 @@ use Rattle.std.proofs.lemmas.Result.{on_ok_weaker}
 use Rattle.std.specs.List.{position_or_len}
 use Rattle.std.specs.Prelude.{codes}
 use Rattle.snd_chunks.specs.Written.{NewChunk}
-use Rattle.snd_modes.specs.Handle.{known_of}
+use Rattle.snd_file.specs.Handle.{known_of}
 use Rattle.snd_fields.proofs.Tested.{from_test}
 use Rattle.snd_chunks.specs.Heads.{new_piece}
 use Rattle.snd_metadata.specs.Chunks.{is_info_list, put_among}

@@ -5,10 +5,10 @@ use Rattle.snd_layout.specs.Opened.{EndsIn}
 use Rattle.snd_layout.specs.Params.{Parameters}
 use Rattle.snd_layout.specs.Shape.{Shape, room}
 use Rattle.snd_layout.specs.declared.kind.Kind.{Kind}
-use Rattle.snd_modes.specs.Handle.{known_of}
-use Rattle.snd_modes.proofs.FixedFrames.{is_fixed}
+use Rattle.snd_file.specs.Handle.{known_of}
+use Rattle.snd_edits.proofs.Public.{is_fixed}
 use Rattle.snd_layout.specs.Kinds.{holds_meta}
-use Rattle.snd_modes.specs.Relaid.{shape_with}
+use Rattle.snd_edits.specs.Relaid.{shape_with}
 use Rattle.snd_container.specs.Room.{Take}
 use Rattle.snd_metadata.specs.Making.{chunks_planned}
 use Rattle.snd_metadata.specs.Planned.{MayStand, outline_planned}

@@ -1,6 +1,6 @@
 use Rattle.std.proofs.Common.{◌≡◌, ◌∙◌, ap, subst, sym, ℕ, List}
 use Rattle.snd_layout.specs.Shape.{Shape}
-use Rattle.snd_modes.specs.Handle.{known_of}
+use Rattle.snd_file.specs.Handle.{known_of}
 use Rattle.snd_words.specs.Stated.{Stated}
 use Rattle.snd_metadata.specs.Making.{chunks_planned}
 use Rattle.snd_metadata.specs.Planned.{IsReady}

@@ -5,7 +5,7 @@ use Rattle.snd_inputs.proofs.Answering.{does_so, done_same, refused_as}
 use Rattle.snd_inputs.proofs.Held.{held_counts, held_done, held_one, still_in}
 use Rattle.snd_inputs.proofs.Reading.{reads_changes}
 use Rattle.snd_inputs.specs.Opening.{IsOpen, OpensInput}
-use Rattle.snd_modes.specs.Editing.{first_editing}
+use Rattle.snd_edits.specs.Editing.{first_editing}
 use Rattle.snd_tools.proofs.Names.{apart_back}
 use Rattle.snd_metadata.specs.Retagged.{retagged, retagged_file}
 use Rattle.snd_metadata.proofs.Asking.{asks_held}

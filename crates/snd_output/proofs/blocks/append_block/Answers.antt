@@ -1,6 +1,6 @@
 use Rattle.std.proofs.Common.{rules, ◌≡◌, ◌∙◌, ap, sym, subst, ℕ, ◌%◌, ℤ, List, ◌++◌, length}
-use Rattle.snd_modes.specs.Calls.{count_read}
-use Rattle.snd_modes.specs.Handle.{known_of}
+use Rattle.snd_edits.specs.Calls.{count_read}
+use Rattle.snd_file.specs.Handle.{known_of}
 use Rattle.snd_output.specs.Appended.{read_on}
 use Rattle.snd_output.specs.Made.{IsMaking}
 use Rattle.snd_output.proofs.Appending.{block_is, block_known, block_may, left_unread, left_unwritten, longer_as, never_changed, read_failed, write_failed}

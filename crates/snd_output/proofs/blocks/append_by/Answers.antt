@@ -4,10 +4,11 @@ use Rattle.snd_disk.proofs.Public.{goes_on_then, only_reads_then}
 use Rattle.snd_disk.specs.State.{AtMost}
 use Rattle.snd_layout.specs.Shape.{Shape}
 use Rattle.snd_layout.specs.declared.codec.Codec.{Codec}
-use Rattle.snd_modes.specs.Calls.{count_read}
-use Rattle.snd_modes.specs.Editing.{Editing, moved_by}
-use Rattle.snd_modes.specs.Handle.{Known, Stands, channels_of, codec_of, disk_of, known_of}
-use Rattle.snd_modes.specs.Reading.{bytes_of_frames, bytes_to_read}
+use Rattle.snd_edits.specs.Calls.{count_read}
+use Rattle.snd_edits.specs.Editing.{Editing, moved_by}
+use Rattle.snd_edits.specs.Known.{Known}
+use Rattle.snd_file.specs.Handle.{Stands, channels_of, codec_of, disk_of, known_of}
+use Rattle.snd_edits.specs.Reading.{bytes_of_frames, bytes_to_read}
 use Rattle.snd_output.specs.Appended.{MayAppend, bytes_in, left_in, next_numbers, read_on}
 use Rattle.snd_output.specs.Made.{IsMaking}
 use Rattle.snd_output.specs.Widths.{change_numbers}

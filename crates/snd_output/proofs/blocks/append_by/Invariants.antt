@@ -1,9 +1,9 @@
 use Rattle.std.proofs.Common.{◌≡◌, ◌+◌, ◌-◌, ◌*◌, ◌/◌, ◌%◌, ◌≤◌, length, min, true}
 use Rattle.snd_disk.specs.Device.{AsksAtMost, GoesOnFrom, OnlyReadsOn}
 use Rattle.snd_layout.specs.Blocks.{is_adpcm}
-use Rattle.snd_modes.specs.Editing.{moved_by}
-use Rattle.snd_modes.specs.Handle.{StandsAfter, channels_of, codec_of, disk_of, known_of, loan_of}
-use Rattle.snd_modes.specs.Outcomes.{AsksNothing, TellsOn}
+use Rattle.snd_edits.specs.Editing.{moved_by}
+use Rattle.snd_file.specs.Handle.{StandsAfter, channels_of, codec_of, disk_of, known_of, loan_of}
+use Rattle.snd_file.specs.Outcomes.{AsksNothing, TellsOn}
 use Rattle.snd_output.specs.Appended.{IsLonger, Lengthens, left_in, next_numbers, read_on}
 use Rattle.snd_output.proofs.Appending.{asked_by}
 use Rattle.snd_output.proofs.blocks.append_by.Given as goal

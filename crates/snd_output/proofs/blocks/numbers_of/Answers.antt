@@ -1,6 +1,6 @@
 use Rattle.std.proofs.Common.{subst}
 use Rattle.snd_layout.specs.Params.{AreParams}
-use Rattle.snd_modes.specs.Handle.{known_of}
+use Rattle.snd_file.specs.Handle.{known_of}
 use Rattle.snd_output.proofs.Giving.{some_frames}
 use Rattle.snd_output.proofs.blocks.numbers_of.Goals as goal
 

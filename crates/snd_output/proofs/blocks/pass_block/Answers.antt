@@ -1,10 +1,10 @@
 use Rattle.std.proofs.Common.{rules, ◌∙◌, ap, sym, subst, ◌≡◌, ℕ, ◌*◌, ◌/◌, ◌%◌, ◌≤◌, ℤ, List, ◌++◌, length, take, true, arith}
 use Rattle.snd_layout.specs.Params.{Parameters}
 use Rattle.snd_disk.specs.State.{AtMost}
-use Rattle.snd_modes.specs.Bytes.{numbers_in}
-use Rattle.snd_modes.specs.Calls.{count_read}
-use Rattle.snd_modes.specs.Handle.{channels_of, codec_of, disk_of, known_of}
-use Rattle.snd_modes.specs.Reading.{bytes_to_read}
+use Rattle.snd_edits.specs.Bytes.{numbers_in}
+use Rattle.snd_edits.specs.Calls.{count_read}
+use Rattle.snd_file.specs.Handle.{channels_of, codec_of, disk_of, known_of}
+use Rattle.snd_edits.specs.Reading.{bytes_to_read}
 use Rattle.std.proofs.Math.Nat.{mul-mod_left}
 use Rattle.snd_output.specs.Appended.{HasRoom, bytes_in, next_frames, read_on}
 use Rattle.snd_output.specs.Widths.{change_numbers}

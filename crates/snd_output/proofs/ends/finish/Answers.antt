@@ -4,9 +4,10 @@ use Rattle.snd_disk.specs.Device.{Tells}
 use Rattle.snd_layout.specs.Blocks.{is_adpcm}
 use Rattle.snd_layout.specs.Params.{Parameters}
 use Rattle.snd_layout.specs.Shape.{Shape}
-use Rattle.snd_modes.specs.Closing.{ClosesFile, HoldsClosed, closed_to}
-use Rattle.snd_modes.specs.Handle.{known_of}
-use Rattle.snd_modes.proofs.Rooms.{not_adpcm}
+use Rattle.snd_edits.specs.Closing.{closed_to}
+use Rattle.snd_file.specs.Closing.{ClosesFile, HoldsClosed}
+use Rattle.snd_file.specs.Handle.{known_of}
+use Rattle.snd_edits.proofs.Public.{not_adpcm}
 use Rattle.snd_output.proofs.Encoding.{filled_is_made}
 use Rattle.snd_output.proofs.Finished.{making_params, sealed_is_made}
 use Rattle.snd_output.proofs.ends.finish.Goals as goal

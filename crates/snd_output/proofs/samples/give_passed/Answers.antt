@@ -5,8 +5,8 @@ use Rattle.std.specs.Prelude.{OnOk}
 use Rattle.snd_fields.proofs.Numbers.{all_from_bytes}
 use Rattle.snd_fields.specs.Laws.{IsByte}
 use Rattle.snd_layout.specs.declared.codec.Codec.{Codec}
-use Rattle.snd_modes.specs.Bytes.{numbers_in, sources_in}
-use Rattle.snd_modes.specs.Handle.{channels_of, codec_of, known_of}
+use Rattle.snd_edits.specs.Bytes.{numbers_in, sources_in}
+use Rattle.snd_file.specs.Handle.{channels_of, codec_of, known_of}
 use Rattle.snd_output.specs.Appended.{Gains, LeavesFile, bytes_in, coded_in, has_two_zeros}
 use Rattle.snd_output.specs.Widths.{change_numbers}
 use Rattle.snd_output.proofs.Passing.{changed_counted, changed_fit, coded_are_bytes, may_pass, same_numbers, sources_coded, sources_counted}

@@ -1,6 +1,6 @@
 use Rattle.std.proofs.Common.{rules, Ok, Err}
-use Rattle.snd_modes.specs.Handle.{known_of}
-use Rattle.snd_modes.specs.Pieces.{first_piece}
+use Rattle.snd_file.specs.Handle.{known_of}
+use Rattle.snd_edits.specs.Pieces.{first_piece}
 use Rattle.snd_tags.specs.declared.error.TagError.TheVariants.{Get}
 use Rattle.snd_script.specs.Replies.{body_text}
 use Rattle.snd_script.specs.Rules.{chunk_of, finds_none, piece_refusal}

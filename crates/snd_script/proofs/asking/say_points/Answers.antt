@@ -1,7 +1,7 @@
 use Rattle.std.proofs.Common.{List, Ok, Err, codes, refl}
 use Rattle.snd_meta.specs.declared.cue.CuePoint.{CuePoint}
-use Rattle.snd_modes.specs.Handle.{known_of}
-use Rattle.snd_modes.specs.Pieces.{first_piece}
+use Rattle.snd_file.specs.Handle.{known_of}
+use Rattle.snd_edits.specs.Pieces.{first_piece}
 use Rattle.snd_tags.specs.Found.{points_of}
 use Rattle.snd_script.specs.Replies.{points_text}
 use Rattle.snd_script.specs.Rules.{finds_points, piece_refusal}

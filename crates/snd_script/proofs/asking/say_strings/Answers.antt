@@ -1,6 +1,6 @@
 use Rattle.std.proofs.Common.{List, Ok, Err}
 use Rattle.snd_meta.specs.Info.{Entry}
-use Rattle.snd_modes.specs.Handle.{known_of}
+use Rattle.snd_file.specs.Handle.{known_of}
 use Rattle.snd_tags.specs.Found.{texts_of}
 use Rattle.snd_script.specs.Replies.{texts_text}
 use Rattle.snd_script.specs.Rules.{finds_texts}

@@ -2,8 +2,8 @@ use Rattle.std.proofs.Common.{◌≡◌, ◌∙◌, ◌*◌, ◌≤◌, ℕ, fal
 use Rattle.std.proofs.lemmas.List.{places}
 use Rattle.snd_blocks.specs.Frames.{has_bad}
 use Rattle.snd_lines.specs.declared.refusal.Refusal.TheVariants.{BadBlock}
-use Rattle.snd_modes.specs.Editing.{Editing, frames_read, moved_by}
-use Rattle.snd_modes.specs.Handle.{Stands}
+use Rattle.snd_edits.specs.Editing.{Editing, frames_read, moved_by}
+use Rattle.snd_file.specs.Handle.{Stands}
 use Rattle.snd_pcm.specs.Groups.{first_groups, groups}
 use Rattle.snd_script.specs.Replies.{frames_text, read_text, says}
 use Rattle.snd_script.specs.Tapped.{meter_taps}

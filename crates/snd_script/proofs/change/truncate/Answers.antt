@@ -1,5 +1,5 @@
 use Rattle.std.proofs.Common.{refl, rules}
-use Rattle.snd_modes.specs.Handle.{known_of}
+use Rattle.snd_file.specs.Handle.{known_of}
 use Rattle.snd_script.specs.Replies.{ok_line}
 use Rattle.snd_script.specs.Rules.{truncate_rule}
 use Rattle.snd_lines.specs.declared.refusal.Refusal.TheVariants.{SeekRange, TrailingData}

@@ -1,6 +1,6 @@
 use Rattle.std.proofs.Common.{length, ap, sym, ⊎_elim, ◌/◌, rules}
 use Rattle.snd_layout.specs.Shape.{Shape}
-use Rattle.snd_modes.specs.Handle.{known_of}
+use Rattle.snd_file.specs.Handle.{known_of}
 use Rattle.snd_script.specs.Replies.{ok_line, says}
 use Rattle.snd_script.specs.Rules.{write_rule}
 use Rattle.snd_lines.specs.declared.refusal.Refusal.TheVariants.{ContainerFull, PartFrame, SampleRange, TrailingData}

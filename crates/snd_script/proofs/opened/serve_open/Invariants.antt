@@ -1,6 +1,6 @@
 use Rattle.std.proofs.Common.{◌≡◌, ◌+◌, ◌≤◌, List, ◌++◌, ℕ, None, Some, length, reverse, true}
-use Rattle.snd_modes.specs.Editing.{Editing}
-use Rattle.snd_modes.specs.Safe.{IsSafe}
+use Rattle.snd_edits.specs.Editing.{Editing}
+use Rattle.snd_edits.specs.Safe.{IsSafe}
 use Rattle.snd_script.specs.Desk.{Store, open_desk}
 use Rattle.snd_script.specs.Handled.{HandleAtRest, HandleStands, LeavesHandle, handle_disk, handle_known}
 use Rattle.snd_script.specs.Kept.{lines_to_serve}

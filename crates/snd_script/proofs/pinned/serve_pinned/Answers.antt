@@ -2,7 +2,7 @@ use Rattle.std.proofs.Common.{◌≡◌, [], ◌∷◌, List, ℕ, Option, None,
 use Rattle.std.specs.Prelude.{unwrap_or}
 use Rattle.std.proofs.lemmas.List.{append-nil}
 use Rattle.snd_disk.proofs.Public.{handed_there}
-use Rattle.snd_modes.specs.Safe.{IsSafe}
+use Rattle.snd_edits.specs.Safe.{IsSafe}
 use Rattle.snd_script.specs.Desk.{closed_desk}
 use Rattle.snd_script.specs.Edit.{Edited, Opening, open_edit}
 use Rattle.snd_script.specs.Pinned.{pinned_opening, pinned_steps, pins}

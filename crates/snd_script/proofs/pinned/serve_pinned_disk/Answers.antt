@@ -1,7 +1,7 @@
 use Rattle.std.proofs.Common.{◌+◌, ℕ, List, [], Some, true, Ok, Err, Result, refl, sym, ◌∙◌, ap, rules, arith}
 use Rattle.snd_disk.specs.State.{AtMost}
 use Rattle.snd_layout.specs.declared.error.OpenError.{OpenError}
-use Rattle.snd_modes.specs.Editing.{Editing}
+use Rattle.snd_edits.specs.Editing.{Editing}
 use Rattle.snd_script.specs.Edit.{Opening, open_edit_of}
 use Rattle.snd_script.specs.Pinned.{pinned_steps, pins}
 use Rattle.snd_script.specs.PinnedRun.{opened_pinned}

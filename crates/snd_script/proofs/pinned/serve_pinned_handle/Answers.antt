@@ -1,6 +1,6 @@
 use Rattle.std.proofs.Common.{◌≡◌, ⊎_elim, Bool, Ok, true, refl, sym, ◌∙◌, ap, subst, arith}
 use Rattle.snd_disk.specs.Device.{Tells}
-use Rattle.snd_modes.specs.Editing.{Editing}
+use Rattle.snd_edits.specs.Editing.{Editing}
 use Rattle.snd_script.specs.Desk.{Mode, closed_as, pinned, writes}
 use Rattle.snd_script.specs.Handled.{FinishesAs, HandleStands, handle_disk, mode_of}
 use Rattle.snd_script.specs.Serving.{DiskStands, OpenStands}

@@ -3,12 +3,12 @@ use Rattle.std.proofs.Math.Nat.{mul-le-mul_left}
 use Rattle.std.proofs.lemmas.List.{take-append-le, take_all}
 use Rattle.snd_blocks.specs.Frames.{has_bad}
 use Rattle.snd_layout.specs.Params.{AreParams}
-use Rattle.snd_modes.specs.Calls.{count_read}
-use Rattle.snd_modes.specs.Editing.{frames_read}
-use Rattle.snd_modes.specs.Handle.{channels_of, known_of}
-use Rattle.snd_modes.specs.Reading.{GivesFrames}
+use Rattle.snd_edits.specs.Calls.{count_read}
+use Rattle.snd_edits.specs.Editing.{frames_read}
+use Rattle.snd_file.specs.Handle.{channels_of, known_of}
+use Rattle.snd_edits.specs.Reading.{GivesFrames}
 use Rattle.snd_script.proofs.Asked.{asked_for_frames, count_left, no_part, read_on}
-use Rattle.snd_modes.proofs.BlockBytes.{few_numbers}
+use Rattle.snd_edits.proofs.Public.{few_numbers}
 use Rattle.snd_script.proofs.reading.read_some.Goals as goal
 
 pub returns-in-Ok-read_frames-clause-asked : goal.returns-in-Ok-read_frames-clause-asked

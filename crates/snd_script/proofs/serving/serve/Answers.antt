@@ -2,7 +2,7 @@ use Rattle.std.proofs.Common.{ℕ, List, [], Some, ap, length, refl, subst, sym,
 use Rattle.std.proofs.lemmas.List.{append-nil}
 use Rattle.snd_meters.proofs.Each.{map-map}
 use Rattle.snd_meters.specs.Gauge.{waiting}
-use Rattle.snd_modes.specs.Safe.{IsSafe}
+use Rattle.snd_edits.specs.Safe.{IsSafe}
 use Rattle.snd_script.specs.Desk.{closed_desk, stored}
 use Rattle.snd_script.specs.Edit.{Edited}
 use Rattle.snd_script.specs.Pinned.{auto_steps, run_asks, run_puts}

@@ -1,7 +1,7 @@
 use Rattle.std.proofs.Common.{refl, sym, ◌∙◌, subst}
 use Rattle.std.specs.Prelude.{codes}
 use Rattle.snd_meta.specs.Broadcast.{field_size}
-use Rattle.snd_modes.specs.Handle.{known_of}
+use Rattle.snd_file.specs.Handle.{known_of}
 use Rattle.snd_tags.specs.Drafts.{bext_with}
 use Rattle.snd_script.specs.Rules.{Rule, known_grounds, text_refusal}
 use Rattle.snd_script.specs.Work.{Follows}

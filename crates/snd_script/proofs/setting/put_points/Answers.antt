@@ -1,7 +1,7 @@
 use Rattle.std.proofs.Common.{List, ℕ, subst}
 use Rattle.std.specs.Prelude.{codes}
 use Rattle.snd_meta.specs.Cue.{cue_body, named}
-use Rattle.snd_modes.specs.Handle.{known_of}
+use Rattle.snd_file.specs.Handle.{known_of}
 use Rattle.snd_script.specs.Rules.{draft_refusal, known_grounds, set_cue_rule}
 use Rattle.snd_script.specs.Work.{Follows}
 use Rattle.snd_script.proofs.Puts.{follows_drafting, plain_why}

@@ -1,6 +1,6 @@
 use Rattle.std.proofs.Common.{refl, sym, ◌∙◌}
 use Rattle.std.specs.Prelude.{codes}
-use Rattle.snd_modes.specs.Handle.{known_of}
+use Rattle.snd_file.specs.Handle.{known_of}
 use Rattle.snd_tags.specs.Drafts.{info_with}
 use Rattle.snd_script.specs.Rules.{known_grounds, set_string_rule, text_refusal}
 use Rattle.snd_lines.specs.declared.refusal.Refusal.TheVariants.{BadCommand}

@@ -1,6 +1,6 @@
 use Rattle.std.proofs.Common.{Option, None, ℕ, refl, sym, subst}
 use Rattle.std.specs.Prelude.{codes}
-use Rattle.snd_modes.specs.Handle.{known_of}
+use Rattle.snd_file.specs.Handle.{known_of}
 use Rattle.snd_tags.specs.Drafts.{bext_timed}
 use Rattle.snd_script.specs.Rules.{draft_refusal, known_grounds, set_time_rule}
 use Rattle.snd_script.specs.Work.{Follows}

@@ -1,6 +1,6 @@
 use Rattle.std.proofs.Common.{◌≡◌, ◌∙◌, Err, [], ap, of_z, refl, rules, sym, to_z, w32}
 use Rattle.snd_meters.specs.Gauges.{after_start, start_answer}
-use Rattle.snd_modes.specs.Handle.{known_of}
+use Rattle.snd_file.specs.Handle.{known_of}
 use Rattle.snd_pcm.specs.Pcm.{high, low}
 use Rattle.snd_script.specs.Rules.{tap_range, tap_rule, why_not}
 use Rattle.snd_script.specs.Tapped.{meter_taps}

@@ -1,9 +1,10 @@
 use Rattle.std.proofs.Common.{rules, ◌≡◌, None, Result, Ok, Err, subst, take}
 use Rattle.std.specs.Prelude.{codes}
 use Rattle.snd_layout.specs.Shape.{Shape}
-use Rattle.snd_modes.specs.Handle.{Known, known_of}
-use Rattle.snd_modes.specs.Pieces.{first_piece, has_name}
-use Rattle.snd_modes.specs.declared.error.GetError.TheVariants as get
+use Rattle.snd_edits.specs.Known.{Known}
+use Rattle.snd_file.specs.Handle.{known_of}
+use Rattle.snd_edits.specs.Pieces.{first_piece, has_name}
+use Rattle.snd_edits.specs.declared.error.GetError.TheVariants as get
 use Rattle.snd_tags.specs.Bodies.{BodyLeaves, begins_info, first_list}
 use Rattle.snd_tags.specs.Found.{FindsInfo, info_piece}
 use Rattle.snd_tags.specs.declared.error.TagError.{TagError}

@@ -2,8 +2,8 @@ use Rattle.std.proofs.Common.{◌≡◌, ◌∙◌, ap, sym, subst, refl, rules,
 use Rattle.snd_layout.specs.Blocks.{is_adpcm}
 use Rattle.snd_layout.specs.Params.{Parameters}
 use Rattle.snd_layout.specs.Shape.{Shape}
-use Rattle.snd_modes.specs.Encoding.{MayEncode, encoded_to}
-use Rattle.snd_modes.specs.Handle.{known_of}
+use Rattle.snd_edits.specs.Encoding.{MayEncode, encoded_to}
+use Rattle.snd_file.specs.Handle.{known_of}
 use Rattle.snd_output.proofs.Encoding.{encoded_is_making}
 use Rattle.snd_output.proofs.Finished.{making_params}
 use Rattle.snd_output.proofs.Giving.{encoded_longer, may_encode, never_unencoded}

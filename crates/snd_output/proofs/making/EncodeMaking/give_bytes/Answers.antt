@@ -1,7 +1,7 @@
 use Rattle.std.proofs.Common.{◌∙◌, ap, sym, subst, refl, ℤ, ◌/◌, List, ◌++◌, length}
 use Rattle.std.proofs.Math.Nat.{zero-div}
 use Rattle.std.proofs.lemmas.List.{append-nil}
-use Rattle.snd_modes.specs.Handle.{codec_of, known_of}
+use Rattle.snd_file.specs.Handle.{codec_of, known_of}
 use Rattle.snd_output.specs.Made.{IsMaking}
 use Rattle.snd_output.proofs.Appending.{longer_as, longer_none}
 use Rattle.snd_output.proofs.Passing.{no_numbers}

@@ -1,4 +1,4 @@
-use Rattle.snd_modes.proofs.FixedFrames.{is_fixed}
+use Rattle.snd_edits.proofs.Public.{is_fixed}
 use Rattle.snd_output.proofs.Begun.{begun_counts, begun_is_making, begun_unchanged}
 use Rattle.snd_output.proofs.making.WriteMaking.begin.Goals as goal
 

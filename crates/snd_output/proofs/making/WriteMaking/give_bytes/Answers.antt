@@ -2,11 +2,11 @@ use Rattle.std.proofs.Common.{◌≡◌, ◌∙◌, ap, sym, subst, refl, rules,
 use Rattle.snd_layout.specs.Blocks.{is_adpcm}
 use Rattle.snd_layout.specs.Params.{Parameters}
 use Rattle.snd_layout.specs.Shape.{Shape}
-use Rattle.snd_modes.specs.Edits.{written_to}
-use Rattle.snd_modes.specs.Bytes.{sources_in}
-use Rattle.snd_modes.specs.Handle.{codec_of, known_of}
-use Rattle.snd_modes.specs.WriteCalls.{MayWrite}
-use Rattle.snd_modes.proofs.Rooms.{not_adpcm}
+use Rattle.snd_edits.specs.Edits.{written_to}
+use Rattle.snd_edits.specs.Bytes.{sources_in}
+use Rattle.snd_file.specs.Handle.{codec_of, known_of}
+use Rattle.snd_edits.specs.WriteCalls.{MayWrite}
+use Rattle.snd_edits.proofs.Public.{not_adpcm}
 use Rattle.snd_output.proofs.Finished.{making_params}
 use Rattle.snd_output.proofs.Giving.{may_write, never_unwritten, written_longer}
 use Rattle.snd_fields.proofs.Numbers.{all_from_bytes}

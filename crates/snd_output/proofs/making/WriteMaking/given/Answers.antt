@@ -1,6 +1,6 @@
 use Rattle.std.proofs.Common.{◌∙◌, sym, refl}
-use Rattle.snd_modes.specs.Handle.{known_of}
-use Rattle.snd_modes.proofs.Rooms.{not_adpcm}
+use Rattle.snd_file.specs.Handle.{known_of}
+use Rattle.snd_edits.proofs.Public.{not_adpcm}
 use Rattle.snd_output.proofs.making.WriteMaking.given.Goals as goal
 
 pub returns : goal.returns

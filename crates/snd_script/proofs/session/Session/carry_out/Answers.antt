@@ -1,7 +1,8 @@
 use Rattle.std.proofs.Common.{◌≡◌, List, false, refl, sym, subst}
 use Rattle.snd_command.specs.Said.{line_said}
 use Rattle.snd_meters.specs.Gauge.{Gauge}
-use Rattle.snd_modes.specs.Handle.{Known, known_of}
+use Rattle.snd_edits.specs.Known.{Known}
+use Rattle.snd_file.specs.Handle.{known_of}
 use Rattle.snd_script.specs.Desk.{encoding, reading, updating, writing}
 use Rattle.snd_script.specs.Stepped.{changes_by}
 use Rattle.snd_script.specs.Rules.{Rule, rule_of}

@@ -1,6 +1,6 @@
 use Rattle.std.proofs.Common.{refl, sym}
-use Rattle.snd_modes.specs.Safe.{IsSafe}
-use Rattle.snd_modes.proofs.LeftSafe.{leaves_same, unchanged}
+use Rattle.snd_edits.specs.Safe.{IsSafe}
+use Rattle.snd_file.proofs.Public.{leaves_same, unchanged}
 use Rattle.snd_script.proofs.session.Session.finish.Goals as goal
 
 pub returns-in-R-clause-safe : goal.returns-in-R-clause-safe

@@ -1,0 +1,14 @@
+pub mod AtRest
+pub mod BareHeads
+pub mod Cached
+pub mod Closed
+pub mod Encoded
+pub mod EncodedRest
+pub mod EncodedState
+pub mod HeadLaws
+pub mod HeadProps
+pub mod KeptChunks
+pub mod KindHeads
+pub mod LeftSafe
+pub mod Opened
+pub mod Public

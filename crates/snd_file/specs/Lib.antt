@@ -1,0 +1,16 @@
+pub mod Bytes
+pub mod Calls
+pub mod Chunks
+pub mod Closing
+pub mod Encoding
+pub mod Given
+pub mod Handle
+pub mod Heads
+pub mod Loans
+pub mod Making
+pub mod Outcomes
+pub mod PieceCalls
+pub mod Pieces
+pub mod Reading
+pub mod Rest
+pub mod Updating

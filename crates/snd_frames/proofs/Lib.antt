@@ -1,0 +1,10 @@
+pub mod BlocksUnderWay
+pub mod FramesPut
+pub mod Giving
+pub mod PartlyPut
+pub mod Public
+pub mod PutBlocks
+pub mod ReadBodies
+pub mod Runs
+pub mod TestedSamples
+pub mod Written

@@ -1,0 +1,40 @@
+use Rattle.std.proofs.Common.{◌≡◌, ◌∙◌, refl, sym, subst, ℕ, Some, length, arith}
+use Rattle.snd_container.specs.Sound.{fixed_of}
+use Rattle.snd_layout.specs.Shape.{end}
+use Rattle.snd_block_writer.specs.Puts.{LeavesPartly}
+use Rattle.snd_frames.specs.Writing.{PutsAt}
+use Rattle.snd_edits.proofs.Public.{end_before, end_is}
+use Rattle.snd_frames.proofs.Written.{written_data}
+use Rattle.snd_frames.proofs.updates.write_ready.Goals as goal
+
+pub write_whole-requires-clause-there : goal.write_whole-requires-clause-there
+write_whole-requires-clause-there g c =
+    let h = c.args.layout.now in
+    let is : fixed_of h.params.codec ≡ Some c.in-Some.form = sym c.in-Some.ensures.form in
+    omega (arith, c.place_of.ensures, end_is h c.in-Some.form c.args.place is, end_before h c.in-Some.form c.args.place h.frames is c.requires.placed, c.requires.held)
+
+pub write_whole-requires-clause-fits : goal.write_whole-requires-clause-fits
+write_whole-requires-clause-fits g c =
+    let h = c.args.layout.now in
+    let is : fixed_of h.params.codec ≡ Some c.in-Some.form = sym c.in-Some.ensures.form in
+    omega (arith, c.place_of.ensures, end_is h c.in-Some.form c.args.place is, c.requires.fits)
+
+pub returns-clause-done : goal.returns-clause-done
+returns-clause-done g c =
+    let h = c.args.layout.now in
+    let is : fixed_of h.params.codec ≡ Some c.in-Some.form = sym c.in-Some.ensures.form in
+    written_data c.write_whole.result _ _ c.place_of.result (end h c.args.place) _ _ (c.place_of.ensures ∙ end_is h c.in-Some.form c.args.place is) refl c.write_whole.ensures.done
+
+pub returns-clause-puts : goal.returns-clause-puts
+returns-clause-puts g c =
+    let h = c.args.layout.now in
+    let is : fixed_of h.params.codec ≡ Some c.in-Some.form = sym c.in-Some.ensures.form in
+    let at : c.place_of.result ≡ end h c.args.place = c.place_of.ensures ∙ end_is h c.in-Some.form c.args.place is in
+    subst (λ (m : ℕ). PutsAt g.D.Disk.state g.D.Disk.left_between m (length c.args.bytes.now) c.args.disk.now c.write_whole.new.disk) at c.write_whole.ensures.puts
+
+pub returns-clause-partly : goal.returns-clause-partly
+returns-clause-partly g c =
+    let h = c.args.layout.now in
+    let is : fixed_of h.params.codec ≡ Some c.in-Some.form = sym c.in-Some.ensures.form in
+    let at : c.place_of.result ≡ end h c.args.place = c.place_of.ensures ∙ end_is h c.in-Some.form c.args.place is in
+    subst (λ (m : ℕ). LeavesPartly g.D.Disk m c.args.bytes.now c.args.disk.now c.write_whole.new.disk) at c.write_whole.ensures.partly

@@ -1,5 +1,0 @@
-use Rattle.snd_modes.proofs.EditedSteps.{leads_to_edited}
-use Rattle.snd_modes.proofs.laws.calls_leave_edited_files.Goals as goal
-
-pub returns-clause-step : goal.returns-clause-step
-returns-clause-step c = leads_to_edited

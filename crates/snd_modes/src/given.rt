@@ -1,8 +1,0 @@
-//! What is written over the data of a file.
-
-/// The numbers of frames, or the bytes of their samples.
-#[derive(Clone, Copy)]
-pub(crate) enum Given<'a> {
-    Numbers(&'a [i32]),
-    Bytes(&'a [u8]),
-}
