@@ -3,10 +3,10 @@ use Rattle.std.proofs.Common.{◌≡◌, inl, inr, ℕ, ◌+◌, ◌≤◌, List
 use Rattle.std.proofs.lemmas.List.{places, same_lists, take_all}
 use Rattle.snd_disk.specs.Shelf.{ShelfState}
 use Rattle.snd_disk.specs.Streams.{AppendsFront}
-use Rattle.snd_script.proofs.Chains.{texts_append}
-use Rattle.snd_script.specs.Desk.{Desk, Store}
-use Rattle.snd_script.specs.Edit.{Edited}
-use Rattle.snd_script.specs.Script.{texts}
+use Rattle.snd_script.proofs.Public.{texts_append}
+use Rattle.snd_rules.specs.Desk.{Desk, Store}
+use Rattle.snd_rules.specs.Edit.{Edited}
+use Rattle.snd_rules.specs.Script.{texts}
 use Rattle.snd_script.specs.Served.{Appends, AppendsPart, FaultCounts, IsFault, StopsAtMemory, Takes, TakesPart, first_text}
 
 take_part : (a b c : List ℕ) (n : ℕ) → n ≤ length b → a ++ take n b ≡ take (length a + n) (a ++ b ++ c)

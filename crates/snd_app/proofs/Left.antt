@@ -8,7 +8,7 @@ use Rattle.snd_disk.specs.Shelf.{KeepsFiles, ShelfState}
 use Rattle.snd_disk.specs.Shelves.{KeepsFileImages}
 use Rattle.snd_disk.specs.State.{GoesOn}
 use Rattle.snd_disk.specs.declared.shelf.Shelf.{Ghosts as ShelfMeaning}
-use Rattle.snd_script.proofs.ShelfLeft.{some_of}
+use Rattle.snd_script.proofs.Public.{some_of}
 use Rattle.snd_script.specs.Served.{LeavesShelf}
 use Rattle.snd_tools.specs.Shelves.{ChangesOne, IsAllIn}
 

@@ -3,9 +3,9 @@ use Rattle.std.proofs.Common.{◌≡◌, inl, inr, ℕ, List, Bool, true, false,
 use Rattle.std.specs.Prelude.{if◌then◌else◌}
 use Rattle.snd_disk.specs.Shelf.{ShelfState}
 use Rattle.snd_disk.specs.Streams.{AppendsFront}
-use Rattle.snd_script.specs.Desk.{Store, closed_desk}
-use Rattle.snd_script.specs.Edit.{Edited}
-use Rattle.snd_script.specs.Script.{last_desk, texts}
+use Rattle.snd_rules.specs.Desk.{Store, closed_desk}
+use Rattle.snd_rules.specs.Edit.{Edited}
+use Rattle.snd_rules.specs.Script.{last_desk, texts}
 use Rattle.snd_script.specs.Served.{HasFiles, IsDone, IsFault, IsServed, SameCounts, StopsAtMemory}
 use Rattle.snd_script.specs.declared.serving.ScriptEnd.TheVariants.{Done, TooLong, Fault}
 use Rattle.snd_app.specs.Outcome.{script_outcome}

@@ -7,15 +7,15 @@ use Rattle.snd_layout.specs.Shape.{Shape}
 use Rattle.snd_layout.specs.declared.refusal.OpenRefusal.{OpenRefusal}
 use Rattle.snd_meta.specs.Info.{Entry}
 use Rattle.snd_layout.specs.Kinds.{holds_meta}
-use Rattle.snd_tags.specs.Found.{texts_of}
-use Rattle.snd_tags.specs.declared.error.TagError.{TagError}
+use Rattle.snd_edits.specs.TagsHeld.{texts_of}
+use Rattle.snd_edits.specs.declared.tag_error.TagError.{TagError}
 use Rattle.snd_lines.specs.declared.refusal.Refusal.TheVariants.{MissingFile, Open}
 use Rattle.snd_words.specs.Asked.{Asked}
 use Rattle.snd_words.specs.Grammar.{asked}
-use Rattle.snd_script.specs.Desk.{closed_desk, stored}
-use Rattle.snd_script.specs.Edit.{Edited}
-use Rattle.snd_script.specs.Pinned.{run_steps, run_too_long}
-use Rattle.snd_script.specs.Script.{any_refused, last_desk, texts}
+use Rattle.snd_rules.specs.Desk.{closed_desk, stored}
+use Rattle.snd_rules.specs.Edit.{Edited}
+use Rattle.snd_rules.specs.Pinned.{run_steps, run_too_long}
+use Rattle.snd_rules.specs.Script.{any_refused, last_desk, texts}
 use Rattle.snd_taps.specs.declared.tap.TapKind.{TapKind}
 use Rattle.snd_app.specs.declared.look.Found.{Found}
 use Rattle.snd_app.specs.declared.look.Found.TheVariants.{Missing, Refused, Sound}

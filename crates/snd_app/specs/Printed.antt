@@ -1,6 +1,6 @@
 -- What is printed, and the status that is answered.
 use Rattle.std.specs.Prelude.{ℕ, List, [], ◌++◌, codes, max}
-use Rattle.snd_script.specs.Replies.{ok_line}
+use Rattle.snd_rules.specs.Replies.{ok_line}
 use Rattle.snd_tools.specs.Done.{Done, Said, said_of}
 use Rattle.snd_app.specs.Text.{refusal}
 

@@ -8,9 +8,9 @@ use Rattle.snd_disk.specs.Streams.{AppendsFront}
 use Rattle.snd_disk.specs.declared.shelf.Shelf.{Ghosts as ShelfMeaning}
 use Rattle.snd_disk.specs.declared.streams.Sink.{Ghosts as SinkMeaning}
 use Rattle.snd_disk.specs.declared.streams.Source.{Ghosts as SourceMeaning}
-use Rattle.snd_script.specs.Desk.{Store, stored}
-use Rattle.snd_script.specs.Edit.{Edited}
-use Rattle.snd_script.specs.Pinned.{run_steps}
+use Rattle.snd_rules.specs.Desk.{Store, stored}
+use Rattle.snd_rules.specs.Edit.{Edited}
+use Rattle.snd_rules.specs.Pinned.{run_steps}
 use Rattle.snd_script.specs.Served.{FaultCounts, HasFiles, IsDone, IsFault, StopsAtMemory}
 use Rattle.snd_taps.specs.declared.tap.TapKind.{TapKind}
 use Rattle.snd_words.specs.Asked.{Work}

@@ -15,7 +15,8 @@ use snd_edits::GetError;
 use snd_layout::{Layout, OpenError, OpenRefusal};
 use snd_meta::InfoList;
 use snd_output::Stop;
-use snd_tags::{TagError, texts_on};
+use snd_edits::TagError;
+use snd_tags::texts_on;
 use std::alloc::Global;
 
 /// What stands under a name.

@@ -21,3 +21,6 @@ pub mod UnderWay
 pub mod Updating
 pub mod WriteCalls
 pub mod Writing
+pub mod TagDrafts
+pub mod TagErrors
+pub mod TagsHeld

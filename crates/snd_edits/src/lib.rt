@@ -7,6 +7,7 @@ mod blocks;
 mod error;
 pub mod laws;
 mod mode;
+mod tag_error;
 mod wanted;
 
 pub use blocks::{ima_codec, ms_codec};
@@ -16,3 +17,4 @@ pub use error::{
 };
 pub use mode::{CanMake, CanRead, CanSeal, CanShrink, CanWrite, Encode, Mode, Read, Update, Write};
 pub use wanted::{Wanted, may_be_piece};
+pub use tag_error::TagError;

@@ -13,8 +13,8 @@ use Rattle.snd_edits.specs.Editing.{Editing}
 use Rattle.snd_file.specs.Handle.{Stands, StandsAfter, disk_of, known_of, loan_of}
 use Rattle.snd_output.specs.Ends.{CountsStop, IsUnchanged}
 use Rattle.snd_output.specs.declared.stop.Stop.{Stop}
-use Rattle.snd_tags.specs.declared.error.TagError.{TagError}
-use Rattle.snd_tags.specs.Found.{broadcast_of, texts_of}
+use Rattle.snd_edits.specs.declared.tag_error.TagError.{TagError}
+use Rattle.snd_edits.specs.TagsHeld.{broadcast_of, texts_of}
 use Rattle.snd_metadata.specs.declared.halt.Halt.{Halt}
 use Rattle.snd_metadata.specs.declared.halt.Halt.TheVariants as halt
 use Rattle.snd_metadata.specs.declared.halt.Unread.{Unread}

@@ -19,9 +19,9 @@ use Rattle.snd_layout.specs.Kinds.{holds_meta}
 use Rattle.snd_edits.specs.Relaid.{shape_with}
 use Rattle.snd_output.specs.Made.{made_file}
 use Rattle.snd_output.specs.Widths.{joined}
-use Rattle.snd_tags.specs.Found.{broadcast_of, texts_of}
-use Rattle.snd_tags.specs.declared.error.TagError.{TagError}
-use Rattle.snd_tags.specs.declared.error.TagError.TheVariants.{BadBody, Get}
+use Rattle.snd_edits.specs.TagsHeld.{broadcast_of, texts_of}
+use Rattle.snd_edits.specs.declared.tag_error.TagError.{TagError}
+use Rattle.snd_edits.specs.declared.tag_error.TagError.TheVariants.{BadBody, Get}
 use Rattle.snd_tools.specs.Done.{Done}
 use Rattle.snd_words.specs.Stated.{Stated}
 use Rattle.snd_metadata.specs.Chunks.{kept_chunks, with_extension, with_info_list}

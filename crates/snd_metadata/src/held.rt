@@ -13,7 +13,8 @@ use snd_file::File;
 use snd_lines::Refusal;
 use snd_meta::{Bext, InfoList};
 use snd_output::Stop;
-use snd_tags::{TagError, broadcast, texts};
+use snd_edits::TagError;
+use snd_tags::{broadcast, texts};
 use std::alloc::Global;
 
 // What the broadcast extension says, where it is wanted.

@@ -3,11 +3,11 @@ use Rattle.std.proofs.Common.{◌≡◌, inl, inr, ℕ, List, [], ◌∷◌, ◌
 use Rattle.std.proofs.lemmas.List.{append-nil, same_lists, places}
 use Rattle.snd_command.specs.Line.{command_of}
 use Rattle.snd_disk.specs.Streams.{AppendsFront}
-use Rattle.snd_script.specs.Desk.{Desk}
-use Rattle.snd_script.specs.Edit.{Edited, edit_line, line_edit}
+use Rattle.snd_rules.specs.Desk.{Desk}
+use Rattle.snd_rules.specs.Edit.{Edited, edit_line, line_edit}
 use Rattle.snd_script.specs.Lines.{IsLine, most_kept}
-use Rattle.snd_script.specs.Replies.{text_of, is_refusal}
-use Rattle.snd_script.specs.Script.{any_refused, last_desk, lines_within, steps, texts}
+use Rattle.snd_rules.specs.Replies.{text_of, is_refusal}
+use Rattle.snd_rules.specs.Script.{any_refused, last_desk, lines_within, steps, texts}
 use Rattle.snd_script.specs.Served.{Appends, AppendsPart, first_text, none_lost}
 use Rattle.snd_script.specs.Serving.{Brings, BringsNone, IsServedOn, IsStopped, Moment, Serves, ServesPart, StopsLine, is_longer, steps_from, steps_left}
 use Rattle.snd_script.specs.declared.stop.Stop.{Stop}

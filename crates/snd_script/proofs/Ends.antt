@@ -3,13 +3,13 @@ use Rattle.std.proofs.Common.{◌≡◌, inl, inr, ℕ, List, [], ◌∷◌, ◌
 use Rattle.std.proofs.lemmas.List.{append-nil}
 use Rattle.snd_disk.specs.Shelf.{Files, ShelfState}
 use Rattle.snd_meters.specs.Gauge.{Gauge}
-use Rattle.snd_script.specs.Desk.{Desk, OpenFile, Store, closed_desk, files_closed, files_with}
-use Rattle.snd_script.specs.Edit.{Edited}
+use Rattle.snd_rules.specs.Desk.{Desk, OpenFile, Store, closed_desk, files_closed, files_with}
+use Rattle.snd_rules.specs.Edit.{Edited}
 use Rattle.snd_script.specs.Lines.{Reading}
-use Rattle.snd_script.specs.Pinned.{auto_steps, auto_too_long, pinned_opening, pinned_steps, run_steps, run_too_long}
+use Rattle.snd_rules.specs.Pinned.{auto_steps, auto_too_long, pinned_opening, pinned_steps, run_steps, run_too_long}
 use Rattle.snd_script.specs.PinnedRun.{run_left, run_longer}
-use Rattle.snd_script.specs.Replies.{text_of}
-use Rattle.snd_script.specs.Script.{any_refused, ending, ending_of, is_too_long, last_desk, lines_within, most_bytes, script_steps, steps, texts}
+use Rattle.snd_rules.specs.Replies.{text_of}
+use Rattle.snd_rules.specs.Script.{any_refused, ending, ending_of, is_too_long, last_desk, lines_within, most_bytes, script_steps, steps, texts}
 use Rattle.snd_script.specs.Served.{AnyCountRises, Appends, AppendsPart, FaultCounts, HasFiles, HasFilesBut, IsDone, IsServed, Takes, TakesPart, end_at, first_text, none_lost}
 use Rattle.snd_script.specs.Serving.{CountsAt, IsStopped, Moment, Serves, ServesPart, ShelfStands, is_longer, moment, steps_left}
 use Rattle.snd_script.specs.declared.serving.ScriptEnd.{ScriptEnd}

@@ -7,9 +7,10 @@ use Rattle.snd_edits.specs.Closing.{most_closed}
 use Rattle.snd_edits.specs.Editing.{Editing}
 use Rattle.snd_edits.specs.Safe.{IsSafe}
 use Rattle.snd_patch.specs.Images.{LeavesEach}
-use Rattle.snd_script.specs.Desk.{Mode, encodes, all_put, updating}
-use Rattle.snd_script.specs.Handled.{AreSmall, FinishesSafely, HandleAtRest, IsSmall, IsSmallIn, LeavesHandle, handle_disk, handle_params, mode_of, most_finished}
-use Rattle.snd_script.specs.declared.handle.Handle.{Handle}
+use Rattle.snd_rules.specs.Desk.{Mode, encodes, all_put, updating}
+use Rattle.snd_rules.specs.SmallBlocks.{AreSmall, IsSmallIn}
+use Rattle.snd_session.specs.Handled.{FinishesSafely, HandleAtRest, IsSmall, LeavesHandle, handle_disk, handle_params, mode_of, most_finished}
+use Rattle.snd_session.specs.declared.handle.Handle.{Handle}
 
 -- a file that is updated has none
 pub updated_is_small : {D : Type 0} {ghosts : Ghosts D} (handle : Handle D ghosts) → mode_of handle ≡ updating → IsSmall handle

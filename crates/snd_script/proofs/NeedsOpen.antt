@@ -1,15 +1,15 @@
 -- Commands that need an open file are refused where there is none.
 use Rattle.std.proofs.Common.{◌≡◌, ◌⊎◌, inl, inr, ℕ, ℤ, List, Bool, ap, ◌∙◌}
 use Rattle.std.specs.Borrow.{Bor}
-use Rattle.snd_script.specs.Desk.{Store}
-use Rattle.snd_script.specs.Edit.{Edited}
-use Rattle.snd_script.specs.Work.{work_closed}
+use Rattle.snd_rules.specs.Desk.{Store}
+use Rattle.snd_rules.specs.Edit.{Edited}
+use Rattle.snd_rules.specs.Work.{work_closed}
 use Rattle.snd_lines.specs.declared.refusal.Refusal.TheVariants as refusal
-use Rattle.snd_script.specs.declared.work.Asking.{Asking}
-use Rattle.snd_script.specs.declared.work.Setting.{Setting}
-use Rattle.snd_script.specs.declared.work.Work.{Work}
-use Rattle.snd_script.specs.declared.work.Work.TheVariants.{Close, Tell, SeekRead, SeekWrite, SeekBoth, Read, Write, Truncate, Trim, BringUp, Auto, Set, Ask, Tap, Untap}
-use Rattle.snd_script.specs.Replies.{refuses}
+use Rattle.snd_rules.specs.declared.work.Asking.{Asking}
+use Rattle.snd_rules.specs.declared.work.Setting.{Setting}
+use Rattle.snd_rules.specs.declared.work.Work.{Work}
+use Rattle.snd_rules.specs.declared.work.Work.TheVariants.{Close, Tell, SeekRead, SeekWrite, SeekBoth, Read, Write, Truncate, Trim, BringUp, Auto, Set, Ask, Tap, Untap}
+use Rattle.snd_rules.specs.Replies.{refuses}
 use Rattle.snd_taps.specs.declared.tap.TapKind.{TapKind}
 use Rattle.snd_script.proofs.ShelfSteps.{replied}
 

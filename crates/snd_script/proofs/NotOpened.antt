@@ -13,11 +13,11 @@ use Rattle.snd_layout.specs.declared.params.Params.{Params}
 use Rattle.snd_meters.specs.Gauge.{Gauge}
 use Rattle.snd_edits.specs.Editing.{Editing}
 use Rattle.snd_edits.specs.Making.{making_of}
-use Rattle.snd_script.specs.Desk.{Desk, Mode, OpenFile, Store, closed_desk, makes, makes_name}
-use Rattle.snd_script.specs.Edit.{Edited, Opening, as_opened, mode_for, mode_made, open_edit_of, open_refusal, opened_as, opened_edit, refused}
+use Rattle.snd_rules.specs.Desk.{Desk, Mode, OpenFile, Store, closed_desk, makes, makes_name}
+use Rattle.snd_rules.specs.Edit.{Edited, Opening, as_opened, mode_for, mode_made, open_edit_of, open_refusal, opened_as, opened_edit, refused}
 use Rattle.snd_script.specs.Lines.{Reading}
 use Rattle.snd_script.specs.Opened.{IsMakeable, OnlyOpens, RefusesOpen, is_making, opening_by}
-use Rattle.snd_script.specs.Replies.{refuses}
+use Rattle.snd_rules.specs.Replies.{refuses}
 use Rattle.snd_script.specs.Served.{none_lost}
 use Rattle.snd_script.specs.Serving.{DiskStands, IsAnswered, IsNotOpened, IsServedOn, Moment, is_longer, moment, steps_from, steps_left}
 use Rattle.snd_script.specs.declared.open.OpenAs.{OpenAs}
@@ -26,7 +26,7 @@ use Rattle.snd_lines.specs.declared.refusal.Refusal.{Refusal}
 use Rattle.snd_script.specs.declared.stop.Stop.{Stop}
 use Rattle.snd_script.specs.declared.stop.Stop.TheVariants.{File, Memory}
 use Rattle.snd_script.proofs.Chains.{line_stops}
-use Rattle.snd_script.proofs.Makings.{made_makes}
+use Rattle.snd_rules.proofs.Public.{made_makes}
 use Rattle.snd_script.proofs.OpenChains.{answered_one, longer_as}
 use Rattle.snd_script.proofs.Openings.{answer_stops}
 

@@ -1,10 +1,10 @@
 -- The lines of a script while a file is open.
 use Rattle.std.proofs.Common.{◌≡◌, ℕ, List, ◌++◌, Bool, ◌||◌, Option, Some, Ok, Err, sym, ◌∙◌, ap, subst}
 use Rattle.snd_command.specs.Said.{Said}
-use Rattle.snd_script.specs.Desk.{Desk, OpenFile, Store, open_desk}
-use Rattle.snd_script.specs.Edit.{Edited, edit_line, edit_open, refused}
+use Rattle.snd_rules.specs.Desk.{Desk, OpenFile, Store, open_desk}
+use Rattle.snd_rules.specs.Edit.{Edited, edit_line, edit_open, refused}
 use Rattle.snd_script.specs.Lines.{Reading}
-use Rattle.snd_script.specs.Replies.{is_refusal, refuses, text_of}
+use Rattle.snd_rules.specs.Replies.{is_refusal, refuses, text_of}
 use Rattle.snd_script.specs.Serving.{Brings, IsAnswered, IsLineServed, IsStepAnswered, IsStopped, Moment, Serves, StopsLine, is_longer, moment, steps_from, steps_left}
 use Rattle.snd_script.specs.Served.{none_lost}
 use Rattle.snd_lines.specs.declared.refusal.Refusal.{Refusal}

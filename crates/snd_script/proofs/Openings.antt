@@ -11,17 +11,17 @@ use Rattle.snd_layout.specs.Shape.{Shape}
 use Rattle.snd_edits.specs.Editing.{Editing}
 use Rattle.snd_meters.specs.Gauge.{Gauge}
 use Rattle.snd_meters.specs.Gauges.{after_rest}
-use Rattle.snd_script.specs.Desk.{Desk, Mode, OpenFile, Store, closed_as, closed_bytes, closed_desk, encoding, files_closed, frames_told, open_desk, pinned, reading, store_closed, taps_closed, updating, writes, writing}
-use Rattle.snd_script.specs.Edit.{Edited, close_edit, frames_of, opened_edit}
-use Rattle.snd_script.specs.Handled.{FinishesAs, HandleStands, frames_closed, handle_disk, handle_known, mode_of, open_as}
+use Rattle.snd_rules.specs.Desk.{Desk, Mode, OpenFile, Store, closed_as, closed_bytes, closed_desk, encoding, files_closed, frames_told, open_desk, pinned, reading, store_closed, taps_closed, updating, writes, writing, open_as}
+use Rattle.snd_rules.specs.Edit.{Edited, close_edit, frames_of, opened_edit}
+use Rattle.snd_session.specs.Handled.{FinishesAs, HandleStands, frames_closed, handle_disk, handle_known, mode_of}
 use Rattle.snd_script.specs.Lines.{Reading}
-use Rattle.snd_script.specs.Replies.{Answer, file_line, ok_line, says}
-use Rattle.snd_script.specs.Script.{ending}
-use Rattle.snd_script.specs.Rules.{Rule}
+use Rattle.snd_rules.specs.Replies.{Answer, file_line, ok_line, says}
+use Rattle.snd_rules.specs.Script.{ending}
+use Rattle.snd_rules.specs.Rules.{Rule}
 use Rattle.snd_script.specs.Served.{FaultCounts, SameCounts, lost_at, none_lost}
 use Rattle.snd_script.specs.Serving.{CountsAt, DiskStands, IsAnswered, IsCounted, IsServedOn, IsServedOpen, IsStopped, Moment, OpenStands, Serves, ServesPart, StopsLine, is_longer, moment, steps_from, steps_left}
-use Rattle.snd_script.specs.declared.handle.Handle.{Handle}
-use Rattle.snd_script.specs.declared.handle.Handle.TheVariants.{R, W, B, U}
+use Rattle.snd_session.specs.declared.handle.Handle.{Handle}
+use Rattle.snd_session.specs.declared.handle.Handle.TheVariants.{R, W, B, U}
 use Rattle.snd_script.specs.declared.stop.Stop.{Stop}
 use Rattle.snd_script.specs.declared.stop.Stop.TheVariants.{Ended, TooLong, Script, Sink, File, Memory}
 use Rattle.snd_script.proofs.Chains.{all_of_part, line_stops, or_none, part_of_all, serves_then, stopped_as, stopped_then}

@@ -6,7 +6,7 @@ use Rattle.std.proofs.lemmas.List.Quantifiers.{position-Some}
 use Rattle.std.proofs.lemmas.List.Sums.{fails_before_first}
 use Rattle.std.proofs.lemmas.Bool.{cases_Bool, cases_lt, eqb-true, ltb-false}
 use Rattle.snd_script.specs.Lines.{Reading, Moves, HasNoFeed, most_kept}
-use Rattle.snd_script.specs.Script.{is_feed}
+use Rattle.snd_rules.specs.Script.{is_feed}
 
 pub on_ok : {T E P : Type 0} (r : Result T E) → IsOk r → OnOk r P → P
 on_ok (Ok x) is p = p

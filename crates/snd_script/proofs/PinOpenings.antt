@@ -11,13 +11,13 @@ use Rattle.snd_edits.specs.Editing.{Editing}
 use Rattle.snd_edits.specs.Safe.{IsFit, IsSafe}
 use Rattle.snd_edits.specs.Updating.{updating_of}
 use Rattle.snd_edits.proofs.Public.{at_rest, updated_is_edited, updating_begins, wider}
-use Rattle.snd_script.specs.Desk.{Store}
-use Rattle.snd_script.specs.Edit.{Edited, Opening, open_edit, open_edit_of}
+use Rattle.snd_rules.specs.Desk.{Store}
+use Rattle.snd_rules.specs.Edit.{Edited, Opening, open_edit, open_edit_of}
 use Rattle.snd_script.specs.Lines.{Reading}
 use Rattle.snd_script.specs.Opened.{RefusesOpen}
-use Rattle.snd_script.specs.Pinned.{auto_steps, pinned_opening, pinned_steps}
+use Rattle.snd_rules.specs.Pinned.{auto_steps, pinned_opening, pinned_steps}
 use Rattle.snd_script.specs.PinnedRun.{opened_pinned}
-use Rattle.snd_script.specs.Script.{lines_within, most_bytes}
+use Rattle.snd_rules.specs.Script.{lines_within, most_bytes}
 use Rattle.snd_script.specs.Serving.{IsNotOpened}
 use Rattle.snd_script.specs.Trail.{Trail, reached}
 use Rattle.snd_script.specs.declared.stop.Stop.{Stop}

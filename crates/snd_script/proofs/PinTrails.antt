@@ -6,18 +6,18 @@ use Rattle.snd_command.specs.Said.{Said}
 use Rattle.snd_disk.specs.declared.disk.Disk.{Ghosts}
 use Rattle.snd_meters.specs.Gauge.{Gauge}
 use Rattle.snd_edits.specs.Editing.{Editing}
-use Rattle.snd_script.specs.Desk.{Mode, OpenFile, Store, open_desk, updating}
-use Rattle.snd_script.specs.Edit.{Edited, edit_file, edit_unless}
-use Rattle.snd_script.specs.Handled.{HandleAtRest, handle_disk, handle_known, mode_of}
+use Rattle.snd_rules.specs.Desk.{Mode, OpenFile, Store, open_desk, updating}
+use Rattle.snd_rules.specs.Edit.{Edited, edit_file, edit_unless}
+use Rattle.snd_session.specs.Handled.{HandleAtRest, handle_disk, handle_known, mode_of}
 use Rattle.snd_script.specs.Lines.{Reading}
-use Rattle.snd_script.specs.Pinned.{pin_edit, pinned_lines, pinned_steps}
+use Rattle.snd_rules.specs.Pinned.{pin_edit, pinned_lines, pinned_steps}
 use Rattle.snd_script.specs.PinnedRun.{opened_pinned}
-use Rattle.snd_script.specs.Replies.{Answer, file_line, is_refusal, text_of}
-use Rattle.snd_script.specs.Rules.{auto_rule, grounds_of, rule_of}
-use Rattle.snd_script.specs.Script.{ending, lines_within, steps}
+use Rattle.snd_rules.specs.Replies.{Answer, file_line, is_refusal, text_of}
+use Rattle.snd_rules.specs.Rules.{auto_rule, grounds_of, rule_of}
+use Rattle.snd_rules.specs.Script.{ending, lines_within, steps}
 use Rattle.snd_script.specs.Serving.{IsAnswered}
 use Rattle.snd_script.specs.Trail.{MovesSafely, StepMoves, TrailsOn, pinned_file, reached, state_behind}
-use Rattle.snd_script.specs.declared.handle.Handle.{Handle}
+use Rattle.snd_session.specs.declared.handle.Handle.{Handle}
 use Rattle.snd_lines.specs.declared.refusal.Refusal.{Refusal}
 use Rattle.snd_script.specs.declared.stop.Stop.{Stop}
 use Rattle.snd_script.specs.declared.stop.Stop.TheVariants as stop

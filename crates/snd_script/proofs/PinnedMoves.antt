@@ -14,24 +14,24 @@ use Rattle.snd_edits.specs.Editing.{Editing, frames_left, moved_by}
 use Rattle.snd_edits.specs.Edits.{cut_to, sealed_to}
 use Rattle.snd_edits.specs.Safe.{IsSafe}
 use Rattle.snd_edits.specs.declared.error.GetError.TheVariants as get
-use Rattle.snd_tags.specs.Found.{broadcast_of, points_of, texts_of}
-use Rattle.snd_tags.specs.declared.error.TagError.{TagError}
-use Rattle.snd_tags.specs.declared.error.TagError.TheVariants.{Get, BadBody}
+use Rattle.snd_edits.specs.TagsHeld.{broadcast_of, points_of, texts_of}
+use Rattle.snd_edits.specs.declared.tag_error.TagError.{TagError}
+use Rattle.snd_edits.specs.declared.tag_error.TagError.TheVariants.{Get, BadBody}
 use Rattle.snd_file.proofs.Public.{unchanged}
 use Rattle.snd_patch.specs.Images.{LeavesEach}
 use Rattle.snd_taps.specs.Names.{tap_name}
 use Rattle.snd_taps.specs.declared.tap.TapKind.{TapKind}
 use Rattle.snd_taps.specs.declared.tap.TapState.{TapState}
-use Rattle.snd_script.specs.Desk.{Mode, OpenFile, Store, open_desk, pinned, updating}
-use Rattle.snd_script.specs.Edit.{Edited, close_edit, edit_by, edit_file, edit_open, edit_unless, keep_open, line_edit}
-use Rattle.snd_script.specs.Handled.{HandleAtRest, HandleStands, handle_disk, handle_known}
-use Rattle.snd_script.specs.Replies.{bext_text, body_text, done_line, error_line, ok_line, frame_line, frames_text, points_text, refuses, says, text_of, texts_text}
+use Rattle.snd_rules.specs.Desk.{Mode, OpenFile, Store, open_desk, pinned, updating}
+use Rattle.snd_rules.specs.Edit.{Edited, close_edit, edit_by, edit_file, edit_open, edit_unless, keep_open, line_edit}
+use Rattle.snd_session.specs.Handled.{HandleAtRest, HandleStands, handle_disk, handle_known}
+use Rattle.snd_rules.specs.Replies.{bext_text, body_text, done_line, error_line, ok_line, frame_line, frames_text, points_text, refuses, says, text_of, texts_text}
 use Rattle.snd_lines.specs.Refusals.{refusal_name, refusal_number}
-use Rattle.snd_script.specs.Rules.{FileEdited, Rule, answered, chunk_of, found_answer, frames_wanted, get_bext_rule, get_chunk_rule, get_chunks_rule, get_cues_rule, get_strings_rule, grounds_of, is_close, is_held, read_rule, refused_rule, report_of, rule_of, says_of, seek_both_rule, seek_read_rule, seek_write_rule, tap_rule, tell_rule, trim_rule, truncate_rule, untap_rule, update_rule, write_rule}
+use Rattle.snd_rules.specs.Rules.{FileEdited, Rule, answered, chunk_of, found_answer, frames_wanted, get_bext_rule, get_chunk_rule, get_chunks_rule, get_cues_rule, get_strings_rule, grounds_of, is_close, is_held, read_rule, refused_rule, report_of, rule_of, says_of, seek_both_rule, seek_read_rule, seek_write_rule, tap_rule, tell_rule, trim_rule, truncate_rule, untap_rule, update_rule, write_rule}
 use Rattle.snd_script.specs.Trail.{MovesSafely, RestsAt, pinned_file, state_behind}
 use Rattle.snd_script.proofs.StaysOpen.{carried}
-use Rattle.snd_script.specs.declared.handle.Handle.{Handle}
-use Rattle.snd_script.specs.declared.handle.Handle.TheVariants.{R, W, B, U}
+use Rattle.snd_session.specs.declared.handle.Handle.{Handle}
+use Rattle.snd_session.specs.declared.handle.Handle.TheVariants.{R, W, B, U}
 use Rattle.snd_lines.specs.declared.refusal.Refusal.{Refusal}
 use Rattle.snd_lines.specs.declared.refusal.Refusal.TheVariants.{BadBext, BadBlock, BadCommand, BadCue, BadInfo, ChunkTooLarge, LineTooLong, NoSuchChunk, Pinned, WrongMode}
 use Rattle.snd_script.specs.declared.stop.Stop.{Stop}

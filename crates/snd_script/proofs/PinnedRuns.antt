@@ -9,15 +9,15 @@ use Rattle.snd_layout.specs.declared.error.OpenError.{OpenError}
 use Rattle.snd_layout.specs.declared.error.OpenError.TheVariants as cause
 use Rattle.snd_meters.specs.Gauge.{Gauge}
 use Rattle.snd_edits.specs.Editing.{Editing}
-use Rattle.snd_script.specs.Desk.{Desk, Mode, OpenFile, Store, closed_desk, open_desk, updating}
-use Rattle.snd_script.specs.Edit.{Edited, Opening, keep_open, open_edit_of, open_refusal, opened_as, opened_edit, refused}
+use Rattle.snd_rules.specs.Desk.{Desk, Mode, OpenFile, Store, closed_desk, open_desk, updating}
+use Rattle.snd_rules.specs.Edit.{Edited, Opening, keep_open, open_edit_of, open_refusal, opened_as, opened_edit, refused}
 use Rattle.snd_script.specs.Lines.{Reading}
 use Rattle.snd_script.specs.Opened.{OnlyOpens, RefusesOpen}
-use Rattle.snd_script.specs.Pinned.{pin_edit, pins}
+use Rattle.snd_rules.specs.Pinned.{pin_edit, pins}
 use Rattle.snd_script.specs.PinnedRun.{IsPinnedStop, opened_pinned}
-use Rattle.snd_script.specs.Replies.{file_line, is_refusal, refuses, text_of}
-use Rattle.snd_script.specs.Rules.{rule_of}
-use Rattle.snd_script.specs.Script.{ending, steps}
+use Rattle.snd_rules.specs.Replies.{file_line, is_refusal, refuses, text_of}
+use Rattle.snd_rules.specs.Rules.{rule_of}
+use Rattle.snd_rules.specs.Script.{ending, steps}
 use Rattle.snd_script.specs.Served.{Appends, lost_at, made_next, none_lost}
 use Rattle.snd_script.specs.Serving.{DiskStands, IsAnswered, IsNotOpened, IsStopped, Moment, Serves, StopsLine, is_longer, lines_left, moment, steps_left}
 use Rattle.snd_script.specs.declared.open.OpenAs.TheVariants.{Update}

@@ -9,15 +9,15 @@ use Rattle.snd_disk.specs.declared.disk.Disk.{Ghosts}
 use Rattle.snd_disk.specs.declared.disk.Step.{Step}
 use Rattle.snd_meters.specs.Gauge.{Gauge}
 use Rattle.snd_edits.specs.Editing.{Editing}
-use Rattle.snd_script.specs.Desk.{Desk, Store, open_desk}
-use Rattle.snd_script.specs.Edit.{Edited, edit_line, line_edit}
-use Rattle.snd_script.specs.Handled.{handle_known}
+use Rattle.snd_rules.specs.Desk.{Desk, Store, open_desk}
+use Rattle.snd_rules.specs.Edit.{Edited, edit_line, line_edit}
+use Rattle.snd_session.specs.Handled.{handle_known}
 use Rattle.snd_script.specs.Lines.{Reading}
-use Rattle.snd_script.specs.Replies.{text_of}
-use Rattle.snd_script.specs.Script.{lines_within, steps}
+use Rattle.snd_rules.specs.Replies.{text_of}
+use Rattle.snd_rules.specs.Script.{lines_within, steps}
 use Rattle.snd_script.specs.Serving.{Brings, IsWhole, StopsLine, WholeAt}
 use Rattle.snd_script.specs.Trail.{MovesSafely, TrailsOn, pinned_file, reached, state_behind}
-use Rattle.snd_script.specs.declared.handle.Handle.{Handle}
+use Rattle.snd_session.specs.declared.handle.Handle.{Handle}
 use Rattle.snd_script.specs.declared.stop.Stop.{Stop}
 use Rattle.snd_script.specs.declared.stop.Stop.TheVariants as stop
 use Rattle.snd_script.proofs.PinnedMoves.{command_speaks, desk_behind, taps_behind}

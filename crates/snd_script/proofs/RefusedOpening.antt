@@ -7,7 +7,7 @@ use Rattle.snd_layout.specs.declared.error.OpenError.{OpenError}
 use Rattle.snd_layout.specs.declared.error.OpenError.TheVariants.{Refused, AdpcmUpdate, UnknownLength, DiskFault, Memory}
 use Rattle.snd_layout.specs.declared.refusal.OpenRefusal.{OpenRefusal}
 use Rattle.snd_edits.specs.Editing.{opening_of}
-use Rattle.snd_script.specs.Edit.{Opening, as_opened}
+use Rattle.snd_rules.specs.Edit.{Opening, as_opened}
 use Rattle.snd_script.specs.Opened.{RefusesOpen}
 
 pub refused_reading : {D : Type 0} (state : D → State) (disk : D) (old new : ℕ) (error : OpenError) → IsCause old new error

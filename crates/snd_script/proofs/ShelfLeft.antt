@@ -9,7 +9,7 @@ use Rattle.snd_disk.specs.Shelves.{ChangesOnly, HandsOut, HandsOutNone, KeepsOth
 use Rattle.snd_disk.specs.State.{GoesOn, State}
 use Rattle.snd_meters.specs.Gauge.{Gauge}
 use Rattle.snd_patch.specs.Steps.{StillTells}
-use Rattle.snd_script.specs.Desk.{Desk, Store, closed_desk, files_closed}
+use Rattle.snd_rules.specs.Desk.{Desk, Store, closed_desk, files_closed}
 use Rattle.snd_script.specs.Served.{HasStore, LeavesShelf, none_lost}
 use Rattle.snd_script.specs.Serving.{DiskStands, ShelfStands}
 

@@ -5,11 +5,11 @@ use Rattle.snd_disk.specs.Shelf.{Files, SameFiles}
 use Rattle.snd_layout.specs.Blocks.{is_adpcm}
 use Rattle.snd_layout.specs.declared.refusal.OpenRefusal.{OpenRefusal}
 use Rattle.snd_edits.specs.Editing.{Editing}
-use Rattle.snd_script.specs.Desk.{Desk, Store, closed_desk, makes_name}
-use Rattle.snd_script.specs.Edit.{Edited, Opening, as_opened, open_edit, open_edit_of, opened_as}
+use Rattle.snd_rules.specs.Desk.{Desk, Store, closed_desk, makes_name}
+use Rattle.snd_rules.specs.Edit.{Edited, Opening, as_opened, open_edit, open_edit_of, opened_as}
 use Rattle.snd_script.specs.Lines.{Reading}
 use Rattle.snd_script.specs.Opened.{IsMakeable, is_making, opening_by, opens_edit}
-use Rattle.snd_script.specs.Replies.{Answer, nothing, refuses}
+use Rattle.snd_rules.specs.Replies.{Answer, nothing, refuses}
 use Rattle.snd_script.specs.Served.{lost_at, made_next, none_lost}
 use Rattle.snd_script.specs.Serving.{IsAnswered, IsServedOn, IsStopped, Moment, is_longer, moment, steps_from, steps_left}
 use Rattle.snd_script.specs.declared.open.OpenAs.{OpenAs}
@@ -18,7 +18,7 @@ use Rattle.snd_lines.specs.declared.refusal.Refusal.TheVariants.{MissingFile}
 use Rattle.snd_script.specs.declared.stop.Stop.{Stop}
 use Rattle.snd_script.specs.declared.stop.Stop.TheVariants.{Ended, TooLong, Script, Sink, File, Memory}
 use Rattle.snd_script.proofs.Chains.{appends_none, line_stops, or_none, serves_one}
-use Rattle.snd_script.proofs.Makings.{made_makes}
+use Rattle.snd_rules.proofs.Public.{made_makes}
 
 -- ---- a line that leaves no file open and the files as they are
 

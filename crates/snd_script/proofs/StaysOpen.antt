@@ -5,12 +5,12 @@ use Rattle.snd_command.specs.Said.{Said}
 use Rattle.snd_disk.specs.declared.disk.Disk.{Ghosts}
 use Rattle.snd_meters.specs.Gauge.{Gauge}
 use Rattle.snd_edits.specs.Editing.{Editing}
-use Rattle.snd_script.specs.Desk.{Mode, OpenFile, Store, is_pinned, open_desk, pinned, updating}
-use Rattle.snd_script.specs.Edit.{close_edit, edit_open, keep_open, refused}
-use Rattle.snd_script.specs.Handled.{mode_of, open_as}
-use Rattle.snd_script.specs.Rules.{Rule, is_close, is_held, refused_rule, rule_of}
-use Rattle.snd_script.specs.declared.handle.Handle.{Handle}
-use Rattle.snd_script.specs.declared.handle.Handle.TheVariants.{R, W, B, U}
+use Rattle.snd_rules.specs.Desk.{Mode, OpenFile, Store, is_pinned, open_desk, pinned, updating, open_as}
+use Rattle.snd_rules.specs.Edit.{close_edit, edit_open, keep_open, refused}
+use Rattle.snd_session.specs.Handled.{mode_of}
+use Rattle.snd_rules.specs.Rules.{Rule, is_close, is_held, refused_rule, rule_of}
+use Rattle.snd_session.specs.declared.handle.Handle.{Handle}
+use Rattle.snd_session.specs.declared.handle.Handle.TheVariants.{R, W, B, U}
 use Rattle.snd_lines.specs.declared.refusal.Refusal.{Refusal}
 
 -- a command that is not refused

@@ -6,15 +6,15 @@ use Rattle.snd_disk.specs.State.{State}
 use Rattle.snd_disk.specs.declared.disk.Disk.{Ghosts}
 use Rattle.snd_meters.specs.Gauge.{Gauge}
 use Rattle.snd_edits.specs.Editing.{Editing}
-use Rattle.snd_script.specs.Desk.{Desk, Store, open_desk, writes}
-use Rattle.snd_script.specs.Edit.{Edited}
-use Rattle.snd_script.specs.Handled.{HandleStands, LeavesHandle, handle_disk, mode_of, open_as}
-use Rattle.snd_script.specs.Replies.{Answer, nothing, says, refuses, is_refusal}
+use Rattle.snd_rules.specs.Desk.{Desk, Store, open_desk, writes, open_as}
+use Rattle.snd_rules.specs.Edit.{Edited}
+use Rattle.snd_session.specs.Handled.{HandleStands, LeavesHandle, handle_disk, mode_of}
+use Rattle.snd_rules.specs.Replies.{Answer, nothing, says, refuses, is_refusal}
 use Rattle.snd_script.specs.Served.{lost_at}
 use Rattle.snd_script.specs.Serving.{OpenStands}
-use Rattle.snd_script.specs.Stepped.{reply_of}
-use Rattle.snd_script.specs.declared.handle.Handle.{Handle}
-use Rattle.snd_script.specs.declared.handle.Reply.TheVariants as reply
+use Rattle.snd_rules.specs.Stepped.{reply_of}
+use Rattle.snd_session.specs.declared.handle.Handle.{Handle}
+use Rattle.snd_rules.specs.declared.reply.Reply.TheVariants as reply
 
 -- a reply tells whether the answer is a refusal
 pub or_no_refusal : (r : Bool) (a : Answer) → reply.Ok ≡ reply_of a → r ≡ (r || is_refusal a)

@@ -10,8 +10,8 @@ use Rattle.snd_disk.specs.declared.shelf.Shelf.{Ghosts as ShelfMeaning}
 use Rattle.snd_script.specs.Kept.{IsTail, KeepsUnless, LeavesTail, how_writes, lines_to_serve}
 use Rattle.snd_script.specs.Lines.{Reading}
 use Rattle.snd_script.specs.Opened.{OnlyServes}
-use Rattle.snd_script.specs.Pinned.{run_writes}
-use Rattle.snd_script.specs.Script.{any_writes, by_writing, lines_within, most_bytes}
+use Rattle.snd_rules.specs.Pinned.{run_writes}
+use Rattle.snd_rules.specs.Script.{any_writes, by_writing, lines_within, most_bytes}
 use Rattle.snd_script.specs.Served.{LeavesShelf}
 use Rattle.snd_script.specs.Serving.{Brings}
 use Rattle.snd_script.specs.declared.open.OpenAs.{OpenAs}

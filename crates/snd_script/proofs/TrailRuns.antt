@@ -12,12 +12,12 @@ use Rattle.snd_file.proofs.Public.{left_at_rest}
 use Rattle.snd_edits.proofs.Public.{from_after, same_file, wider}
 use Rattle.snd_patch.proofs.Moments.{leaves_weaker}
 use Rattle.snd_patch.specs.Images.{LeavesEach}
-use Rattle.snd_script.specs.Edit.{Edited}
-use Rattle.snd_script.specs.Handled.{HandleAtRest, handle_disk, handle_known}
-use Rattle.snd_script.specs.Replies.{text_of}
+use Rattle.snd_rules.specs.Edit.{Edited}
+use Rattle.snd_session.specs.Handled.{HandleAtRest, handle_disk, handle_known}
+use Rattle.snd_rules.specs.Replies.{text_of}
 use Rattle.snd_script.specs.Trail.{Going, Trail, TrailTo, TrailsOn, reached, state_behind}
-use Rattle.snd_script.specs.declared.handle.Handle.{Handle}
-use Rattle.snd_script.specs.declared.handle.Handle.TheVariants.{R, W, B, U}
+use Rattle.snd_session.specs.declared.handle.Handle.{Handle}
+use Rattle.snd_session.specs.declared.handle.Handle.TheVariants.{R, W, B, U}
 use Rattle.snd_script.proofs.Trails.{going_by, going_trail, trail_starts, trail_stays, trail_then}
 
 -- ---- the states that bytes of the answers show

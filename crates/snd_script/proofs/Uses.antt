@@ -6,7 +6,7 @@ use Rattle.snd_command.specs.declared.refusal.ScriptRefusal.{ScriptRefusal}
 use Rattle.snd_disk.specs.State.{AtMost}
 use Rattle.snd_script.specs.Kept.{lines_to_serve}
 use Rattle.snd_script.specs.Lines.{Reading}
-use Rattle.snd_script.specs.Script.{by_command, by_lines, lines_within, most_bytes}
+use Rattle.snd_rules.specs.Script.{by_command, by_lines, lines_within, most_bytes}
 use Rattle.snd_script.specs.Serving.{Brings}
 use Rattle.snd_script.specs.Used.{IsWithin, LineUses, Uses, use_left}
 use Rattle.snd_script.specs.declared.stop.Next.TheVariants as next

@@ -6,7 +6,7 @@ use Rattle.std.proofs.lemmas.List.{same_lists, length-take, length-append, take_
 use Rattle.std.proofs.lemmas.List.Elements.{All-append}
 use Rattle.std.proofs.lemmas.Bool.{cases_lt}
 use Rattle.snd_script.specs.Lines.{Reading, CutsOff, Moves, IsUnderWay, IsLine, HasNoMore, HasNoFeed, behind_part, feeds, most_kept}
-use Rattle.snd_script.specs.Script.{is_feed}
+use Rattle.snd_rules.specs.Script.{is_feed}
 use Rattle.snd_script.proofs.Parts.{most_kept-is}
 
 kept_more : (m : ℕ) (c part : List ℕ) → take m (take m c ++ part) ≡ take m (c ++ part)

@@ -7,7 +7,7 @@ use Rattle.std.proofs.lemmas.Bool.{cases_lt, le-leb, lt-leb, le-ltb, lt-ltb}
 use Rattle.snd_command.specs.Line.{command_of}
 use Rattle.snd_command.specs.declared.refusal.ScriptRefusal.TheVariants.{LineTooLong}
 use Rattle.snd_script.specs.Lines.{IsLine, EndsAtFeed, IsLast, HasNoMore, HasNoFeed, most_kept}
-use Rattle.snd_script.specs.Script.{is_feed, whole_lines, whole_lines_of, all_lines, all_lines_of, lines_within, is_too_long}
+use Rattle.snd_rules.specs.Script.{is_feed, whole_lines, whole_lines_of, all_lines, all_lines_of, lines_within, is_too_long}
 use Rattle.snd_script.proofs.Parts.{most_kept-is}
 
 pub record Split (s : List ℕ) : Type 0 where

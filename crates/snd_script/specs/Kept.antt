@@ -6,23 +6,16 @@ use Rattle.snd_disk.specs.Shelves.{KeepsImagesOf, TellsFiles}
 use Rattle.snd_disk.specs.declared.shelf.Shelf.{Ghosts as ShelfMeaning}
 use Rattle.snd_disk.specs.declared.streams.Source.{Ghosts as SourceMeaning}
 use Rattle.snd_script.specs.Lines.{Reading}
-use Rattle.snd_script.specs.Script.{any_writes, lines_within}
+use Rattle.snd_rules.specs.Script.{any_writes, lines_within}
 use Rattle.snd_script.specs.declared.open.OpenAs.{OpenAs}
 use Rattle.snd_script.specs.declared.open.OpenAs.TheVariants as how
 use Rattle.snd_script.specs.declared.run.Run.{Run}
 use Rattle.snd_script.specs.declared.stop.Stop.{Stop}
-use Rattle.snd_script.specs.declared.work.Work.{Work}
-use Rattle.snd_script.specs.declared.work.Work.TheVariants as work
 
 -- the file of this name is opened to be written, or made
 abbrev pub how_writes : OpenAs → List ℕ → List ℕ → Bool
 how_writes how.Read name n = false
 how_writes opening name n = bytes_eq n name
-
-abbrev pub work_writes : Work → List ℕ → Bool
-work_writes (work.Update name) n = bytes_eq n name.now
-work_writes (work.Make kind codec channels rate name) n = bytes_eq n name.now
-work_writes other n = false
 
 -- the lines that are left, where the source has the bytes s left
 abbrev pub lines_to_serve : Reading → List ℕ → List (List ℕ)

@@ -3,7 +3,7 @@ use Rattle.std.specs.Prelude.{◌≡◌, ◌⊎◌, ℕ, ◌+◌, ◌-◌, ◌<�
 use Rattle.std.specs.List.{All}
 use Rattle.snd_script.specs.declared.reader.NextLine.{NextLine}
 use Rattle.snd_script.specs.declared.reader.NextLine.TheVariants.{Line, End, TooLong}
-use Rattle.snd_script.specs.Script.{is_feed}
+use Rattle.snd_rules.specs.Script.{is_feed}
 
 -- what a reader of lines has in hand: the bytes that were taken and are served in no line yet, and how many bytes of the
 -- script may still be served

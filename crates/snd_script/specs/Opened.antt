@@ -12,12 +12,13 @@ use Rattle.snd_layout.specs.declared.error.OpenError.{OpenError}
 use Rattle.snd_layout.specs.declared.error.OpenError.TheVariants.{DiskFault, Memory}
 use Rattle.snd_edits.specs.Editing.{Editing}
 use Rattle.snd_edits.specs.Making.{making_of}
-use Rattle.snd_script.specs.Desk.{Store, closed_desk}
-use Rattle.snd_script.specs.Edit.{Edited, Opening, make_edit, open_edit, open_edit_of, opened_as, refused}
+use Rattle.snd_rules.specs.Desk.{Store, closed_desk}
+use Rattle.snd_rules.specs.Edit.{Edited, Opening, make_edit, open_edit, open_edit_of, opened_as, refused}
 use Rattle.snd_edits.specs.Safe.{IsFit}
 use Rattle.snd_edits.specs.Updating.{updating_of}
-use Rattle.snd_script.specs.Handled.{HandleAtRest, HandleStands, HasSmallBlocks, handle_disk, handle_loan}
-use Rattle.snd_script.specs.declared.handle.Handle.{Handle}
+use Rattle.snd_session.specs.Handled.{HandleAtRest, HandleStands, handle_disk, handle_loan}
+use Rattle.snd_rules.specs.SmallBlocks.{HasSmallBlocks}
+use Rattle.snd_session.specs.declared.handle.Handle.{Handle}
 use Rattle.snd_script.specs.declared.open.OpenAs.{OpenAs}
 use Rattle.snd_script.specs.declared.open.OpenAs.TheVariants.{Read, Update, Make}
 use Rattle.snd_lines.specs.declared.refusal.Refusal.TheVariants.{Open}

@@ -10,17 +10,18 @@ use Rattle.snd_disk.specs.declared.shelf.Shelf.{Ghosts as ShelfMeaning}
 use Rattle.snd_disk.specs.declared.streams.Source.{Ghosts as SourceMeaning}
 use Rattle.snd_meters.specs.Gauge.{Gauge}
 use Rattle.snd_edits.specs.Editing.{Editing}
-use Rattle.snd_script.specs.Desk.{Desk, Store, closed_desk, pinned}
-use Rattle.snd_script.specs.Edit.{Edited, Opening, open_edit_of, opened_as, opened_edit}
-use Rattle.snd_script.specs.Handled.{HandleStands, handle_disk}
+use Rattle.snd_rules.specs.Desk.{Desk, Store, closed_desk, pinned}
+use Rattle.snd_rules.specs.Edit.{Edited, Opening, open_edit_of, opened_as, opened_edit}
+use Rattle.snd_session.specs.Handled.{HandleStands, handle_disk}
 use Rattle.snd_script.specs.Kept.{KeepsUnless, lines_to_serve}
-use Rattle.snd_script.specs.Pinned.{pinned_opening, pinned_steps, pins, run_asks, run_puts, run_writes}
-use Rattle.snd_script.specs.Script.{asked_by, most_in, written_in}
+use Rattle.snd_rules.specs.Pinned.{pinned_opening, pinned_steps, pins, run_asks, run_puts, run_writes}
+use Rattle.snd_rules.specs.Script.{asked_by, most_in, written_in}
 use Rattle.snd_script.specs.Served.{HasFiles, HasStore}
 use Rattle.snd_script.specs.Serving.{DiskStands, IsStopped, Moment, OpenStands, ShelfStands, is_longer, lines_left, moment_of, steps_left}
-use Rattle.snd_script.specs.Tapped.{TapMeter, taps_of}
+use Rattle.snd_session.specs.Tapped.{TapMeter}
+use Rattle.snd_script.specs.Tapped.{taps_of}
 use Rattle.snd_script.specs.Used.{use_left}
-use Rattle.snd_script.specs.declared.handle.Handle.{Handle}
+use Rattle.snd_session.specs.declared.handle.Handle.{Handle}
 use Rattle.snd_script.specs.declared.run.Run.{Run}
 use Rattle.snd_script.specs.declared.stop.Stop.{Stop}
 

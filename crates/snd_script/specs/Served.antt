@@ -4,12 +4,12 @@ use Rattle.snd_disk.specs.Shelf.{Files, ShelfState}
 use Rattle.snd_disk.specs.Shelves.{KeepsImagesOf, TellsFiles}
 use Rattle.snd_disk.specs.State.{AtMost, GoesOn, Rises}
 use Rattle.snd_meters.specs.Gauge.{Gauge}
-use Rattle.snd_script.specs.Desk.{Desk, Store, closed_desk, files_closed, has_name, makes_name, stored}
-use Rattle.snd_script.specs.Edit.{Edited}
+use Rattle.snd_rules.specs.Desk.{Desk, Store, closed_desk, files_closed, has_name, makes_name, stored}
+use Rattle.snd_rules.specs.Edit.{Edited}
 use Rattle.snd_script.specs.Lines.{HasNoFeed}
-use Rattle.snd_script.specs.Pinned.{pinned_opening, pins, run_asks, run_puts, run_steps, run_too_long, run_writes}
-use Rattle.snd_script.specs.Replies.{text_of}
-use Rattle.snd_script.specs.Script.{any_refused, last_desk, lines_within, most_bytes, steps, texts}
+use Rattle.snd_rules.specs.Pinned.{pinned_opening, pins, run_asks, run_puts, run_steps, run_too_long, run_writes}
+use Rattle.snd_rules.specs.Replies.{text_of}
+use Rattle.snd_rules.specs.Script.{any_refused, last_desk, lines_within, most_bytes, steps, texts}
 use Rattle.snd_script.specs.declared.serving.ScriptEnd.{ScriptEnd}
 use Rattle.snd_script.specs.declared.serving.ScriptEnd.TheVariants.{Done, TooLong, Fault, Memory}
 use Rattle.snd_script.specs.declared.stop.Stop.{Stop}

@@ -15,17 +15,18 @@ use Rattle.snd_layout.specs.declared.error.OpenError.TheVariants as cause
 use Rattle.snd_layout.specs.Shape.{Shape}
 use Rattle.snd_meters.specs.Gauge.{Gauge}
 use Rattle.snd_edits.specs.Editing.{Editing}
-use Rattle.snd_script.specs.Desk.{Desk, OpenFile, Store, closed_desk, files_closed, open_desk, taps_closed}
-use Rattle.snd_script.specs.Edit.{Edited, close_edit, edit_line, keep_open, open_refusal, opened_edit}
-use Rattle.snd_script.specs.Handled.{HandleStands, handle_disk, mode_of, open_as}
+use Rattle.snd_rules.specs.Desk.{Desk, OpenFile, Store, closed_desk, files_closed, open_desk, taps_closed, open_as}
+use Rattle.snd_rules.specs.Edit.{Edited, close_edit, edit_line, keep_open, open_refusal, opened_edit}
+use Rattle.snd_session.specs.Handled.{HandleStands, handle_disk, mode_of}
 use Rattle.snd_script.specs.Lines.{CutsOff, Reading, TakesUp}
 use Rattle.snd_script.specs.Opened.{is_making, opens_bytes}
-use Rattle.snd_script.specs.Replies.{Answer, file_line, ok_line, refuses, says, text_of, is_refusal}
-use Rattle.snd_script.specs.Rules.{rule_of}
-use Rattle.snd_script.specs.Script.{any_refused, ending, is_too_long, last_desk, lines_within, steps, texts}
+use Rattle.snd_rules.specs.Replies.{Answer, file_line, ok_line, refuses, says, text_of, is_refusal}
+use Rattle.snd_rules.specs.Rules.{rule_of}
+use Rattle.snd_rules.specs.Script.{any_refused, ending, is_too_long, last_desk, lines_within, steps, texts}
 use Rattle.snd_script.specs.Served.{Appends, AppendsPart, FaultCounts, HasStore, IsCutOff, SameCounts, faults_of, first_text, lost_at, made_next, none_lost}
-use Rattle.snd_script.specs.Tapped.{TapMeter, taps_of}
-use Rattle.snd_script.specs.declared.handle.Handle.{Handle}
+use Rattle.snd_session.specs.Tapped.{TapMeter}
+use Rattle.snd_script.specs.Tapped.{taps_of}
+use Rattle.snd_session.specs.declared.handle.Handle.{Handle}
 use Rattle.snd_script.specs.declared.open.OpenAs.{OpenAs}
 use Rattle.snd_script.specs.declared.run.Run.{Run}
 use Rattle.snd_script.specs.declared.stop.Next.{Next}

@@ -15,16 +15,17 @@ use Rattle.snd_edits.specs.Editing.{Editing}
 use Rattle.snd_edits.specs.Safe.{IsFit, IsSafe}
 use Rattle.snd_edits.specs.Updating.{updating_of}
 use Rattle.snd_patch.specs.Images.{LeavesEach}
-use Rattle.snd_script.specs.Desk.{OpenFile, Store, open_desk, pinned, stored}
-use Rattle.snd_script.specs.Edit.{Edited, edit_file}
-use Rattle.snd_script.specs.Handled.{HandleAtRest, handle_disk, handle_known, mode_of, rule_for}
-use Rattle.snd_script.specs.Pinned.{auto_steps, pinned_steps}
+use Rattle.snd_rules.specs.Desk.{OpenFile, Store, open_desk, pinned, stored}
+use Rattle.snd_rules.specs.Edit.{Edited, edit_file}
+use Rattle.snd_session.specs.Handled.{HandleAtRest, handle_disk, handle_known, mode_of, rule_for}
+use Rattle.snd_rules.specs.Pinned.{auto_steps, pinned_steps}
 use Rattle.snd_script.specs.PinnedRun.{opened_pinned}
-use Rattle.snd_script.specs.Replies.{text_of}
+use Rattle.snd_rules.specs.Replies.{text_of}
 use Rattle.snd_script.specs.Serving.{edit_open_line, lines_left, moment_of, steps_left}
-use Rattle.snd_script.specs.Stepped.{IsAutomatic}
-use Rattle.snd_script.specs.Tapped.{TapMeter, taps_of}
-use Rattle.snd_script.specs.declared.handle.Handle.{Handle}
+use Rattle.snd_rules.specs.Stepped.{IsAutomatic}
+use Rattle.snd_session.specs.Tapped.{TapMeter}
+use Rattle.snd_script.specs.Tapped.{taps_of}
+use Rattle.snd_session.specs.declared.handle.Handle.{Handle}
 use Rattle.snd_script.specs.declared.run.Run.{Run}
 use Rattle.snd_script.specs.declared.stop.Next.{Next}
 use Rattle.snd_script.specs.declared.stop.Next.TheVariants as next

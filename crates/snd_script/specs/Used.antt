@@ -6,32 +6,21 @@ use Rattle.snd_disk.specs.State.{AtMost}
 use Rattle.snd_disk.specs.declared.disk.Disk.{Ghosts}
 use Rattle.snd_disk.specs.declared.shelf.Shelf.{Ghosts as ShelfMeaning}
 use Rattle.snd_disk.specs.declared.streams.Source.{Ghosts as SourceMeaning}
-use Rattle.snd_script.specs.Handled.{handle_disk}
+use Rattle.snd_session.specs.Handled.{handle_disk}
 use Rattle.snd_script.specs.Lines.{Reading}
-use Rattle.snd_script.specs.Script.{asked_by, by_command, by_lines, lines_within, most_in, written_by, written_in}
-use Rattle.snd_script.specs.declared.handle.Handle.{Handle}
+use Rattle.snd_rules.specs.Script.{asked_by, by_command, by_lines, lines_within, most_in, written_by, written_in}
+use Rattle.snd_session.specs.declared.handle.Handle.{Handle}
 use Rattle.snd_script.specs.declared.open.OpenAs.{OpenAs}
 use Rattle.snd_script.specs.declared.open.OpenAs.TheVariants as how
 use Rattle.snd_script.specs.declared.run.Run.{Run}
 use Rattle.snd_script.specs.declared.stop.Next.{Next}
 use Rattle.snd_script.specs.declared.stop.Next.TheVariants as next
 use Rattle.snd_script.specs.declared.stop.Stop.{Stop}
-use Rattle.snd_script.specs.declared.work.Work.{Work}
-use Rattle.snd_script.specs.declared.work.Work.TheVariants as work
 
 -- bytes asked to open a file, and written to make one
 abbrev pub most_asked : OpenAs → ℕ
 most_asked (how.Make kind params) = 0
 most_asked opening = 16384
-
-abbrev pub work_asks : Work → ℕ
-work_asks (work.Open name) = 16384
-work_asks (work.Update name) = 16384
-work_asks other = 0
-
-abbrev pub work_makes : Work → ℕ
-work_makes (work.Make kind codec channels rate name) = 2048
-work_makes other = 0
 
 -- what the lines that are left may use, where the source has the bytes s left
 abbrev pub use_left : (Said → ℕ) → Reading → List ℕ → ℕ

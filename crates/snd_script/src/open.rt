@@ -5,12 +5,12 @@ ghost use Rattle.snd_disk.specs.Device.{AsksAtMost, GoesOnFrom, WritesAtMost};
 ghost use Rattle.snd_layout.specs.Blocks.{is_adpcm};
 ghost use Rattle.snd_file.specs.Loans.{answer_of};
 ghost use Rattle.snd_patch.specs.Steps.{StillTells};
-ghost use Rattle.snd_script.specs.Edit.{Opening, mode_for, mode_made};
-ghost use Rattle.snd_script.specs.Handled.{IsSmall, handle_known, mode_of};
+ghost use Rattle.snd_rules.specs.Edit.{Opening, mode_for, mode_made};
+ghost use Rattle.snd_session.specs.Handled.{IsSmall, handle_known, mode_of};
 ghost use Rattle.snd_script.specs.Opened.{CountsOpen, IsMakeable, OnlyOpens, OpensHandle, OpensToRest, disk_of_open, loan_of_open, most_made, opening_by};
 ghost use Rattle.snd_script.specs.Used.{most_asked};
 
-use crate::handle::Handle;
+use snd_session::Handle;
 use snd_block_writer::are_blocks;
 use snd_disk::Disk;
 use snd_file::{create, create_blocks, open_read, open_update};
@@ -36,7 +36,7 @@ fn is_adpcm(codec: Codec) -> bool
 }
 
 // Makes a disk a file of a kind, which is open in the mode of its codec.
-#[tactic(auto, using(crate::proofs::Makings::in_numbers, crate::proofs::Makings::few_channels))]
+#[tactic(auto, using(snd_rules::proofs::Public::in_numbers, snd_rules::proofs::Public::few_channels))]
 fn make_disk<'d, D: Disk>(
     alloc: Global,
     disk: &'d mut D,

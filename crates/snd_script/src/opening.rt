@@ -4,20 +4,20 @@ ghost use Rattle.std.specs.Prelude.{◌≡◌, ◌≤◌, List, ℕ, None, OnOk}
 ghost use Rattle.snd_disk.specs.Device.{GoesOnFrom};
 ghost use Rattle.snd_file.specs.Handle.{known_of};
 ghost use Rattle.snd_patch.specs.Steps.{StillTells};
-ghost use Rattle.snd_script.specs.Handled.{IsSmall, LeavesDisk, LeavesHandle, handle_known, handle_loan};
+ghost use Rattle.snd_session.specs.Handled.{IsSmall, LeavesDisk, LeavesHandle, handle_known, handle_loan};
 ghost use Rattle.snd_script.specs.Kept.{LeavesLines};
 ghost use Rattle.snd_script.specs.Opened.{IsMakeable, OnlyServes, most_made};
-ghost use Rattle.snd_script.specs.Script.{asked_by, written_by};
+ghost use Rattle.snd_rules.specs.Script.{asked_by, written_by};
 ghost use Rattle.snd_script.specs.Tapped.{taps_of};
 ghost use Rattle.snd_script.specs.Used.{UsesClosed, UsesOn, UsesOpen, most_asked};
 ghost use Rattle.snd_script.specs.Serving.{AnswersClose, AnswersError, AnswersFile, CountsClosed, CountsDisk, CountsHandle, IsSinkCounted, IsWhole, ServesDisk, ServesHandle, ServesToClose, TakesLines};
 
-use crate::handle::Handle;
+use snd_session::Handle;
 use crate::open::{OpenAs, open_disk};
 use crate::opened::serve_open;
 use crate::run::Run;
 use crate::stop::Stop;
-use crate::text::{put_file_line, put_ok};
+use snd_rules::{put_file_line, put_ok};
 use snd_disk::{Disk, Sink, Source};
 use snd_edits::Mode;
 use snd_file::File;

@@ -4,15 +4,15 @@ ghost use Rattle.std.specs.Prelude.{◌≡◌, ◌+◌, List, ℕ, None, Some, f
 ghost use Rattle.std.specs.Str.{bytes_eq};
 ghost use Rattle.snd_disk.specs.Device.{GoesOnFrom};
 ghost use Rattle.snd_patch.specs.Steps.{StillTells};
-ghost use Rattle.snd_script.specs.Desk.{updating};
-ghost use Rattle.snd_script.specs.Handled.{LeavesDisk, LeavesHandle, handle_known, handle_loan, mode_of};
+ghost use Rattle.snd_rules.specs.Desk.{updating};
+ghost use Rattle.snd_session.specs.Handled.{LeavesDisk, LeavesHandle, handle_known, handle_loan, mode_of};
 ghost use Rattle.snd_script.specs.Kept.{KeepsUnless};
 ghost use Rattle.snd_script.specs.PinnedRun.{ClosedAsks, ClosedWrites, OpenAsks, OpenWrites, PinnedAsks, PinnedWrites, ShelfAsks, ShelfWrites, StopsClosed, StopsDisk, StopsOpen, StopsPinned, UnreadDisk, UnreadOpen, UnreadPinned, stopped};
 ghost use Rattle.snd_script.specs.Served.{LeavesShelf};
 ghost use Rattle.snd_script.specs.Trail.{TrailsClosed, TrailsDisk, TrailsPinned, TrailsPinnedFile};
 ghost use Rattle.snd_script.specs.Serving.{CountsClosed, CountsDisk, CountsHandle, CountsStop, IsWhole, TakesLines};
 
-use crate::handle::Handle;
+use snd_session::Handle;
 use crate::open::{OpenAs, open_disk};
 use crate::opened::serve_open;
 use crate::opening::{not_opened, reply_opened};

@@ -5,7 +5,7 @@ ghost use Rattle.std.specs.List.{position};
 ghost use Rattle.snd_command.specs.Line.{command_of, line_answer};
 ghost use Rattle.snd_disk.specs.State.{Counts};
 ghost use Rattle.snd_script.specs.Lines.{Reading, Moves, most_kept, to_take, GivesBytes, IsAtEnd, ReadsOn, TakesUp, IsPrompt, StopsShort};
-ghost use Rattle.snd_script.specs.Script.{is_feed};
+ghost use Rattle.snd_rules.specs.Script.{is_feed};
 
 use arrayvec::ArrayVec;
 use snd_command::{LineCommand, NumberRoom, ScriptRefusal, read_line};

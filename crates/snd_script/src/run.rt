@@ -1,20 +1,21 @@
 //! A run over a script, and what it does for one line.
 
 ghost use Rattle.std.specs.Prelude.{◌≡◌, ◌<◌, ◌≤◌, Bool, List, ℕ, false, None, OnOk};
-ghost use Rattle.snd_script.specs.Rules.{is_close, most_on};
+ghost use Rattle.snd_rules.specs.Rules.{is_close, most_on};
 ghost use Rattle.snd_command.specs.Said.{line_said};
-ghost use Rattle.snd_script.specs.Handled.{handle_known, mode_of, HandleAsks, HandleWrites, IsSmall, LeavesHandle};
-ghost use Rattle.snd_script.specs.Replies.{refuses};
-ghost use Rattle.snd_script.specs.Script.{asked_by, written_on};
+ghost use Rattle.snd_session.specs.Handled.{handle_known, mode_of, HandleAsks, HandleWrites, IsSmall, LeavesHandle};
+ghost use Rattle.snd_rules.specs.Replies.{refuses};
+ghost use Rattle.snd_rules.specs.Script.{asked_by, written_on};
 ghost use Rattle.snd_script.specs.Tapped.{taps_of};
 ghost use Rattle.snd_script.specs.Trail.{StepMoves};
 ghost use Rattle.snd_script.specs.Serving.{IsScriptCounted, IsSinkCounted, IsWhole, Answers, CountsLine, TakesLines, BringsLine, AnswersStep};
 
-use crate::handle::{Handle, Reply, StepFault};
+use snd_session::Handle;
+use snd_rules::{Reply, StepFault};
 use crate::reader::{Line, NextLine, ScriptLines};
-use crate::session::Session;
+use snd_session::Session;
 use crate::stop::Stop;
-use crate::text::put_refusal;
+use snd_rules::put_refusal;
 use snd_command::LineCommand;
 use snd_disk::{Disk, Sink, Source};
 use snd_lines::Refusal;

@@ -6,14 +6,14 @@ ghost use Rattle.snd_script.specs.Trail.{TrailsRun, TrailsScript};
 ghost use Rattle.snd_script.specs.Serving.{ServesLines, ServesAll, CountsRun, CountsStop, TakesLines};
 ghost use Rattle.snd_script.specs.Served.{BoundsScript, KeepsUnnamed, LeavesScript, LeavesShelf, ServesScript, RisesAtFault, end_at};
 ghost use Rattle.snd_script.specs.PinnedRun.{BoundsRun, KeepsInRun, StopsRun, named};
-ghost use Rattle.snd_script.specs.Script.{asked_by, written_by};
+ghost use Rattle.snd_rules.specs.Script.{asked_by, written_by};
 ghost use Rattle.snd_script.specs.Used.{BoundsLines, UsesOn};
 
 use crate::closed::closed_line;
 use crate::pinned::serve_pinned;
 use crate::reader::{Line, ScriptLines};
 use crate::run::Run;
-use crate::session::Session;
+use snd_session::Session;
 use crate::stop::Stop;
 use snd_disk::{Shelf, Sink, Source};
 use snd_taps::Tap;

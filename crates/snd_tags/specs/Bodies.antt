@@ -6,8 +6,8 @@ use Rattle.snd_edits.specs.declared.error.GetError.{GetError}
 use Rattle.snd_edits.specs.declared.error.GetError.TheVariants as get
 use Rattle.snd_edits.specs.Known.{Known}
 use Rattle.snd_edits.specs.Pieces.{MayGive, body_of, first_piece, has_name}
-use Rattle.snd_tags.specs.declared.error.TagError.{TagError}
-use Rattle.snd_tags.specs.declared.error.TagError.TheVariants.{Get, BadBody}
+use Rattle.snd_edits.specs.declared.tag_error.TagError.{TagError}
+use Rattle.snd_edits.specs.declared.tag_error.TagError.TheVariants.{Get, BadBody}
 
 -- the first chunk that is a list of any kind
 abbrev pub first_list : List Piece → Option Piece

@@ -3,7 +3,7 @@
 ghost use Rattle.std.specs.Prelude.{◌≡◌, ◌≢◌, ◌<◌, ◌≤◌, ◌^◌, All, IfErr, IfOk, length};
 ghost use Rattle.snd_meta.specs.Broadcast.{bext_body};
 ghost use Rattle.snd_meta.specs.Cue.{cue_body, named};
-ghost use Rattle.snd_tags.specs.Drafts.{bext_anew, bext_draft, info_anew, info_draft, timed_anew};
+ghost use Rattle.snd_edits.specs.TagDrafts.{bext_anew, bext_draft, info_anew, info_draft, timed_anew};
 ghost use Rattle.snd_tags.specs.Steps.{IsShort, bytes_in, no_memory};
 
 use crate::error::SetError;

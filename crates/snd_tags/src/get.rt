@@ -4,9 +4,10 @@ ghost use Rattle.std.specs.Prelude.{◌≡◌, codes};
 ghost use Rattle.snd_disk.specs.Device.{AsksAtMost, OnlyReadsOn};
 ghost use Rattle.snd_file.specs.Handle.{StandsAfter, disk_of, known_of, loan_of};
 ghost use Rattle.snd_edits.specs.Pieces.{GetLeaves};
-ghost use Rattle.snd_tags.specs.Found.{Answers, CountsFinding, FindsInfo, body_given, broadcast_of, points_of, texts_of};
+ghost use Rattle.snd_tags.specs.Found.{Answers, CountsFinding, FindsInfo, body_given};
+ghost use Rattle.snd_edits.specs.TagsHeld.{broadcast_of, points_of, texts_of};
 
-use crate::error::TagError;
+use snd_edits::TagError;
 use crate::lists::info_body;
 use snd_disk::Disk;
 use snd_edits::Mode;

@@ -11,7 +11,7 @@ mod look;
 mod set;
 mod steps;
 
-pub use error::{SetError, TagError};
+pub use error::SetError;
 pub use get::{broadcast, points, texts};
 pub use look::texts_on;
 pub use set::{set_field, set_points, set_text, set_time};

@@ -7,9 +7,10 @@ ghost use Rattle.snd_file.specs.Handle.{IfOkStanding, Stands, StandsAfter, disk_
 ghost use Rattle.snd_edits.specs.Pieces.{PieceReadLeaves};
 ghost use Rattle.snd_file.specs.Pieces.{CountsGetting, CountsPieceReading};
 ghost use Rattle.snd_tags.specs.Bodies.{BodyLeaves, IsBodyOf, IsGiveRefusal, WholeLeaves, begins_info, chunk_at, first_list};
-ghost use Rattle.snd_tags.specs.Found.{CountsFinding, FindsInfo, info_piece};
+ghost use Rattle.snd_tags.specs.Found.{CountsFinding, FindsInfo};
+ghost use Rattle.snd_edits.specs.TagsHeld.{info_piece};
 
-use crate::error::TagError;
+use snd_edits::TagError;
 use crate::info::{front, is_list, names_info};
 use snd_disk::Disk;
 use snd_edits::{GetError, Mode, PieceReadError};

@@ -5,10 +5,11 @@ ghost use Rattle.snd_disk.specs.Device.{AsksAtMost, IfOkTold, OnlyReadsOn, Tells
 ghost use Rattle.snd_layout.specs.Shape.{IsPlaced};
 ghost use Rattle.snd_edits.specs.Pieces.{body_of};
 ghost use Rattle.snd_file.specs.Pieces.{CountsGetting};
-ghost use Rattle.snd_tags.specs.Found.{IsAnswer, body_given, is_info, texts_of};
+ghost use Rattle.snd_tags.specs.Found.{IsAnswer, body_given};
+ghost use Rattle.snd_edits.specs.TagsHeld.{is_info, texts_of};
 ghost use Rattle.snd_tags.specs.Look.{IsBodyRefusal};
 
-use crate::error::TagError;
+use snd_edits::TagError;
 use crate::info::{front, is_list, names_info};
 use snd_disk::{Disk, Failed, Step};
 use snd_edits::GetError;

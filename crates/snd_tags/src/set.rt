@@ -6,7 +6,8 @@ ghost use Rattle.snd_meta.specs.Broadcast.{field_size};
 ghost use Rattle.snd_meta.specs.Cue.{cue_body, named};
 ghost use Rattle.snd_file.specs.Handle.{disk_of, known_of, loan_of};
 ghost use Rattle.snd_file.specs.Outcomes.{TellsOn};
-ghost use Rattle.snd_tags.specs.Drafts.{CountsSetting, OnlyPuts, SetsBody, SetsSome, bext_timed, bext_with, info_with};
+ghost use Rattle.snd_tags.specs.Drafts.{CountsSetting, OnlyPuts, SetsBody, SetsSome};
+ghost use Rattle.snd_edits.specs.TagDrafts.{bext_timed, bext_with, info_with};
 
 use crate::bodies::{bext_timed, bext_with, cue_body, info_with};
 use crate::error::SetError;

@@ -3,7 +3,7 @@
 ghost use Rattle.std.specs.Prelude.{◌≡◌, IfErr, IfOk, OnOk, true};
 ghost use Rattle.snd_file.specs.Handle.{IfOkStanding};
 ghost use Rattle.snd_layout.specs.Kinds.{is_meta_id};
-ghost use Rattle.snd_tags.specs.Drafts.{body_held};
+ghost use Rattle.snd_edits.specs.TagDrafts.{body_held};
 ghost use Rattle.snd_tags.specs.Steps.{FailsToRead, IsShort, Puts, Reads, bytes_in};
 
 use crate::error::SetError;

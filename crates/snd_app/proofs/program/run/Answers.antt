@@ -8,7 +8,7 @@ use Rattle.snd_app.specs.Run.{DoneAtStream, StopsAs}
 use Rattle.snd_app.specs.Tools.{AsksForWork, made_by}
 use Rattle.snd_app.proofs.Left.{changed_leaves, kept_leaves}
 use Rattle.snd_app.proofs.Outcomes.{done_by, is_put_err, is_put_out, run_as, stops_by, trails_by, with_files}
-use Rattle.snd_script.proofs.ShelfLeft.{some_of}
+use Rattle.snd_script.proofs.Public.{some_of}
 use Rattle.snd_script.specs.PinnedRun.{named}
 use Rattle.snd_script.specs.Served.{BoundsScript}
 use Rattle.snd_script.specs.Trail.{TrailsScript}

@@ -1,6 +1,6 @@
 use Rattle.std.proofs.Common.{refl, rules}
-use Rattle.snd_script.specs.Desk.{stored}
-use Rattle.snd_script.specs.Pinned.{run_steps, run_too_long}
+use Rattle.snd_rules.specs.Desk.{stored}
+use Rattle.snd_rules.specs.Pinned.{run_steps, run_too_long}
 use Rattle.snd_script.specs.PinnedRun.{named}
 use Rattle.snd_app.specs.Run.{told_by}
 use Rattle.snd_app.proofs.Scripts.{done_is, fault_is, fault_stops, memory_is, too_long_is, too_long_stops}

@@ -1,8 +1,8 @@
 use Rattle.std.proofs.Common.{rules, ◌∙◌, arith}
 use Rattle.snd_command.specs.Said.{line_said}
-use Rattle.snd_script.specs.Edit.{edit_closed}
-use Rattle.snd_script.specs.Replies.{refuses}
-use Rattle.snd_script.specs.Script.{asked_by, written_by}
+use Rattle.snd_rules.specs.Edit.{edit_closed}
+use Rattle.snd_rules.specs.Replies.{refuses}
+use Rattle.snd_rules.specs.Script.{asked_by, written_by}
 use Rattle.snd_script.specs.Serving.{ShelfStands}
 use Rattle.snd_lines.specs.declared.refusal.Refusal.TheVariants as refusal
 use Rattle.snd_script.proofs.NeedsOpen.{needs_open}

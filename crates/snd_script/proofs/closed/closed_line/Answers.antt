@@ -1,10 +1,10 @@
 use Rattle.std.proofs.Common.{ap, refl, sym, ◌∙◌}
-use Rattle.snd_script.specs.Desk.{closed_desk}
-use Rattle.snd_script.specs.Edit.{edit_line, line_edit}
-use Rattle.snd_script.specs.Replies.{refuses}
-use Rattle.snd_script.specs.Script.{asked_by, written_by}
+use Rattle.snd_rules.specs.Desk.{closed_desk}
+use Rattle.snd_rules.specs.Edit.{edit_line, line_edit}
+use Rattle.snd_rules.specs.Replies.{refuses}
+use Rattle.snd_rules.specs.Script.{asked_by, written_by}
 use Rattle.snd_script.specs.Serving.{ShelfStands}
-use Rattle.snd_script.proofs.OpenNames.{name_is_good}
+use Rattle.snd_rules.proofs.Public.{name_is_good}
 use Rattle.snd_script.proofs.ShelfLeft.{still_stands}
 use Rattle.snd_script.proofs.ShelfSteps.{nothing_said, replied_closed}
 use Rattle.snd_script.proofs.Uses.{uses_said}

@@ -1,4 +1,4 @@
-use Rattle.snd_script.proofs.OpenNames.{name_is_text}
+use Rattle.snd_rules.proofs.Public.{name_is_text}
 use Rattle.snd_script.proofs.closed.name_text.Goals as goal
 
 pub unreachable-requires : goal.unreachable-requires

@@ -1,5 +1,6 @@
 use Rattle.std.proofs.Common.{rules}
-use Rattle.snd_script.proofs.Makings.{misfit_is_refused, kind_is_made}
+use Rattle.snd_script.proofs.Misfits.{misfit_is_refused}
+use Rattle.snd_rules.proofs.Public.{kind_is_made}
 use Rattle.snd_script.proofs.closed.params_for.Goals as goal
 
 pub returns-in_err-fit : goal.returns-in_err-fit

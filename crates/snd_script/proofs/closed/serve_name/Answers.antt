@@ -2,7 +2,7 @@ use Rattle.std.proofs.Common.{◌≡◌, [], refl, rules, sym}
 use Rattle.std.specs.Prelude.{unwrap_or}
 use Rattle.snd_script.specs.Kept.{how_writes}
 use Rattle.snd_script.specs.Opened.{opens_edit}
-use Rattle.snd_script.specs.Replies.{refuses}
+use Rattle.snd_rules.specs.Replies.{refuses}
 use Rattle.snd_script.specs.Served.{none_lost}
 use Rattle.snd_script.specs.Serving.{DiskStands, ShelfStands}
 use Rattle.snd_lines.specs.declared.refusal.Refusal.TheVariants.{MissingFile}

@@ -1,9 +1,9 @@
 use Rattle.std.proofs.Common.{◌≡◌, ◌∙◌, true, ap, rules, subst, sym}
 use Rattle.snd_layout.specs.Blocks.{is_adpcm}
 use Rattle.snd_layout.specs.Shape.{Shape}
-use Rattle.snd_script.specs.Handled.{AreSmall}
+use Rattle.snd_rules.specs.SmallBlocks.{AreSmall}
 use Rattle.snd_script.proofs.HeadParams.{new_params}
-use Rattle.snd_script.proofs.WrittenBytes.{few_for_numbers}
+use Rattle.snd_rules.proofs.Public.{few_for_numbers}
 use Rattle.snd_script.proofs.open.make_disk.Goals as goal
 
 pub returns-in-Ok-clause-small : goal.returns-in-Ok-clause-small

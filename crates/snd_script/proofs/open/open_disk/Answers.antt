@@ -1,6 +1,6 @@
 use Rattle.std.proofs.Common.{subst, sym}
 use Rattle.snd_script.specs.Opened.{OpensToRest, RefusesOpen, opening_by}
-use Rattle.snd_script.specs.declared.handle.Handle.TheVariants.{U}
+use Rattle.snd_session.specs.declared.handle.Handle.TheVariants.{U}
 use Rattle.snd_script.specs.declared.open.OpenAs.{OpenAs}
 use Rattle.snd_script.proofs.RefusedOpening.{refused_reading}
 use Rattle.snd_script.proofs.open.open_disk.Goals as goal

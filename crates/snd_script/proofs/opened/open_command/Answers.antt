@@ -1,15 +1,15 @@
 use Rattle.std.proofs.Common.{◌≡◌, inl, ◌∙◌, false, rules, arith, refl}
 use Rattle.std.proofs.lemmas.Result.{err_from_is_err_and}
 use Rattle.snd_command.specs.Said.{line_said}
-use Rattle.snd_script.specs.Desk.{OpenFile, open_desk}
-use Rattle.snd_script.specs.Handled.{mode_of, open_as}
-use Rattle.snd_script.specs.Rules.{is_close}
-use Rattle.snd_script.specs.Script.{asked_by}
+use Rattle.snd_rules.specs.Desk.{OpenFile, open_desk, open_as}
+use Rattle.snd_session.specs.Handled.{mode_of}
+use Rattle.snd_rules.specs.Rules.{is_close}
+use Rattle.snd_rules.specs.Script.{asked_by}
 use Rattle.snd_script.specs.Serving.{OpenStands}
 use Rattle.snd_script.specs.Tapped.{taps_of}
 use Rattle.snd_script.proofs.OpenChains.{refused_stops, step_served, step_stops}
 use Rattle.snd_script.proofs.PinnedMoves.{automatic_of, carried_behind, moves_as, moves_refused}
-use Rattle.snd_script.proofs.Limits.{most_within, written_within}
+use Rattle.snd_rules.proofs.Public.{most_within, written_within}
 use Rattle.snd_script.proofs.StaysOpen.{held_edit, kept_edit}
 use Rattle.snd_script.proofs.Stepping.{stands_open}
 use Rattle.snd_script.proofs.opened.open_command.Goals as goal

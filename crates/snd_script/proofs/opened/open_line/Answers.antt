@@ -2,9 +2,9 @@ use Rattle.std.proofs.Common.{◌≡◌, refl, ap, sym, ◌∙◌, None, Ok, Som
 use Rattle.std.proofs.lemmas.Result.{err_from_is_err_and}
 use Rattle.snd_command.specs.Line.{command_of}
 use Rattle.snd_command.specs.Said.{line_said}
-use Rattle.snd_script.specs.Desk.{OpenFile, open_desk}
-use Rattle.snd_script.specs.Edit.{Edited, line_edit}
-use Rattle.snd_script.specs.Handled.{mode_of, open_as}
+use Rattle.snd_rules.specs.Desk.{OpenFile, open_desk, open_as}
+use Rattle.snd_rules.specs.Edit.{Edited, line_edit}
+use Rattle.snd_session.specs.Handled.{mode_of}
 use Rattle.snd_script.specs.Serving.{IsLineServed, OpenStands}
 use Rattle.snd_script.specs.Tapped.{taps_of}
 use Rattle.snd_script.specs.Trail.{pinned_file, state_behind}

@@ -2,12 +2,12 @@ use Rattle.std.proofs.Common.{◌∙◌, ap, sym, refl, rules, arith, ℕ, List,
 use Rattle.std.proofs.lemmas.List.{append-nil, length-append}
 use Rattle.snd_command.specs.Line.{command_of}
 use Rattle.std.proofs.lemmas.Result.{err_from_is_err_and}
-use Rattle.snd_script.specs.Desk.{Desk, OpenFile, open_desk}
-use Rattle.snd_script.specs.Edit.{close_edit, edit_line}
-use Rattle.snd_script.specs.Handled.{mode_of, open_as}
+use Rattle.snd_rules.specs.Desk.{Desk, OpenFile, open_desk, open_as}
+use Rattle.snd_rules.specs.Edit.{close_edit, edit_line}
+use Rattle.snd_session.specs.Handled.{mode_of}
 use Rattle.snd_script.specs.Lines.{Reading, to_take}
-use Rattle.snd_script.specs.Replies.{text_of}
-use Rattle.snd_script.specs.Script.{asked_by, most_in, written_in}
+use Rattle.snd_rules.specs.Replies.{text_of}
+use Rattle.snd_rules.specs.Script.{asked_by, most_in, written_in}
 use Rattle.snd_script.specs.Serving.{Moment, moment, moment_of, steps_left}
 use Rattle.snd_script.specs.Tapped.{taps_of}
 use Rattle.snd_script.specs.Trail.{pinned_file, state_behind}

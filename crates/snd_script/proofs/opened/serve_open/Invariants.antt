@@ -1,11 +1,11 @@
 use Rattle.std.proofs.Common.{◌≡◌, ◌+◌, ◌≤◌, List, ◌++◌, ℕ, None, Some, length, reverse, true}
 use Rattle.snd_edits.specs.Editing.{Editing}
 use Rattle.snd_edits.specs.Safe.{IsSafe}
-use Rattle.snd_script.specs.Desk.{Store, open_desk}
-use Rattle.snd_script.specs.Handled.{HandleAtRest, HandleStands, LeavesHandle, handle_disk, handle_known}
+use Rattle.snd_rules.specs.Desk.{Store, open_desk}
+use Rattle.snd_session.specs.Handled.{HandleAtRest, HandleStands, LeavesHandle, handle_disk, handle_known}
 use Rattle.snd_script.specs.Kept.{lines_to_serve}
 use Rattle.snd_script.specs.Lines.{to_take}
-use Rattle.snd_script.specs.Script.{asked_by, most_in, written_in}
+use Rattle.snd_rules.specs.Script.{asked_by, most_in, written_in}
 use Rattle.snd_script.specs.Served.{SameCounts}
 use Rattle.snd_script.specs.Serving.{Serves, disk_faults_of, is_longer, moment_of, steps_left}
 use Rattle.snd_script.specs.Tapped.{taps_of}

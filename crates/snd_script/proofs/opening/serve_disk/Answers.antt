@@ -1,6 +1,6 @@
 use Rattle.std.proofs.Common.{rules, sym, ◌∙◌}
-use Rattle.snd_script.specs.Handled.{mode_of}
-use Rattle.snd_script.specs.Script.{asked_by, written_by}
+use Rattle.snd_session.specs.Handled.{mode_of}
+use Rattle.snd_rules.specs.Script.{asked_by, written_by}
 use Rattle.snd_script.specs.Tapped.{taps_of}
 use Rattle.snd_script.proofs.NotOpened.{not_opened_on, opened_served}
 use Rattle.snd_script.proofs.Uses.{uses_behind}

@@ -1,7 +1,7 @@
 use Rattle.std.proofs.Common.{false, refl, ◌∙◌, arith}
-use Rattle.snd_script.specs.Desk.{closed_desk, open_desk, writes}
-use Rattle.snd_script.specs.Handled.{mode_of}
-use Rattle.snd_script.specs.Script.{asked_by, written_by}
+use Rattle.snd_rules.specs.Desk.{closed_desk, open_desk, writes}
+use Rattle.snd_session.specs.Handled.{mode_of}
+use Rattle.snd_rules.specs.Script.{asked_by, written_by}
 use Rattle.snd_script.specs.Served.{none_lost}
 use Rattle.snd_script.specs.Serving.{DiskStands, OpenStands}
 use Rattle.snd_script.specs.declared.stop.Stop.TheVariants.{File}

@@ -1,8 +1,8 @@
 use Rattle.std.proofs.Common.{false, refl}
-use Rattle.snd_script.specs.Desk.{OpenFile, closed_desk, open_desk}
-use Rattle.snd_script.specs.Edit.{opened_edit}
-use Rattle.snd_script.specs.Handled.{handle_known, mode_of}
-use Rattle.snd_script.specs.Replies.{file_line, says}
+use Rattle.snd_rules.specs.Desk.{OpenFile, closed_desk, open_desk}
+use Rattle.snd_rules.specs.Edit.{opened_edit}
+use Rattle.snd_session.specs.Handled.{handle_known, mode_of}
+use Rattle.snd_rules.specs.Replies.{file_line, says}
 use Rattle.snd_script.specs.Served.{none_lost}
 use Rattle.snd_script.specs.Serving.{Moment, OpenStands, moment, steps_left}
 use Rattle.snd_script.proofs.Chains.{line_stops}

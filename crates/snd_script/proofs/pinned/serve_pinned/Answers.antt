@@ -3,9 +3,9 @@ use Rattle.std.specs.Prelude.{unwrap_or}
 use Rattle.std.proofs.lemmas.List.{append-nil}
 use Rattle.snd_disk.proofs.Public.{handed_there}
 use Rattle.snd_edits.specs.Safe.{IsSafe}
-use Rattle.snd_script.specs.Desk.{closed_desk}
-use Rattle.snd_script.specs.Edit.{Edited, Opening, open_edit}
-use Rattle.snd_script.specs.Pinned.{pinned_opening, pinned_steps, pins}
+use Rattle.snd_rules.specs.Desk.{closed_desk}
+use Rattle.snd_rules.specs.Edit.{Edited, Opening, open_edit}
+use Rattle.snd_rules.specs.Pinned.{pinned_opening, pinned_steps, pins}
 use Rattle.snd_script.specs.PinnedRun.{IsPinnedStop, opened_pinned}
 use Rattle.snd_script.specs.Served.{lost_at, made_next, none_lost}
 use Rattle.snd_script.specs.Serving.{DiskStands, Moment, ShelfStands, lines_left, moment, moment_of}

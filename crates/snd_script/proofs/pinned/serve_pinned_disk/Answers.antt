@@ -2,12 +2,12 @@ use Rattle.std.proofs.Common.{◌+◌, ℕ, List, [], Some, true, Ok, Err, Resul
 use Rattle.snd_disk.specs.State.{AtMost}
 use Rattle.snd_layout.specs.declared.error.OpenError.{OpenError}
 use Rattle.snd_edits.specs.Editing.{Editing}
-use Rattle.snd_script.specs.Edit.{Opening, open_edit_of}
-use Rattle.snd_script.specs.Pinned.{pinned_steps, pins}
+use Rattle.snd_rules.specs.Edit.{Opening, open_edit_of}
+use Rattle.snd_rules.specs.Pinned.{pinned_steps, pins}
 use Rattle.snd_script.specs.PinnedRun.{opened_pinned}
 use Rattle.snd_script.specs.Serving.{DiskStands, lines_left, moment_of}
 use Rattle.snd_script.specs.Tapped.{taps_of}
-use Rattle.snd_script.specs.Script.{asked_by, most_in, written_in}
+use Rattle.snd_rules.specs.Script.{asked_by, most_in, written_in}
 use Rattle.snd_script.specs.Used.{use_left}
 use Rattle.std.proofs.lemmas.List.{append-nil}
 use Rattle.snd_script.proofs.PinOpenings.{nothing_said, trail_came_back, trail_unopened}

@@ -1,8 +1,8 @@
 use Rattle.std.proofs.Common.{◌≡◌, ⊎_elim, Bool, Ok, true, refl, sym, ◌∙◌, ap, subst, arith}
 use Rattle.snd_disk.specs.Device.{Tells}
 use Rattle.snd_edits.specs.Editing.{Editing}
-use Rattle.snd_script.specs.Desk.{Mode, closed_as, pinned, writes}
-use Rattle.snd_script.specs.Handled.{FinishesAs, HandleStands, handle_disk, mode_of}
+use Rattle.snd_rules.specs.Desk.{Mode, closed_as, pinned, writes}
+use Rattle.snd_session.specs.Handled.{FinishesAs, HandleStands, handle_disk, mode_of}
 use Rattle.snd_script.specs.Serving.{DiskStands, OpenStands}
 use Rattle.snd_script.proofs.MadeBlocks.{safe_updated, updated_finish}
 use Rattle.snd_script.proofs.Openings.{disk_lost, disk_stands, finished_tells, stopped_failed, stopped_stands}

@@ -1,14 +1,14 @@
 use Rattle.std.proofs.Common.{◌≡◌, ◌≤◌, ◌+◌, ℕ, List, [], ◌++◌, length, Ok, Some, true, false, not, refl, sym, ◌∙◌, ap, subst, arith, append_assoc}
 use Rattle.std.proofs.lemmas.List.{append-nil, length-append}
 use Rattle.snd_layout.specs.Shape.{Shape}
-use Rattle.snd_script.specs.Desk.{Desk, OpenFile, closed_desk, open_desk, pinned}
-use Rattle.snd_script.specs.Edit.{Edited}
-use Rattle.snd_script.specs.Handled.{handle_disk, handle_known, mode_of}
+use Rattle.snd_rules.specs.Desk.{Desk, OpenFile, closed_desk, open_desk, pinned}
+use Rattle.snd_rules.specs.Edit.{Edited}
+use Rattle.snd_session.specs.Handled.{handle_disk, handle_known, mode_of}
 use Rattle.snd_script.specs.Lines.{Reading}
-use Rattle.snd_script.specs.Pinned.{pin_edit, pinned_lines, pinned_steps}
+use Rattle.snd_rules.specs.Pinned.{pin_edit, pinned_lines, pinned_steps}
 use Rattle.snd_script.specs.PinnedRun.{opened_pinned, stopped}
-use Rattle.snd_script.specs.Replies.{file_line, says, text_of}
-use Rattle.snd_script.specs.Script.{asked_by, lines_within, most_in, written_in}
+use Rattle.snd_rules.specs.Replies.{file_line, says, text_of}
+use Rattle.snd_rules.specs.Script.{asked_by, lines_within, most_in, written_in}
 use Rattle.snd_script.specs.Served.{Appends, none_lost}
 use Rattle.snd_script.specs.Serving.{IsStepAnswered, OpenStands, StopsLine, lines_left, moment, moment_of}
 use Rattle.snd_script.specs.Tapped.{taps_of}

@@ -3,9 +3,9 @@ use Rattle.std.proofs.lemmas.List.{append-nil}
 use Rattle.snd_meters.proofs.Each.{map-map}
 use Rattle.snd_meters.specs.Gauge.{waiting}
 use Rattle.snd_edits.specs.Safe.{IsSafe}
-use Rattle.snd_script.specs.Desk.{closed_desk, stored}
-use Rattle.snd_script.specs.Edit.{Edited}
-use Rattle.snd_script.specs.Pinned.{auto_steps, run_asks, run_puts}
+use Rattle.snd_rules.specs.Desk.{closed_desk, stored}
+use Rattle.snd_rules.specs.Edit.{Edited}
+use Rattle.snd_rules.specs.Pinned.{auto_steps, run_asks, run_puts}
 use Rattle.snd_script.specs.PinnedRun.{named}
 use Rattle.snd_script.specs.Served.{FaultCounts, faults_of}
 use Rattle.snd_script.specs.Serving.{Moment, moment}

@@ -1,7 +1,7 @@
 use Rattle.std.proofs.Common.{refl, sym, ◌∙◌}
-use Rattle.snd_script.specs.Desk.{closed_desk}
-use Rattle.snd_script.specs.Edit.{edit_line}
-use Rattle.snd_script.specs.Script.{asked_by, written_by}
+use Rattle.snd_rules.specs.Desk.{closed_desk}
+use Rattle.snd_rules.specs.Edit.{edit_line}
+use Rattle.snd_rules.specs.Script.{asked_by, written_by}
 use Rattle.snd_script.specs.Serving.{Moment, ShelfStands, is_longer, moment, steps_from, steps_left}
 use Rattle.snd_script.proofs.Chains.{brought_then, none_left, served_on_then}
 use Rattle.snd_script.proofs.ShelfLeft.{still_stands}

@@ -1,6 +1,6 @@
 use Rattle.std.proofs.Common.{◌∙◌, arith, refl}
-use Rattle.snd_script.specs.Desk.{closed_desk}
-use Rattle.snd_script.specs.Script.{asked_by, written_by}
+use Rattle.snd_rules.specs.Desk.{closed_desk}
+use Rattle.snd_rules.specs.Script.{asked_by, written_by}
 use Rattle.snd_script.specs.Serving.{Moment, ShelfStands, is_longer, moment, steps_left}
 use Rattle.snd_script.proofs.Chains.{serves_none, serves_then, stopped_as, stopped_then}
 use Rattle.snd_script.proofs.ShelfCounts.{all_same_then, counted_behind}

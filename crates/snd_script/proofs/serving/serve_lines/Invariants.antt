@@ -1,8 +1,8 @@
 use Rattle.std.proofs.Common.{◌≡◌, ◌+◌, ◌≤◌, List, ℕ, Some}
-use Rattle.snd_script.specs.Desk.{Store, closed_desk}
+use Rattle.snd_rules.specs.Desk.{Store, closed_desk}
 use Rattle.snd_script.specs.Kept.{KeepsByLines, lines_to_serve}
 use Rattle.snd_script.specs.Lines.{to_take}
-use Rattle.snd_script.specs.Script.{asked_by, written_by}
+use Rattle.snd_rules.specs.Script.{asked_by, written_by}
 use Rattle.snd_script.specs.Served.{HasStore, LeavesShelf, SameCounts, faults_of}
 use Rattle.snd_script.specs.Serving.{Serves, is_longer, moment_of, steps_left}
 use Rattle.snd_script.specs.Tapped.{taps_of}

@@ -3,7 +3,7 @@ use Rattle.std.specs.Option.{unwrap_or}
 use Rattle.std.specs.declared.alloc.Global.{Global}
 use Rattle.std.proofs.lemmas.Bool.{lt-ltb}
 use Rattle.snd_meta.specs.Broadcast.{Broadcast, bext_of, blank}
-use Rattle.snd_tags.specs.Drafts.{bext_draft}
+use Rattle.snd_edits.specs.TagDrafts.{bext_draft}
 use Rattle.snd_tags.specs.Steps.{bytes_in}
 use Rattle.snd_tags.proofs.bodies.bext_draft.Goals as goal
 

@@ -6,9 +6,10 @@ use Rattle.snd_file.specs.Handle.{known_of}
 use Rattle.snd_edits.specs.Pieces.{first_piece, has_name}
 use Rattle.snd_edits.specs.declared.error.GetError.TheVariants as get
 use Rattle.snd_tags.specs.Bodies.{BodyLeaves, begins_info, first_list}
-use Rattle.snd_tags.specs.Found.{FindsInfo, info_piece}
-use Rattle.snd_tags.specs.declared.error.TagError.{TagError}
-use Rattle.snd_tags.specs.declared.error.TagError.TheVariants.{Get, BadBody}
+use Rattle.snd_tags.specs.Found.{FindsInfo}
+use Rattle.snd_edits.specs.TagsHeld.{info_piece}
+use Rattle.snd_edits.specs.declared.tag_error.TagError.{TagError}
+use Rattle.snd_edits.specs.declared.tag_error.TagError.TheVariants.{Get, BadBody}
 use Rattle.snd_tags.proofs.Searches.{none_in_front, none_of_both}
 use Rattle.snd_tags.proofs.lists.info_body.Goals as goal
 

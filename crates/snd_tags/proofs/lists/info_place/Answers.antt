@@ -3,7 +3,7 @@ use Rattle.std.specs.Prelude.{◌&&◌, codes, slice_get}
 use Rattle.snd_disk.proofs.Public.{only_reads_then}
 use Rattle.snd_layout.specs.Shape.{Shape}
 use Rattle.snd_tags.specs.Bodies.{begins_info}
-use Rattle.snd_tags.specs.Found.{is_info}
+use Rattle.snd_edits.specs.TagsHeld.{is_info}
 use Rattle.snd_file.specs.Handle.{known_of}
 use Rattle.snd_edits.specs.Pieces.{has_name}
 use Rattle.snd_tags.proofs.Searches.{find_at_place, find_past, front_get, says_of}

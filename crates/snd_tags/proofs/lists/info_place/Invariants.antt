@@ -3,7 +3,7 @@ use Rattle.std.specs.List.{find}
 use Rattle.snd_disk.specs.Device.{AsksAtMost, OnlyReadsOn}
 use Rattle.snd_tags.specs.Bodies.{first_list}
 use Rattle.snd_edits.specs.Editing.{Editing}
-use Rattle.snd_tags.specs.Found.{info_piece, is_info}
+use Rattle.snd_edits.specs.TagsHeld.{info_piece, is_info}
 use Rattle.snd_file.specs.Handle.{Stands, StandsAfter, disk_of, known_of, loan_of}
 use Rattle.snd_tags.proofs.lists.info_place.Given as goal
 

@@ -5,7 +5,7 @@ use Rattle.std.specs.List.{All}
 use Rattle.snd_disk.proofs.Public.{only_reads_then}
 use Rattle.snd_layout.specs.Shape.{IsPlaced}
 use Rattle.snd_layout.specs.declared.piece.Piece.{Piece}
-use Rattle.snd_tags.specs.Found.{is_info}
+use Rattle.snd_edits.specs.TagsHeld.{is_info}
 use Rattle.snd_tags.proofs.Searches.{find_at_end, find_at_place, find_past, no_piece}
 use Rattle.snd_tags.proofs.look.info_piece.Goals as goal
 

@@ -1,7 +1,7 @@
 use Rattle.std.proofs.Common.{◌≡◌, ◌*◌, ℕ, List, drop, take}
 use Rattle.std.specs.List.{find}
 use Rattle.snd_disk.specs.Device.{AsksAtMost, OnlyReadsOn, Tells}
-use Rattle.snd_tags.specs.Found.{is_info}
+use Rattle.snd_edits.specs.TagsHeld.{is_info}
 use Rattle.snd_tags.proofs.look.info_piece.Given as goal
 
 abbrev pub invariant-loop-piece : goal.invariant-loop-piece

@@ -1,6 +1,6 @@
 use Rattle.std.proofs.Common.{rules, ◌≡◌, ◌≤◌, ◌∙◌, ap, codes, length, arith}
 use Rattle.snd_meta.specs.Broadcast.{field_size}
-use Rattle.snd_tags.specs.Drafts.{bext_anew, bext_with}
+use Rattle.snd_edits.specs.TagDrafts.{bext_anew, bext_with}
 use Rattle.snd_tags.specs.Steps.{bytes_in, no_memory}
 use Rattle.snd_tags.proofs.Composed.{fails_after, put_after, sets_failed, sets_put}
 use Rattle.snd_tags.proofs.set.set_field.Goals as goal

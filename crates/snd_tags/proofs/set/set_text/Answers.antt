@@ -1,5 +1,5 @@
 use Rattle.std.proofs.Common.{rules, ◌≡◌, ◌≤◌, ◌∙◌, ap, codes, length, arith}
-use Rattle.snd_tags.specs.Drafts.{info_anew, info_with}
+use Rattle.snd_edits.specs.TagDrafts.{info_anew, info_with}
 use Rattle.snd_tags.specs.Steps.{bytes_in, no_memory}
 use Rattle.snd_tags.proofs.Composed.{fails_after, put_after, sets_failed, sets_put}
 use Rattle.snd_tags.proofs.set.set_text.Goals as goal

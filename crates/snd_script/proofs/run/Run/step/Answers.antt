@@ -1,12 +1,12 @@
 use Rattle.std.proofs.Common.{[], ◌∷◌}
 use Rattle.snd_command.specs.Said.{line_said}
-use Rattle.snd_script.specs.Edit.{keep_open}
-use Rattle.snd_script.specs.Handled.{handle_known, handle_params, mode_of, open_as, rule_for}
+use Rattle.snd_rules.specs.Edit.{keep_open}
+use Rattle.snd_session.specs.Handled.{handle_known, handle_params, mode_of, rule_for}
+use Rattle.snd_rules.specs.Desk.{open_as}
 use Rattle.snd_script.specs.Tapped.{taps_of}
-use Rattle.snd_script.proofs.Limits.{more, uses_most}
+use Rattle.snd_rules.proofs.Public.{more, uses_most, broken_after, whole_after}
 use Rattle.snd_script.proofs.Openings.{taps_come}
 use Rattle.snd_script.proofs.Stepping.{or_no_refusal, or_refusal, stands_lost, stands_open}
-use Rattle.snd_script.proofs.Wholes.{broken_after, whole_after}
 use Rattle.snd_script.proofs.run.Run.step.Goals as goal
 
 pub returns-in-Ok-Ok-clause-answered : goal.returns-in-Ok-Ok-clause-answered

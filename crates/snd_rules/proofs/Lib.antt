@@ -1,0 +1,12 @@
+pub mod KeptTaps
+pub mod Limits
+pub mod Lines
+pub mod Makings
+pub mod Names
+pub mod OpenNames
+pub mod Printing
+pub mod Public
+pub mod ReadFrames
+pub mod Sets
+pub mod Wholes
+pub mod WrittenBytes

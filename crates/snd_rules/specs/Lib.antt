@@ -1,0 +1,11 @@
+pub mod Desk
+pub mod Edit
+pub mod Hex
+pub mod Laws
+pub mod Pinned
+pub mod Replies
+pub mod Rules
+pub mod Script
+pub mod SmallBlocks
+pub mod Stepped
+pub mod Work

@@ -1,5 +1,0 @@
-use Rattle.snd_script.proofs.KeptTaps.{refused_leaves}
-use Rattle.snd_script.proofs.laws.refused_commands_leave_the_taps.Goals as goal
-
-pub returns : goal.returns
-returns c = refused_leaves

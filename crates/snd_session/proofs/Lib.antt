@@ -1,0 +1,9 @@
+pub mod Asked
+pub mod Decided
+pub mod FedTaps
+pub mod FieldBytes
+pub mod Followed
+pub mod Puts
+pub mod Refused
+pub mod Resting
+pub mod Tells

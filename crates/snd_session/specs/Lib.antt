@@ -1,0 +1,4 @@
+pub mod Answered
+pub mod Follows
+pub mod Handled
+pub mod Tapped
