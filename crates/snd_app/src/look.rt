@@ -11,11 +11,10 @@ ghost use Rattle.snd_app.specs.Outcome.{found_in, found_of, shown_texts};
 
 use snd_container::open_layout;
 use snd_disk::{Disk, Shelf, ShelfFault};
-use snd_edits::GetError;
+use snd_edits::{GetError, TagError};
 use snd_layout::{Layout, OpenError, OpenRefusal};
 use snd_meta::InfoList;
 use snd_output::Stop;
-use snd_edits::TagError;
 use snd_tags::texts_on;
 use std::alloc::Global;
 

@@ -16,5 +16,5 @@ pub use error::{
     WriteError,
 };
 pub use mode::{CanMake, CanRead, CanSeal, CanShrink, CanWrite, Encode, Mode, Read, Update, Write};
-pub use wanted::{Wanted, may_be_piece};
 pub use tag_error::TagError;
+pub use wanted::{Wanted, may_be_piece};

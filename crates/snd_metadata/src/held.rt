@@ -8,12 +8,11 @@ ghost use Rattle.snd_metadata.specs.Looking.{DraftsFrom, Looks, ReadsExtension, 
 use crate::halt::{Halt, Unread};
 use crate::settings::{Drafts, Summary};
 use snd_disk::Disk;
-use snd_edits::{GetError, Read};
+use snd_edits::{GetError, Read, TagError};
 use snd_file::File;
 use snd_lines::Refusal;
 use snd_meta::{Bext, InfoList};
 use snd_output::Stop;
-use snd_edits::TagError;
 use snd_tags::{broadcast, texts};
 use std::alloc::Global;
 

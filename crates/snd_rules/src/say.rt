@@ -6,8 +6,8 @@ ghost use Rattle.snd_rules.specs.Stepped.{Says, IsSent};
 ghost use Rattle.snd_rules.specs.Replies.{described, ok_line, refuses, says, read_text};
 ghost use Rattle.snd_meters.specs.Report.{report_line};
 
-use crate::reply::{Reply, StepFault};
 use crate::page::push_report;
+use crate::reply::{Reply, StepFault};
 use crate::text::{PAGE_BYTES, put_file_line, put_frames, put_ok, put_refusal};
 use arrayvec::ArrayVec;
 use snd_disk::Sink;

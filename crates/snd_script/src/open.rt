@@ -10,11 +10,11 @@ ghost use Rattle.snd_session.specs.Handled.{IsSmall, handle_known, mode_of};
 ghost use Rattle.snd_script.specs.Opened.{CountsOpen, IsMakeable, OnlyOpens, OpensHandle, OpensToRest, disk_of_open, loan_of_open, most_made, opening_by};
 ghost use Rattle.snd_script.specs.Used.{most_asked};
 
-use snd_session::Handle;
 use snd_block_writer::are_blocks;
 use snd_disk::Disk;
 use snd_file::{create, create_blocks, open_read, open_update};
 use snd_layout::{Codec, Kind, OpenError, Params};
+use snd_session::Handle;
 use std::alloc::Global;
 
 /// How a file is opened.

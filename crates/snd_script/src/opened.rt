@@ -15,14 +15,13 @@ ghost use Rattle.snd_script.specs.Tapped.{taps_of};
 ghost use Rattle.snd_script.specs.Trail.{CommandMoves, IsIdle, LineMoves, TrailsOpen};
 ghost use Rattle.snd_script.specs.Serving.{AnswersOpen, CountsHandle, CountsLine, IsWhole, ServesOpen, TakesLines, edit_open_line};
 
-use snd_session::Handle;
-use snd_rules::held_refusal;
 use crate::reader::Line;
-use snd_rules::line_refusal;
 use crate::run::Run;
 use crate::stop::{Next, Stop};
 use snd_command::LineCommand;
 use snd_disk::{Disk, Sink, Source};
+use snd_rules::{held_refusal, line_refusal};
+use snd_session::Handle;
 use snd_taps::Tap;
 
 // One command on an open file. Closing is left to the caller.

@@ -12,17 +12,17 @@ ghost use Rattle.snd_script.specs.Tapped.{taps_of};
 ghost use Rattle.snd_script.specs.Used.{UsesClosed, UsesOn, UsesOpen, most_asked};
 ghost use Rattle.snd_script.specs.Serving.{AnswersClose, AnswersError, AnswersFile, CountsClosed, CountsDisk, CountsHandle, IsSinkCounted, IsWhole, ServesDisk, ServesHandle, ServesToClose, TakesLines};
 
-use snd_session::Handle;
 use crate::open::{OpenAs, open_disk};
 use crate::opened::serve_open;
 use crate::run::Run;
 use crate::stop::Stop;
-use snd_rules::{put_file_line, put_ok};
 use snd_disk::{Disk, Sink, Source};
 use snd_edits::Mode;
 use snd_file::File;
 use snd_layout::OpenError;
 use snd_lines::Refusal;
+use snd_rules::{put_file_line, put_ok};
+use snd_session::Handle;
 use snd_taps::Tap;
 use std::alloc::Global;
 

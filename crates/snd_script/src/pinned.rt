@@ -12,7 +12,6 @@ ghost use Rattle.snd_script.specs.Served.{LeavesShelf};
 ghost use Rattle.snd_script.specs.Trail.{TrailsClosed, TrailsDisk, TrailsPinned, TrailsPinnedFile};
 ghost use Rattle.snd_script.specs.Serving.{CountsClosed, CountsDisk, CountsHandle, CountsStop, IsWhole, TakesLines};
 
-use snd_session::Handle;
 use crate::open::{OpenAs, open_disk};
 use crate::opened::serve_open;
 use crate::opening::{not_opened, reply_opened};
@@ -21,6 +20,7 @@ use crate::stop::Stop;
 use snd_command::LineCommand;
 use snd_disk::{Disk, Shelf, ShelfFault, Sink, Source};
 use snd_lines::Refusal;
+use snd_session::Handle;
 use snd_taps::Tap;
 use std::alloc::Global;
 

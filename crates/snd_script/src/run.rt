@@ -10,15 +10,13 @@ ghost use Rattle.snd_script.specs.Tapped.{taps_of};
 ghost use Rattle.snd_script.specs.Trail.{StepMoves};
 ghost use Rattle.snd_script.specs.Serving.{IsScriptCounted, IsSinkCounted, IsWhole, Answers, CountsLine, TakesLines, BringsLine, AnswersStep};
 
-use snd_session::Handle;
-use snd_rules::{Reply, StepFault};
 use crate::reader::{Line, NextLine, ScriptLines};
-use snd_session::Session;
 use crate::stop::Stop;
-use snd_rules::put_refusal;
 use snd_command::LineCommand;
 use snd_disk::{Disk, Sink, Source};
 use snd_lines::Refusal;
+use snd_rules::{Reply, StepFault, put_refusal};
+use snd_session::{Handle, Session};
 use snd_taps::Tap;
 
 /// A run over a script: its lines, what is used again from command to command, and whether a line was

@@ -13,9 +13,9 @@ use crate::closed::closed_line;
 use crate::pinned::serve_pinned;
 use crate::reader::{Line, ScriptLines};
 use crate::run::Run;
-use snd_session::Session;
 use crate::stop::Stop;
 use snd_disk::{Shelf, Sink, Source};
+use snd_session::Session;
 use snd_taps::Tap;
 use std::alloc::Global;
 

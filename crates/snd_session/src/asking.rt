@@ -7,16 +7,15 @@ ghost use Rattle.snd_session.specs.Answered.{IsWhole, Lacks, SendsText, gathered
 ghost use Rattle.snd_session.specs.Follows.{Follows};
 ghost use Rattle.snd_rules.specs.Work.{asking_rule};
 
-use snd_rules::{Reply, StepFault};
-use snd_rules::{bext_text, body_text, chunks_text, points_text, texts_text};
-use snd_rules::{refuse, say_text};
-use snd_rules::Asking;
 use snd_disk::{Disk, Sink};
-use snd_edits::{GetError, Mode};
+use snd_edits::{GetError, Mode, TagError};
 use snd_fields::Id4;
 use snd_file::File;
 use snd_lines::Refusal;
-use snd_edits::TagError;
+use snd_rules::{
+    Asking, Reply, StepFault, bext_text, body_text, chunks_text, points_text, refuse, say_text,
+    texts_text,
+};
 use snd_tags::{broadcast, points, texts};
 use std::alloc::{AllocError, Global};
 

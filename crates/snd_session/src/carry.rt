@@ -7,15 +7,14 @@ ghost use Rattle.snd_rules.specs.Rules.{read_rule, refused_rule, seek_both_rule,
 ghost use Rattle.snd_session.specs.Tapped.{meter_taps};
 ghost use Rattle.snd_session.specs.Follows.{FeedsFile, Follows};
 
-use snd_rules::{Reply, StepFault};
 use crate::reading::read_some;
 use crate::room::Room;
-use snd_rules::{refuse, say_file, say_frames, say_ok};
 use snd_disk::{Disk, Sink};
 use snd_edits::{CanRead, CanWrite, Encode, Mode, SeekError, Update};
 use snd_file::File;
 use snd_lines::Refusal;
 use snd_meters::Meters;
+use snd_rules::{Reply, StepFault, refuse, say_file, say_frames, say_ok};
 use snd_taps::Tap;
 
 /// Refuses a command.

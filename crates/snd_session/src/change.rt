@@ -5,14 +5,13 @@ ghost use Rattle.snd_file.specs.Handle.{known_of};
 ghost use Rattle.snd_rules.specs.Rules.{auto_rule, encode_rule, trim_rule, truncate_rule, update_rule, write_rule};
 ghost use Rattle.snd_session.specs.Follows.{Follows};
 
-use snd_rules::{Reply, StepFault};
-use snd_rules::{refuse, say_ok};
 use snd_disk::{Disk, Sink};
 use snd_edits::{
     AutoError, CanSeal, CanShrink, CanWrite, Encode, ShrinkError, UpdateError, WriteError,
 };
 use snd_file::File;
 use snd_lines::Refusal;
+use snd_rules::{Reply, StepFault, refuse, say_ok};
 
 /// Writes the frames of these numbers.
 #[tactic(auto, using(crate::proofs::Refused::write_part))]

@@ -4,10 +4,10 @@ ghost use Rattle.std.specs.Prelude.{◌≡◌, ◌+◌, ◌*◌, ◌≤◌, None
 ghost use Rattle.snd_file.specs.Handle.{channels_of, known_of, loan_of};
 ghost use Rattle.snd_session.specs.Follows.{CountsLeft, FileAsks, FileCalm, FileFault, FileReads, HasBadFrame, KnowsRead, MovesOn, ReadsFrames};
 
-use snd_rules::StepFault;
 use snd_disk::Disk;
 use snd_edits::{CanRead, ReadError};
 use snd_file::File;
+use snd_rules::StepFault;
 
 /// Reads as many frames as are wanted and are left, into the front of the samples. Memory for as many as
 /// the file could give is taken first.

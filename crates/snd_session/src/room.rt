@@ -1,7 +1,7 @@
 //! What is used again from command to command.
 
-use snd_rules::PAGE_BYTES;
 use arrayvec::ArrayVec;
+use snd_rules::PAGE_BYTES;
 use std::alloc::Global;
 
 /// Room for samples, for the text of a reply, and what other memory is taken from.

@@ -14,16 +14,15 @@ ghost use Rattle.snd_session.specs.Follows.{ClosesAs};
 ghost use Rattle.snd_disk.specs.Device.{WritesAtMost};
 
 use crate::handle::Handle;
-use snd_rules::{Reply, StepFault};
 use crate::room::Room;
 use crate::step::{step_blocks, step_made, step_read, step_update};
-use snd_rules::work_of;
 use arrayvec::ArrayVec;
 use snd_command::{Command, LineCommand};
 use snd_disk::{Disk, Sink, Step};
 use snd_edits::Mode;
 use snd_file::File;
 use snd_meters::Meters;
+use snd_rules::{Reply, StepFault, work_of};
 use snd_taps::Tap;
 use std::alloc::{AllocError, Global};
 

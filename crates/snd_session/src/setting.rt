@@ -7,10 +7,6 @@ ghost use Rattle.snd_rules.specs.Rules.{set_bext_rule, set_chunk_rule, set_cue_r
 ghost use Rattle.snd_session.specs.Follows.{Follows};
 ghost use Rattle.snd_rules.specs.Work.{setting_rule};
 
-use snd_rules::{Reply, StepFault};
-use snd_rules::bytes_of_hex;
-use snd_rules::{refuse, say_text};
-use snd_rules::Setting;
 use arrayvec::ArrayVec;
 use snd_command::{MOST_CUES, is_text};
 use snd_disk::{Disk, Sink};
@@ -20,6 +16,7 @@ use snd_file::File;
 use snd_layout::{OpenRefusal, PieceError};
 use snd_lines::Refusal;
 use snd_meta::{BextKey, InfoKey};
+use snd_rules::{Reply, Setting, StepFault, bytes_of_hex, refuse, say_text};
 use snd_tags::{SetError, set_field, set_points, set_text, set_time};
 use std::alloc::Global;
 

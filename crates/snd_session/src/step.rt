@@ -10,16 +10,15 @@ ghost use Rattle.snd_rules.specs.Work.{work_closes, work_sets};
 use crate::asking::ask;
 use crate::carry::{read, refuse_on, seek_both, seek_read, seek_write, tell, tell_given};
 use crate::change::{bring_up, encode, set_auto, trim, truncate, write};
-use snd_rules::{Reply, StepFault};
 use crate::room::Room;
 use crate::setting::set;
 use crate::tapping::{tap, untap};
-use snd_rules::Work;
 use snd_disk::{Disk, Sink};
 use snd_edits::{CanShrink, Encode, Read, Update, Write};
 use snd_file::File;
 use snd_lines::Refusal;
 use snd_meters::Meters;
+use snd_rules::{Reply, StepFault, Work};
 use snd_taps::Tap;
 use std::alloc::Global;
 

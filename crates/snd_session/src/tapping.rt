@@ -6,8 +6,6 @@ ghost use Rattle.snd_file.specs.Handle.{known_of};
 ghost use Rattle.snd_rules.specs.Rules.{tap_range, tap_rule, untap_rule};
 ghost use Rattle.snd_session.specs.Follows.{FeedsFile, Follows};
 
-use snd_rules::{Reply, StepFault};
-use snd_rules::{refuse, say_report, say_text};
 use snd_container::fixed_form;
 use snd_disk::{Disk, Sink};
 use snd_edits::Mode;
@@ -16,6 +14,7 @@ use snd_file::File;
 use snd_layout::Codec;
 use snd_meters::Meters;
 use snd_pcm::Linear;
+use snd_rules::{Reply, StepFault, refuse, say_report, say_text};
 use snd_taps::{Tap, TapKind};
 
 // The form whose range the numbers of a codec have.

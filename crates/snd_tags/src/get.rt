@@ -7,10 +7,9 @@ ghost use Rattle.snd_edits.specs.Pieces.{GetLeaves};
 ghost use Rattle.snd_tags.specs.Found.{Answers, CountsFinding, FindsInfo, body_given};
 ghost use Rattle.snd_edits.specs.TagsHeld.{broadcast_of, points_of, texts_of};
 
-use snd_edits::TagError;
 use crate::lists::info_body;
 use snd_disk::Disk;
-use snd_edits::Mode;
+use snd_edits::{Mode, TagError};
 use snd_fields::Id4;
 use snd_file::File;
 use snd_meta::{Bext, CueList, InfoList};

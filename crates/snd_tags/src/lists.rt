@@ -10,10 +10,9 @@ ghost use Rattle.snd_tags.specs.Bodies.{BodyLeaves, IsBodyOf, IsGiveRefusal, Who
 ghost use Rattle.snd_tags.specs.Found.{CountsFinding, FindsInfo};
 ghost use Rattle.snd_edits.specs.TagsHeld.{info_piece};
 
-use snd_edits::TagError;
 use crate::info::{front, is_list, names_info};
 use snd_disk::Disk;
-use snd_edits::{GetError, Mode, PieceReadError};
+use snd_edits::{GetError, Mode, PieceReadError, TagError};
 use snd_fields::Id4;
 use snd_file::File;
 use snd_layout::{LONGEST_PIECE, Piece};

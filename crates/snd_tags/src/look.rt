@@ -9,10 +9,9 @@ ghost use Rattle.snd_tags.specs.Found.{IsAnswer, body_given};
 ghost use Rattle.snd_edits.specs.TagsHeld.{is_info, texts_of};
 ghost use Rattle.snd_tags.specs.Look.{IsBodyRefusal};
 
-use snd_edits::TagError;
 use crate::info::{front, is_list, names_info};
 use snd_disk::{Disk, Failed, Step};
-use snd_edits::GetError;
+use snd_edits::{GetError, TagError};
 use snd_layout::{LONGEST_PIECE, Layout, Piece};
 use snd_meta::InfoList;
 use std::alloc::Global;
