@@ -121,8 +121,11 @@ refused(["convert", "no.wav", "x.au"], "snd: no.wav: error 56 MissingFile\n")
 refused(["convert", "-override-sample-rate=0", "plain.wav", "x.au"], "snd: x.au: error 12 BadRate\n")
 refused(["convert", "plain.wav", "x.voc"], "snd: x.voc: error 18 BadPair\n")
 
-# ---- another spelling of the input's name, and a disk that is full: the input stays whole
+# ---- another spelling of the input's name, a link to it, and a disk that is full: the input stays whole
 refused(["convert", "plain.wav", "./plain.wav"], "", 3)
+os.symlink("plain.wav", "link.wav")
+refused(["convert", "plain.wav", "link.wav"], "", 3)
+os.remove("link.wav")
 os.mkdir("full")
 if os.geteuid() == 0 and subprocess.run(["mount", "-t", "tmpfs", "-o", "size=64k", "none", "full"], capture_output=True).returncode == 0:
     many += 1
@@ -138,4 +141,4 @@ if os.geteuid() == 0 and subprocess.run(["mount", "-t", "tmpfs", "-o", "size=64k
     cases.case("a full disk", ([] if (done.returncode, done.stdout, done.stderr) == (3, b"", b"") else [repr(done)]) + ([] if before == after else ["other files changed"]))
 else:
     print("tools: skipped: a disk that is full, since only the superuser makes one")
-cases.end(len(PAIRS) ** 2 + 2 + 5 + 5 + 1 + many)
+cases.end(len(PAIRS) ** 2 + 2 + 5 + 5 + 2 + many)
