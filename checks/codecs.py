@@ -51,10 +51,10 @@ def made(name, words, script, out):
     return wrong, b"" if wrong else data_of(name)
 
 
-def by_script(kind, codec, channels, numbers):
+def by_script(kind, codec, channels, numbers, piece=500):
     lines, replies = [f"create {kind} {codec} {channels} {RATE} out"], [f"ok 0 {channels} {RATE} {kind} {codec}"]
-    for at in range(0, len(numbers), 500):
-        part = numbers[at:at + 500]
+    for at in range(0, len(numbers), piece):
+        part = numbers[at:at + piece]
         lines.append("write " + " ".join(map(str, part)))
         replies.append(f"ok {len(part) // channels}")
     return made("out", ["script"], text_of([*lines, "close"]), text_of([*replies, f"ok {len(numbers) // channels}"]))
@@ -101,4 +101,9 @@ for codec, channels, front, numbers in rows.ENCODED:
     front = bytes.fromhex(front)
     for how, (wrong, data) in (("a script", by_script("wave", codec, channels, numbers)), ("convert", by_convert(codec, channels, numbers))):
         cases.case(f"{codec} {channels} by {how}", wrong or first_difference("the front of the block", data[:len(front)], front))
-cases.end(2 * (2 + 2 * 16) + 2 * 5 + 2 * 8 + 7 + 2 * 6 + 2 * 4)
+for codec, channels, numbers, pieces, front in rows.LONG:
+    front = bytes.fromhex(front)
+    made_so = [(f"a script of {piece} numbers a line", by_script("wave", codec, channels, numbers, piece)) for piece in pieces]
+    for how, (wrong, data) in (*made_so, ("convert", by_convert(codec, channels, numbers))):
+        cases.case(f"{codec} {channels}, over a block, by {how}", wrong or first_difference("the blocks", data[:len(front)], front))
+cases.end(2 * (2 + 2 * 16) + 2 * 5 + 2 * 8 + 7 + 2 * 6 + 2 * 4 + 6 + 4)

@@ -83,6 +83,16 @@ for name, form, codec, channels, rate, size, each in heads.FORMATS:
 for name, form, error in heads.BAD_FORMATS:
     refused(f"the format of {name}", b"RIFF\0\0\0\0WAVE" + chunk(b"fmt ", form) + b"data\0\0\0\0", error)
 
+for name, form, codec, channels, rate, _, _ in heads.FORMATS[:8]:
+    wrong = ran(["script"], f"create wave {codec} {channels} {rate} made.wav\n", f"ok 0 {channels} {rate} wave {codec}\n", "", 0, {"./made.wav"})
+    with open("made.wav", "rb") as file:
+        cases.case(f"a file is made with the format of {name}", wrong + first_difference("the format", file.read()[12:20 + len(form)], chunk(b"fmt ", form)))
+    os.remove("made.wav")
+for name, data, asked, out in heads.BEHIND:
+    for more in (b"", b"JUNKED"):
+        put(data + more)
+        cases.case(f"{name}, chunks behind the data, and {len(more)} bytes", ran(["script"], f"open r a.wav\nread 9\nget chunks\n{asked}", out, "", 1))
+
 # ---- words
 for asked, data, out, err, status in words.WORDS:
     put(data)
@@ -133,6 +143,12 @@ for name, before, script, out, end in made.MADE:
     if end is not None and os.path.exists("a.wav"):
         with open("a.wav", "rb") as file:
             data = file.read()
-        wrong += first_difference("a.wav", data if end[:4] == b"RIFF" else data[-len(end):], end)
+        wrong += first_difference("a.wav", data if end[:4] in (b"RIFF", b"RF64", b"FORM") else data[-len(end):], end)
     cases.case(name, wrong)
-cases.end(71 + 23 + 30 + 21 + 13 + 13 + 5 + 20 + 3 + 14 + 15 + 1 + 4 + 2 + 9)
+for kind, codec, channels, head in made.HEADS:
+    # over a file that stands there
+    put(b"what stood there".ljust(200, b"."))
+    wrong = ran(["script"], f"create {kind} {codec} {channels} 8000 a.wav\nclose\n", f"ok 0 {channels} 8000 {kind} {codec}\nok 0\n", "", 0, {"./a.wav"})
+    with open("a.wav", "rb") as file:
+        cases.case(f"the head of {kind} {codec} of {channels} channels", wrong + first_difference("a.wav", file.read(), head))
+cases.end(71 + 23 + 30 + 21 + 13 + 13 + 5 + 20 + 3 + 14 + 15 + 1 + 4 + 2 + 9 + 8 + 6 + 5 + 16)

@@ -10,7 +10,7 @@ import subprocess
 
 from lib import kinds
 from lib.head import Cases, first_difference, run, start
-from lib.readers import Readers
+from lib.readers import Later, Readers, other_numbers
 
 program = start()
 cases = Cases("edits")
@@ -96,12 +96,11 @@ def read_back(what, sound, rest=None):
     wrong += first_difference("its samples", it.data, bytes(sound.data))
     samples = sound.numbers()
     wrong += [f"its chunks are {it.rest}, and were {rest}"] * (rest is not None and it.rest != rest)
-    for tool, numbers in readers.said(sound.name, it).items():
+    for tool, numbers in readers.said(sound.name, it, but=("ffmpeg",)).items():
         wrong += [f"{tool} says {numbers}"] * (numbers != [it.channels, RATE, sound.frames()][:len(numbers)])
-    for tool, numbers in readers.decoded(sound.name, it).items():
-        at = next((i for i, (a, b) in enumerate(zip(numbers, samples)) if a != b), min(len(numbers), len(samples)))
-        if numbers != samples:
-            wrong.append(f"{tool} decodes {len(numbers)} numbers for {len(samples)}, other from {at} on: {numbers[at:at + 4]} for {samples[at:at + 4]}")
+    for tool, numbers in readers.decoded(sound.name, it, but=("ffmpeg",)).items():
+        wrong += [f"{tool} {fault}" for fault in other_numbers(numbers, samples)]
+    later.ask(what, sound.name, it, RATE, samples)
     return [f"{what}: {fault}" for fault in wrong]
 
 
@@ -193,6 +192,7 @@ def theirs(maker, kind, codec, channels, *command):
 
 
 readers = Readers("edits")
+later = Later(readers)
 for kind, codecs in kinds.HOLDS.items():
     for codec in codecs:
         for channels in [it for it in (1, 2, 3) if it <= kinds.MOST.get(kind, 3)]:
@@ -201,7 +201,7 @@ for kind, codecs in kinds.HOLDS.items():
                 wrong = life(Sound(kind, codec, channels, name, random.Random(name)))
             except (subprocess.SubprocessError, KeyError, OSError, TypeError, ValueError, struct.error) as error:
                 wrong = [f"{error!r}"]
-            cases.case(name, wrong)
+            later.case(name, wrong)
 for channels in (1, 2):
     dice = random.Random(f"source {channels}")
     with open(f"source-{channels}.wav", "wb") as file:
@@ -225,5 +225,6 @@ for kind, codecs in kinds.HOLDS.items():
                     wrong = theirs(maker, kind, codec, channels, *command)
                 except (subprocess.SubprocessError, KeyError, OSError, TypeError, ValueError, struct.error) as error:
                     wrong = [f"{error!r}"]
-                cases.case(f"{maker}: {kind} {codec} of {channels} channels", wrong)
+                later.case(f"{maker}: {kind} {codec} of {channels} channels", wrong)
+later.end(cases)
 cases.end(111 + 61 * readers.tools["sndfile"] + 24 * readers.tools["ffmpeg"])

@@ -10,7 +10,7 @@ import subprocess
 
 from lib import kinds, tool_runs
 from lib.head import Cases, start
-from lib.readers import Readers
+from lib.readers import Later, Readers, other_numbers
 from lib.tool_runs import RATE, changed, numbers
 
 program = start()
@@ -35,9 +35,10 @@ def put(name, kind, codec, channels, found):
 
 
 def decoded(name, kind, codec, channels, found):
-    """The faults of what other programs decode of a file that is to hold these numbers."""
+    """The faults of what other programs decode of a file that is to hold these numbers, but for ffmpeg, which is asked later."""
     it = kinds.Stated(kind, codec, channels, RATE, kinds.coded(codec, found))
-    return [f"{tool} decodes other numbers of {name}" for tool, samples in readers.decoded(name, it).items() if samples != found]
+    later.ask(name, name, it, RATE, found)
+    return [f"{tool} of {name}: {fault}" for tool, samples in readers.decoded(name, it, but=("ffmpeg",)).items() for fault in other_numbers(samples, found)]
 
 
 def by_peer(words, kind, codec, channels, found):
@@ -62,7 +63,7 @@ def behind(one, other):
         os.rename("whole", target)
         wrong = decoded(target, *one, channels, kinds.kept(one[1], wanted))
         wrong += by_peer(["sndfile-concat", names[0], names[2], f"peer.{kinds.SUFFIX[one[0]]}"], *one, channels, held[0] + held[2])
-    cases.case(f"{one[0]} {one[1]} before {other[0]} {other[1]}", wrong)
+    later.case(f"{one[0]} {one[1]} before {other[0]} {other[1]}", wrong)
     for name in os.listdir("."):
         os.remove(name)
 
@@ -87,7 +88,7 @@ def beside(one, other):
             os.rename("whole", target)
             wrong = decoded(target, *one, many, kinds.kept(one[1], wanted))
             wrong += by_peer(["sndfile-interleave", names[0], names[0], "-o", f"peer.{kinds.SUFFIX[one[0]]}"], *one, 2, [x for x in held[0] for _ in range(2)])
-        cases.case(f"{one[0]} {one[1]} beside {other[0]} {other[1]}", wrong)
+        later.case(f"{one[0]} {one[1]} beside {other[0]} {other[1]}", wrong)
     for name in os.listdir("."):
         os.remove(name)
 
@@ -108,6 +109,7 @@ def generated(seed, frames):
 
 
 readers = Readers("joins")
+later = Later(readers)
 # as many inputs as there may be, of lengths that go over a block, and none
 names, held = [f"{i}.wav" for i in range(64)], [numbers("pcm_24_le", 6 + 37 * i) if i else [] for i in range(64)]
 for name, found in zip(names, held):
@@ -124,6 +126,7 @@ for at, one in enumerate(PAIRS):
     for step in (5, 12):
         behind(one, PAIRS[(at + step) % len(PAIRS)])
         beside(one, PAIRS[(at + step) % len(PAIRS)])
+later.end(cases)
 GENERATED = ((0, 1), (0, 2), (0, 5), (7, 1000), (6, 3), (1, 7), (4294967295, 8), (4294967295, 8193), (7, 1000000))
 for seed, frames in GENERATED:
     generated(seed, frames)

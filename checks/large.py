@@ -2,12 +2,13 @@
 """Files of some 20 MB, for each tool of the built program: `info`, `convert` into each width, order, law and codec of ADPCM and from
 these, `concat`, `interleave`, `metadata-set` and `gen`; and a script that reads and changes such a file. Each run ends with status
 0 and its whole text, the file that is made is compared byte for byte with what it is to be, and no other file is changed. A body
-that wants memory for large inputs alone fails here. Needs Python 3, and 200 MB of disk."""
+that wants memory for large inputs alone fails here. One more file, mostly a hole in the disk, grows to the most that its head can
+say. Needs Python 3, and 200 MB of disk."""
 import os
 import random
 
 from lib import blocks, kinds
-from lib.head import Cases, first_difference, run, start
+from lib.head import Cases, ended, finished, first_difference, run, start
 from lib.kinds import chunk
 
 program = start()
@@ -145,4 +146,27 @@ lines = ["open u a.wav", f"seek w {frames - 1}", "write 5 6 7", f"truncate {fram
 replies = [f"ok {frames} 1 {RATE} wave pcm_16_le", f"ok {frames - 1}", "ok 3", f"ok {frames + 1}", f"ok {frames + 1}"]
 wrong = run(program, ["script"], text_of(lines), text_of(replies), b"", 0, {"./a.wav"})
 cases.case("a script that changes a file", wrong + wrong_file("a.wav", sound("wave", "pcm_16_le", data[:-2] + b"\5\0\6\0")))
-cases.end(1 + 5 + 4 + 4 + 4 + 1 + 1 + 2)
+
+# ---- a WAVE file that grows to the most that the size of the whole can say: its data are a hole in the disk
+MOST = 2**32 + 6 - 44
+
+
+def to_the_end():
+    """The faults of a script that writes two frames where one has room, which is refused, and then that one."""
+    with open("most.wav", "wb") as file:
+        file.write(kinds.whole_file("wave", "pcm_16_le", 2, RATE, [])[:40] + (MOST - 6).to_bytes(4, "little"))
+        file.truncate(44 + MOST - 6)
+    before = (MOST - 6) // 4
+    lines = ["open u most.wav", f"seek w {before}", "write 1 2 3 4", "write 5 6", "close"]
+    replies = [f"ok {before} 2 {RATE} wave pcm_16_le", f"ok {before}", "error 26 ContainerFull", "ok 1", f"ok {before + 1}"]
+    wrong = ended(finished([program, "script"], text_of(lines)), text_of(replies), b"", 1)
+    with open("most.wav", "rb") as file:
+        head = file.read(44)
+        file.seek(44 + MOST - 6)
+        wrong += first_difference("the last frame", file.read(), b"\5\0\6\0")
+    return wrong + first_difference("the sizes", head[4:8] + head[40:], (36 + MOST - 2).to_bytes(4, "little") + (MOST - 2).to_bytes(4, "little"))
+
+
+cases.case("a file that is full", to_the_end())
+os.remove("most.wav")
+cases.end(1 + 5 + 4 + 4 + 4 + 1 + 1 + 2 + 1)

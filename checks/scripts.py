@@ -329,6 +329,32 @@ turns("pinned: a file that is no sound, and an input that stays open", small, ("
 turns("pinned: a folder, and an input that stays open", small, ("script", "--auto", "/"), [], [], 3)
 
 
+def replaced(line):
+    """The faults of a script that changes a file in whose place another one has come: that one stays, and so does the file, elsewhere."""
+    with tempfile.TemporaryDirectory() as folder:
+        at = os.getcwd()
+        os.chdir(folder)
+        before = {"a.wav": made("pcm_u8", 1, 8000, [[1], [2]]), "b.wav": made("pcm_u8", 1, 8000, [[7]])}
+        for file, data in before.items():
+            with open(file, "wb") as out:
+                out.write(data)
+        session = subprocess.Popen([program, "script"], stdin=subprocess.PIPE, stdout=subprocess.PIPE, stderr=subprocess.PIPE)
+        session.stdin.write(b"open u a.wav\n")
+        session.stdin.flush()
+        wrong = first_difference("the reply", lines_from(session, 1), begun[:1])
+        os.rename("a.wav", "was.wav")
+        os.rename("b.wav", "a.wav")
+        out, err = session.communicate(f"{line}\n".encode(), timeout=SECONDS)
+        wrong += first_difference("the rest", out + err, b"") + [f"status {session.returncode} for 3"] * (session.returncode != 3)
+        wrong += wrong_files({"a.wav": before["b.wav"], "was.wav": before["a.wav"]})
+        os.chdir(at)
+    cases.case(f"a file that was replaced: {line}", wrong)
+
+
+for line in ("write 5", "truncate 0", "trim"):
+    replaced(line)
+
+
 # ---- names and devices that fail
 
 def failing(name, prepare, lines, replies, after=None, stdout=None):
@@ -354,7 +380,7 @@ failing("a folder is not made a file", lambda: os.mkdir("f"), ["create wave pcm_
 failing("a folder is not opened", lambda: os.mkdir("f"), ["open u f"], [])
 failing("a pipe is not made a file", lambda: os.mkfifo("p"), ["create wave pcm_u8 1 1 p"], [])
 failing("a name in a folder that is not there", lambda: None, ["create wave pcm_u8 1 1 no/n.wav"], [])
-failing("a file that was replaced is not written", lambda: None, ["open r a.wav", "close", "open u /dev/null"], [opened, "ok 2"])
+failing("a device is not opened", lambda: None, ["open r a.wav", "close", "open u /dev/null"], [opened, "ok 2"])
 with open("/dev/full", "wb") as full:
     failing("a reply that does not get out leaves its command carried out", lambda: None, ["open u a.wav"], [], old["a.wav"], full)
 if os.geteuid() == 0:
@@ -387,4 +413,4 @@ else:
     print("scripts: skipped: a full disk, since no file system can be mounted")
     skipped += 1
 os.rmdir(folder)
-cases.end(24 + 4 + 2 + 2 + 3 + 12 + 12 + 8 + 9 + 5 + 6 + 3 - skipped)
+cases.end(24 + 4 + 2 + 2 + 3 + 12 + 12 + 8 + 9 + 5 + 3 + 6 + 3 - skipped)

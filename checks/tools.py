@@ -9,7 +9,7 @@ import subprocess
 
 from lib import kinds, tool_runs
 from lib.head import SECONDS, Cases, start, sums
-from lib.readers import Readers
+from lib.readers import Later, Readers, other_numbers
 from lib.tool_runs import RATE, changed, numbers
 
 program = start()
@@ -35,9 +35,10 @@ def channels_for(*many):
 
 
 def as_decoded(name, kind, codec, channels, found):
-    """The faults of what other programs decode of a file that is to hold these numbers."""
+    """The faults of what other programs decode of a file that is to hold these numbers, but for ffmpeg, which is asked later."""
     it = kinds.Stated(kind, codec, channels, RATE, kinds.coded(codec, found))
-    return [f"{tool} decodes other numbers" for tool, samples in readers.decoded(name, it).items() if samples != found]
+    later.ask("as made", name, it, RATE, found)
+    return [f"{tool} {fault}" for tool, samples in readers.decoded(name, it, but=("ffmpeg",)).items() for fault in other_numbers(samples, found)]
 
 
 def converted(one, other):
@@ -52,7 +53,7 @@ def converted(one, other):
     wrong = wrong_run(words, f"ok {FRAMES}\n".encode(), b"", 0, (target, kinds.whole_file(*other, channels, RATE, wanted)))
     if not wrong and one[0] in ("wave", "au"):
         wrong = as_decoded(target, *other, channels, kinds.kept(other[1], wanted))
-    cases.case(f"{one[0]} {one[1]} to {other[0]} {other[1]}", wrong)
+    later.case(f"{one[0]} {one[1]} to {other[0]} {other[1]}", wrong)
     os.remove(source)
     if os.path.exists(target):
         os.remove(target)
@@ -63,9 +64,11 @@ def refused(words, err, status=1):
 
 
 readers = Readers("tools")
+later = Later(readers)
 for one in PAIRS:
     for other in PAIRS:
         converted(one, other)
+later.end(cases)
 
 # ---- a law copied into the same law: each byte stays, but for the second zero of the mu-law, which is written as the first
 for codec in ("ulaw", "alaw"):
@@ -121,8 +124,11 @@ refused(["convert", "no.wav", "x.au"], "snd: no.wav: error 56 MissingFile\n")
 refused(["convert", "-override-sample-rate=0", "plain.wav", "x.au"], "snd: x.au: error 12 BadRate\n")
 refused(["convert", "plain.wav", "x.voc"], "snd: x.voc: error 18 BadPair\n")
 
-# ---- another spelling of the input's name, and a disk that is full: the input stays whole
+# ---- another spelling of the input's name, a link to it, and a disk that is full: the input stays whole
 refused(["convert", "plain.wav", "./plain.wav"], "", 3)
+os.symlink("plain.wav", "link.wav")
+refused(["convert", "plain.wav", "link.wav"], "", 3)
+os.remove("link.wav")
 os.mkdir("full")
 if os.geteuid() == 0 and subprocess.run(["mount", "-t", "tmpfs", "-o", "size=64k", "none", "full"], capture_output=True).returncode == 0:
     many += 1
@@ -138,4 +144,4 @@ if os.geteuid() == 0 and subprocess.run(["mount", "-t", "tmpfs", "-o", "size=64k
     cases.case("a full disk", ([] if (done.returncode, done.stdout, done.stderr) == (3, b"", b"") else [repr(done)]) + ([] if before == after else ["other files changed"]))
 else:
     print("tools: skipped: a disk that is full, since only the superuser makes one")
-cases.end(len(PAIRS) ** 2 + 2 + 5 + 5 + 1 + many)
+cases.end(len(PAIRS) ** 2 + 2 + 5 + 5 + 2 + many)

@@ -202,7 +202,8 @@ REFUSED = [
      b"Creative Voice File\x1a\x1a\0\n\x01)\x11" + b"\x05\0\0\0" * 255 + b"\x05\0", "7 NoData"),
 ]
 
-# the body of a format chunk, and its codec, channels, rate, the bytes of a block and the frames that a block holds
+# the body of a format chunk, and its codec, channels, rate, the bytes of a block and the frames that a block holds. The first eight are
+# those of files that are made with these parameters, too
 FORMATS = [
     ("libsndfile, 24 bits",
      b"\x01\x00\x02\x00\x44\xac\x00\x00\x98\x09\x04\x00\x06\x00\x18\x00",
@@ -273,4 +274,21 @@ BAD_FORMATS = [
      b"\x02\0\x01\0\x40\x1f\0\0\0\0\0\0\0\x01\x04\0\x20\0\xf4\x01\x07\0\0\0\0\0\0\0\0\0\0\0\0\0\0\0\0\0\0\0\0\0\0\0\0\0\0\0\0\0", "16 OtherCoefs"),
     ("IMA ADPCM of three channels",
      b"\x11\0\x03\0\x40\x1f\0\0\0\0\0\0\x0c\0\x04\0\x02\0\x01\0", "18 BadPair"),
+]
+
+# files of one frame with two chunks behind it, written by hand: what is shown, the file, what a script asks behind `open r a.wav`, `read 9` and
+# `get chunks`, and what it is answered. What stands behind the end that the size of the whole says is not read
+BEHIND = [
+    ("WAVE",
+     b"RIFF\x46\0\0\0WAVEfmt \x10\0\0\0\x01\0\x01\0\x40\x1f\0\0\x80\x3e\0\0\x02\0\x10\0data\x02\0\0\0\x01\0LIST\x0e\0\0\0INFOINAM\x02\0\0\0A\0abcd\x01\0\0\0\x03\0",
+     "get chunk LIST\nget chunk abcd\nclose\nopen u a.wav\nseek w 1\nwrite 5\n",
+     "ok 1 1 8000 wave pcm_16_le\nok 1\n1\nok 2\nLIST 14\nabcd 1\nok 14 494e464f494e414d020000004100\nok 1 03\nok 1\nok 1 1 8000 wave pcm_16_le\nok 1\nerror 25 TrailingData\n"),
+    ("RF64",
+     b"RF64\xff\xff\xff\xffWAVEds64\x1c\0\0\0\x6a\0\0\0\0\0\0\0\x02\0\0\0\0\0\0\0\x01\0\0\0\0\0\0\0\0\0\0\0fmt \x10\0\0\0\x01\0\x01\0\x40\x1f\0\0\x80\x3e\0\0\x02\0\x10\0data\xff\xff\xff\xff\x01\0LIST\x0e\0\0\0INFOINAM\x02\0\0\0A\0abcd\x01\0\0\0\x03\0",
+     "get chunk LIST\nget chunk abcd\nclose\nopen u a.wav\nseek w 1\nwrite 5\n",
+     "ok 1 1 8000 rf64 pcm_16_le\nok 1\n1\nok 2\nLIST 14\nabcd 1\nok 14 494e464f494e414d020000004100\nok 1 03\nok 1\nok 1 1 8000 rf64 pcm_16_le\nok 1\nerror 25 TrailingData\n"),
+    ("8SVX",
+     b"FORM\0\0\0\x3e8SVXVHDR\0\0\0\x14\0\0\0\x01\0\0\0\0\0\0\0\0\x1f\x40\x01\0\0\x01\0\0BODY\0\0\0\x01\x07\0ANNO\0\0\0\x01\x08\0LIST\0\0\0\x01\x09\0",
+     "get chunk ANNO\nget chunk LIST\nclose\nopen u a.wav\nseek w 1\nwrite 5\n",
+     "ok 1 1 8000 svx pcm_s8\nok 1\n7\nok 2\nANNO 1\nLIST 1\nok 1 08\nok 1 09\nok 1\nok 1 1 8000 svx pcm_s8\nok 1\nerror 25 TrailingData\n"),
 ]

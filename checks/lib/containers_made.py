@@ -4,6 +4,7 @@ from lib.containers_words import PLAIN
 
 HEAD = b"WAVEfmt \x10\0\0\0\x01\0\x01\0\x40\x1f\0\0\x80\x3e\0\0\x02\0\x10\0"
 ZEROS = "00" * 462
+VHDR = b"8SVXVHDR\0\0\0\x14" + bytes(12) + b"\x1f\x40\x01\0\0\x01\0\0"
 
 # what is shown, the file that stands as `a.wav` or None, a script, the answers, and how the file ends then or None where it stays
 MADE = [
@@ -37,6 +38,33 @@ MADE = [
      "create voc pcm_u8 1 8000 a.wav\nset chunk abcd 7879\nclose\n",
      "ok 0 1 8000 voc pcm_u8\nerror 30 NoChunks\nok 0\n",
      b"\x09\x0c\0\0\x40\x1f\0\0\x08\x01\0\0\0\0\0\0\0"),
+    ("a chunk in RF64 that goes over a sector needs no filler, since the data's size stands in front",
+     None,
+     f"create rf64 pcm_16_le 1 8000 a.wav\nset chunk abcd {'00' * 430}\nclose\n",
+     "ok 0 1 8000 rf64 pcm_16_le\nok\nok 0\n",
+     b"RF64\xff\xff\xff\xffWAVEds64\x1c\0\0\0\xfe\x01" + bytes(26) + b"fmt \x10\0\0\0\x01\0\x01\0\x40\x1f\0\0\x80\x3e\0\0\x02\0\x10\0abcd\xae\x01\0\0" + bytes(430) + b"data\xff\xff\xff\xff"),
+    ("cue points in RF64 that are set again stand where the first ones stood",
+     None,
+     "create rf64 pcm_16_le 1 8000 a.wav\nset cue 5 6\nset chunk efgh 0908\nset cue 7\nclose\n",
+     "ok 0 1 8000 rf64 pcm_16_le\nok\nok\nok\nok 0\n",
+     b"RF64\xff\xff\xff\xffWAVEds64\x1c\0\0\0\x76" + bytes(27) + b"fmt \x10\0\0\0\x01\0\x01\0\x40\x1f\0\0\x80\x3e\0\0\x02\0\x10\0"
+     b"cue \x1c\0\0\0\x01\0\0\0\x01\0\0\0\x07\0\0\0data\0\0\0\0\0\0\0\0\x07\0\0\0efgh\x02\0\0\0\x09\x08data\xff\xff\xff\xff"),
+    # the size of the body would stand at 510 to 513
+    ("a filler moves the size of the body in 8SVX into one sector",
+     None,
+     f"create svx pcm_s8 1 8000 a.wav\nset chunk NAME {'00' * 458}\nclose\n",
+     "ok 0 1 8000 svx pcm_s8\nok\nok 0\n",
+     b"FORM\0\0\x02\x0a" + VHDR + b"NAME\0\0\x01\xca" + bytes(458) + b"JUNK\0\0\0\x08" + bytes(8) + b"BODY\0\0\0\0"),
+    ("behind another chunk in 8SVX it lies in one sector",
+     None,
+     f"create svx pcm_s8 1 8000 a.wav\nset chunk NAME {'00' * 458}\nset chunk ANNO 0908\nclose\n",
+     "ok 0 1 8000 svx pcm_s8\nok\nok\nok 0\n",
+     b"FORM\0\0\x02\x04" + VHDR + b"NAME\0\0\x01\xca" + bytes(458) + b"ANNO\0\0\0\x02\x09\x08BODY\0\0\0\0"),
+    ("cue points that are set again stand where the first ones stood",
+     None,
+     "create wave pcm_u8 1 8000 a.wav\nset cue 5 6\nset string title A\nset cue 7\nclose\n",
+     "ok 0 1 8000 wave pcm_u8\nok\nok\nok\nok 0\n",
+     b"cue \x1c\0\0\0\x01\0\0\0\x01\0\0\0\x07\0\0\0data\0\0\0\0\0\0\0\0\x07\0\0\0LIST\x0e\0\0\0INFOINAM\x02\0\0\0A\0data\0\0\0\0"),
     ("frames across blocks of IMA ADPCM",
      b"RIFF\x44\0\0\0WAVEfmt \x14\0\0\0\x11\0\x01\0\x40\x1f\0\0\xc7\x1b\0\0\x08\0\x04\0\x02\0\x09\0fact\x04\0\0\0\x12\0\0\0data\x10\0\0\0\0\0\0\0\x77\x0f\0\0\0\0\0\0\x77\x0f\0\0",
      "open r a.wav\nread 7\nread 11\nclose\n",
@@ -52,4 +80,41 @@ MADE = [
      "open r a.wav\nread 1\nread 4\nread 3\nclose\n",
      "ok 8 1 8000 wave ms\nok 1\n50\nerror 35 BadBlock\nok 3\n100\n116\n100\nok 8\n",
      None),
+]
+
+# heads of files at 8000 frames a second that are made without frames: the kind, the codec, the channels, and the whole file. Those of AU, and
+# the first of Wave64, are as libsndfile writes them; in VOC a block of type 0 ends the file
+HEADS = [
+    ("au", "pcm_16_be", 2,
+     b".snd\0\0\0\x18\0\0\0\0\0\0\0\x03\0\0\x1f\x40\0\0\0\x02"),
+    ("au", "pcm_s8", 2,
+     b".snd\0\0\0\x18\0\0\0\0\0\0\0\x02\0\0\x1f\x40\0\0\0\x02"),
+    ("dns", "alaw", 2,
+     b"dns.\x18\0\0\0\0\0\0\0\x1b\0\0\0\x40\x1f\0\0\x02\0\0\0"),
+    ("dns", "pcm_32_le", 2,
+     b"dns.\x18\0\0\0\0\0\0\0\x05\0\0\0\x40\x1f\0\0\x02\0\0\0"),
+    ("rf64", "pcm_16_le", 1,
+     b"RF64\xff\xff\xff\xffWAVEds64\x1c\0\0\0\x48\0\0\0\0\0\0\0\0\0\0\0\0\0\0\0\0\0\0\0\0\0\0\0\0\0\0\0fmt \x10\0\0\0\x01\0\x01\0\x40\x1f\0\0\x80\x3e\0\0\x02\0\x10\0data\xff\xff\xff\xff"),
+    ("rf64", "alaw", 2,
+     b"RF64\xff\xff\xff\xffWAVEds64\x1c\0\0\0\x4a\0\0\0\0\0\0\0\0\0\0\0\0\0\0\0\0\0\0\0\0\0\0\0\0\0\0\0fmt \x12\0\0\0\x06\0\x02\0\x40\x1f\0\0\x80\x3e\0\0\x02\0\x08\0\0\0data\xff\xff\xff\xff"),
+    ("w64", "pcm_16_le", 1,
+     b"riff.\x91\xcf\x11\xa5\xd6(\xdb\x04\xc1\0\0h\0\0\0\0\0\0\0wave\xf3\xac\xd3\x11\x8c\xd1\0\xc0O\x8e\xdb\x8afmt \xf3\xac\xd3\x11\x8c\xd1\0\xc0O\x8e\xdb\x8a(\0\0\0\0\0\0\0\x01\0\x01\0@\x1f\0\0\x80>\0\0\x02\0\x10\0data\xf3\xac\xd3\x11\x8c\xd1\0\xc0O\x8e\xdb\x8a\x18\0\0\0\0\0\0\0"),
+    ("w64", "alaw", 2,
+     b"riff.\x91\xcf\x11\xa5\xd6(\xdb\x04\xc1\0\0\x90\0\0\0\0\0\0\0wave\xf3\xac\xd3\x11\x8c\xd1\0\xc0O\x8e\xdb\x8afmt \xf3\xac\xd3\x11\x8c\xd1\0\xc0O\x8e\xdb\x8a*\0\0\0\0\0\0\0\x06\0\x02\0@\x1f\0\0\x80>\0\0\x02\0\x08\0\0\0\0\0\0\0\0\0fact\xf3\xac\xd3\x11\x8c\xd1\0\xc0O\x8e\xdb\x8a \0\0\0\0\0\0\0\0\0\0\0\0\0\0\0data\xf3\xac\xd3\x11\x8c\xd1\0\xc0O\x8e\xdb\x8a\x18\0\0\0\0\0\0\0"),
+    ("w64", "ima", 1,
+     b"riff.\x91\xcf\x11\xa5\xd6(\xdb\x04\xc1\0\0\x90\0\0\0\0\0\0\0wave\xf3\xac\xd3\x11\x8c\xd1\0\xc0O\x8e\xdb\x8afmt \xf3\xac\xd3\x11\x8c\xd1\0\xc0O\x8e\xdb\x8a,\0\0\0\0\0\0\0\x11\0\x01\0@\x1f\0\0\xd7\x0f\0\0\0\x01\x04\0\x02\0\xf9\x01\0\0\0\0fact\xf3\xac\xd3\x11\x8c\xd1\0\xc0O\x8e\xdb\x8a \0\0\0\0\0\0\0\0\0\0\0\0\0\0\0data\xf3\xac\xd3\x11\x8c\xd1\0\xc0O\x8e\xdb\x8a\x18\0\0\0\0\0\0\0"),
+    ("w64", "ms", 1,
+     b"riff.\x91\xcf\x11\xa5\xd6(\xdb\x04\xc1\0\0\xb0\0\0\0\0\0\0\0wave\xf3\xac\xd3\x11\x8c\xd1\0\xc0O\x8e\xdb\x8afmt \xf3\xac\xd3\x11\x8c\xd1\0\xc0O\x8e\xdb\x8aJ\0\0\0\0\0\0\0\x02\0\x01\0@\x1f\0\0\0\x10\0\0\0\x01\x04\0 \0\xf4\x01\x07\0\0\x01\0\0\0\x02\0\xff\0\0\0\0\xc0\0@\0\xf0\0\0\0\xcc\x010\xff\x88\x01\x18\xff\0\0\0\0\0\0fact\xf3\xac\xd3\x11\x8c\xd1\0\xc0O\x8e\xdb\x8a \0\0\0\0\0\0\0\0\0\0\0\0\0\0\0data\xf3\xac\xd3\x11\x8c\xd1\0\xc0O\x8e\xdb\x8a\x18\0\0\0\0\0\0\0"),
+    ("wave", "pcm_16_le", 1,
+     b"RIFF\x24\0\0\0WAVEfmt \x10\0\0\0\x01\0\x01\0\x40\x1f\0\0\x80\x3e\0\0\x02\0\x10\0data\0\0\0\0"),
+    ("wave", "alaw", 2,
+     b"RIFF\x32\0\0\0WAVEfmt \x12\0\0\0\x06\0\x02\0\x40\x1f\0\0\x80\x3e\0\0\x02\0\x08\0\0\0fact\x04\0\0\0\0\0\0\0data\0\0\0\0"),
+    ("wave", "ima", 1,
+     b"RIFF\x34\0\0\0WAVEfmt \x14\0\0\0\x11\0\x01\0\x40\x1f\0\0\xd7\x0f\0\0\0\x01\x04\0\x02\0\xf9\x01fact\x04\0\0\0\0\0\0\0data\0\0\0\0"),
+    ("wave", "ms", 1,
+     b"RIFF\x52\0\0\0WAVEfmt \x32\0\0\0\x02\0\x01\0\x40\x1f\0\0\0\x10\0\0\0\x01\x04\0\x20\0\xf4\x01\x07\0\0\x01\0\0\0\x02\0\xff\0\0\0\0\xc0\0\x40\0\xf0\0\0\0\xcc\x01\x30\xff\x88\x01\x18\xfffact\x04\0\0\0\0\0\0\0data\0\0\0\0"),
+    ("svx", "pcm_s8", 1,
+     b"FORM\0\0\0\x288SVXVHDR\0\0\0\x14\0\0\0\0\0\0\0\0\0\0\0\0\x1f\x40\x01\0\0\x01\0\0BODY\0\0\0\0"),
+    ("voc", "pcm_u8", 1,
+     b"Creative Voice File\x1a\x1a\x00\x14\x01\x1f\x11\x09\x0c\0\0\x40\x1f\0\0\x08\x01\0\0\0\0\0\0\0"),
 ]

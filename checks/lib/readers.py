@@ -1,9 +1,12 @@
 """What sox, libsndfile's programs and ffmpeg say of a sound file, and the samples that they decode; and what they are known to do
 otherwise, which is skipped with a line that gives the reason."""
+import atexit
+import os
 import re
 import shutil
 import struct
 import subprocess
+import tempfile
 
 from lib import kinds
 
@@ -68,15 +71,15 @@ class Readers:
         """Why a program is known to read more frames than such a file has, or None."""
         return len(it.data) % PADDED.get(it.kind, 1) and self.skip(tool, PADDING.get((tool, it.kind)))
 
-    def said(self, name, it, maker=None):
-        """The channels, the rate and the frames of a file, as each program says them; no frames where that is known."""
+    def said(self, name, it, maker=None, but=()):
+        """The channels, the rate and the frames of a file, as each program but these says them; no frames where that is known."""
         found = {}
         if self.tools["sox"] and not self.cannot("sox", it, maker):
             found["soxi"] = [int(out_of("soxi", option, name)) for option in ("-c", "-r", "-s")]
         if self.tools["sndfile"] and not self.cannot("sndfile", it, maker):
             text = out_of("sndfile-info", name).decode("latin-1")
             found["sndfile-info"] = [int(re.search(rf"^{word} *: (\d+)", text, re.M)[1]) for word in ("Channels", "Sample Rate", "Frames")]
-        if self.tools["ffmpeg"] and not self.cannot("ffmpeg", it, maker):
+        if self.tools["ffmpeg"] and "ffmpeg" not in but and not self.cannot("ffmpeg", it, maker):
             text = out_of("ffprobe", "-v", "error", "-show_entries", "stream=channels,sample_rate,duration_ts", "-of", "default=noprint_wrappers=1", name).decode()
             found["ffprobe"] = [int(re.search(rf"^{word}=(\d+)", text + "duration_ts=0", re.M)[1]) for word in ("channels", "sample_rate", "duration_ts")]
         for tool in found:
@@ -85,12 +88,17 @@ class Readers:
                 found[tool].pop()
         return found
 
-    def decoded(self, name, it, maker=None):
-        """The samples of a file, as each program but its maker decodes them; its maker's where there is no other."""
+    def decoders(self, it, maker=None):
+        """The programs that decode such a file, but for its maker, if there is another."""
         readers = [tool for tool in self.tools if self.tools[tool] and not self.cannot(tool, it, maker)]
         readers = [tool for tool in readers if not self.skip(tool, NO_DECODING.get((tool, it.kind, maker, it.codec, it.channels)))]
         if len(readers) > 1 and maker in readers:
             readers.remove(maker)
+        return readers
+
+    def decoded(self, name, it, maker=None, but=()):
+        """The samples of a file, as each program decodes them but its maker, and these; its maker's where there is no other."""
+        readers = [tool for tool in self.decoders(it, maker) if tool not in but]
         found, bits = {}, kinds.width(it.codec)
         if "sox" in readers:
             found["sox"] = out_of("sox", name, "-t", "raw", "-e", "signed-integer", "-b", "32", "-L", "-")
@@ -105,3 +113,68 @@ class Readers:
             subprocess.run(["rm", "decoded.au"], check=True)
         samples = {tool: [x >> (32 - bits) for x in struct.unpack(f"<{len(raw) // 4}i", raw)] for tool, raw in found.items()}
         return {tool: found[:it.frames * it.channels] if self.pads(tool, it) else found for tool, found in samples.items()}
+
+
+class Later:
+    """Copies of files that ffmpeg decodes many at once, since it takes long to start; and the cases that wait for that, with the faults
+    that they have so far."""
+
+    def __init__(self, readers, at_once=40):
+        self.readers, self.at_once, self.cases, self.asked = readers, at_once, [], []
+        self.folder = tempfile.mkdtemp()
+        atexit.register(shutil.rmtree, self.folder, True)
+        self.count = 0
+
+    def ask(self, what, name, it, rate, samples, maker=None, is_short=False):
+        """Keeps a copy of a file that is to hold these samples, for the case that comes next, where ffmpeg decodes such files, and says
+        whether it does."""
+        decodes = "ffmpeg" in self.readers.decoders(it, maker)
+        if decodes:
+            self.count += 1
+            copy = f"{self.folder}/{self.count}{os.path.splitext(name)[1]}"
+            shutil.copyfile(name, copy)
+            self.asked.append((what, copy, it, rate, samples, is_short))
+        return decodes
+
+    def case(self, name, wrong):
+        """A case that waits for the files that were kept since the one before."""
+        self.cases.append((name, wrong, self.asked))
+        self.asked = []
+
+    def decode(self, copies):
+        """Has ffmpeg decode these, each into an AU file of 32 bits; each alone, where it fails. Gives the faults by the file."""
+        inputs = [word for copy in copies for word in ("-i", copy)]
+        outputs = [word for i, copy in enumerate(copies) for word in ("-map", f"{i}:a", "-f", "au", "-c:a", "pcm_s32be", f"{copy}.decoded")]
+        done = subprocess.run(["ffmpeg", "-v", "error", "-y", *inputs, *outputs], stdin=subprocess.DEVNULL, capture_output=True)
+        if not done.returncode:
+            return {}
+        if len(copies) == 1:
+            return {copies[0]: f"ffmpeg failed: {done.stderr.decode('latin-1')[-200:]}"}
+        return {name: fault for copy in copies for name, fault in self.decode([copy]).items()}
+
+    def wrong(self, what, copy, it, rate, samples, is_short):
+        """The faults of what was decoded of a file."""
+        with open(f"{copy}.decoded", "rb") as file:
+            au = file.read()
+        start, _, _, *found = struct.unpack_from(">5I", au, 4)
+        numbers = [x >> (32 - kinds.width(it.codec)) for x in struct.unpack(f">{(len(au) - start) // 4}i", au[start:])]
+        numbers = numbers[:it.frames * it.channels] if is_short or self.readers.pads("ffmpeg", it) else numbers
+        faults = [f"{what}: ffmpeg says the rate and the channels {found}"] * (found != [rate, it.channels])
+        return faults + [f"{what}: ffmpeg {fault}" for fault in other_numbers(numbers, samples)]
+
+    def end(self, cases):
+        """Counts the cases that have waited."""
+        asked = [it for _, _, each in self.cases for it in each]
+        failed = {}
+        for at in range(0, len(asked), self.at_once):
+            failed |= self.decode([copy for _, copy, *_ in asked[at:at + self.at_once]])
+        for name, wrong, each in self.cases:
+            cases.case(name, wrong + [fault for it in each for fault in ([f"{it[0]}: {failed[it[1]]}"] if it[1] in failed else self.wrong(*it))])
+
+
+def other_numbers(numbers, samples):
+    """A line on where numbers that were decoded are others than these, or none."""
+    if numbers == samples:
+        return []
+    at = next((i for i, (a, b) in enumerate(zip(numbers, samples)) if a != b), min(len(numbers), len(samples)))
+    return [f"decodes {len(numbers)} numbers for {len(samples)}, other from {at} on: {numbers[at:at + 4]} for {samples[at:at + 4]}"]

@@ -1,16 +1,10 @@
-//! Tests of calls that no command makes, or whose answers no command tells: worked examples, and values that other
-//! programs made. What commands show of codecs, lines, words and chunks, `checks/codecs.py` and `checks/lines.py` try.
+//! Tests of calls that no command makes: what other programs read and write of VOX, copies of drafts, and the devices in memory that
+//! other tests stand on. What commands show, `checks/` tries.
 #![tactic(auto)]
 
 #[cfg(test)]
 mod adpcm;
 #[cfg(test)]
-mod command;
-#[cfg(test)]
-mod fields;
+mod memory;
 #[cfg(test)]
 mod meta;
-#[cfg(test)]
-mod meters;
-#[cfg(test)]
-mod taps;

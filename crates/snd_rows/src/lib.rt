@@ -5,12 +5,6 @@
 #[cfg(test)]
 mod boxes;
 #[cfg(test)]
-mod calls;
-#[cfg(test)]
-mod crash;
-#[cfg(test)]
-mod failing;
-#[cfg(test)]
 mod faults;
 mod memory;
 
