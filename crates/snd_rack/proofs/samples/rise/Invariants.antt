@@ -1,0 +1,6 @@
+use Rattle.std.proofs.Common.{◌≡◌, ◌++◌, drop, map, take, pos, ◌*ℤ◌}
+use Rattle.snd_pcm.specs.Width.{floor_div}
+use Rattle.snd_rack.proofs.samples.rise.Given as goal
+
+abbrev pub invariant-loop-x : goal.invariant-loop-x
+invariant-loop-x l = l.samples ≡ map (λ x. floor_div (x *ℤ pos l.i) l.count) (take l.x-index l.fn.samples) ++ drop l.x-index l.fn.samples

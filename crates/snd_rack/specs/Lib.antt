@@ -1,0 +1,10 @@
+pub mod Boxes
+pub mod Held
+pub mod Laws
+pub mod Passing
+pub mod Rack
+pub mod Reading
+pub mod Setting
+pub mod Spec
+pub mod Stage
+pub mod Stages

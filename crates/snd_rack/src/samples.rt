@@ -1,0 +1,88 @@
+//! What becomes of the samples of one frame, each in one tight loop.
+
+ghost use Rattle.std.specs.Prelude.{◌≡◌, ◌<◌, ◌≤◌, ◌*ℤ◌, pos, neg_ℤ, true, [], length, map, nat_lt, slice_index_or};
+ghost use Rattle.std.specs.List.{list_all};
+ghost use Rattle.snd_pcm.specs.Width.{floor_div};
+ghost use Rattle.snd_rack.specs.Stage.{clamped};
+
+use arrayvec::ArrayVec;
+
+#[inline]
+fn clamp(x: i64, low: i32, high: i32) -> i32
+    ensures { result ≡ clamped low high x }
+{
+    if x < i64::from(low) {
+        low
+    } else if i64::from(high) < x {
+        high
+    } else {
+        x as i32
+    }
+}
+
+#[inline]
+fn scaled(x: i32, a: u16, b: u16, low: i32, high: i32) -> i32
+    requires { 1 ≤ b }
+    ensures { result ≡ clamped low high (floor_div (x *ℤ pos a) b) }
+{
+    let product = i64::from(x) * i64::from(a);
+    clamp(product.div_euclid(i64::from(b)), low, high)
+}
+
+#[inline]
+fn negated(x: i32, low: i32, high: i32) -> i32
+    ensures { result ≡ clamped low high (neg_ℤ x) }
+{
+    clamp(-i64::from(x), low, high)
+}
+
+// i / count of a sample, which lies between it and 0.
+#[inline]
+fn risen(x: i32, i: u32, count: u32) -> i32
+    requires { i < count }
+    ensures { result ≡ floor_div (x *ℤ pos i) count }
+{
+    let product = i64::from(x) * i64::from(i);
+    product.div_euclid(i64::from(count)) as i32
+}
+
+/// a / b of each sample, rounded down.
+pub(crate) fn scale(samples: &mut [i32], a: u16, b: u16, low: i32, high: i32)
+    requires { 1 ≤ b }
+    ensures { samples.new ≡ map (λ x. clamped low high (floor_div (x *ℤ pos a) b)) samples.old }
+{
+    for x in samples.iter_mut() {
+        *x = scaled(*x, a, b, low, high);
+    }
+}
+
+/// The negative of each sample.
+pub(crate) fn negate(samples: &mut [i32], low: i32, high: i32)
+    ensures { samples.new ≡ map (λ x. clamped low high (neg_ℤ x)) samples.old }
+{
+    for x in samples.iter_mut() {
+        *x = negated(*x, low, high);
+    }
+}
+
+/// i / count of each sample, rounded down.
+pub(crate) fn rise(samples: &mut [i32], i: u32, count: u32)
+    requires { i < count }
+    ensures { samples.new ≡ map (λ x. floor_div (x *ℤ pos i) count) samples.old }
+{
+    for x in samples.iter_mut() {
+        *x = risen(*x, i, count);
+    }
+}
+
+/// The samples at some places, in this order.
+pub(crate) fn pick(places: &[u8], from: &[i32], into: &mut ArrayVec<i32, 256>)
+    requires few { length places.now ≤ 256 }
+    requires empty { into.old.items ≡ [] }
+    requires there { list_all (λ place. nat_lt place (length from.now)) places.now ≡ true }
+    ensures { into.new.items ≡ map (λ place. slice_index_or from.now place (pos 0)) places.now }
+{
+    for place in places {
+        into.push(from[usize::from(*place)]);
+    }
+}
