@@ -29,7 +29,7 @@ carried_less : (pieces : List Piece) → body_bytes (carried_pieces pieces) ≤ 
 carried_less pieces = omega (arith, taken 240 (filter is_carried pieces), filtered pieces)
 
 pub bodies_fit : BodiesFit
-bodies_fit b h laid meta = ((head_laws h.kind).meta meta).bodies b h laid refl
+bodies_fit b h laid meta = (head_laws h.kind).bodies meta b h laid refl
 
 pub carried_fit : CarriedFit
 carried_fit b h laid meta = omega (arith, carried_less h.pieces, bodies_fit b h laid meta)
