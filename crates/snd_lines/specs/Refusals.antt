@@ -2,7 +2,7 @@
 use Rattle.std.specs.Prelude.{ℕ, List, codes}
 use Rattle.snd_layout.specs.Names.{refusal_name as open_name, refusal_number as open_number}
 use Rattle.snd_lines.specs.declared.refusal.Refusal.{Refusal}
-use Rattle.snd_lines.specs.declared.refusal.Refusal.TheVariants.{Open, AdpcmUpdate, UnknownLength, PartFrame, SampleRange, SeekRange, TrailingData, ContainerFull, Straddle, FramesWritten, ReservedChunk, NoChunks, ChunkTooLarge, AutoOn, AdpcmSeek, NoSuchChunk, BadBlock, BadCommand, LineTooLong, NotOpen, AlreadyOpen, WrongMode, NoSuchTap, TapOn, SameName, MixedParams, NotMono, UnknownSuffix, MissingFile, BadInfo, BadCue, BadBext, TextTooLong, Pinned}
+use Rattle.snd_lines.specs.declared.refusal.Refusal.TheVariants.{Open, AdpcmUpdate, UnknownLength, PartFrame, SampleRange, SeekRange, TrailingData, ContainerFull, Straddle, FramesWritten, ReservedChunk, NoChunks, ChunkTooLarge, AutoOn, AdpcmSeek, NoSuchChunk, BadBlock, BadCommand, LineTooLong, NotOpen, AlreadyOpen, WrongMode, NoSuchTap, TapOn, SameName, MixedParams, NotMono, UnknownSuffix, MissingFile, BadInfo, BadCue, BadBext, TextTooLong, Pinned, NoSuchStage, BadPlace, WrongCount}
 
 abbrev pub refusal_number : Refusal → ℕ
 refusal_number (Open refusal) = open_number refusal
@@ -39,6 +39,9 @@ refusal_number BadCue = 62
 refusal_number BadBext = 63
 refusal_number TextTooLong = 64
 refusal_number Pinned = 65
+refusal_number NoSuchStage = 66
+refusal_number BadPlace = 67
+refusal_number WrongCount = 68
 
 abbrev pub refusal_name : Refusal → List ℕ
 refusal_name (Open refusal) = open_name refusal
@@ -75,3 +78,6 @@ refusal_name BadCue = codes "BadCue"
 refusal_name BadBext = codes "BadBext"
 refusal_name TextTooLong = codes "TextTooLong"
 refusal_name Pinned = codes "Pinned"
+refusal_name NoSuchStage = codes "NoSuchStage"
+refusal_name BadPlace = codes "BadPlace"
+refusal_name WrongCount = codes "WrongCount"

@@ -76,6 +76,12 @@ pub enum Refusal {
     TextTooLong,
     /// The file stays open, and is updated automatically, to the end of the script.
     Pinned,
+    /// A rack has more stages of a kind than were handed in.
+    NoSuchStage,
+    /// A map names a channel that does not reach it.
+    BadPlace,
+    /// There are other than one output for each channel.
+    WrongCount,
 }
 
 impl Refusal {
@@ -118,6 +124,9 @@ impl Refusal {
             Refusal::BadBext => 63,
             Refusal::TextTooLong => 64,
             Refusal::Pinned => 65,
+            Refusal::NoSuchStage => 66,
+            Refusal::BadPlace => 67,
+            Refusal::WrongCount => 68,
         }
     }
 
@@ -160,6 +169,9 @@ impl Refusal {
             Refusal::BadBext => "BadBext",
             Refusal::TextTooLong => "TextTooLong",
             Refusal::Pinned => "Pinned",
+            Refusal::NoSuchStage => "NoSuchStage",
+            Refusal::BadPlace => "BadPlace",
+            Refusal::WrongCount => "WrongCount",
         }
     }
 }

@@ -9,7 +9,7 @@ use Rattle.snd_layout.proofs.Public.{short_kind as short}
 use Rattle.snd_layout.specs.declared.kind.Kind.{Kind}
 use Rattle.snd_layout.specs.Names.{codec_name, kind_name, refusal_name as open_name}
 use Rattle.snd_lines.specs.declared.refusal.Refusal.{Refusal}
-use Rattle.snd_lines.specs.declared.refusal.Refusal.TheVariants.{Open, AdpcmUpdate, UnknownLength, PartFrame, SampleRange, SeekRange, TrailingData, ContainerFull, Straddle, FramesWritten, ReservedChunk, NoChunks, ChunkTooLarge, AutoOn, AdpcmSeek, NoSuchChunk, BadBlock, BadCommand, LineTooLong, NotOpen, AlreadyOpen, WrongMode, SameName, MixedParams, NotMono, UnknownSuffix, MissingFile, BadInfo, BadCue, BadBext, TextTooLong, Pinned, NoSuchTap, TapOn}
+use Rattle.snd_lines.specs.declared.refusal.Refusal.TheVariants.{Open, AdpcmUpdate, UnknownLength, PartFrame, SampleRange, SeekRange, TrailingData, ContainerFull, Straddle, FramesWritten, ReservedChunk, NoChunks, ChunkTooLarge, AutoOn, AdpcmSeek, NoSuchChunk, BadBlock, BadCommand, LineTooLong, NotOpen, AlreadyOpen, WrongMode, SameName, MixedParams, NotMono, UnknownSuffix, MissingFile, BadInfo, BadCue, BadBext, TextTooLong, Pinned, NoSuchTap, TapOn, NoSuchStage, BadPlace, WrongCount}
 use Rattle.snd_lines.specs.Refusals.{refusal_name}
 use Rattle.snd_taps.specs.Names.{tap_name}
 use Rattle.snd_taps.specs.declared.tap.TapKind.{TapKind}
@@ -87,6 +87,9 @@ short_refusal TextTooLong = lit≤ tt
 short_refusal Pinned = lit≤ tt
 short_refusal NoSuchTap = lit≤ tt
 short_refusal TapOn = lit≤ tt
+short_refusal NoSuchStage = lit≤ tt
+short_refusal BadPlace = lit≤ tt
+short_refusal WrongCount = lit≤ tt
 
 pub short_tap : (kind : TapKind) → length (tap_name kind) ≤ 6
 short_tap Peak = lit≤ tt
