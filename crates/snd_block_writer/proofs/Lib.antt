@@ -1,10 +1,11 @@
 pub mod Decoded
 pub mod Filling
 pub mod Given
-pub mod Parameters
-pub mod Partly
 pub mod Goods
 pub mod Kept
+pub mod Laws
+pub mod Parameters
+pub mod Partly
 pub mod Parts
 pub mod Putting
 pub mod Rules

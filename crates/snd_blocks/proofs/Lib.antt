@@ -1,8 +1,9 @@
 mod Parameters
 mod Places
-pub mod BlockFrames
 mod Kept
 mod ReadSpans
+mod Checked
+pub mod BlockFrames
 pub mod Counted
 pub mod Fetches
-mod Checked
+pub mod Laws

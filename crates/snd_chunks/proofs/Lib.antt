@@ -2,12 +2,13 @@ pub mod Blanks
 pub mod Bodies
 pub mod Chains
 pub mod ChunksOfBytes
+pub mod Formats
 pub mod HeadBytes
 pub mod Heads
+pub mod LateChunks
+pub mod Laws
+pub mod Opens
 pub mod PutChunks
 pub mod Stays
 pub mod Walks
 pub mod WrittenChunks
-pub mod LateChunks
-pub mod Opens
-pub mod Formats

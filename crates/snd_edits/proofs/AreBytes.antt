@@ -4,7 +4,7 @@ use Rattle.std.proofs.lemmas.Bool.{cond_both}
 use Rattle.std.proofs.lemmas.List.Elements.{All-append, All-drop, All-nil, All-replicate, All-take}
 use Rattle.std.specs.Prelude.{nat_le, nat_lt}
 use Rattle.snd_container.specs.Sound.{fixed_of}
-use Rattle.snd_container.proofs.EveryKind.{bytes}
+use Rattle.snd_container.proofs.Public.{bytes, count_of_bytes}
 use Rattle.snd_container.specs.Values.{closed_end, closing, inner_value, outer_value, side_value}
 use Rattle.snd_disk.specs.Bytes.{over}
 use Rattle.snd_fields.specs.Laws.{IsByte}
@@ -13,7 +13,6 @@ use Rattle.snd_layout.specs.Shape.{Shape, end}
 use Rattle.snd_layout.specs.declared.field.Field.{Field}
 use Rattle.snd_patch.specs.Sealed.{closed, over_closing, patched, sealed, shrunk, with_fewer, with_fields, with_inner, with_others}
 use Rattle.snd_layout.specs.Filled.{over_field}
-use Rattle.snd_container.proofs.FixedSamples.{count_of_bytes}
 use Rattle.snd_container.specs.declared.fixed.Fixed.{Fixed}
 use Rattle.snd_edits.specs.Editing.{Editing}
 use Rattle.snd_edits.specs.Edits.{closed_behind, coded, coded_as, count_written, cut_off, cut_to, over_data, sealed_to, sealed_where}

@@ -8,7 +8,7 @@ use Rattle.snd_blocks.specs.Sound.{frames_in}
 use Rattle.snd_container.specs.Fixed.{byte_count, samples}
 use Rattle.snd_container.specs.Sound.{fixed_of}
 use Rattle.snd_container.specs.declared.fixed.Fixed.{Fixed}
-use Rattle.snd_container.proofs.FixedSamples.{byte_count_pos, length-samples, samples_of_joined}
+use Rattle.snd_container.proofs.Public.{byte_count_pos, length-samples, samples_of_joined}
 use Rattle.snd_layout.specs.Blocks.{block_align, block_frames, is_adpcm}
 use Rattle.snd_layout.specs.Params.{Parameters}
 use Rattle.snd_layout.specs.Shape.{Shape}

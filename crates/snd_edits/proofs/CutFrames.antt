@@ -9,16 +9,14 @@ use Rattle.snd_blocks.specs.Sound.{decode, frames_in}
 use Rattle.snd_container.specs.Sound.{decoded, decoded_as, fixed_of, sound_bytes}
 use Rattle.snd_layout.specs.Container.{HasRoomFor}
 use Rattle.snd_disk.specs.Bytes.{over}
-use Rattle.snd_container.proofs.EveryKind.{free}
+use Rattle.snd_container.proofs.Public.{byte_count_pos, free, length-samples}
 use Rattle.snd_container.specs.Values.{closed_end, closing}
 use Rattle.snd_patch.specs.Sealed.{SameBesideFields, counted, over_closing, shrunk}
-use Rattle.snd_patch.proofs.Bytes.{take_before}
-use Rattle.snd_patch.proofs.Lists.{closing_same, shrunk_keeps}
+use Rattle.snd_patch.proofs.Laws.{closing_same, shrunk_keeps, take_before}
 use Rattle.snd_edits.specs.Edits.{cut_off}
 use Rattle.snd_pcm.specs.Groups.{first_groups}
 use Rattle.snd_container.specs.Fixed.{byte_count, samples}
 use Rattle.snd_container.specs.declared.fixed.Fixed.{Fixed}
-use Rattle.snd_container.proofs.FixedSamples.{byte_count_pos, length-samples}
 use Rattle.snd_edits.specs.Known.{Known}
 use Rattle.snd_edits.specs.WriteCalls.{known_cut, known_sealed}
 use Rattle.snd_edits.proofs.FixedFrames.{frames_fixed}

@@ -9,14 +9,13 @@ use Rattle.snd_layout.specs.Params.{Parameters, data_bytes}
 use Rattle.snd_layout.specs.Shape.{KeepsRule, Shape, end}
 use Rattle.snd_blocks.specs.Sound.{frames_in}
 use Rattle.snd_container.specs.Sound.{decoded, decoded_as, fixed_of, kept_as, kept_numbers, sound_bytes}
-use Rattle.snd_container.proofs.EveryKind.{free}
+use Rattle.snd_container.proofs.Public.{byte_count_pos, free, length-samples}
 use Rattle.snd_container.specs.Values.{closed_end}
 use Rattle.snd_patch.specs.Sealed.{SameBesideFields, counted, over_closing, sealed}
-use Rattle.snd_patch.proofs.Lists.{closing_same, sealed_keeps}
+use Rattle.snd_patch.proofs.Laws.{closing_same, sealed_keeps}
 use Rattle.snd_pcm.specs.Groups.{first_groups, groups}
 use Rattle.snd_container.specs.Fixed.{InRange, byte_count, kept_number, samples, samples_bytes}
 use Rattle.snd_container.specs.declared.fixed.Fixed.{Fixed}
-use Rattle.snd_container.proofs.FixedSamples.{byte_count_pos, length-samples}
 use Rattle.snd_pcm.proofs.Series.{length-first_groups}
 use Rattle.snd_edits.specs.Editing.{Editing}
 use Rattle.snd_edits.specs.Edits.{closed_behind, coded, count_written, over_data, put_frames, sealed_where, written_bytes, written_frames, written_shape}

@@ -3,7 +3,7 @@ use Rattle.std.proofs.Common.{◌≡◌, ◌⊎◌, ◌∙◌, ap, sym, subst, r
 use Rattle.std.specs.Prelude.{nat_lt}
 use Rattle.std.proofs.lemmas.Bool.{cases_Bool, cases_lt, cond_both, le-ltb, ltb-true}
 use Rattle.std.proofs.lemmas.List.{length-take}
-use Rattle.snd_container.proofs.EveryKind.{declares, outside, voice}
+use Rattle.snd_container.proofs.Public.{declares, outside, voice}
 use Rattle.snd_container.specs.Laws.{FileSays}
 use Rattle.snd_container.specs.Sound.{kept_numbers}
 use Rattle.snd_container.specs.Values.{closed_end, closing}
@@ -11,8 +11,7 @@ use Rattle.snd_disk.proofs.Public.{length-over}
 use Rattle.snd_layout.specs.Params.{AreParams, data_bytes}
 use Rattle.snd_layout.specs.Shape.{KeepsRule, Shape, end, room}
 use Rattle.snd_layout.specs.declared.kind.Kind.TheVariants.{Voc}
-use Rattle.snd_patch.proofs.Bytes.{over_beside}
-use Rattle.snd_patch.proofs.Lists.{shrunk_length}
+use Rattle.snd_patch.proofs.Laws.{over_beside, shrunk_length}
 use Rattle.snd_patch.specs.Sealed.{counted, over_closing, sealed, shrunk}
 use Rattle.snd_layout.specs.Container.{HasRoomFor, KeepsHead}
 use Rattle.snd_pcm.specs.Groups.{groups}

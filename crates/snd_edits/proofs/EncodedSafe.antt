@@ -6,13 +6,11 @@ use Rattle.std.proofs.lemmas.List.{length-append, places}
 use Rattle.std.proofs.lemmas.List.Elements.{All-take}
 use Rattle.snd_blocks.specs.Sound.{decode}
 use Rattle.snd_ima_adpcm.specs.Frames.{Is16Bit}
-use Rattle.snd_block_writer.proofs.Kept.{coded_are_bytes}
-use Rattle.snd_block_writer.proofs.Partly.{over_has}
-use Rattle.snd_block_writer.proofs.Standing.{coded_more}
+use Rattle.snd_block_writer.proofs.Laws.{coded_are_bytes, coded_more, over_has}
 use Rattle.snd_block_writer.specs.Coded.{block_numbers, coded, kept, whole, whole_blocks}
 use Rattle.snd_block_writer.specs.Puts.{IsPartly}
 use Rattle.snd_block_writer.specs.Writing.{given, more_bytes, padding}
-use Rattle.snd_container.proofs.EveryKind as every
+use Rattle.snd_container.proofs.Public as every
 use Rattle.snd_container.specs.Laws.{FileSays}
 use Rattle.snd_container.specs.Values.{closed_end, declared_end, inner_value, outer_reach, outer_value}
 use Rattle.snd_disk.proofs.Public.{length-over}

@@ -1,6 +1,6 @@
 -- What holds of the layout that a list of bytes says.
 use Rattle.std.proofs.Common.{◌≡◌, inl, ℕ, Bool, List, All}
-use Rattle.snd_container.proofs.EveryKind.{lies}
+use Rattle.snd_container.proofs.Public.{lies}
 use Rattle.snd_container.specs.Laws.{FileSays}
 use Rattle.snd_fields.specs.Laws.{IsByte}
 use Rattle.snd_layout.specs.Container.{LiesIn}

@@ -10,8 +10,7 @@ use Rattle.snd_layout.specs.declared.codec.Codec.{Codec}
 use Rattle.snd_container.specs.Fixed.{InRange, byte_count}
 use Rattle.snd_container.specs.Sound.{fixed_of}
 use Rattle.snd_container.specs.declared.fixed.Fixed.{Fixed}
-use Rattle.snd_container.proofs.FixedSamples.{byte_count_pos}
-use Rattle.snd_container.proofs.Sources.{length-sources, sources_fit, sources_written}
+use Rattle.snd_container.proofs.Public.{byte_count_pos, length-sources, sources_fit, sources_written}
 use Rattle.snd_edits.specs.Bytes.{AreWhole, sources_as, sources_in}
 use Rattle.snd_edits.specs.Edits.{coded, coded_as}
 use Rattle.snd_edits.specs.Reading.{FitCodec}

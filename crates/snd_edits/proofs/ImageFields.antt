@@ -1,8 +1,7 @@
 -- The fields of an image: old or new, each as a whole.
 use Rattle.std.proofs.Common.{◌≡◌, ◌⊎◌, ◌∙◌, inl, ℕ, ◌+◌, ◌<◌, ◌≤◌, List, Option, None, Some, length, get_or, arith}
 use Rattle.std.specs.Prelude.{IfSome}
-use Rattle.snd_container.proofs.EveryKind.{apart}
-use Rattle.snd_container.proofs.Widths.{inner_value_fits, outer_value_fits, side_value_fits}
+use Rattle.snd_container.proofs.Public.{apart, inner_value_fits, outer_value_fits, side_value_fits}
 use Rattle.snd_container.specs.Laws.{FileSays}
 use Rattle.snd_layout.specs.Container.{FitsField}
 use Rattle.snd_layout.specs.Filled.{over_field}
@@ -10,8 +9,7 @@ use Rattle.snd_container.specs.Values.{inner_value, outer_value, side_value}
 use Rattle.snd_disk.specs.Runs.{HasAt, IsInOneSector}
 use Rattle.snd_layout.specs.Shape.{EndsBy, KeepsRule, Shape}
 use Rattle.snd_layout.specs.declared.field.Field.{Field}
-use Rattle.snd_patch.proofs.Lists.{field_length}
-use Rattle.snd_patch.proofs.Wholes.{apart_back, put_new, then_new}
+use Rattle.snd_patch.proofs.Laws.{apart_back, field_length, put_new, then_new}
 use Rattle.snd_patch.specs.Images.{AllLieApart, HasNew, HasOld, IsOldOrNew}
 use Rattle.snd_patch.specs.Sealed.{with_fewer, with_others}
 

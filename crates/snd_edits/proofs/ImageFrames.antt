@@ -11,7 +11,7 @@ use Rattle.snd_layout.specs.Shape.{Shape, end}
 use Rattle.snd_pcm.specs.Groups.{first_groups}
 use Rattle.snd_container.specs.Fixed.{byte_count, samples}
 use Rattle.snd_container.specs.declared.fixed.Fixed.{Fixed}
-use Rattle.snd_container.proofs.FixedSamples.{byte_count_pos, length-samples, samples_of_mixed}
+use Rattle.snd_container.proofs.Public.{byte_count_pos, length-samples, samples_of_mixed}
 use Rattle.snd_edits.specs.Safe.{frame_at}
 use Rattle.snd_edits.proofs.Overwritten.{same_data}
 use Rattle.snd_edits.proofs.Sealing.{end_before, end_is}

@@ -2,7 +2,7 @@
 use Rattle.std.proofs.Common.{◌≡◌, ◌⊎◌, refl, sym, subst, inl, inr, ⊎_elim, ℕ, ◌+◌, ◌-◌, ◌/◌, ◌^◌, ◌<◌, ◌≤◌, Bool, true, false, ◌||◌, List, Option, None, Some, length, get_or, max, arith}
 use Rattle.std.proofs.lemmas.Bool.{and_parts, cases_Bool, cases_lt, eqb-true, leb-true, ltb-true}
 use Rattle.std.specs.Prelude.{IfSome, IsTrue, is_none, nat_le, nat_lt}
-use Rattle.snd_container.proofs.EveryKind.{apart, closes, fill, new, old, order, outside, reaches, stops, voice, within}
+use Rattle.snd_container.proofs.Public.{apart, closes, fill, new, old, order, outside, reaches, stops, voice, within}
 use Rattle.snd_container.specs.Laws.{FileSays}
 use Rattle.snd_container.specs.Values.{closed_end, declared_end, inner_value, outer_reach, outer_value}
 use Rattle.snd_layout.specs.Container.{HasRoomFor, KeepsHead, LiesIn, is_in, is_in_fields, is_in_some}

@@ -2,7 +2,7 @@
 use Rattle.std.proofs.Common.{◌≡◌, ◌⊎◌, ◌∙◌, ap, sym, subst, refl, inl, inr, ⊎_elim, ℕ, ◌≤◌, true, List, [], ◌∷◌, All, length, get_or, map}
 use Rattle.std.proofs.lemmas.Bool.{cases_Bool}
 use Rattle.std.proofs.lemmas.List.Elements.{All-head, All-tail}
-use Rattle.snd_container.proofs.EveryKind.{declares, pieces}
+use Rattle.snd_container.proofs.Public.{declares, pieces}
 use Rattle.snd_container.specs.Laws.{FileSays}
 use Rattle.snd_container.specs.Sound.{Kept, kept_of}
 use Rattle.snd_layout.specs.Container.{KeepsHead, SameBody}

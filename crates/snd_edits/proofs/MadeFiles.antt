@@ -1,12 +1,11 @@
 -- A file that is made is one that may be opened to be updated.
 use Rattle.std.proofs.Common.{◌≡◌, ◌∙◌, ap, sym, subst, refl, ⊎_elim, ◌≤◌, true, false, [], All, Option, None, Some, Ok, arith}
 use Rattle.std.specs.Prelude.{Result, is_none}
-use Rattle.snd_container.proofs.EveryKind.{made}
-use Rattle.snd_container.proofs.Public.{head_laws}
+use Rattle.snd_container.proofs.Public.{head_laws, made}
 use Rattle.snd_container.specs.Made.{new_file, new_shape}
 use Rattle.snd_container.specs.Sound.{fixed_of}
 use Rattle.snd_fields.specs.Laws.{IsByte}
-use Rattle.snd_block_writer.proofs.Parameters.{are_blocks}
+use Rattle.snd_block_writer.proofs.Laws.{are_blocks}
 use Rattle.snd_blocks.specs.Calls.{AreBlocks}
 use Rattle.snd_layout.specs.Blocks.{is_adpcm}
 use Rattle.snd_layout.specs.Fit.{fit_refusal}

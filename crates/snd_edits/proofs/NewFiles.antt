@@ -1,7 +1,7 @@
 -- What a file that is made says of itself.
 use Rattle.std.proofs.Common.{◌≡◌, ◌∙◌, ap, sym, subst, refl, ℕ, ◌+◌, ◌*◌, ◌^◌, ◌≤◌, true, false, [], Option, None, Some, Ok, Err, length, arith}
 use Rattle.std.specs.Prelude.{Result, is_none}
-use Rattle.snd_container.proofs.EveryKind.{lies, made}
+use Rattle.snd_container.proofs.Public.{lies, made}
 use Rattle.snd_container.specs.Made.{IsMakeCause, new_file, new_shape}
 use Rattle.snd_container.specs.Sound.{fixed_of}
 use Rattle.snd_layout.specs.Fit.{fit_refusal}

@@ -13,7 +13,7 @@ use Rattle.snd_layout.specs.Container.{is_in, is_in_fields, is_in_some}
 use Rattle.snd_pcm.specs.Groups.{first_groups}
 use Rattle.snd_container.specs.Fixed.{InRange, byte_count, kept_number, samples, samples_bytes}
 use Rattle.snd_container.specs.declared.fixed.Fixed.{Fixed}
-use Rattle.snd_container.proofs.FixedSamples.{count_of_bytes, samples_of_joined, numbers_are_kept, samples_of_parts, byte_count_pos, length-samples}
+use Rattle.snd_container.proofs.Public.{byte_count_pos, count_of_bytes, length-samples, numbers_are_kept, samples_of_joined, samples_of_parts}
 use Rattle.snd_pcm.proofs.Series.{length-first_groups}
 use Rattle.snd_edits.specs.Edits.{put_frames}
 use Rattle.snd_edits.proofs.SoundFrames.{front_of_groups, groups_of_front, groups_of_piece, rest_of_groups}

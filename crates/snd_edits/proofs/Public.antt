@@ -33,3 +33,5 @@ pub use Rattle.snd_edits.proofs.SafeWrites.{grown_safe, written_safe}
 pub use Rattle.snd_edits.proofs.SealedFrames.{sealed_closed, sealed_decoded, sealed_no_less}
 pub use Rattle.snd_edits.proofs.Sealing.{coded_is, end_before, end_is, ends_before, grown_is_sealed, length-coded, same_maps, still_kept_up}
 pub use Rattle.snd_edits.proofs.SoundFrames.{frame_bytes, frames_told, groups_of_front, groups_of_piece, linear_align, linear_bytes, linear_frames, span_fits}
+pub use Rattle.snd_edits.proofs.EncodedPlaces.{few_frames}
+pub use Rattle.snd_edits.proofs.GivenBytes.{few_frames as few_given_frames}

@@ -1,16 +1,15 @@
 -- What a crash leaves while frames are cut off is safe.
 use Rattle.std.proofs.Common.{◌≡◌, ◌⊎◌, ◌∙◌, ap, sym, ⊎_elim, ℕ, ◌*◌, ◌<◌, ◌≤◌, false, List, Some, length, take, get_or, refl, arith}
 use Rattle.std.proofs.Math.Nat.{mul-pos}
-use Rattle.snd_container.proofs.Widths.{inner_value_fits, outer_value_fits}
+use Rattle.snd_container.proofs.Public.{byte_count_pos, inner_value_fits, outer_value_fits}
 use Rattle.snd_layout.specs.Container.{KeepsHead}
 use Rattle.snd_container.specs.Values.{closed_end, declared_end, inner_value, outer_reach, outer_value}
 use Rattle.snd_container.specs.Sound.{decoded, fixed_of}
 use Rattle.snd_layout.specs.Params.{data_bytes}
 use Rattle.snd_layout.specs.Shape.{Shape, end}
-use Rattle.snd_patch.proofs.Images.{shrinks_from_to}
+use Rattle.snd_patch.proofs.Laws.{shrinks_from_to}
 use Rattle.snd_patch.specs.Images.{AllLieApart, HasNew, HasOld, IsCutting, IsShrinking}
 use Rattle.snd_patch.specs.Sealed.{SameBesideFields, with_fewer}
-use Rattle.snd_container.proofs.FixedSamples.{byte_count_pos}
 use Rattle.snd_container.specs.Fixed.{byte_count}
 use Rattle.snd_container.specs.declared.fixed.Fixed.{Fixed}
 use Rattle.snd_edits.specs.Editing.{Editing}

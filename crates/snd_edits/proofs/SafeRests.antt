@@ -2,16 +2,16 @@
 use Rattle.std.proofs.Common.{◌≡◌, ◌∙◌, ap, sym, subst, refl, inl, inr, ℕ, ◌+◌, ◌/◌, ◌^◌, ◌<◌, ◌≤◌, ℤ, Bool, true, false, cond, List, All, Option, None, Some, length, get_or, max, arith}
 use Rattle.std.proofs.lemmas.Bool.{cases_Bool, cond_both, ltb-true}
 use Rattle.std.specs.Prelude.{IfSome, IsTrue, is_none, nat_lt}
-use Rattle.snd_container.proofs.EveryKind as every
+use Rattle.snd_container.proofs.Public as every
 use Rattle.snd_container.specs.Laws.{FileSays}
-use Rattle.snd_container.proofs.Widths.{outer_value_fits}
+use Rattle.snd_container.proofs.Public.{outer_value_fits}
 use Rattle.snd_container.specs.Values.{closed_end, outer_value}
 use Rattle.snd_fields.specs.Laws.{IsByte}
 use Rattle.snd_layout.specs.Shape.{KeepsRule, Shape, end, is_outer_size}
 use Rattle.snd_layout.specs.declared.field.Field.{Field}
 use Rattle.snd_layout.specs.declared.kind.Kind.{Kind}
 use Rattle.snd_layout.specs.declared.kind.Kind.TheVariants.{Voc}
-use Rattle.snd_patch.proofs.Lists.{order_is_free, sealed_length, shrunk_length}
+use Rattle.snd_patch.proofs.Laws.{order_is_free, sealed_length, shrunk_length}
 use Rattle.snd_patch.specs.Images.{AllLieApart, HasNew, IsCutting}
 use Rattle.snd_patch.specs.Sealed.{closed, counted, sealed, sealed_size, shrunk, with_fewer}
 use Rattle.snd_edits.specs.Editing.{Editing}

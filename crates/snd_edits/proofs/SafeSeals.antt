@@ -2,13 +2,13 @@
 use Rattle.std.proofs.Common.{◌≡◌, ◌⊎◌, ◌∙◌, ap, sym, inl, inr, ⊎_elim, ℕ, ◌<◌, ◌≤◌, Bool, false, cond, List, IfSome, length, get_or, arith}
 use Rattle.std.proofs.lemmas.Bool.{cases_lt, lt-ltb}
 use Rattle.snd_blocks.specs.Sound.{decode}
-use Rattle.snd_container.proofs.EveryKind.{voice}
+use Rattle.snd_container.proofs.Public.{voice}
 use Rattle.snd_container.specs.Values.{closed_end, closing, declared_end, inner_value, outer_reach, outer_value}
 use Rattle.snd_disk.proofs.Public.{length-over}
 use Rattle.snd_layout.specs.Container.{KeepsHead, is_in_fields}
 use Rattle.snd_layout.specs.Params.{data_bytes}
 use Rattle.snd_layout.specs.Shape.{Shape, end}
-use Rattle.snd_patch.proofs.Behind.{closes_from_to}
+use Rattle.snd_patch.proofs.Laws.{closes_from_to}
 use Rattle.snd_patch.specs.Images.{HasNew, HasOld, IsClosing, IsCounting, IsCutting, IsGrowing, IsShrinking}
 use Rattle.snd_patch.specs.Sealed.{SameBesideFields, closed, over_closing}
 use Rattle.snd_edits.specs.Editing.{Editing}

@@ -1,17 +1,15 @@
 -- What a file says whose fields were brought up to a number of frames.
 use Rattle.std.proofs.Common.{◌≡◌, ◌∙◌, ap, sym, subst, ℕ, ◌+◌, ◌^◌, ◌<◌, ◌≤◌, Bool, true, false, cond, List, All, Some, length, get_or}
 use Rattle.std.specs.Prelude.{IfSome}
-use Rattle.snd_container.proofs.EveryKind.{free, new, reaches}
+use Rattle.snd_container.proofs.Public.{free, inner_value_fits, new, outer_value_fits, reaches}
 use Rattle.snd_container.specs.Laws.{FileSays}
-use Rattle.snd_container.proofs.Widths.{inner_value_fits, outer_value_fits}
 use Rattle.snd_layout.specs.Container.{HasRoomFor, KeepsHead, LiesIn, counted_shape}
 use Rattle.snd_container.specs.Values.{closed_end, inner_value, outer_reach, outer_value}
 use Rattle.snd_fields.specs.Laws.{IsByte}
 use Rattle.snd_layout.specs.Blocks.{is_adpcm}
 use Rattle.snd_layout.specs.Params.{data_bytes}
 use Rattle.snd_layout.specs.Shape.{KeepsRule, Shape, end}
-use Rattle.snd_patch.proofs.Images.{shrinks_from_to}
-use Rattle.snd_patch.proofs.Lists.{order_is_free}
+use Rattle.snd_patch.proofs.Laws.{order_is_free, shrinks_from_to}
 use Rattle.snd_patch.specs.Images.{AllLieApart, HasNew, IsShrinking}
 use Rattle.snd_patch.specs.Sealed.{counted, with_fewer, with_fields}
 use Rattle.snd_edits.proofs.FileRules.{lies_in}

@@ -13,7 +13,7 @@ use Rattle.snd_layout.specs.Filled.{over_field}
 use Rattle.snd_container.specs.Sound.{fixed_of}
 use Rattle.snd_container.specs.Fixed.{byte_count, samples_bytes}
 use Rattle.snd_container.specs.declared.fixed.Fixed.{Fixed}
-use Rattle.snd_container.proofs.FixedSamples.{count_of_bytes}
+use Rattle.snd_container.proofs.Public.{count_of_bytes}
 use Rattle.snd_edits.specs.Edits.{coded, coded_as}
 use Rattle.snd_edits.proofs.SoundFrames.{linear_bytes, span_fits}
 use Rattle.snd_edits.specs.Writing.{IsKeptUp, closed_size}

@@ -13,7 +13,7 @@ use Rattle.snd_pcm.specs.declared.linear.Linear as linear
 use Rattle.snd_container.specs.declared.fixed.Fixed as fixed
 use Rattle.snd_container.specs.declared.fixed.Fixed.{Fixed}
 use Rattle.snd_container.specs.declared.fixed.Fixed.TheVariants.{Linear}
-use Rattle.snd_container.proofs.FixedSamples.{samples_of_parts, byte_count_pos, length-samples}
+use Rattle.snd_container.proofs.Public.{byte_count_pos, length-samples, samples_of_parts}
 use Rattle.snd_pcm.proofs.Series.{length-first_groups}
 use Rattle.snd_container.specs.Sound.{decoded, decoded_as, fixed_of, sound_bytes}
 

@@ -8,11 +8,9 @@ use Rattle.snd_disk.specs.Device.{Tells}
 use Rattle.snd_disk.specs.Runs.{ComesFrom, HasAt, IsMade, IsSource, Since}
 use Rattle.snd_disk.specs.State.{State}
 use Rattle.snd_disk.specs.declared.disk.Disk.{Ghosts}
-use Rattle.snd_patch.proofs.Bytes.{over_beside}
-use Rattle.snd_patch.proofs.Moments.{leaves_by, leaves_made, leaves_then, leaves_weaker}
-use Rattle.snd_patch.proofs.Running.{still}
+use Rattle.snd_patch.proofs.Laws.{leaves_by, leaves_made, leaves_then, leaves_weaker, over_beside, still}
 use Rattle.snd_patch.specs.Images.{LeavesEach}
-use Rattle.snd_container.proofs.FixedSamples.{bytes_of_joined, count_of_bytes}
+use Rattle.snd_container.proofs.Public.{bytes_of_joined, count_of_bytes}
 use Rattle.snd_container.specs.Fixed.{byte_count, samples_bytes}
 use Rattle.snd_container.specs.declared.fixed.Fixed.{Fixed}
 use Rattle.snd_block_writer.specs.Puts.{IsPartly, LeavesPartly}

@@ -8,13 +8,12 @@ use Rattle.snd_disk.specs.Device.{GoesOnFrom, WritesAtMost}
 use Rattle.snd_disk.specs.Runs.{IsBeside}
 use Rattle.snd_disk.specs.State.{IsBetween, IsMeant, IsWritten, State}
 use Rattle.snd_disk.proofs.Public.{goes_on_then}
-use Rattle.snd_patch.proofs.Bytes.{mix_beside, over_beside}
-use Rattle.snd_patch.proofs.Updating.{told_between, told_mapped}
+use Rattle.snd_patch.proofs.Laws.{mix_beside, over_beside, told_between, told_mapped}
 use Rattle.snd_container.specs.Fixed.{byte_count, samples_bytes}
 use Rattle.snd_container.specs.declared.fixed.Fixed.{Fixed}
 use Rattle.snd_container.specs.declared.fixed.Fixed.TheVariants.{Linear, MuLaw, ALaw}
 use Rattle.snd_pcm.specs.Pcm.{samples_bytes as linear_bytes}
-use Rattle.snd_container.proofs.FixedSamples.{bytes_of_joined, count_of_bytes}
+use Rattle.snd_container.proofs.Public.{bytes_of_joined, count_of_bytes}
 use Rattle.snd_frames.specs.Writing.{PutsAt}
 
 -- ---- bytes put one behind the other

@@ -5,7 +5,7 @@ use Rattle.std.proofs.lemmas.List.{drop-drop, length-drop, length-take-le, nil_f
 use Rattle.std.proofs.lemmas.List.Elements.{All-append}
 use Rattle.std.proofs.lemmas.Slice.{take-put_mid}
 use borrow.Rule.Slice.PartMut.{put_mid}
-use Rattle.snd_container.proofs.FixedSamples.{samples_of_joined, byte_count_pos, length-samples}
+use Rattle.snd_container.proofs.Public.{byte_count_pos, length-samples, samples_of_joined}
 use Rattle.std.proofs.Math.Nat.{mul-div_cancel_left}
 use Rattle.snd_container.specs.Fixed.{byte_count, samples}
 use Rattle.snd_container.specs.declared.fixed.Fixed.{Fixed}

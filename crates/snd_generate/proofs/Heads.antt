@@ -1,8 +1,7 @@
 -- The head of the file: what it says, and its fields.
 use Rattle.std.proofs.Common.{◌≡◌, ◌∙◌, ap, sym, subst, refl, inr, ℕ, ◌+◌, ◌*◌, Bool, List, [], false, None, Ok, cond, length, arith}
 use Rattle.std.specs.Prelude.{IfSome, is_none}
-use Rattle.snd_container.proofs.EveryKind.{fill, free, made}
-use Rattle.snd_container.proofs.Public.{head_laws, wave_is_plain}
+use Rattle.snd_container.proofs.Public.{fill, free, head_laws, made, wave_is_plain}
 use Rattle.snd_container.specs.HeadLaws.{plain_wave}
 use Rattle.snd_container.specs.Laws.{FileSays}
 use Rattle.snd_container.specs.Sound.{fixed_of, layout_of}

@@ -1,6 +1,6 @@
 -- A file that is begun with a head: frames may be put behind those it has, which are none, where the head has room for them.
 use Rattle.std.proofs.Common.{◌≡◌, ◌∙◌, ap, sym, subst, ℕ, ◌+◌, [], false, None, arith}
-use Rattle.snd_container.proofs.EveryKind.{made}
+use Rattle.snd_container.proofs.Public.{made}
 use Rattle.snd_inputs.proofs.Rooms.{has_room}
 use Rattle.snd_inputs.specs.Rooms.{exceeds}
 use Rattle.snd_layout.specs.Blocks.{is_adpcm}
@@ -10,7 +10,7 @@ use Rattle.snd_layout.specs.Shape.{Shape, room}
 use Rattle.snd_layout.specs.declared.kind.Kind.{Kind}
 use Rattle.snd_edits.specs.Known.{IsFresh, Known}
 use Rattle.snd_edits.specs.Relaid.{shape_with}
-use Rattle.snd_output.proofs.Begun.{new_says}
+use Rattle.snd_output.proofs.Laws.{new_says}
 use Rattle.snd_output.specs.Appended.{HasRoom, IsAtEnd}
 
 -- what is begun has this kind, these parameters and no frames, and does not go on behind its data

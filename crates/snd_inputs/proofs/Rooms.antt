@@ -3,7 +3,7 @@ use Rattle.std.proofs.Common.{◌≡◌, ◌∙◌, ap, sym, inl, inr, ℕ, ◌+
 use Rattle.std.specs.Prelude.{◌&&◌, ◌||◌, nat_le, nat_lt}
 use Rattle.std.proofs.lemmas.Bool.{cases_Bool, cases_lt, le-leb, le-ltb, lt-leb, lt-ltb, ltb-false}
 use Rattle.std.specs.Int.{div_ceil}
-use Rattle.snd_container.proofs.Blocks.{rounded_up}
+use Rattle.snd_container.proofs.Public.{rounded_up}
 use Rattle.snd_layout.specs.Blocks.{block_align, block_frames, is_adpcm}
 use Rattle.snd_layout.specs.Fit.{fit_refusal}
 use Rattle.snd_layout.specs.Params.{AreParams, Parameters, data_bytes}

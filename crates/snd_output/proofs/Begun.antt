@@ -2,12 +2,11 @@
 use Rattle.std.proofs.Common.{◌≡◌, ◌∙◌, ap, sym, subst, refl, inr, ℕ, true, false, List, [], ◌++◌, Option, None, Some, Ok, Err, length, map, arith}
 use Rattle.std.specs.Prelude.{Result}
 use Rattle.std.proofs.lemmas.List.{append-nil}
-use Rattle.snd_container.proofs.EveryKind.{made}
+use Rattle.snd_container.proofs.Public.{head_laws, made}
 use Rattle.snd_container.specs.Made.{new_file, new_shape}
 use Rattle.snd_container.specs.Laws.{FileSays}
 use Rattle.snd_container.specs.Sound.{kept_of, layout_of}
-use Rattle.snd_block_writer.proofs.Parameters.{are_blocks}
-use Rattle.snd_block_writer.proofs.Standing.{none_coded}
+use Rattle.snd_block_writer.proofs.Laws.{are_blocks, none_coded}
 use Rattle.snd_layout.specs.Blocks.{is_adpcm}
 use Rattle.snd_layout.specs.Fit.{fit_refusal}
 use Rattle.snd_layout.specs.Params.{AreParams, Parameters}
@@ -22,7 +21,6 @@ use Rattle.snd_edits.specs.Edits.{coded}
 use Rattle.snd_edits.specs.Laws.{IsEdited, IsEncoded}
 use Rattle.snd_edits.specs.Making.{making_of}
 use Rattle.snd_edits.specs.Relaid.{head_with, shape_with}
-use Rattle.snd_container.proofs.Public.{head_laws}
 use Rattle.snd_layout.proofs.Public.{few_channels, is_held}
 use Rattle.snd_edits.proofs.Public.{is_fixed, made_is_edited, made_is_encoded, making_ok, making_refused, never_refused}
 use Rattle.snd_output.specs.declared.stop.Stop.{Stop}

@@ -5,9 +5,7 @@ use Rattle.std.proofs.lemmas.Bool.{cases_lt, le-ltb, lt-ltb}
 use Rattle.std.proofs.lemmas.List.{append-nil, drop_all, length-append, nil_from_length}
 use Rattle.snd_disk.proofs.Public.{length-over}
 use Rattle.snd_disk.specs.Bytes.{over}
-use Rattle.snd_container.proofs.EveryKind.{free}
-use Rattle.snd_container.proofs.FixedSamples.{bytes_of_joined, count_of_bytes}
-use Rattle.snd_container.proofs.Widths.{inner_value_fits, outer_value_fits, side_value_fits}
+use Rattle.snd_container.proofs.Public.{bytes_of_joined, count_of_bytes, free, inner_value_fits, outer_value_fits, side_value_fits}
 use Rattle.snd_container.specs.Fixed.{byte_count, samples_bytes}
 use Rattle.snd_container.specs.Sound.{fixed_of}
 use Rattle.snd_container.specs.Values.{closed_end, closing, inner_value, outer_value, side_value}

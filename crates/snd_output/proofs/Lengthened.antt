@@ -6,7 +6,7 @@ use Rattle.std.proofs.lemmas.List.{nil_from_length}
 use Rattle.std.proofs.lemmas.List.Elements.{All-append}
 use Rattle.snd_chunks.specs.Written.{NewChunk}
 use Rattle.snd_disk.specs.Bytes.{over}
-use Rattle.snd_container.proofs.EveryKind.{closes}
+use Rattle.snd_container.proofs.Public.{closes}
 use Rattle.snd_container.specs.Fixed.{InRange}
 use Rattle.snd_container.specs.Sound.{fixed_of}
 use Rattle.snd_container.specs.Values.{closed_end, closing}

@@ -6,6 +6,7 @@ pub mod Changing
 pub mod Encoding
 pub mod Finished
 pub mod Giving
+pub mod Laws
 pub mod Lengthened
 pub mod Likeness
 pub mod Lists

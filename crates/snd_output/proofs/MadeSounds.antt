@@ -5,7 +5,7 @@ use Rattle.std.proofs.lemmas.Bool.{cases_Bool}
 use Rattle.std.proofs.lemmas.List.{append_assoc, drop_at, take_at}
 use Rattle.snd_block_writer.specs.Coded.{kept}
 use Rattle.snd_chunks.specs.Written.{NewChunk}
-use Rattle.snd_container.proofs.FixedSamples.{numbers_are_kept}
+use Rattle.snd_container.proofs.Public.{numbers_are_kept}
 use Rattle.snd_container.specs.Sound.{Kept, Sound, decoded, decoded_as, fixed_of, kept_as, kept_numbers, kept_of, sound_bytes}
 use Rattle.snd_blocks.specs.Sound.{frames_in, sound_of}
 use Rattle.snd_container.specs.declared.fixed.Fixed.{Fixed}

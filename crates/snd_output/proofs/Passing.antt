@@ -14,8 +14,7 @@ use Rattle.snd_container.specs.Sound.{fixed_of}
 use Rattle.snd_container.specs.declared.fixed.Fixed as fixed
 use Rattle.snd_container.specs.declared.fixed.Fixed.{Fixed}
 use Rattle.snd_container.specs.declared.fixed.Fixed.TheVariants.{Linear}
-use Rattle.snd_container.proofs.FixedSamples.{byte_count_pos, count_of_bytes, length-samples, samples_of_parts}
-use Rattle.snd_container.proofs.Sources.{samples_fit, sources_written}
+use Rattle.snd_container.proofs.Public.{byte_count_pos, count_of_bytes, length-samples, samples_fit, samples_of_parts, sources_written}
 use Rattle.snd_edits.specs.Bytes.{AreWhole, numbers_as, numbers_in, sources_as, sources_in}
 use Rattle.snd_edits.specs.Calls.{ReadLeaves, count_read}
 use Rattle.snd_edits.specs.Editing.{Editing, frames_read}
@@ -30,8 +29,7 @@ use Rattle.snd_pcm.specs.Pcm.{bit_count}
 use Rattle.snd_pcm.specs.Width.{changed}
 use Rattle.snd_pcm.specs.declared.linear.Linear as linear
 use Rattle.snd_recode.specs.Recoded.{changed_all, recoded}
-use Rattle.snd_recode.proofs.Numbers.{all_same_width}
-use Rattle.snd_recode.proofs.Ranges.{recoded_fit}
+use Rattle.snd_recode.proofs.Laws.{all_same_width, recoded_fit}
 use Rattle.snd_output.specs.Appended.{HasRoom, IsAtEnd, MayAppend, MayGive, MayPass, Pass, bytes_in, coded_in, has_two_zeros, left_in, next_numbers}
 use Rattle.snd_output.specs.Widths.{change_numbers, width_of}
 use Rattle.snd_output.proofs.Appending.{block_numbers, count_fits, div_sum, room_fewer}

@@ -11,7 +11,7 @@ use Rattle.snd_layout.specs.declared.field.Field.{Field}
 use Rattle.snd_layout.specs.Container.{FitsField}
 use Rattle.snd_layout.specs.Filled.{over_field}
 use Rattle.snd_container.specs.Values.{inner_value, outer_value, side_value}
-use Rattle.snd_container.proofs.Widths.{inner_value_fits, outer_value_fits, side_value_fits}
+use Rattle.snd_container.proofs.Public.{inner_value_fits, outer_value_fits, side_value_fits}
 use Rattle.snd_patch.specs.Images.{AllLieApart, HasNew, HasOld, IsGrowing, IsShrinking, IsUpdating}
 use Rattle.snd_patch.specs.Laws.{CountsFromTo, GrowsFromTo, ShrinksFromTo}
 use Rattle.snd_patch.specs.Sealed.{held_field, held_others, with_fewer, with_fields, with_inner, with_others}

@@ -1,6 +1,7 @@
 pub mod Behind
 pub mod Bytes
 pub mod Images
+pub mod Laws
 pub mod Lists
 pub mod Moments
 pub mod Phases

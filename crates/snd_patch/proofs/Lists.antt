@@ -12,7 +12,7 @@ use Rattle.snd_layout.specs.declared.field.Field.{Field}
 use Rattle.snd_layout.specs.Container.{FitsField}
 use Rattle.snd_layout.specs.Filled.{over_field}
 use Rattle.snd_container.specs.Values.{closed_end, closing, inner_value, outer_value, side_value}
-use Rattle.snd_container.proofs.Widths.{inner_value_fits, outer_value_fits, side_value_fits}
+use Rattle.snd_container.proofs.Public.{inner_value_fits, outer_value_fits, side_value_fits}
 use Rattle.snd_patch.specs.Laws.{GrownKeeps, GrownLength, OrderIsFree, SealedKeeps, SealedLength, ShrunkKeeps, ShrunkLength}
 use Rattle.snd_patch.specs.Sealed.{LieApart, SameBesideFields, closed, over_closing, patched, with_fewer, with_fields, with_inner, with_others}
 use Rattle.snd_patch.specs.Steps.{IsFieldOf}

@@ -1,4 +1,5 @@
 mod Codes
 mod Loops
+pub mod Laws
 pub mod Numbers
 pub mod Ranges

@@ -7,6 +7,7 @@ pub mod HeadsOfBytes
 pub mod Images
 pub mod KeptHeads
 pub mod LateFiles
+pub mod Laws
 pub mod Layouts
 pub mod Lies
 pub mod Made

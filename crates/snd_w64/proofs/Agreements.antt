@@ -3,7 +3,7 @@ use Rattle.std.proofs.Common.{◌≡◌, ◌⊎◌, ℕ, ◌+◌, ◌-◌, ◌<�
 use Rattle.std.proofs.lemmas.Bool.{and_left, and_parts, and_right, cases_lt, le-leb, leb-true, le-ltb, lt-leb, lt-ltb, or_from}
 use Rattle.std.proofs.lemmas.Slice.Eq.{bytes_eq-Decides}
 use Rattle.std.specs.Prelude.{codes, nat_le, nat_lt}
-use Rattle.snd_chunks.proofs.Chains.{Reaches, find_has, reaches, same_part, walks}
+use Rattle.snd_chunks.proofs.Laws.{find_has, not_refused, Reaches, reaches, same_part, walks}
 use Rattle.snd_chunks.specs.declared.chunk.Chunk.{Chunk}
 use Rattle.snd_chunks.specs.declared.front.Ending.TheVariants.{AtSound}
 use Rattle.snd_chunks.specs.declared.front.Front.{Front}
@@ -15,7 +15,6 @@ use Rattle.snd_layout.specs.declared.field.Field.{Field}
 use Rattle.snd_chunks.specs.Parts.{body_of, fact_chunk, format_chunk, has_id, is_fact, reached}
 use Rattle.snd_w64.specs.Layout.{chunk_at, w64_front, w64_layout, w64_shape}
 use Rattle.snd_w64.proofs.Chains.{IsApart, IsBetween, IsHead, SameHead, SaysNext, StandsIn, apart, head_at, in_order, is_head, same_chain, say_next, stands_in}
-use Rattle.snd_chunks.proofs.Opens.{not_refused}
 use Rattle.snd_w64.proofs.Opens.{Opens, opened}
 
 -- a place that is not in a field lies before it or behind it

@@ -6,8 +6,7 @@ use Rattle.std.proofs.lemmas.List.Elements.{filter-append}
 use Rattle.std.proofs.lemmas.Slice.Eq.{bytes_eq-Decides}
 use Rattle.std.specs.List.{filter}
 use Rattle.std.specs.Prelude.{codes, nat_le, nat_lt}
-use Rattle.snd_chunks.proofs.Chains.{IsApart, IsBetween, IsHead, Reaches, StandsIn, apart, find_has, in_order, is_head, same_chain, same_part, stands_in, walks}
-use Rattle.snd_chunks.proofs.Chains.{SameHead as SameBytes}
+use Rattle.snd_chunks.proofs.Laws.{apart, find_has, in_order, is_head, IsApart, IsBetween, IsHead, not_refused, Reaches, same_chain, same_part, SameHead as SameBytes, stands_in, StandsIn, walks}
 use Rattle.snd_chunks.specs.declared.chunk.Chunk.{Chunk}
 use Rattle.snd_chunks.specs.declared.front.Ending.TheVariants.{AtSound}
 use Rattle.snd_chunks.specs.declared.front.Front.{Front}
@@ -23,7 +22,6 @@ use Rattle.snd_chunks.specs.Parts.{body_of, fact_chunk, format_chunk, front_refu
 use Rattle.snd_wave.specs.Layout.{is_own, piece_of, pieces_of, reserve_of, wave_front, wave_shape, wave_tail}
 use Rattle.snd_wave.proofs.LayoutFacts.{LayoutsAgree, SameButNumbers, SameHead, is_among, is_number}
 use Rattle.snd_wave.proofs.Counts.{reached}
-use Rattle.snd_chunks.proofs.Opens.{not_refused}
 use Rattle.snd_wave.proofs.Opens.{Opens, opened, opens}
 
 -- a place is not in the count of a `fact`

@@ -7,7 +7,7 @@ use Rattle.std.proofs.lemmas.List.{append-nil, length-map}
 use Rattle.std.proofs.lemmas.List.Elements.{All-weaker}
 use Rattle.snd_chunks.specs.Chunks.{padded_end}
 use Rattle.snd_chunks.specs.Written.{NewChunk, chunks_bytes, pad}
-use Rattle.snd_chunks.proofs.WrittenChunks.{length-all_placed, length-chunks_bytes}
+use Rattle.snd_chunks.proofs.Laws.{all_before, all_length, all_stand, blanks_keep, field_longer, length-all_placed, length-chunks_bytes, outlines_standing, over_within, same_length}
 use Rattle.snd_disk.specs.Bytes.{over}
 use Rattle.snd_disk.proofs.Public.{length-over}
 use Rattle.snd_fields.specs.declared.field.Order.TheVariants.{Little}
@@ -34,8 +34,6 @@ use Rattle.snd_wave.proofs.Made.{length-reserved_head, no_bytes_yet, reserved_he
 use Rattle.snd_wave.proofs.MadeParts.{reserved_holds_all}
 use Rattle.snd_wave.proofs.NewHeads.{reserved_with}
 use Rattle.snd_wave.proofs.Relaying.{length-joined}
-use Rattle.snd_chunks.proofs.Blanks.{all_before, all_length, all_stand, blanks_keep, outlines_standing, same_length}
-use Rattle.snd_chunks.proofs.HeadBytes.{field_longer, over_within}
 use Rattle.snd_wave.specs.Container.{wave as wave_container}
 use Rattle.snd_chunks.specs.HeadLaws.{IsPieceOf, KeepsHeadLaws, KeepsPieceLaws, SaysNone, with_values_of}
 

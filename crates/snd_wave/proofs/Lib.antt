@@ -2,7 +2,6 @@ pub mod Agreements
 pub mod ByteValues
 pub mod Changed
 pub mod Contained
-pub mod LateFiles
 pub mod Counted
 pub mod Counts
 pub mod HeadValues
@@ -10,6 +9,8 @@ pub mod HeadsOfBytes
 pub mod Images
 pub mod KeptHeads
 pub mod KeptPieces
+pub mod LateFiles
+pub mod Laws
 pub mod LayoutFacts
 pub mod Layouts
 pub mod Lies

@@ -8,8 +8,7 @@ use Rattle.std.proofs.lemmas.Nat.{div-add-mod', div-mul-add, div_below}
 use Rattle.std.specs.List.{filter, find}
 use Rattle.std.specs.Prelude.{◌==◌, codes, map, nat_le, option_map, if◌then◌else◌}
 use Rattle.snd_disk.specs.Runs.{HasAt}
-use Rattle.snd_chunks.proofs.Chains.{no_tail, walks}
-use Rattle.snd_chunks.proofs.WrittenChunks.{chain_written, has_body, has_first, has_left, has_number, has_others, has_part, has_right, head_written, length-all_placed, length-chunk_bytes, length-chunks_bytes, length-head_bytes}
+use Rattle.snd_chunks.proofs.Laws.{chain_written, has_body, has_first, has_left, has_number, has_others, has_part, has_right, head_written, length-all_placed, length-chunk_bytes, length-chunks_bytes, length-head_bytes, no_tail, refused, walks}
 use Rattle.snd_chunks.specs.declared.chunk.Chunk.{Chunk}
 use Rattle.snd_chunks.specs.declared.front.Ending.TheVariants.{AtSound}
 use Rattle.snd_chunks.specs.declared.front.Front.{Front}
@@ -36,7 +35,6 @@ use Rattle.snd_wave.specs.Layout.{data_end, is_own, outer_end, piece_of, pieces_
 use Rattle.snd_wave.specs.Values.{riff_size}
 use Rattle.snd_wave.specs.Written.{HeadHasItsSize, HeadReadsBack, MadeReadsBack, MayBePiece, MayBeReserved, MayReserve, ReservedHeadHasItsSize, ReservedHeadReadsBack, ReservedReadsBack, has_fact, head_for, head_size, inner_size, lead_end, lead_of, new_fact, new_format, reserved_chunks, reserved_filler, reserved_first, reserved_head, reserved_made, reserved_pieces, reserved_shape, reserved_size, reserved_start, riff_head}
 use Rattle.snd_wave.proofs.NewHeads.{all_precede, bytes-append, chunks_few, fact_bytes, format_size, lead_bytes, not_fact, reserved_with, size_is, size_least, start_is}
-use Rattle.snd_chunks.proofs.Opens.{refused}
 use Rattle.snd_wave.proofs.Opens.{Opens, opened}
 use Rattle.snd_wave.proofs.Shapes.{blocks_have_bytes}
 

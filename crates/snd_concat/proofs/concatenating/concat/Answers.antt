@@ -1,18 +1,14 @@
 use Rattle.std.proofs.Common.{◌≡◌, ◌∙◌, ◌++◌, ◌∷◌, [], ℕ, List, None, Some, Ok, arith, get_or, rules, ap, refl, subst, sym}
-use Rattle.snd_inputs.proofs.Asking.{asks_looks, both_then}
-use Rattle.snd_inputs.proofs.Between.{changes_after}
-use Rattle.snd_inputs.proofs.Lists.{same_inputs}
-use Rattle.snd_inputs.proofs.Reading.{reads_changes}
+use Rattle.snd_inputs.proofs.Laws.{asks_looks, both_then, changes_after, does_so, done_same, reads_changes, same_inputs}
 use Rattle.snd_inputs.specs.Inputs.{inputs_in}
 use Rattle.snd_inputs.specs.Looking.{seen_by}
 use Rattle.snd_lines.specs.declared.refusal.Refusal.TheVariants.{SameName}
-use Rattle.snd_output.proofs.Changing.{if_changed, unchanged_err}
+use Rattle.snd_output.proofs.Laws.{if_changed, unchanged_err}
 use Rattle.snd_tools.specs.Done.{Done, Said, files_after, said_of}
 use Rattle.snd_tools.specs.Shelves.{HasFiles}
 use Rattle.snd_words.specs.Repeats.{first_repeated}
 use Rattle.snd_concat.specs.Concat.{concatenated, done_if_apart, done_like, done_with}
 use Rattle.std.proofs.lemmas.Result.{IfOk-weaker}
-use Rattle.snd_inputs.proofs.Answering.{does_so, done_same}
 use Rattle.snd_concat.proofs.Doing.{done_over, seen_sound}
 use Rattle.snd_concat.proofs.Repeats.{apart_from, repeated_within}
 use Rattle.snd_concat.proofs.concatenating.concat.Goals as goal

@@ -1,6 +1,6 @@
 use Rattle.std.proofs.Common.{◌≡◌, ◌∙◌, ◌<◌, ℕ, List, [], true, false, None, Some, Ok, Err, length, get_or, slice_get, rules, arith, ap, refl, subst, sym}
 use Rattle.std.proofs.lemmas.List.{length-map}
-use Rattle.snd_inputs.proofs.Lists.{length-inputs}
+use Rattle.snd_inputs.proofs.Laws.{done_same, length-inputs, refused_as}
 use Rattle.snd_inputs.specs.Rooms.{is_full}
 use Rattle.snd_layout.specs.Shape.{Shape}
 use Rattle.snd_layout.specs.declared.kind.Kind.{Kind}
@@ -12,7 +12,6 @@ use Rattle.snd_tools.specs.Shelves.{HasFiles, IsDone}
 use Rattle.snd_concat.specs.Concat.{all_frames, done_if_alike, done_like, first_mixed, made_if_good, shapes_of}
 use Rattle.snd_concat.specs.Making.{MayJoin}
 use Rattle.std.proofs.lemmas.Result.{IfOk-weaker}
-use Rattle.snd_inputs.proofs.Answering.{done_same, refused_as}
 use Rattle.snd_inputs.specs.Inputs.{first_bad}
 use Rattle.snd_concat.proofs.Doing.{full_done, like_done, may_join, mixed_within, named, room_done, unfit_done}
 use Rattle.snd_concat.proofs.concatenating.concat_laid.Goals as goal

@@ -1,8 +1,6 @@
 use Rattle.std.proofs.Common.{◌≡◌, ◌∙◌, Ok, get_or, rules}
-use Rattle.snd_output.proofs.Changing.{if_changed, unchanged_as}
-use Rattle.snd_inputs.proofs.Asking.{asks_none, both_then}
-use Rattle.snd_inputs.proofs.Lists.{same_inputs}
-use Rattle.snd_inputs.proofs.Reading.{reads_then}
+use Rattle.snd_output.proofs.Laws.{if_changed, unchanged_as}
+use Rattle.snd_inputs.proofs.Laws.{asks_none, both_then, reads_then, same_inputs}
 use Rattle.snd_inputs.specs.Inputs.{inputs_in}
 use Rattle.std.proofs.lemmas.Result.{IfOk-weaker}
 use Rattle.snd_concat.proofs.make.make_apart.Goals as goal

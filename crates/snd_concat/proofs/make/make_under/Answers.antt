@@ -1,13 +1,10 @@
 use Rattle.std.proofs.Common.{◌≡◌, ◌∙◌, true, None, Ok, get_or, rules}
-use Rattle.snd_output.proofs.Changing.{if_changed, unchanged_as}
-use Rattle.snd_inputs.proofs.Asking.{asks_beside}
-use Rattle.snd_inputs.proofs.Between.{between_changes, between_files}
-use Rattle.snd_inputs.proofs.Lists.{same_inputs}
+use Rattle.snd_output.proofs.Laws.{if_changed, unchanged_as}
+use Rattle.snd_inputs.proofs.Laws.{asks_beside, between_changes, between_files, same_inputs, still_told}
 use Rattle.snd_inputs.specs.Inputs.{inputs_in}
-use Rattle.snd_tools.proofs.Names.{put_beside}
+use Rattle.snd_tools.proofs.Laws.{put_beside}
 use Rattle.snd_concat.specs.Making.{bytes_made}
 use Rattle.std.proofs.lemmas.Result.{IfOk-weaker}
-use Rattle.snd_inputs.proofs.Told.{still_told}
 use Rattle.snd_concat.proofs.make.make_under.Goals as goal
 
 pub returns-clause-made : goal.returns-clause-made

@@ -1,5 +1,5 @@
 use Rattle.std.proofs.Common.{rules, ◌≡◌, ◌∙◌, ap, sym, subst, ◌≤◌, Ok, Some, None, ℕ, List, [], option_map, arith}
-use Rattle.snd_container.proofs.EveryKind.{made as made_by}
+use Rattle.snd_container.proofs.Public.{made as made_by}
 use Rattle.std.specs.Global.{Box}
 use Rattle.snd_block_writer.specs.Writing.{StandsFor, Writing}
 use Rattle.snd_container.specs.Made.{new_file, new_shape}

@@ -1,6 +1,6 @@
 use Rattle.std.proofs.Common.{rules, ◌<◌, ◌^◌, length, arith}
 use Rattle.std.proofs.Math.Nat.{div-le_self}
-use Rattle.snd_edits.proofs.EncodedPlaces.{few_frames}
+use Rattle.snd_edits.proofs.Public.{few_frames}
 use Rattle.snd_frames.proofs.encoding.end_of_encode.Goals as goal
 
 pub overflow_add-end : goal.overflow_add-end

@@ -1,6 +1,6 @@
 use Rattle.std.proofs.Common.{◌<◌, ◌^◌, arith}
 use Rattle.std.proofs.Math.Nat.{div-le_self}
-use Rattle.snd_edits.proofs.GivenBytes.{few_frames}
+use Rattle.snd_edits.proofs.Public.{few_given_frames as few_frames}
 use Rattle.snd_frames.proofs.growth.end_of_write.Goals as goal
 
 pub overflow_add-end : goal.overflow_add-end

@@ -1,7 +1,7 @@
 use Rattle.std.proofs.Common.{◌≡◌, ◌*◌, ◌<◌, Some, sym, arith}
 use Rattle.std.proofs.lemmas.Bool.Decides.{nat_tests}
 use Rattle.snd_container.specs.Sound.{fixed_of}
-use Rattle.snd_container.proofs.FixedSamples.{byte_count_pos}
+use Rattle.snd_container.proofs.Public.{byte_count_pos}
 use Rattle.snd_edits.proofs.Public.{room_holds}
 use Rattle.snd_frames.proofs.growth.has_room.Goals as goal
 

@@ -1,5 +1,5 @@
 use Rattle.std.proofs.Common.{◌∙◌, ap, subst, ℕ, List, length}
-use Rattle.snd_container.proofs.FixedSamples.{count_of_bytes}
+use Rattle.snd_container.proofs.Public.{count_of_bytes}
 use Rattle.snd_block_writer.specs.Puts.{LeavesPartly}
 use Rattle.snd_frames.specs.Writing.{PutsAt}
 use Rattle.snd_frames.proofs.writes.write_block.Goals as goal

@@ -4,7 +4,7 @@ use Rattle.snd_disk.proofs.Public.{goes_on_then}
 use Rattle.snd_layout.specs.declared.codec.Codec.{Codec}
 use Rattle.snd_file.specs.Handle.{codec_of, disk_of, known_of}
 use Rattle.snd_layout.specs.Shape.{Shape}
-use Rattle.snd_output.proofs.Appending.{at_end_then, longer_as, longer_none, longer_then}
+use Rattle.snd_output.proofs.Laws.{at_end_then, changed_as, longer_as, longer_none, longer_then}
 use Rattle.snd_output.specs.Made.{IsMaking}
 use Rattle.snd_interleave.specs.Asking.{AsksEach, bytes_upto}
 use Rattle.snd_interleave.specs.Beside.{frames_from}
@@ -13,7 +13,6 @@ use Rattle.snd_interleave.specs.Interleave.{channels_in}
 use Rattle.snd_interleave.proofs.Adding.{numbers_on, room_on}
 use Rattle.snd_interleave.proofs.Asking.{each_none, each_once, each_then, ends_at}
 use Rattle.snd_interleave.proofs.Bad.{all_end}
-use Rattle.snd_output.proofs.Changing.{changed_as}
 use Rattle.snd_interleave.proofs.Counts.{adding_then, calm_itself, calm_then}
 use Rattle.snd_interleave.proofs.Inputs.{all_unread, hold_still, read_then, still_mono}
 use Rattle.snd_interleave.proofs.blocks.add_all.Goals as goal

@@ -2,13 +2,12 @@ use Rattle.std.proofs.Common.{rules, ◌≡◌, ◌∙◌, ◌/◌, ap, subst, �
 use Rattle.snd_layout.specs.declared.codec.Codec.{Codec}
 use Rattle.snd_file.specs.Handle.{channels_of, codec_of, known_of}
 use Rattle.snd_edits.specs.Reading.{FitCodec}
-use Rattle.snd_output.proofs.Appending.{frames_are, may_give}
+use Rattle.snd_output.proofs.Laws.{changed_as, frames_are, may_give}
 use Rattle.snd_output.specs.Made.{IsMaking}
 use Rattle.snd_interleave.specs.Beside.{frames_from}
 use Rattle.snd_interleave.specs.Interleave.{channels_in}
 use Rattle.snd_interleave.proofs.Adding.{block_count, given_so_many, given_works, some_channel}
 use Rattle.snd_interleave.proofs.Bad.{only_writes}
-use Rattle.snd_output.proofs.Changing.{changed_as}
 use Rattle.std.proofs.lemmas.Result.{on_ok_weaker}
 use Rattle.snd_interleave.proofs.blocks.add_block.Goals as goal
 

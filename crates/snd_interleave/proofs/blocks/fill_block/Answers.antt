@@ -1,6 +1,6 @@
 use Rattle.std.proofs.Common.{rules, ◌≡◌, ◌∙◌, refl, sym, subst, ℕ, ◌+◌, ◌<◌, ℤ, pos, List, get_or, length, set, Ok, Err, arith}
 use Rattle.std.proofs.lemmas.List.{get_or_default, length-map}
-use Rattle.snd_output.proofs.Ranges.{width_fits}
+use Rattle.snd_output.proofs.Laws.{changed_as, width_fits}
 use Rattle.snd_output.specs.Widths.{width_of}
 use Rattle.snd_recode.specs.Recoded.{changed_all}
 use Rattle.snd_pcm.specs.Width.{HasWidth, changed}
@@ -13,7 +13,6 @@ use Rattle.snd_interleave.proofs.Counts.{calm_itself, calm_then, counts_one, inp
 use Rattle.snd_interleave.proofs.Filling.{block_is, channel_is}
 use Rattle.snd_interleave.proofs.Frames.{each_place}
 use Rattle.snd_interleave.proofs.Bad.{one_bad}
-use Rattle.snd_output.proofs.Changing.{changed_as}
 use Rattle.snd_interleave.proofs.Inputs.{all_unread, hold_still, one_read, read_then, still_mono}
 use Rattle.snd_interleave.proofs.Numbers.{fit_more, numbers_more}
 use Rattle.snd_interleave.proofs.blocks.fill_block.Goals as goal

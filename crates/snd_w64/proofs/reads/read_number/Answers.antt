@@ -1,7 +1,6 @@
 use Rattle.std.proofs.Common.{◌∙◌, add-zero, refl}
-use Rattle.snd_chunks.proofs.Heads.{same_number}
+use Rattle.snd_chunks.proofs.Laws.{filled_agrees, same_number}
 use Rattle.snd_fields.specs.declared.field.Order.TheVariants.{Little}
-use Rattle.snd_chunks.proofs.Formats.{filled_agrees}
 use Rattle.snd_w64.proofs.reads.read_number.Goals as goal
 
 pub returns-clause-told : goal.returns-clause-told

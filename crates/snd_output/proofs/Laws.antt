@@ -1,0 +1,12 @@
+-- The laws of this crate that others may cite.
+pub use Rattle.snd_output.proofs.Appending.{at_end_then, count_fits, div_sum, frames_are, longer_as, longer_none, longer_then, may_give, moved_twice, none_left, read_twice, room_fewer, room_then, whole_places}
+pub use Rattle.snd_output.proofs.Begun.{begun_is_making, first_is_making, new_head, new_says}
+pub use Rattle.snd_output.proofs.Bytes.{closed_now, coded_data, coded_joined, fields_in_front}
+pub use Rattle.snd_output.proofs.Carried.{SaysOf, carried_is_making, laws_of, says_of}
+pub use Rattle.snd_output.proofs.Changing.{changed_as, changed_err, fault_only, if_changed, if_unchanged, never_is, unchanged_as, unchanged_err}
+pub use Rattle.snd_output.proofs.Finished.{rule, sealed_is_made}
+pub use Rattle.snd_output.proofs.Lengthened.{written_is_making}
+pub use Rattle.snd_output.proofs.Likeness.{like_is, same_channels}
+pub use Rattle.snd_output.proofs.MadeSounds.{frames_are as sound_frames_are}
+pub use Rattle.snd_output.proofs.Numbers.{joined_groups}
+pub use Rattle.snd_output.proofs.Ranges.{fits_width, width_fits}
