@@ -7,7 +7,7 @@ use Rattle.snd_app.specs.declared.look.Found.{Found}
 use Rattle.snd_output.specs.declared.stop.Stop.{Stop}
 use Rattle.snd_output.specs.declared.stop.Stop.TheVariants.{Changed, Fault, Memory}
 use Rattle.snd_output.specs.Ends.{CountsStop}
-use Rattle.snd_tools.proofs.Laws.{rises_with}
+use Rattle.snd_tools.proofs.Public.{rises_with}
 use Rattle.snd_app.specs.Outcome.{found_in, found_of}
 
 -- the file's bytes are the disk's

@@ -15,7 +15,7 @@ use Rattle.snd_pcm.specs.Groups.{first_groups, groups}
 use Rattle.snd_pcm.proofs.Series.{length-first_groups}
 use Rattle.snd_blocks.specs.Calls.{AreBlocks, HasForm}
 use Rattle.snd_blocks.specs.Frames.{block_samples, blocks_decoded, frames_of, has_bad, is_bad_block, is_bad_frame}
-use Rattle.snd_blocks.proofs.Laws.{count_frames, groups_joined, no_bad_groups}
+use Rattle.snd_blocks.proofs.Public.{count_frames, groups_joined, no_bad_groups}
 use Rattle.snd_block_writer.specs.Coded.{block_numbers}
 use Rattle.snd_block_writer.specs.Writing.{block_bytes, next_indices, rule_of}
 use Rattle.snd_block_writer.proofs.Goods.{AreIndices, good_ima, good_ms, indices_kept, samples_ima, samples_ms}

@@ -3,7 +3,7 @@ pub mod Filling
 pub mod Given
 pub mod Goods
 pub mod Kept
-pub mod Laws
+pub mod Public
 pub mod Parameters
 pub mod Partly
 pub mod Parts

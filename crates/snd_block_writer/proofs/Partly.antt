@@ -7,7 +7,7 @@ use Rattle.snd_disk.specs.Bytes.{over}
 use Rattle.snd_disk.specs.Device.{Tells}
 use Rattle.snd_disk.specs.Runs.{ComesFrom, HasAt, IsMade, IsSource, Since}
 use Rattle.snd_disk.specs.declared.disk.Disk.{Ghosts}
-use Rattle.snd_patch.proofs.Laws.{leaves_by, leaves_made, leaves_then, leaves_weaker, over_beside, still}
+use Rattle.snd_patch.proofs.Public.{leaves_by, leaves_made, leaves_then, leaves_weaker, over_beside, still}
 use Rattle.snd_block_writer.specs.Puts.{IsPartly, LeavesPartly}
 
 -- bytes are there where they were put

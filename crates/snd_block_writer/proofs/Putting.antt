@@ -7,7 +7,7 @@ use Rattle.snd_disk.specs.Device.{GoesOnFrom, WritesAtMost}
 use Rattle.snd_disk.specs.State.{IsBetween, IsMeant, IsWritten, State}
 use Rattle.snd_disk.specs.declared.disk.Disk.{Ghosts}
 use Rattle.snd_disk.proofs.Public.{goes_on_then}
-use Rattle.snd_patch.proofs.Laws.{mix_beside, over_beside, told_between, told_mapped}
+use Rattle.snd_patch.proofs.Public.{mix_beside, over_beside, told_between, told_mapped}
 use Rattle.snd_block_writer.specs.Puts.{LeavesPartly, Puts}
 use Rattle.snd_block_writer.proofs.Partly.{none_partly, partly_more, partly_then}
 

@@ -6,4 +6,4 @@ mod Checked
 pub mod BlockFrames
 pub mod Counted
 pub mod Fetches
-pub mod Laws
+pub mod Public

@@ -15,9 +15,9 @@ use Rattle.snd_layout.specs.Kinds.{holds_meta}
 use Rattle.snd_edits.specs.PieceCalls.{known_put}
 use Rattle.snd_container.specs.Put.{heads_for}
 use Rattle.snd_edits.specs.Relaid.{shape_put, shape_with}
-use Rattle.snd_chunks.proofs.Laws.{blanks_blanks, blanks_with}
+use Rattle.snd_chunks.proofs.Public.{blanks_blanks, blanks_with}
 use Rattle.snd_layout.proofs.Public.{meta_holds}
-use Rattle.snd_output.proofs.Laws.{laws_of, says_of}
+use Rattle.snd_output.proofs.Public.{laws_of, says_of}
 use Rattle.snd_carry.specs.Carrying.{known_with}
 
 -- the kind and the parameters of a file as it is made

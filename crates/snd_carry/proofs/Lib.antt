@@ -1,5 +1,5 @@
 pub mod Apart
 pub mod Heads
-pub mod Laws
+pub mod Public
 pub mod Steps
 pub mod Taken

@@ -29,7 +29,7 @@ use Rattle.snd_edits.specs.Pieces.{body_of}
 use Rattle.snd_edits.specs.Relaid.{added_to, head_with, pieces_held, shape_put, shape_with}
 use Rattle.snd_carry.specs.Carried.{carried_pieces}
 use Rattle.snd_output.specs.Made.{IsChunk, made_with}
-use Rattle.snd_output.proofs.Laws.{new_head, new_says, says_of}
+use Rattle.snd_output.proofs.Public.{new_head, new_says, says_of}
 use Rattle.snd_carry.specs.Carrying.{Carries, CarriesOne, HoldsChunk, HoldsChunks, HoldsOne, IsNewShape, known_with}
 use Rattle.snd_carry.proofs.Heads.{as_many, count_with, new_kind, new_params, put_behind, put_last}
 use Rattle.snd_carry.proofs.Taken.{few_carried}

@@ -7,7 +7,7 @@ use Rattle.std.proofs.lemmas.Option.{get_or_from_slice_get, slice_get_within}
 use Rattle.std.proofs.lemmas.Bool.{and_parts, leb-true, not-true}
 use Rattle.std.specs.List.{filter}
 use Rattle.std.specs.Prelude.{map, slice_get}
-use Rattle.snd_chunks.proofs.Laws.{length-chunk_bytes, length-chunks_bytes}
+use Rattle.snd_chunks.proofs.Public.{length-chunk_bytes, length-chunks_bytes}
 use Rattle.snd_chunks.specs.Written.{chunks_bytes}
 use Rattle.snd_disk.specs.State.{AtMost}
 use Rattle.snd_fields.specs.declared.field.Order.TheVariants.{Little}

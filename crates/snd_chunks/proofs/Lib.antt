@@ -6,7 +6,7 @@ pub mod Formats
 pub mod HeadBytes
 pub mod Heads
 pub mod LateChunks
-pub mod Laws
+pub mod Public
 pub mod Opens
 pub mod PutChunks
 pub mod Stays

@@ -16,9 +16,9 @@ use Rattle.snd_layout.specs.declared.refusal.OpenRefusal.{OpenRefusal}
 use Rattle.snd_lines.specs.declared.refusal.Refusal.{Refusal}
 use Rattle.snd_lines.specs.declared.refusal.Refusal.TheVariants.{ContainerFull, MissingFile, Open}
 use Rattle.snd_edits.specs.Editing.{Editing}
-use Rattle.snd_output.proofs.Laws.{like_is}
+use Rattle.snd_output.proofs.Public.{like_is}
 use Rattle.snd_output.specs.Codecs.{params_like}
-use Rattle.snd_tools.proofs.Laws.{after_same}
+use Rattle.snd_tools.proofs.Public.{after_same}
 use Rattle.snd_tools.specs.Done.{Done}
 use Rattle.snd_tools.specs.Shelves.{IsDone}
 use Rattle.snd_tools.specs.declared.answer.Answer.{Answer}

@@ -3,7 +3,7 @@ use Rattle.std.proofs.Common.{◌≡◌, ℕ, ◌+◌, ℤ, List, ◌++◌, drop
 use Rattle.std.proofs.lemmas.Bool.{and_parts, eqb-true}
 use Rattle.snd_disk.specs.declared.disk.Disk.{Ghosts}
 use Rattle.snd_disk.specs.State.{State}
-use Rattle.snd_inputs.proofs.Laws.{has_room}
+use Rattle.snd_inputs.proofs.Public.{has_room}
 use Rattle.snd_inputs.specs.Opening.{IsUnread}
 use Rattle.snd_layout.specs.Shape.{Shape, room}
 use Rattle.snd_file.specs.declared.handle.File.{File}
@@ -11,7 +11,7 @@ use Rattle.snd_edits.specs.declared.mode.Mode.{Ghosts as ModeGhosts}
 use Rattle.snd_edits.specs.Editing.{Editing}
 use Rattle.snd_edits.specs.Known.{Known}
 use Rattle.snd_file.specs.Handle.{Stands, codec_of}
-use Rattle.snd_output.proofs.Laws.{at_end_then}
+use Rattle.snd_output.proofs.Public.{at_end_then}
 use Rattle.snd_output.specs.Appended.{AppendLeaves, CountsEither, Gains, HasRoom, IsAtEnd, IsLonger, Lengthens, MayAppend, left_in, numbers_left}
 use Rattle.snd_output.specs.Made.{IsMaking}
 use Rattle.snd_output.specs.Widths.{change_numbers, joined}

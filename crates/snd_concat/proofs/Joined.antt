@@ -4,7 +4,7 @@ use Rattle.std.proofs.lemmas.List.{flat_map_more, length-map, map_more, take_mor
 use Rattle.std.proofs.lemmas.List.Sums.{sum_by_push, sum_by-take-le}
 use Rattle.std.proofs.lemmas.Option.{get_or_from_slice_get, slice_get-map, slice_get_within}
 use Rattle.snd_disk.specs.Shelf.{Files}
-use Rattle.snd_inputs.proofs.Laws.{exceeds_fewer, input_at}
+use Rattle.snd_inputs.proofs.Public.{exceeds_fewer, input_at}
 use Rattle.snd_inputs.specs.Inputs.{input_in, inputs_in}
 use Rattle.snd_inputs.specs.Rooms.{exceeds}
 use Rattle.snd_layout.specs.Blocks.{block_frames}

@@ -2,7 +2,7 @@
 use Rattle.std.proofs.Common.{◌≡◌, ℕ, ◌+◌, List, [], ◌++◌, All, None, Some, true, sym, ◌∙◌, ap, subst, arith}
 use Rattle.snd_disk.specs.Device.{Tells}
 use Rattle.snd_disk.specs.State.{State}
-use Rattle.snd_inputs.proofs.Laws.{begun_as, begun_at_end, IsBegun}
+use Rattle.snd_inputs.proofs.Public.{begun_as, begun_at_end, IsBegun}
 use Rattle.snd_inputs.specs.Rooms.{exceeds}
 use Rattle.snd_layout.specs.Fit.{fit_refusal}
 use Rattle.snd_layout.specs.Params.{AreParams, Parameters}

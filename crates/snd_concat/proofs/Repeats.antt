@@ -6,7 +6,7 @@ use Rattle.std.proofs.lemmas.List.{length-append, take-append-le, take_all}
 use Rattle.std.proofs.lemmas.List.Folds.{list_any_at}
 use Rattle.std.specs.List.{list_any, range_with_len}
 use Rattle.std.specs.Str.{bytes_eq}
-use Rattle.snd_tools.proofs.Laws.{apart_back}
+use Rattle.snd_tools.proofs.Public.{apart_back}
 use Rattle.snd_words.specs.Repeats.{first_repeated, is_repeated_at}
 use Rattle.snd_concat.specs.Making.{AllApart}
 

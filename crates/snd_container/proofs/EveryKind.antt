@@ -15,9 +15,9 @@ use Rattle.snd_container.specs.Laws.{FileSays, KeepAllLaws}
 use Rattle.snd_container.specs.Recognised.{recognised}
 use Rattle.snd_container.specs.Sound.{layout_as, layout_of}
 use Rattle.snd_container.specs.Values.{any}
-use Rattle.snd_wave.proofs.Laws.{keeps_laws as wave_laws}
+use Rattle.snd_wave.proofs.Public.{keeps_laws as wave_laws}
 use Rattle.snd_wave.specs.Written.{reserved_head, riff_head}
-use Rattle.snd_rf64.proofs.Laws.{keeps_laws as rf64_laws}
+use Rattle.snd_rf64.proofs.Public.{keeps_laws as rf64_laws}
 use Rattle.snd_rf64.specs.Written.{rf64_head, top as rf64_top}
 use Rattle.snd_w64.proofs.AllLaws.{keeps_laws as w64_laws}
 use Rattle.snd_w64.specs.Written.{w64_head}
@@ -25,7 +25,7 @@ use Rattle.snd_au.proofs.Made.{keeps_laws as au_laws}
 use Rattle.snd_au.specs.Written.{au_head}
 use Rattle.snd_voc.proofs.Kept.{keeps_laws as voc_laws}
 use Rattle.snd_voc.specs.Written.{voc_head, file_head as voc_file_head}
-use Rattle.snd_svx.proofs.Laws.{keeps_laws as svx_laws}
+use Rattle.snd_svx.proofs.Public.{keeps_laws as svx_laws}
 use Rattle.snd_svx.specs.Written.{head_for as svx_head_for}
 use Rattle.snd_sphere.proofs.AllLaws.{keeps_laws as sphere_laws}
 use Rattle.snd_sphere.specs.Written.{sphere_head}

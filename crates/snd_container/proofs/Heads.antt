@@ -7,13 +7,13 @@ use Rattle.snd_layout.specs.Params.{Parameters}
 use Rattle.snd_layout.specs.Shape.{Shape}
 use Rattle.snd_layout.specs.declared.kind.Kind.{Kind}
 use Rattle.snd_layout.specs.declared.kind.Kind.TheVariants.{Wave, Rf64, W64, Au, Dns, Voc, Svx, Sphere}
-use Rattle.snd_rf64.proofs.Laws as rf64
+use Rattle.snd_rf64.proofs.Public as rf64
 use Rattle.snd_rf64.specs.Put as rf64_put
 use Rattle.snd_rf64.specs.Written as rf64_written
-use Rattle.snd_svx.proofs.Laws as svx
+use Rattle.snd_svx.proofs.Public as svx
 use Rattle.snd_svx.specs.Written as svx_written
-use Rattle.snd_wave.proofs.Laws as wave
-use Rattle.snd_wave.proofs.Laws.{as_many}
+use Rattle.snd_wave.proofs.Public as wave
+use Rattle.snd_wave.proofs.Public.{as_many}
 use Rattle.snd_chunks.specs.Heads.{Heads, HoldsHeadIn, IsHeadIn, IsLayoutIn, PutsPieceIn, with_piece}
 use Rattle.snd_wave.specs.Put.{reserved_heads}
 use Rattle.snd_wave.specs.Relaid.{AreStanding}

@@ -15,14 +15,14 @@ use Rattle.snd_layout.specs.Shape.{Shape}
 use Rattle.snd_layout.specs.declared.kind.Kind.{Kind}
 use Rattle.snd_layout.specs.declared.piece.Piece.{Piece}
 use Rattle.snd_layout.specs.declared.kind.Kind.TheVariants.{Wave, Rf64, W64, Au, Dns, Voc, Svx, Sphere}
-use Rattle.snd_rf64.proofs.Laws.{keeps_head_laws as rf64_laws}
+use Rattle.snd_rf64.proofs.Public.{keeps_head_laws as rf64_laws}
 use Rattle.snd_rf64.specs.Written.{made_shape as rf64_shape, rf64_head, top}
 use Rattle.snd_sphere.specs.Written.{made_shape as sphere_shape}
-use Rattle.snd_svx.proofs.Laws.{keeps_head_laws as svx_laws}
+use Rattle.snd_svx.proofs.Public.{keeps_head_laws as svx_laws}
 use Rattle.snd_svx.specs.Written.{head_for as svx_head_for, svx_head}
 use Rattle.snd_voc.specs.Written.{made_shape as voc_shape}
 use Rattle.snd_w64.specs.Written.{made_shape as w64_shape}
-use Rattle.snd_wave.proofs.Laws.{keeps_head_laws as wave_laws, piece_laws as wave_piece_laws, plain_is}
+use Rattle.snd_wave.proofs.Public.{keeps_head_laws as wave_laws, piece_laws as wave_piece_laws, plain_is}
 use Rattle.snd_wave.specs.Written.{reserved_head, reserved_shape, riff_head, wave_head}
 use Rattle.snd_wave.specs.Put.{reserved_heads}
 use Rattle.snd_container.proofs.EveryKind.{known, of_kind}

@@ -7,7 +7,7 @@ use Rattle.snd_layout.specs.Params.{AreParams, Parameters}
 use Rattle.snd_layout.specs.Shape.{Shape}
 use Rattle.snd_layout.specs.declared.kind.Kind.{Kind}
 use Rattle.snd_layout.specs.declared.kind.Kind.TheVariants.{Wave, Rf64, W64, Au, Dns, Voc, Svx, Sphere}
-use Rattle.snd_wave.proofs.Laws.{head_laid}
+use Rattle.snd_wave.proofs.Public.{head_laid}
 use Rattle.snd_container.proofs.EveryKind.{laws_of}
 use Rattle.snd_container.proofs.Heads.{SaysKind, of_kind}
 use Rattle.snd_container.specs.Kinds.{container_of}

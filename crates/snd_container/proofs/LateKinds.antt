@@ -15,16 +15,16 @@ use Rattle.snd_container.specs.Kinds.{container_of}
 use Rattle.snd_container.specs.Late.{LateChunksReadBack}
 use Rattle.snd_container.specs.Recognised.{recognised}
 use Rattle.snd_container.specs.Values.{any}
-use Rattle.snd_rf64.proofs.Laws as rf64_late
-use Rattle.snd_rf64.proofs.Laws as rf64
+use Rattle.snd_rf64.proofs.Public as rf64_late
+use Rattle.snd_rf64.proofs.Public as rf64
 use Rattle.snd_rf64.specs.Put.{rf64_heads}
 use Rattle.snd_rf64.specs.Written as rf64_written
-use Rattle.snd_svx.proofs.Laws as svx_late
-use Rattle.snd_svx.proofs.Laws as svx
+use Rattle.snd_svx.proofs.Public as svx_late
+use Rattle.snd_svx.proofs.Public as svx
 use Rattle.snd_svx.specs.Put.{svx_heads}
 use Rattle.snd_svx.specs.Written as svx_written
-use Rattle.snd_wave.proofs.Laws as wave_late
-use Rattle.snd_wave.proofs.Laws as wave
+use Rattle.snd_wave.proofs.Public as wave_late
+use Rattle.snd_wave.proofs.Public as wave
 use Rattle.snd_wave.specs.Put.{reserved_heads}
 use Rattle.snd_wave.specs.Written.{MayBePiece, reserved_head, reserved_shape, riff_head}
 

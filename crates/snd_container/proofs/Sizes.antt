@@ -1,9 +1,9 @@
 -- The bytes of one chunk more.
 use Rattle.std.proofs.Common.{◌≡◌, ℕ, [], ◌∷◌, length, refl, arith}
-use Rattle.snd_chunks.proofs.Laws.{length-chunk_bytes, length-chunks_bytes}
+use Rattle.snd_chunks.proofs.Public.{length-chunk_bytes, length-chunks_bytes}
 use Rattle.snd_chunks.specs.Written.{chunks_bytes}
 use Rattle.snd_fields.specs.declared.field.Order.{Order}
-use Rattle.snd_wave.proofs.Laws.{length-joined}
+use Rattle.snd_wave.proofs.Public.{length-joined}
 use Rattle.snd_container.specs.Room.{AddsBytes, chunk_size}
 
 no_bytes : (order : Order) → length (chunks_bytes order []) ≡ 0

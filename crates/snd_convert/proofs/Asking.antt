@@ -1,7 +1,7 @@
 -- What is asked to convert a file, by the bytes that it has.
 use Rattle.std.proofs.Common.{◌≡◌, ◌∙◌, ap, subst, refl, ℕ, ◌+◌, ◌*◌, ◌≤◌, true, List, [], ◌∷◌, Option, None, Result, Ok, Err, Some, inl, inr, length, arith}
 use Rattle.std.proofs.lemmas.Bool.{and_parts, cases_Bool}
-use Rattle.snd_carry.proofs.Laws.{carried_fit}
+use Rattle.snd_carry.proofs.Public.{carried_fit}
 use Rattle.snd_carry.specs.Carried.{body_bytes, carried_pieces}
 use Rattle.snd_container.specs.Sound.{layout_of}
 use Rattle.snd_disk.specs.Device.{Tells}
@@ -9,7 +9,7 @@ use Rattle.snd_disk.specs.Shelf.{Files, Gives}
 use Rattle.snd_disk.specs.State.{Adds, AtMost}
 use Rattle.snd_disk.specs.declared.disk.Disk.{Ghosts}
 use Rattle.snd_disk.specs.declared.shelf.Shelf.{Ghosts as ShelfMeaning}
-use Rattle.snd_inputs.proofs.Laws.{bytes_within, whole_within}
+use Rattle.snd_inputs.proofs.Public.{bytes_within, whole_within}
 use Rattle.snd_inputs.specs.Asking.{AsksForFiles, size_of, sizes_of}
 use Rattle.snd_inputs.specs.Copying.{bytes_checked, bytes_to_copy}
 use Rattle.snd_inputs.specs.Opening.{IsOpen}

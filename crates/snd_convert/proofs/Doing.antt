@@ -4,14 +4,14 @@ use Rattle.std.proofs.lemmas.Bool.{cases_Bool}
 use Rattle.std.specs.Str.{bytes_eq}
 use Rattle.snd_disk.specs.Shelf.{Files, ShelfState, put}
 use Rattle.snd_inputs.specs.Inputs.{input_in, is_bad}
-use Rattle.snd_inputs.proofs.Laws.{read_as}
+use Rattle.snd_inputs.proofs.Public.{read_as}
 use Rattle.snd_layout.specs.Shape.{Shape}
 use Rattle.snd_layout.specs.declared.kind.Kind.{Kind}
 use Rattle.snd_layout.specs.declared.refusal.OpenRefusal.{OpenRefusal}
 use Rattle.snd_lines.specs.declared.refusal.Refusal.{Refusal}
 use Rattle.snd_lines.specs.declared.refusal.Refusal.TheVariants.{BadBlock, ContainerFull, SameName}
 use Rattle.snd_edits.specs.Editing.{Editing, first_editing, opening_of}
-use Rattle.snd_tools.proofs.Laws.{MakesOnly}
+use Rattle.snd_tools.proofs.Public.{MakesOnly}
 use Rattle.snd_tools.specs.Done.{Done, Said, files_after, said_of}
 use Rattle.snd_tools.specs.Shelves.{HasFiles}
 use Rattle.snd_words.specs.Asked.{Converting}

@@ -13,7 +13,7 @@ use Rattle.snd_layout.specs.Kinds.{holds_meta}
 use Rattle.snd_edits.specs.Making.{making_of}
 use Rattle.snd_edits.specs.Relaid.{shape_with}
 use Rattle.snd_chunks.specs.Heads.{outline}
-use Rattle.snd_output.proofs.Laws.{begun_is_making, carried_is_making, new_says, says_of}
+use Rattle.snd_output.proofs.Public.{begun_is_making, carried_is_making, new_says, says_of}
 use Rattle.snd_output.specs.Made.{AreChunks, IsMaking, made_with}
 use Rattle.snd_convert.specs.Convert.{carries, chunks_for}
 use Rattle.snd_convert.specs.Making.{known_filled}

@@ -3,7 +3,7 @@ use Rattle.std.proofs.Common.{◌≡◌, ℕ, List, [], ◌++◌, All, Bool, Non
 use Rattle.std.proofs.lemmas.Bool.{and_parts, cases_Bool}
 use Rattle.snd_carry.specs.Carried.{carried_pieces}
 use Rattle.snd_chunks.specs.Written.{NewChunk, chunks_bytes}
-use Rattle.snd_inputs.proofs.Laws.{begun_as, begun_at_end, begun_room, IsBegun}
+use Rattle.snd_inputs.proofs.Public.{begun_as, begun_at_end, begun_room, IsBegun}
 use Rattle.snd_inputs.specs.Opening.{IsUnread}
 use Rattle.snd_fields.specs.declared.field.Order.TheVariants.{Little}
 use Rattle.snd_layout.specs.Fit.{fit_refusal}
@@ -19,7 +19,7 @@ use Rattle.snd_edits.specs.Known.{IsFresh, Known}
 use Rattle.snd_layout.specs.Kinds.{holds_meta}
 use Rattle.snd_edits.specs.Relaid.{shape_with}
 use Rattle.snd_chunks.specs.Heads.{outline}
-use Rattle.snd_output.proofs.Laws.{says_of}
+use Rattle.snd_output.proofs.Public.{says_of}
 use Rattle.snd_output.specs.Appended.{HasRoom, MayAppend, left_in, numbers_left}
 use Rattle.snd_output.specs.Widths.{change_numbers, joined}
 use Rattle.snd_container.specs.Room.{Take}

@@ -12,7 +12,7 @@ use Rattle.snd_disk.specs.Bytes.{over}
 use Rattle.snd_container.proofs.Public.{byte_count_pos, free, length-samples}
 use Rattle.snd_container.specs.Values.{closed_end, closing}
 use Rattle.snd_patch.specs.Sealed.{SameBesideFields, counted, over_closing, shrunk}
-use Rattle.snd_patch.proofs.Laws.{closing_same, shrunk_keeps, take_before}
+use Rattle.snd_patch.proofs.Public.{closing_same, shrunk_keeps, take_before}
 use Rattle.snd_edits.specs.Edits.{cut_off}
 use Rattle.snd_pcm.specs.Groups.{first_groups}
 use Rattle.snd_container.specs.Fixed.{byte_count, samples}

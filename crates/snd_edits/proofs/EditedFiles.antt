@@ -14,7 +14,7 @@ use Rattle.snd_layout.specs.Shape.{KeepsRule, Shape, end, room}
 use Rattle.snd_layout.specs.declared.error.OpenError.{OpenError}
 use Rattle.snd_layout.specs.declared.kind.Kind.TheVariants.{Wave}
 use Rattle.snd_layout.specs.declared.refusal.OpenRefusal.{OpenRefusal}
-use Rattle.snd_patch.proofs.Laws.{closed_same, order_is_free, over_beside, sealed_keeps, sealed_length, shrunk_keeps, shrunk_length, take_before}
+use Rattle.snd_patch.proofs.Public.{closed_same, order_is_free, over_beside, sealed_keeps, sealed_length, shrunk_keeps, shrunk_length, take_before}
 use Rattle.snd_patch.specs.Sealed.{FieldsLieApart, closed, counted, over_closing, patched, sealed, shrunk, with_fewer, with_fields}
 use Rattle.snd_layout.specs.Container.{HasRoomFor, KeepsHead, LiesIn}
 use Rattle.snd_edits.specs.Editing.{Editing, first_editing, moved_to, opening_as, opening_of}

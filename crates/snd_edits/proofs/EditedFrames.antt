@@ -12,7 +12,7 @@ use Rattle.snd_container.specs.Sound.{decoded, decoded_as, fixed_of, kept_as, ke
 use Rattle.snd_container.proofs.Public.{byte_count_pos, free, length-samples}
 use Rattle.snd_container.specs.Values.{closed_end}
 use Rattle.snd_patch.specs.Sealed.{SameBesideFields, counted, over_closing, sealed}
-use Rattle.snd_patch.proofs.Laws.{closing_same, sealed_keeps}
+use Rattle.snd_patch.proofs.Public.{closing_same, sealed_keeps}
 use Rattle.snd_pcm.specs.Groups.{first_groups, groups}
 use Rattle.snd_container.specs.Fixed.{InRange, byte_count, kept_number, samples, samples_bytes}
 use Rattle.snd_container.specs.declared.fixed.Fixed.{Fixed}

@@ -11,7 +11,7 @@ use Rattle.snd_disk.proofs.Public.{length-over}
 use Rattle.snd_layout.specs.Params.{AreParams, data_bytes}
 use Rattle.snd_layout.specs.Shape.{KeepsRule, Shape, end, room}
 use Rattle.snd_layout.specs.declared.kind.Kind.TheVariants.{Voc}
-use Rattle.snd_patch.proofs.Laws.{over_beside, shrunk_length}
+use Rattle.snd_patch.proofs.Public.{over_beside, shrunk_length}
 use Rattle.snd_patch.specs.Sealed.{counted, over_closing, sealed, shrunk}
 use Rattle.snd_layout.specs.Container.{HasRoomFor, KeepsHead}
 use Rattle.snd_pcm.specs.Groups.{groups}

@@ -4,7 +4,7 @@ use Rattle.std.proofs.lemmas.Bool.{cond_both, cases_Bool, cases_lt}
 use Rattle.std.specs.Prelude.{nat_lt, is_none, is_some}
 use Rattle.snd_container.specs.Values.{closed_end, closing}
 use Rattle.snd_layout.specs.Shape.{Shape, end, KeepsRule, room}
-use Rattle.snd_patch.proofs.Laws.{over_beside, sealed_keeps}
+use Rattle.snd_patch.proofs.Public.{over_beside, sealed_keeps}
 use Rattle.snd_patch.specs.Images.{AllLieApart}
 use Rattle.snd_patch.specs.Sealed.{closed, over_closing, SameBesideFields, counted, sealed}
 use Rattle.std.specs.Global.{Box}
@@ -14,12 +14,12 @@ use Rattle.snd_disk.proofs.Public.{length-over}
 use Rattle.snd_disk.specs.Runs.{HasAt}
 use Rattle.snd_blocks.specs.Calls.{AreBlocks, HasForm}
 use Rattle.snd_blocks.specs.Sound.{frames_in}
-use Rattle.snd_blocks.proofs.Laws.{frames_are_in_blocks}
+use Rattle.snd_blocks.proofs.Public.{frames_are_in_blocks}
 use Rattle.snd_ima_adpcm.specs.Frames.{Is16Bit}
 use Rattle.std.proofs.lemmas.List.Elements.{All-nil}
 use Rattle.snd_block_writer.specs.Coded.{block_numbers, coded, kept, whole, whole_blocks}
 use Rattle.snd_block_writer.specs.Writing.{StandsFor, Writing, more_bytes, padding}
-use Rattle.snd_block_writer.proofs.Laws.{all_are_kept, coded_more, coded_padded, kept_is_read, length-whole, none_coded, over_has, padded, some_channel, whole_frames_are_kept}
+use Rattle.snd_block_writer.proofs.Public.{all_are_kept, coded_more, coded_padded, kept_is_read, length-whole, none_coded, over_has, padded, some_channel, whole_frames_are_kept}
 use Rattle.snd_layout.specs.Blocks.{block_align, block_frames, is_adpcm}
 use Rattle.snd_layout.specs.Params.{AreParams, Parameters, data_bytes}
 use Rattle.snd_container.specs.Sound.{fixed_of}

@@ -5,10 +5,10 @@ use Rattle.std.proofs.lemmas.Bool.{cases_lt}
 use Rattle.std.proofs.lemmas.List.{length-append}
 use Rattle.std.proofs.lemmas.List.Elements.{All-append}
 use Rattle.snd_ima_adpcm.specs.Frames.{Is16Bit}
-use Rattle.snd_blocks.proofs.Laws.{frames_are_in_blocks}
+use Rattle.snd_blocks.proofs.Public.{frames_are_in_blocks}
 use Rattle.snd_blocks.specs.Calls.{AreBlocks}
 use Rattle.snd_blocks.specs.Sound.{frames_in}
-use Rattle.snd_block_writer.proofs.Laws.{all_are_kept, coded_size, kept_is_read}
+use Rattle.snd_block_writer.proofs.Public.{all_are_kept, coded_size, kept_is_read}
 use Rattle.snd_block_writer.specs.Coded.{coded, kept, whole}
 use Rattle.snd_container.specs.Laws.{FileSays}
 use Rattle.snd_disk.proofs.Public.{length-over}
@@ -17,7 +17,7 @@ use Rattle.snd_layout.specs.Container.{HasRoomFor, KeepsHead}
 use Rattle.snd_layout.specs.Params.{data_bytes}
 use Rattle.snd_layout.specs.Shape.{KeepsRule, Shape, end, room}
 use Rattle.snd_layout.specs.declared.kind.Kind.TheVariants.{Wave}
-use Rattle.snd_patch.proofs.Laws.{over_beside}
+use Rattle.snd_patch.proofs.Public.{over_beside}
 use Rattle.snd_patch.specs.Sealed.{counted, sealed}
 use Rattle.snd_edits.specs.Editing.{Editing}
 use Rattle.snd_edits.specs.Edits.{automatic_to, sealed_where, written_shape}
@@ -31,7 +31,7 @@ use Rattle.snd_edits.proofs.EditedSteps.{more_frames}
 use Rattle.snd_edits.proofs.Encoded.{blocks_read, frames_of, frames_where, frames_whole, held_where, holds_sealed, in_blocks, whole_bytes, whole_even}
 use Rattle.snd_edits.proofs.EncodedPlaces.{data_more, may_encode, whole_least}
 use Rattle.snd_edits.proofs.EncodedState.{holds_where, whole_reaches}
-use Rattle.snd_chunks.proofs.Laws.{over_stays}
+use Rattle.snd_chunks.proofs.Public.{over_stays}
 use Rattle.snd_edits.proofs.Ranges.{are_16_bits}
 use Rattle.snd_edits.proofs.SealedFrames.{sealed_decoded}
 

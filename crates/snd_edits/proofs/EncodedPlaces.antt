@@ -4,7 +4,7 @@ use Rattle.std.specs.Prelude.{◌⊎◌, nat_le}
 use Rattle.std.proofs.lemmas.Bool.{and_parts}
 use Rattle.std.proofs.Math.Nat.{div-eq_of_lt-le, div-mul-le_self, le-div_iff_mul-le, lt-div-mul-add, mul-le-mul_left, mul-le-mul_right}
 use Rattle.snd_blocks.specs.Calls.{AreBlocks}
-use Rattle.snd_block_writer.proofs.Laws.{are_blocks}
+use Rattle.snd_block_writer.proofs.Public.{are_blocks}
 use Rattle.snd_block_writer.specs.Coded.{block_numbers}
 use Rattle.snd_block_writer.specs.Writing.{Writing, block_end, block_size, new_blocks, next_place, place_after}
 use Rattle.snd_layout.specs.Blocks.{block_align, block_frames, is_adpcm}

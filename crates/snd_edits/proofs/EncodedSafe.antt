@@ -6,7 +6,7 @@ use Rattle.std.proofs.lemmas.List.{length-append, places}
 use Rattle.std.proofs.lemmas.List.Elements.{All-take}
 use Rattle.snd_blocks.specs.Sound.{decode}
 use Rattle.snd_ima_adpcm.specs.Frames.{Is16Bit}
-use Rattle.snd_block_writer.proofs.Laws.{coded_are_bytes, coded_more, over_has}
+use Rattle.snd_block_writer.proofs.Public.{coded_are_bytes, coded_more, over_has}
 use Rattle.snd_block_writer.specs.Coded.{block_numbers, coded, kept, whole, whole_blocks}
 use Rattle.snd_block_writer.specs.Puts.{IsPartly}
 use Rattle.snd_block_writer.specs.Writing.{given, more_bytes, padding}

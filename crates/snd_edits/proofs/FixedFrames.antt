@@ -3,10 +3,10 @@ use Rattle.std.proofs.Common.{◌≡◌, ◌∙◌, ap, sym, inl, inr, refl, ℕ
 use Rattle.std.proofs.lemmas.Bool.{cases_Bool}
 use Rattle.std.proofs.Math.Nat.{mul-div-le, mul-div_cancel_left}
 use Rattle.std.specs.Prelude.{IfOk, Option, None, Some, Result, Ok, Err, is_none}
-use Rattle.snd_blocks.proofs.Laws.{counted, frames_are_in_blocks, no_bad_groups}
+use Rattle.snd_blocks.proofs.Public.{counted, frames_are_in_blocks, no_bad_groups}
 use Rattle.snd_blocks.specs.Frames.{HasBadFrame, HasFrames as BlocksHaveFrames, blocks_decoded, frames_in_blocks, has_bad}
 use Rattle.snd_blocks.specs.Sound.{decode, frames_in}
-use Rattle.snd_block_writer.proofs.Laws.{are_blocks}
+use Rattle.snd_block_writer.proofs.Public.{are_blocks}
 use Rattle.snd_container.specs.Fixed.{samples}
 use Rattle.snd_container.specs.Sound.{decoded, decoded_as, fixed_of, sound_bytes}
 use Rattle.snd_container.specs.declared.fixed.Fixed.{Fixed}

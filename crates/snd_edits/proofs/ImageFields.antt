@@ -9,7 +9,7 @@ use Rattle.snd_container.specs.Values.{inner_value, outer_value, side_value}
 use Rattle.snd_disk.specs.Runs.{HasAt, IsInOneSector}
 use Rattle.snd_layout.specs.Shape.{EndsBy, KeepsRule, Shape}
 use Rattle.snd_layout.specs.declared.field.Field.{Field}
-use Rattle.snd_patch.proofs.Laws.{apart_back, field_length, put_new, then_new}
+use Rattle.snd_patch.proofs.Public.{apart_back, field_length, put_new, then_new}
 use Rattle.snd_patch.specs.Images.{AllLieApart, HasNew, HasOld, IsOldOrNew}
 use Rattle.snd_patch.specs.Sealed.{with_fewer, with_others}
 

@@ -5,7 +5,7 @@ use Rattle.snd_container.proofs.Public.{head_laws, made}
 use Rattle.snd_container.specs.Made.{new_file, new_shape}
 use Rattle.snd_container.specs.Sound.{fixed_of}
 use Rattle.snd_fields.specs.Laws.{IsByte}
-use Rattle.snd_block_writer.proofs.Laws.{are_blocks}
+use Rattle.snd_block_writer.proofs.Public.{are_blocks}
 use Rattle.snd_blocks.specs.Calls.{AreBlocks}
 use Rattle.snd_layout.specs.Blocks.{is_adpcm}
 use Rattle.snd_layout.specs.Fit.{fit_refusal}

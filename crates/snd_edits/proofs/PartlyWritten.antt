@@ -9,7 +9,7 @@ use Rattle.snd_disk.proofs.Public.{length-over, byte_from}
 use Rattle.snd_disk.specs.Bytes.{over}
 use Rattle.snd_disk.specs.Runs.{ComesFrom, IsMade, IsSource}
 use Rattle.snd_layout.specs.Shape.{end}
-use Rattle.snd_patch.proofs.Laws.{over_beside}
+use Rattle.snd_patch.proofs.Public.{over_beside}
 use Rattle.snd_patch.specs.Sealed.{over_closing}
 use Rattle.snd_block_writer.specs.Puts.{IsPartly}
 use Rattle.snd_edits.specs.Editing.{Editing}

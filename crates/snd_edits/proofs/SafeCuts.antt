@@ -7,7 +7,7 @@ use Rattle.snd_container.specs.Values.{closed_end, declared_end, inner_value, ou
 use Rattle.snd_container.specs.Sound.{decoded, fixed_of}
 use Rattle.snd_layout.specs.Params.{data_bytes}
 use Rattle.snd_layout.specs.Shape.{Shape, end}
-use Rattle.snd_patch.proofs.Laws.{shrinks_from_to}
+use Rattle.snd_patch.proofs.Public.{shrinks_from_to}
 use Rattle.snd_patch.specs.Images.{AllLieApart, HasNew, HasOld, IsCutting, IsShrinking}
 use Rattle.snd_patch.specs.Sealed.{SameBesideFields, with_fewer}
 use Rattle.snd_container.specs.Fixed.{byte_count}

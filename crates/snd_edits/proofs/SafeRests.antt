@@ -11,7 +11,7 @@ use Rattle.snd_layout.specs.Shape.{KeepsRule, Shape, end, is_outer_size}
 use Rattle.snd_layout.specs.declared.field.Field.{Field}
 use Rattle.snd_layout.specs.declared.kind.Kind.{Kind}
 use Rattle.snd_layout.specs.declared.kind.Kind.TheVariants.{Voc}
-use Rattle.snd_patch.proofs.Laws.{order_is_free, sealed_length, shrunk_length}
+use Rattle.snd_patch.proofs.Public.{order_is_free, sealed_length, shrunk_length}
 use Rattle.snd_patch.specs.Images.{AllLieApart, HasNew, IsCutting}
 use Rattle.snd_patch.specs.Sealed.{closed, counted, sealed, sealed_size, shrunk, with_fewer}
 use Rattle.snd_edits.specs.Editing.{Editing}

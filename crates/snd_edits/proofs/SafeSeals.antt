@@ -8,7 +8,7 @@ use Rattle.snd_disk.proofs.Public.{length-over}
 use Rattle.snd_layout.specs.Container.{KeepsHead, is_in_fields}
 use Rattle.snd_layout.specs.Params.{data_bytes}
 use Rattle.snd_layout.specs.Shape.{Shape, end}
-use Rattle.snd_patch.proofs.Laws.{closes_from_to}
+use Rattle.snd_patch.proofs.Public.{closes_from_to}
 use Rattle.snd_patch.specs.Images.{HasNew, HasOld, IsClosing, IsCounting, IsCutting, IsGrowing, IsShrinking}
 use Rattle.snd_patch.specs.Sealed.{SameBesideFields, closed, over_closing}
 use Rattle.snd_edits.specs.Editing.{Editing}

@@ -6,7 +6,7 @@ use Rattle.snd_layout.specs.Shape.{KeepsRule, Shape, end}
 use Rattle.snd_blocks.specs.Sound.{decode, frames_in}
 use Rattle.snd_patch.specs.Sealed.{counted, sealed, sealed_size}
 use Rattle.snd_container.specs.Values.{closed_end}
-use Rattle.snd_patch.proofs.Laws.{sealed_keeps}
+use Rattle.snd_patch.proofs.Public.{sealed_keeps}
 use Rattle.snd_edits.proofs.EditedFrames.{closed_counted}
 use Rattle.snd_edits.proofs.Overwritten.{data_stay}
 

@@ -9,7 +9,7 @@ use Rattle.snd_fields.specs.Laws.{IsByte}
 use Rattle.snd_layout.specs.Blocks.{is_adpcm}
 use Rattle.snd_layout.specs.Params.{data_bytes}
 use Rattle.snd_layout.specs.Shape.{KeepsRule, Shape, end}
-use Rattle.snd_patch.proofs.Laws.{order_is_free, shrinks_from_to}
+use Rattle.snd_patch.proofs.Public.{order_is_free, shrinks_from_to}
 use Rattle.snd_patch.specs.Images.{AllLieApart, HasNew, IsShrinking}
 use Rattle.snd_patch.specs.Sealed.{counted, with_fewer, with_fields}
 use Rattle.snd_edits.proofs.FileRules.{lies_in}

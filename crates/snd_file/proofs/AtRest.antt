@@ -4,7 +4,7 @@ use Rattle.std.specs.Prelude.{Result}
 use Rattle.snd_disk.specs.Device.{IsStable}
 use Rattle.snd_disk.specs.declared.disk.Disk.{Ghosts}
 use Rattle.snd_layout.specs.Shape.{Shape}
-use Rattle.snd_patch.proofs.Laws.{leaves_weaker}
+use Rattle.snd_patch.proofs.Public.{leaves_weaker}
 use Rattle.snd_patch.specs.Images.{LeavesEach}
 use Rattle.snd_disk.proofs.Public.{same_some}
 use Rattle.snd_file.specs.declared.handle.File.{File}

@@ -13,7 +13,7 @@ use Rattle.snd_edits.specs.Edits.{closed_behind, coded, count_written, cut_off, 
 use Rattle.snd_file.specs.Heads.{HasHead}
 use Rattle.snd_layout.specs.Kinds.{holds_pieces}
 use Rattle.snd_edits.specs.Writing.{closed_size}
-use Rattle.snd_chunks.proofs.Laws.{option_same, over_nothing}
+use Rattle.snd_chunks.proofs.Public.{option_same, over_nothing}
 use Rattle.snd_file.proofs.KindHeads.{bare_head, head_same}
 use Rattle.snd_file.proofs.HeadLaws.{IsBareHead}
 

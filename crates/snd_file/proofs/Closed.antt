@@ -20,7 +20,7 @@ use Rattle.snd_edits.specs.Encoding.{over_blocks}
 use Rattle.snd_frames.specs.Encoding.{HoldsClosed as HoldsSealed}
 use Rattle.snd_file.specs.Handle.{Stands, disk_of, known_of, writer_of}
 use Rattle.snd_edits.proofs.Public.{frames_of, whole_bytes}
-use Rattle.snd_chunks.proofs.Laws.{over_stays}
+use Rattle.snd_chunks.proofs.Public.{over_stays}
 
 -- of others it is sealed
 pub closed_by_hand : {D M : Type 0} {ghosts : Ghosts D} {mode : ModeGhosts M} (state : D → State) (file : File D M ghosts mode) (disk : D) → mode.ENCODES ≡ false → HoldsClosed state file disk

@@ -7,7 +7,7 @@ use Rattle.snd_block_writer.specs.Writing.{Writing}
 use Rattle.snd_disk.specs.Device.{IsStable}
 use Rattle.snd_disk.specs.declared.disk.Disk.{Ghosts}
 use Rattle.snd_layout.specs.Shape.{Shape}
-use Rattle.snd_patch.proofs.Laws.{leaves_weaker}
+use Rattle.snd_patch.proofs.Public.{leaves_weaker}
 use Rattle.snd_patch.specs.Images.{LeavesEach}
 use Rattle.snd_edits.specs.declared.error.WriteError.{WriteError}
 use Rattle.snd_edits.specs.declared.error.WriteError.TheVariants as write

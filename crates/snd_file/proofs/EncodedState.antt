@@ -8,7 +8,7 @@ use Rattle.snd_ima_adpcm.specs.Frames.{Is16Bit}
 use Rattle.snd_block_writer.specs.Calls.{TakesMore}
 use Rattle.snd_block_writer.specs.Coded.{coded, whole}
 use Rattle.snd_block_writer.specs.Writing.{StandsFor, Writing}
-use Rattle.snd_block_writer.proofs.Laws.{all_are_kept}
+use Rattle.snd_block_writer.proofs.Public.{all_are_kept}
 use Rattle.snd_disk.specs.State.{State}
 use Rattle.snd_disk.specs.declared.disk.Disk.{Ghosts}
 use Rattle.snd_layout.specs.Shape.{KeepsRule, Shape, end}
@@ -22,7 +22,7 @@ use Rattle.snd_edits.specs.Known.{Known}
 use Rattle.snd_file.specs.Handle.{Stands, disk_of, known_of, writer_of}
 use Rattle.snd_edits.specs.WriteCalls.{end_written}
 use Rattle.snd_edits.proofs.Public.{blocks_read_where, frames_of, frames_where, frames_whole, given_where, held_where, whole_bytes}
-use Rattle.snd_chunks.proofs.Laws.{over_stays}
+use Rattle.snd_chunks.proofs.Public.{over_stays}
 
 pub record TakesOn {D M : Type 0} {ghosts : Ghosts D} {mode : ModeGhosts M} (state : D → State) (old new : File D M ghosts mode) (xs : List ℤ) (to : ℕ) (w w' : Box Writing) : Type 0 where
   pub encodes : mode.ENCODES ≡ true

@@ -11,7 +11,7 @@ use Rattle.snd_layout.specs.declared.kind.Kind.{Kind}
 use Rattle.snd_patch.specs.Sealed.{with_fields}
 use Rattle.snd_chunks.specs.HeadLaws.{KeepsPieceLaws, SaysNone}
 use Rattle.snd_chunks.specs.Heads.{Heads, IsHeadIn, blank, blanks, chunk_read, outline, with_piece}
-use Rattle.snd_chunks.proofs.Laws.{blanks_blanks, blanks_with}
+use Rattle.snd_chunks.proofs.Public.{blanks_blanks, blanks_with}
 
 -- a layout without frames, whose disk holds nothing but the head, with the fields of no frames
 pub record IsBareHead (disk : State) (h : Shape) : Type 0 where

@@ -10,7 +10,7 @@ use Rattle.snd_fields.specs.Laws.{IsByte}
 use Rattle.snd_layout.specs.Shape.{Shape}
 use Rattle.snd_layout.specs.declared.error.OpenError.{OpenError}
 use Rattle.snd_layout.specs.declared.kind.Kind.TheVariants.{Voc}
-use Rattle.snd_patch.proofs.Laws.{leaves_by, leaves_then, leaves_weaker, stable_start_closes, still}
+use Rattle.snd_patch.proofs.Public.{leaves_by, leaves_then, leaves_weaker, stable_start_closes, still}
 use Rattle.snd_patch.specs.Images.{IsCounting, IsCutting, IsShrinking, LeavesCutting, LeavesEach, LeavesSealing, LeavesShrinking, held_closing}
 use Rattle.snd_patch.specs.Sealed.{closed, with_fewer}
 use Rattle.snd_file.specs.declared.handle.File.{File}

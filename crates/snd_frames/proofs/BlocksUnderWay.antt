@@ -5,7 +5,7 @@ use Rattle.std.proofs.lemmas.Bool.{cases_Bool}
 use Rattle.std.proofs.lemmas.List.{length-append}
 use Rattle.std.proofs.lemmas.List.Elements.{All-cons, All-nil}
 use Rattle.std.specs.Prelude.{nat_lt}
-use Rattle.snd_block_writer.proofs.Laws.{coded_more, coded_size, has_back, over_has, place_coded, stands_more}
+use Rattle.snd_block_writer.proofs.Public.{coded_more, coded_size, has_back, over_has, place_coded, stands_more}
 use Rattle.snd_block_writer.specs.Coded.{coded, whole}
 use Rattle.snd_block_writer.specs.Puts.{IsPartly, LeavesPartly, Puts}
 use Rattle.snd_block_writer.specs.Writing.{StandsFor, Writing, given_more, more_bytes, next_place, padding}
@@ -17,7 +17,7 @@ use Rattle.snd_disk.specs.Runs.{HasAt, IsMade}
 use Rattle.snd_disk.specs.declared.disk.Disk.{Ghosts}
 use Rattle.snd_layout.specs.Params.{data_bytes}
 use Rattle.snd_layout.specs.Shape.{Shape}
-use Rattle.snd_patch.proofs.Laws.{closed_missing, leaves_then, leaves_weaker}
+use Rattle.snd_patch.proofs.Public.{closed_missing, leaves_then, leaves_weaker}
 use Rattle.snd_patch.specs.Images.{AllLieApart, IsCounting, LeavesEach, LeavesSealing, held_closing}
 use Rattle.snd_patch.specs.Sealed.{closed, over_closing}
 use Rattle.snd_edits.specs.Encoding.{over_blocks, whole_frames}

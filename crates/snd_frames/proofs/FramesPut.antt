@@ -8,7 +8,7 @@ use Rattle.snd_disk.specs.Device.{IsStable, Tells}
 use Rattle.snd_disk.specs.Runs.{HasAt}
 use Rattle.snd_disk.specs.declared.disk.Disk.{Ghosts}
 use Rattle.snd_layout.specs.Shape.{Shape, end}
-use Rattle.snd_patch.proofs.Laws.{leaves_then, leaves_weaker, over_beside}
+use Rattle.snd_patch.proofs.Public.{leaves_then, leaves_weaker, over_beside}
 use Rattle.snd_patch.specs.Images.{AllLieApart, IsGrowing, LeavesEach}
 use Rattle.snd_patch.specs.Sealed.{over_closing}
 use Rattle.snd_block_writer.specs.Puts.{IsPartly, LeavesPartly}

@@ -8,7 +8,7 @@ use Rattle.snd_disk.specs.Device.{Tells}
 use Rattle.snd_disk.specs.Runs.{ComesFrom, HasAt, IsMade, IsSource, Since}
 use Rattle.snd_disk.specs.State.{State}
 use Rattle.snd_disk.specs.declared.disk.Disk.{Ghosts}
-use Rattle.snd_patch.proofs.Laws.{leaves_by, leaves_made, leaves_then, leaves_weaker, over_beside, still}
+use Rattle.snd_patch.proofs.Public.{leaves_by, leaves_made, leaves_then, leaves_weaker, over_beside, still}
 use Rattle.snd_patch.specs.Images.{LeavesEach}
 use Rattle.snd_container.proofs.Public.{bytes_of_joined, count_of_bytes}
 use Rattle.snd_container.specs.Fixed.{byte_count, samples_bytes}

@@ -8,7 +8,7 @@ use Rattle.snd_disk.specs.Device.{GoesOnFrom, WritesAtMost}
 use Rattle.snd_disk.specs.Runs.{IsBeside}
 use Rattle.snd_disk.specs.State.{IsBetween, IsMeant, IsWritten, State}
 use Rattle.snd_disk.proofs.Public.{goes_on_then}
-use Rattle.snd_patch.proofs.Laws.{mix_beside, over_beside, told_between, told_mapped}
+use Rattle.snd_patch.proofs.Public.{mix_beside, over_beside, told_between, told_mapped}
 use Rattle.snd_container.specs.Fixed.{byte_count, samples_bytes}
 use Rattle.snd_container.specs.declared.fixed.Fixed.{Fixed}
 use Rattle.snd_container.specs.declared.fixed.Fixed.TheVariants.{Linear, MuLaw, ALaw}

@@ -9,9 +9,9 @@ use Rattle.snd_layout.specs.declared.kind.Kind.TheVariants.{Wave}
 use Rattle.snd_edits.proofs.Public.{counted_rule, fields_lie_apart, sealed_is}
 use Rattle.snd_edits.specs.Editing.{Editing}
 use Rattle.snd_edits.specs.Edits.{coded, put_frames}
-use Rattle.snd_output.proofs.Laws.{closed_now, coded_data, coded_joined, fields_in_front, rule}
+use Rattle.snd_output.proofs.Public.{closed_now, coded_data, coded_joined, fields_in_front, rule}
 use Rattle.snd_output.specs.Made.{IsMaking, frame_count}
-use Rattle.snd_patch.proofs.Laws.{order_is_free}
+use Rattle.snd_patch.proofs.Public.{order_is_free}
 use Rattle.snd_patch.specs.Sealed.{FieldsLieApart, closed, over_closing, sealed, shrunk, with_fields}
 use Rattle.snd_generate.specs.Edited.{file_of, params}
 use Rattle.snd_generate.specs.Steps.{shape_of}

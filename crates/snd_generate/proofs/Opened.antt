@@ -16,7 +16,7 @@ use Rattle.snd_edits.specs.Edits.{sealed_to, written_to}
 use Rattle.snd_edits.specs.Laws.{OpensAgain, as_opened, going_on}
 use Rattle.snd_edits.specs.Updating.{updating_of}
 use Rattle.snd_edits.specs.WriteCalls.{MayWrite, end_written}
-use Rattle.snd_output.proofs.Laws.{first_is_making, sound_frames_are as frames_are, sealed_is_made, width_fits, written_is_making}
+use Rattle.snd_output.proofs.Public.{first_is_making, sound_frames_are as frames_are, sealed_is_made, width_fits, written_is_making}
 use Rattle.snd_output.specs.Made.{IsMaking}
 use Rattle.snd_patch.specs.Sealed.{counted}
 use Rattle.snd_pcm.specs.Groups.{groups}

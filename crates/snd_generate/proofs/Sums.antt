@@ -5,7 +5,7 @@ use Rattle.std.proofs.lemmas.Int.{ints}
 use Rattle.std.proofs.lemmas.List.{length-take-le, places, same_lists, take_all}
 use Rattle.std.proofs.lemmas.List.Elements.{All-weaker}
 use Rattle.std.proofs.lemmas.List.Sums.{fold-append, sum_by-le}
-use Rattle.snd_output.proofs.Laws.{joined_groups}
+use Rattle.snd_output.proofs.Public.{joined_groups}
 use Rattle.snd_pcm.proofs.Series.{length-first_groups}
 use Rattle.snd_pcm.specs.Groups.{first_groups, groups}
 use Rattle.snd_pcm.specs.Width.{HasWidth}

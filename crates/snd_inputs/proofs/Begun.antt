@@ -10,7 +10,7 @@ use Rattle.snd_layout.specs.Shape.{Shape, room}
 use Rattle.snd_layout.specs.declared.kind.Kind.{Kind}
 use Rattle.snd_edits.specs.Known.{IsFresh, Known}
 use Rattle.snd_edits.specs.Relaid.{shape_with}
-use Rattle.snd_output.proofs.Laws.{new_says}
+use Rattle.snd_output.proofs.Public.{new_says}
 use Rattle.snd_output.specs.Appended.{HasRoom, IsAtEnd}
 
 -- what is begun has this kind, these parameters and no frames, and does not go on behind its data

@@ -9,7 +9,7 @@ use Rattle.snd_disk.specs.declared.shelf.Shelf.{Ghosts as ShelfMeaning}
 use Rattle.snd_disk.specs.Device.{GoesOnFrom}
 use Rattle.snd_disk.specs.Shelf.{Files, Gives, Takes, put}
 use Rattle.snd_disk.specs.Shelves.{HandsOut, KeepsOthers, TakesBack, TellsFiles}
-use Rattle.snd_tools.proofs.Laws.{given_files, put_at, put_beside, some_of}
+use Rattle.snd_tools.proofs.Public.{given_files, put_at, put_beside, some_of}
 use Rattle.snd_tools.specs.Shelves.{ChangesOne, HasFiles}
 use Rattle.snd_inputs.specs.Looking.{ReadsFiles}
 

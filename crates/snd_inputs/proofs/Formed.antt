@@ -1,6 +1,6 @@
 -- The blocks of a file that is opened have the form of their codec.
 use Rattle.std.proofs.Common.{◌≡◌, true, None}
-use Rattle.snd_block_writer.proofs.Laws.{are_blocks}
+use Rattle.snd_block_writer.proofs.Public.{are_blocks}
 use Rattle.snd_blocks.specs.Calls.{AreBlocks}
 use Rattle.snd_layout.proofs.Public.{few_channels, is_held}
 use Rattle.snd_layout.specs.Blocks.{is_adpcm}

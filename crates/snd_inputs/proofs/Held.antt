@@ -11,7 +11,7 @@ use Rattle.snd_disk.specs.State.{Adds}
 use Rattle.snd_output.specs.declared.stop.Stop.{Stop}
 use Rattle.snd_output.specs.declared.stop.Stop.TheVariants.{Changed, Fault, Memory}
 use Rattle.snd_output.specs.Ends.{CountsOneOf, CountsStop}
-use Rattle.snd_tools.proofs.Laws.{counts_back, counts_given, held_changes, held_files, MakesOnly}
+use Rattle.snd_tools.proofs.Public.{counts_back, counts_given, held_changes, held_files, MakesOnly}
 use Rattle.snd_tools.specs.Done.{Done, files_after}
 use Rattle.snd_tools.specs.Shelves.{ChangesOne, CountsOneOf as CountsOne, HasFiles}
 use Rattle.snd_inputs.specs.Looking.{ReadsFiles}

@@ -7,7 +7,7 @@ pub mod Copying
 pub mod DataBytes
 pub mod Formed
 pub mod Held
-pub mod Laws
+pub mod Public
 pub mod Lists
 pub mod Reading
 pub mod Rooms

@@ -7,7 +7,7 @@ use Rattle.snd_disk.specs.Device.{OnlyReadsOn}
 use Rattle.snd_disk.specs.Shelf.{Files, Gives, KeepsBytes, SameFiles, ShelfState, Stays, Takes, put}
 use Rattle.snd_disk.specs.Shelves.{HandsOut, HandsOutNone, KeepsOthers, TakesBack, TellsFiles}
 use Rattle.snd_disk.specs.State.{State}
-use Rattle.snd_tools.proofs.Laws.{kept_changes}
+use Rattle.snd_tools.proofs.Public.{kept_changes}
 use Rattle.snd_tools.specs.Shelves.{ChangesOne}
 use Rattle.snd_inputs.specs.Looking.{ReadsFiles}
 

@@ -13,7 +13,7 @@ use Rattle.snd_layout.specs.declared.codec.Codec.TheVariants.{Ima, Ms}
 use Rattle.snd_layout.specs.declared.refusal.OpenRefusal.{OpenRefusal}
 use Rattle.snd_edits.proofs.Public.{is_fixed}
 use Rattle.snd_edits.specs.Editing.{Editing, first_editing, opening_of}
-use Rattle.snd_output.proofs.Laws.{div_sum}
+use Rattle.snd_output.proofs.Public.{div_sum}
 use Rattle.snd_inputs.proofs.DataBytes.{align_bytes}
 use Rattle.snd_inputs.proofs.Formed.{keeps_blocks}
 use Rattle.snd_inputs.specs.Asking.{bytes_read, has_blocks, size_of}

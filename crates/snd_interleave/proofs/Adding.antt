@@ -3,7 +3,7 @@ use Rattle.std.proofs.Common.{◌≡◌, ◌∙◌, ap, sym, ℕ, ◌+◌, ◌*�
 use Rattle.std.proofs.lemmas.List.{append_assoc}
 use Rattle.snd_layout.specs.Blocks.{block_frames}
 use Rattle.snd_edits.specs.Known.{Known}
-use Rattle.snd_output.proofs.Laws.{longer_as, room_fewer, room_then}
+use Rattle.snd_output.proofs.Public.{longer_as, room_fewer, room_then}
 use Rattle.snd_output.specs.Appended.{CountsFault, GiveLeaves, HasRoom, IsAtEnd, IsLonger}
 use Rattle.snd_output.specs.Ends.{BreaksByFault}
 use Rattle.snd_output.specs.declared.stop.Stop.{Stop}

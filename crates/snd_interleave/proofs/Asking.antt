@@ -9,7 +9,7 @@ use Rattle.snd_disk.specs.declared.shelf.Shelf.{Ghosts as ShelfMeaning}
 use Rattle.snd_disk.specs.Device.{Tells}
 use Rattle.snd_disk.specs.Shelf.{Gives, ShelfState}
 use Rattle.snd_disk.specs.State.{Adds, AtMost, State}
-use Rattle.snd_inputs.proofs.Laws.{asks_beside, asks_less, whole_within}
+use Rattle.snd_inputs.proofs.Public.{asks_beside, asks_less, whole_within}
 use Rattle.snd_inputs.specs.Asking.{AsksForEach, size_of}
 use Rattle.snd_inputs.specs.Copying.{bytes_checked}
 use Rattle.snd_inputs.specs.Looking.{AsksToLook}
@@ -21,7 +21,7 @@ use Rattle.snd_layout.specs.Shape.{Shape, end}
 use Rattle.snd_edits.specs.Calls.{count_read}
 use Rattle.snd_edits.specs.Known.{Known}
 use Rattle.snd_edits.specs.Reading.{bytes_to_read}
-use Rattle.snd_output.proofs.Laws.{div_sum}
+use Rattle.snd_output.proofs.Public.{div_sum}
 use Rattle.snd_words.proofs.Runs.{drop_get}
 use Rattle.snd_interleave.specs.Asking.{AsksEach, AsksFirst, AsksInput, AsksOnce, AsksWhole, asked_of, bytes_copied, bytes_from, bytes_upto, bytes_whole}
 use Rattle.snd_interleave.specs.Channels.{AreMono, ReadAll}

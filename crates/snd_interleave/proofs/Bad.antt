@@ -3,7 +3,7 @@ use Rattle.std.proofs.Common.{◌≡◌, ◌∙◌, sym, subst, ℕ, zero, suc, 
 use Rattle.std.proofs.lemmas.List.Quantifiers.{position-Some}
 use Rattle.snd_disk.specs.declared.disk.Disk.{Ghosts}
 use Rattle.snd_disk.specs.State.{State}
-use Rattle.snd_inputs.proofs.Laws.{none_bad}
+use Rattle.snd_inputs.proofs.Public.{none_bad}
 use Rattle.snd_inputs.specs.Inputs.{first_bad, is_bad}
 use Rattle.snd_inputs.specs.Opening.{Holds}
 use Rattle.snd_inputs.specs.declared.input.Input.{Input}

@@ -11,7 +11,7 @@ use Rattle.snd_edits.specs.Known.{Known}
 use Rattle.snd_output.specs.Ends.{BreaksByFault, CountsStop}
 use Rattle.snd_output.specs.declared.stop.Stop.{Stop}
 use Rattle.snd_output.specs.declared.stop.Stop.TheVariants.{Changed, Fault, Memory}
-use Rattle.snd_tools.proofs.Laws.{rises_on, rises_with}
+use Rattle.snd_tools.proofs.Public.{rises_on, rises_with}
 use Rattle.snd_interleave.specs.Channels.{AreCalm, AreLater, CountsInputs, CountsWith, OneRises, faults_of}
 use Rattle.snd_inputs.specs.declared.input.Input.{Input}
 

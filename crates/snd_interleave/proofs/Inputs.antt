@@ -6,7 +6,7 @@ use Rattle.std.proofs.lemmas.List.{get_or_append_left, get_or_at, get_or_default
 use Rattle.snd_disk.proofs.Public.{only_reads_then}
 use Rattle.snd_disk.specs.declared.disk.Disk.{Ghosts}
 use Rattle.snd_disk.specs.State.{State}
-use Rattle.snd_inputs.proofs.Laws.{reads_none}
+use Rattle.snd_inputs.proofs.Public.{reads_none}
 use Rattle.snd_inputs.specs.Opening.{Holds}
 use Rattle.snd_layout.specs.Shape.{Shape}
 use Rattle.snd_edits.specs.Editing.{Editing, first_editing}

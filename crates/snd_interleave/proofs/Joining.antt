@@ -16,7 +16,7 @@ use Rattle.snd_lines.specs.declared.refusal.Refusal.{Refusal}
 use Rattle.snd_lines.specs.declared.refusal.Refusal.TheVariants.{ContainerFull, MixedParams, NotMono, Open}
 use Rattle.snd_edits.specs.Editing.{Editing}
 use Rattle.snd_output.specs.Codecs.{params_like}
-use Rattle.snd_tools.proofs.Laws.{MakesOnly}
+use Rattle.snd_tools.proofs.Public.{MakesOnly}
 use Rattle.snd_tools.specs.Done.{Done, Said, files_after, said_of}
 use Rattle.snd_tools.specs.Shelves.{HasFiles}
 use Rattle.snd_interleave.specs.Beside.{longest}

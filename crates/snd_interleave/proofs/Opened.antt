@@ -11,7 +11,7 @@ use Rattle.snd_inputs.specs.Inputs.{input_as, input_before, input_in, inputs_in}
 use Rattle.snd_lines.specs.declared.refusal.Refusal.{Refusal}
 use Rattle.snd_lines.specs.declared.refusal.Refusal.TheVariants.{SameName}
 use Rattle.snd_edits.specs.Editing.{Editing, opening_of}
-use Rattle.snd_tools.proofs.Laws.{apart_back, put_beside}
+use Rattle.snd_tools.proofs.Public.{apart_back, put_beside}
 use Rattle.snd_tools.specs.Done.{Done}
 use Rattle.snd_words.specs.Repeats.{first_repeated, is_repeated_at}
 use Rattle.snd_interleave.specs.Interleave.{done_beside, done_if_apart, done_with, interleaved}

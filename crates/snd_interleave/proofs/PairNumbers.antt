@@ -18,8 +18,8 @@ use Rattle.snd_edits.specs.Calls.{count_read}
 use Rattle.snd_edits.specs.Editing.{Editing}
 use Rattle.snd_edits.specs.Known.{Known}
 use Rattle.snd_edits.specs.Reading.{bytes_to_read}
-use Rattle.snd_output.proofs.Laws.{frames_are}
-use Rattle.snd_recode.proofs.Laws.{all_same_width}
+use Rattle.snd_output.proofs.Public.{frames_are}
+use Rattle.snd_recode.proofs.Public.{all_same_width}
 use Rattle.snd_output.specs.Appended.{HasRoom, IsAtEnd, MayPass}
 use Rattle.snd_output.specs.Widths.{width_of}
 use Rattle.snd_recode.specs.Recoded.{changed_all}

@@ -3,7 +3,7 @@ use Rattle.std.proofs.Common.{◌≡◌, ◌∙◌, ap, subst, refl, ℕ, ◌+�
 use Rattle.std.proofs.lemmas.Bool.{cases_Bool}
 use Rattle.std.proofs.lemmas.List.Sums.{sum_by_more}
 use Rattle.std.proofs.lemmas.Option.{get_or_from_slice_get, slice_get_within}
-use Rattle.snd_carry.proofs.Laws.{bodies_fit}
+use Rattle.snd_carry.proofs.Public.{bodies_fit}
 use Rattle.snd_carry.specs.Carried.{body_bytes}
 use Rattle.snd_container.specs.Sound.{layout_of}
 use Rattle.snd_disk.specs.Device.{Tells}
@@ -11,7 +11,7 @@ use Rattle.snd_disk.specs.Shelf.{Gives}
 use Rattle.snd_disk.specs.State.{Adds, AtMost}
 use Rattle.snd_disk.specs.declared.disk.Disk.{Ghosts}
 use Rattle.snd_disk.specs.declared.shelf.Shelf.{Ghosts as ShelfMeaning}
-use Rattle.snd_inputs.proofs.Laws.{bytes_within, whole_within}
+use Rattle.snd_inputs.proofs.Public.{bytes_within, whole_within}
 use Rattle.snd_inputs.specs.Asking.{AsksForEach, size_of, sizes_of}
 use Rattle.snd_inputs.specs.Copying.{bytes_checked, bytes_to_copy}
 use Rattle.snd_inputs.specs.Opening.{IsOpen}

@@ -12,7 +12,7 @@ use Rattle.snd_lines.specs.declared.refusal.Refusal.{Refusal}
 use Rattle.snd_lines.specs.declared.refusal.Refusal.TheVariants.{Open, SameName}
 use Rattle.snd_file.specs.declared.handle.File.{File}
 use Rattle.snd_edits.specs.declared.mode.Mode.{Ghosts as ModeGhosts}
-use Rattle.snd_inputs.proofs.Laws.{read_as}
+use Rattle.snd_inputs.proofs.Public.{read_as}
 use Rattle.snd_edits.specs.Editing.{Editing, first_editing, opening_of}
 use Rattle.snd_file.specs.Handle.{Stands}
 use Rattle.snd_output.specs.Made.{made_file}
@@ -20,7 +20,7 @@ use Rattle.snd_output.specs.Widths.{joined}
 use Rattle.snd_output.specs.declared.stop.Stop.{Stop}
 use Rattle.snd_inputs.specs.Inputs.{input_in}
 use Rattle.snd_layout.specs.Shape.{Shape}
-use Rattle.snd_tools.proofs.Laws.{MakesOnly}
+use Rattle.snd_tools.proofs.Public.{MakesOnly}
 use Rattle.snd_tools.specs.Done.{Done, Said, files_after, said_of}
 use Rattle.snd_tools.specs.Shelves.{HasFiles}
 use Rattle.snd_tools.specs.declared.answer.Answer.{Answer}

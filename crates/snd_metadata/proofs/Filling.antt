@@ -4,7 +4,7 @@ use Rattle.std.proofs.lemmas.List.{length-map, map-append, nil_from_length}
 use Rattle.std.proofs.lemmas.Bool.{le-leb, ltb-false}
 use Rattle.std.proofs.lemmas.Int.{ints}
 use Rattle.std.specs.Prelude.{map, nat_le}
-use Rattle.snd_carry.proofs.Laws.{added_is, as_many, put_behind, put_last}
+use Rattle.snd_carry.proofs.Public.{added_is, as_many, put_behind, put_last}
 use Rattle.snd_carry.specs.Carrying.{CarriesOne, HoldsChunk, HoldsOne}
 use Rattle.snd_chunks.specs.Written.{NewChunk}
 use Rattle.snd_disk.specs.declared.disk.Disk.{Ghosts}
@@ -25,7 +25,7 @@ use Rattle.snd_layout.specs.Kinds.{holds_meta}
 use Rattle.snd_edits.specs.PieceCalls.{known_put}
 use Rattle.snd_edits.specs.Pieces.{body_of}
 use Rattle.snd_edits.specs.Relaid.{added_to, head_with, pieces_held, shape_with}
-use Rattle.snd_output.proofs.Laws.{says_of, SaysOf}
+use Rattle.snd_output.proofs.Public.{says_of, SaysOf}
 use Rattle.snd_output.specs.Appended.{AppendLeaves, HasRoom, MayAppend, left_in, numbers_left}
 use Rattle.snd_output.specs.Made.{made_with}
 use Rattle.snd_layout.specs.Blocks.{is_adpcm}

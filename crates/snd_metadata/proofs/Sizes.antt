@@ -4,7 +4,7 @@ use Rattle.std.proofs.lemmas.List.{length-replicate, places}
 use Rattle.std.proofs.lemmas.List.Elements.{All-head, All-tail}
 use Rattle.std.proofs.lemmas.Option.{get_or_from_slice_get, slice_get_within}
 use Rattle.std.specs.Prelude.{is_none, map, slice_get}
-use Rattle.snd_chunks.proofs.Laws.{length-chunk_bytes, length-chunks_bytes}
+use Rattle.snd_chunks.proofs.Public.{length-chunk_bytes, length-chunks_bytes}
 use Rattle.snd_chunks.specs.Written.{NewChunk, chunks_bytes}
 use Rattle.snd_fields.specs.declared.field.Order.TheVariants.{Little}
 use Rattle.snd_container.specs.Sound.{fixed_of}

@@ -5,7 +5,7 @@ use Rattle.std.proofs.lemmas.Nat.{le-div}
 use Rattle.std.specs.Prelude.{Err, Result, is_some}
 use Rattle.std.proofs.lemmas.Bool.{cases_lt}
 use Rattle.std.proofs.lemmas.List.{append-nil, append_assoc, length-map, length-take-le, map-append, places, same_lists}
-use Rattle.snd_blocks.proofs.Laws.{has_bad_part}
+use Rattle.snd_blocks.proofs.Public.{has_bad_part}
 use Rattle.snd_blocks.specs.Frames.{has_bad}
 use Rattle.snd_disk.specs.State.{AtMost, Rises}
 use Rattle.snd_layout.specs.Blocks.{block_align, block_frames, is_adpcm}

@@ -6,7 +6,7 @@ use Rattle.snd_container.proofs.Public.{head_laws, made}
 use Rattle.snd_container.specs.Made.{new_file, new_shape}
 use Rattle.snd_container.specs.Laws.{FileSays}
 use Rattle.snd_container.specs.Sound.{kept_of, layout_of}
-use Rattle.snd_block_writer.proofs.Laws.{are_blocks, none_coded}
+use Rattle.snd_block_writer.proofs.Public.{are_blocks, none_coded}
 use Rattle.snd_layout.specs.Blocks.{is_adpcm}
 use Rattle.snd_layout.specs.Fit.{fit_refusal}
 use Rattle.snd_layout.specs.Params.{AreParams, Parameters}

@@ -27,7 +27,7 @@ use Rattle.snd_edits.specs.Making.{making_of}
 use Rattle.snd_edits.specs.Updating.{updating_of}
 use Rattle.snd_layout.proofs.Public.{few_channels, is_held, meta_holds, meta_own}
 use Rattle.snd_edits.proofs.Public.{begins_again, begins_new, count_opened, first_keeps, given_none, is_fixed, lies_in, may_encode, updated_is_edited}
-use Rattle.snd_block_writer.proofs.Laws.{are_blocks, none_coded}
+use Rattle.snd_block_writer.proofs.Public.{are_blocks, none_coded}
 use Rattle.snd_blocks.specs.Calls.{AreBlocks}
 use Rattle.snd_blocks.specs.Sound.{frames_in}
 use Rattle.snd_output.specs.Laws.{CarriedIsMaking}

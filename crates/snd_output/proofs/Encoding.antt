@@ -2,7 +2,7 @@
 use Rattle.std.proofs.Common.{◌≡◌, ◌∙◌, ap, sym, subst, inl, ℕ, ◌+◌, ◌/◌, ◌%◌, ◌^◌, ◌≤◌, ℤ, Bool, true, false, cond, List, [], ◌++◌, length, refl, arith}
 use Rattle.std.proofs.lemmas.List.{append-nil, drop_all}
 use Rattle.snd_block_writer.specs.Coded.{coded, whole}
-use Rattle.snd_block_writer.proofs.Laws.{coded_size}
+use Rattle.snd_block_writer.proofs.Public.{coded_size}
 use Rattle.snd_chunks.specs.Written.{NewChunk}
 use Rattle.snd_container.specs.Values.{closing}
 use Rattle.snd_disk.specs.Bytes.{over}

@@ -6,7 +6,7 @@ pub mod Changing
 pub mod Encoding
 pub mod Finished
 pub mod Giving
-pub mod Laws
+pub mod Public
 pub mod Lengthened
 pub mod Likeness
 pub mod Lists

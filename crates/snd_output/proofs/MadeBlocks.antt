@@ -5,7 +5,7 @@ use Rattle.std.proofs.lemmas.List.{length-append, length-take}
 use Rattle.snd_ima_adpcm.specs.Blocks.{filled}
 use Rattle.snd_blocks.specs.Calls.{AreBlocks}
 use Rattle.snd_block_writer.specs.Coded.{block_numbers, coded, whole, whole_blocks}
-use Rattle.snd_block_writer.proofs.Laws.{filled_few, length-coded, length-whole, some_channel, some_numbers}
+use Rattle.snd_block_writer.proofs.Public.{filled_few, length-coded, length-whole, some_channel, some_numbers}
 use Rattle.snd_layout.specs.Blocks.{block_align}
 use Rattle.snd_layout.specs.Params.{Parameters}
 

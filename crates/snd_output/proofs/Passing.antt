@@ -29,7 +29,7 @@ use Rattle.snd_pcm.specs.Pcm.{bit_count}
 use Rattle.snd_pcm.specs.Width.{changed}
 use Rattle.snd_pcm.specs.declared.linear.Linear as linear
 use Rattle.snd_recode.specs.Recoded.{changed_all, recoded}
-use Rattle.snd_recode.proofs.Laws.{all_same_width, recoded_fit}
+use Rattle.snd_recode.proofs.Public.{all_same_width, recoded_fit}
 use Rattle.snd_output.specs.Appended.{HasRoom, IsAtEnd, MayAppend, MayGive, MayPass, Pass, bytes_in, coded_in, has_two_zeros, left_in, next_numbers}
 use Rattle.snd_output.specs.Widths.{change_numbers, width_of}
 use Rattle.snd_output.proofs.Appending.{block_numbers, count_fits, div_sum, room_fewer}

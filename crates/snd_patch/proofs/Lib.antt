@@ -1,7 +1,7 @@
 pub mod Behind
 pub mod Bytes
 pub mod Images
-pub mod Laws
+pub mod Public
 pub mod Lists
 pub mod Moments
 pub mod Phases

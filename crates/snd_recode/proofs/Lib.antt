@@ -1,5 +1,5 @@
 mod Codes
 mod Loops
-pub mod Laws
+pub mod Public
 pub mod Numbers
 pub mod Ranges

@@ -4,7 +4,7 @@ use Rattle.std.proofs.lemmas.Bool.{eqb-true}
 use Rattle.std.proofs.lemmas.List.{length-replicate}
 use Rattle.std.proofs.lemmas.List.Elements.{All-replicate}
 use Rattle.std.specs.Prelude.{IfSome}
-use Rattle.snd_chunks.proofs.Laws.{same_number_at}
+use Rattle.snd_chunks.proofs.Public.{same_number_at}
 use Rattle.snd_chunks.specs.Chunks.{padded_end}
 use Rattle.snd_disk.specs.Runs.{HasAt, HasFieldOf}
 use Rattle.snd_fields.proofs.Numbers.{bytes_are_bytes, length-bytes_of}
@@ -17,7 +17,7 @@ use Rattle.snd_layout.specs.Shape.{KeepsRule, Shape, end, has_size, is_inner_siz
 use Rattle.snd_layout.specs.declared.field.Field.{Field}
 use Rattle.snd_layout.specs.declared.kind.Kind.{Kind}
 use Rattle.snd_layout.specs.declared.kind.Kind.TheVariants.{Rf64, Voc}
-use Rattle.snd_wave.proofs.Laws.{in_field}
+use Rattle.snd_wave.proofs.Public.{in_field}
 use Rattle.snd_rf64.specs.Container.{rf64}
 use Rattle.snd_rf64.specs.Layout.{rf64_front, rf64_layout}
 use Rattle.snd_rf64.specs.declared.sizes.Sizes.{Sizes}

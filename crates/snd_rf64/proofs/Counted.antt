@@ -3,7 +3,7 @@ use Rattle.std.proofs.Common.{◌≡◌, ◌⊎◌, ℕ, ◌+◌, ◌-◌, ◌%�
 use Rattle.std.proofs.lemmas.Bool.{cases_lt, le-ltb, ltb-false}
 use Rattle.std.proofs.lemmas.List.{append-nil}
 use Rattle.std.specs.Prelude.{min, nat_lt, replicate}
-use Rattle.snd_chunks.proofs.Laws.{no_tail, same_number_at, tail_from_same}
+use Rattle.snd_chunks.proofs.Public.{no_tail, same_number_at, tail_from_same}
 use Rattle.snd_chunks.specs.declared.chunk.Chunk.{Chunk}
 use Rattle.snd_chunks.specs.declared.front.Front.{Front}
 use Rattle.snd_chunks.specs.Chunks.{chunk_at, padded_end, tail}
@@ -20,7 +20,7 @@ use Rattle.snd_layout.specs.declared.codec.Codec.{Codec}
 use Rattle.snd_layout.specs.declared.codec.Codec.TheVariants.{U8, S8, S16, S24, S32, MuLaw, ALaw, Ima, Ms}
 use Rattle.snd_layout.specs.declared.kind.Kind.TheVariants.{Rf64, Wave}
 use Rattle.snd_layout.specs.declared.piece.Piece.{Piece}
-use Rattle.snd_wave.proofs.Laws.{counted, counted_bytes, in_field}
+use Rattle.snd_wave.proofs.Public.{counted, counted_bytes, in_field}
 use Rattle.snd_chunks.specs.Parts.{whole_frames}
 use Rattle.snd_wave.specs.Layout.{pieces_of}
 use Rattle.snd_rf64.specs.Layout.{data_end, held, outer_end, rf64_front, rf64_layout, rf64_shape, rf64_tail, shape_at, sizes_in}

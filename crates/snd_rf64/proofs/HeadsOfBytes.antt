@@ -2,7 +2,7 @@
 use Rattle.std.proofs.Common.{refl, ℕ, ◌-◌, List, ◌++◌, All}
 use Rattle.std.proofs.lemmas.List.Elements.{All-cons}
 use Rattle.std.specs.Prelude.{codes}
-use Rattle.snd_chunks.proofs.Laws.{all_chunks, both, number_bytes, three}
+use Rattle.snd_chunks.proofs.Public.{all_chunks, both, number_bytes, three}
 use Rattle.snd_chunks.specs.HeadLaws.{IsOfBytes}
 use Rattle.snd_chunks.specs.Written.{NewChunk, chunks_bytes, head_bytes}
 use Rattle.snd_fields.specs.Field.{bytes_of}
@@ -11,7 +11,7 @@ use Rattle.snd_fields.specs.declared.field.Order.TheVariants.{Little}
 use Rattle.snd_layout.specs.Params.{Parameters}
 use Rattle.snd_rf64.specs.Written as rf64
 use Rattle.snd_fields.proofs.Tested.{from_test}
-use Rattle.snd_wave.proofs.Laws.{format_is}
+use Rattle.snd_wave.proofs.Public.{format_is}
 use Rattle.snd_wave.specs.Written.{new_format}
 
 top_is : (size : ℕ) → All IsByte (rf64.top size)

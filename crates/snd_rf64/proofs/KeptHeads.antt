@@ -5,7 +5,7 @@ use mathlib.Core.Sum.{⊎_set}
 use Rattle.std.specs.Prelude.{All, map}
 use Rattle.std.proofs.lemmas.List.{length-map}
 use Rattle.std.proofs.lemmas.List.Elements.{All-weaker}
-use Rattle.snd_chunks.proofs.Laws.{all_before, all_length, all_stand, blanks_keep, has_left, has_right, length-all_placed, length-chunks_bytes, outlines_standing, pieces_read, same_length, three_stay}
+use Rattle.snd_chunks.proofs.Public.{all_before, all_length, all_stand, blanks_keep, has_left, has_right, length-all_placed, length-chunks_bytes, outlines_standing, pieces_read, same_length, three_stay}
 use Rattle.snd_chunks.specs.Chunks.{padded_end}
 use Rattle.snd_chunks.specs.Written.{NewChunk, chunks_bytes, pad}
 use Rattle.snd_disk.specs.Runs.{HasAt}
@@ -22,7 +22,7 @@ use Rattle.snd_layout.specs.declared.kind.Kind.TheVariants.{Rf64}
 use Rattle.snd_wave.specs.Layout.{piece_of}
 use Rattle.snd_chunks.specs.Heads.{blank, blanks, chunk_read, outline}
 use Rattle.snd_wave.specs.Written.{MayBePiece, new_format}
-use Rattle.snd_wave.proofs.Laws.{no_bytes_yet}
+use Rattle.snd_wave.proofs.Public.{no_bytes_yet}
 use Rattle.snd_rf64.specs.Layout.{shape_at}
 use Rattle.snd_rf64.specs.Put.{data_head, first_place, rf64_heads}
 use Rattle.snd_rf64.specs.Values as rf64

@@ -4,7 +4,7 @@ use Rattle.std.proofs.lemmas.Bool.{cases_Bool, ltb-false}
 use Rattle.std.proofs.lemmas.List.Elements.{All-append, All-nil}
 use Rattle.std.specs.List.{filter}
 use Rattle.std.specs.Prelude.{codes, nat_lt}
-use Rattle.snd_chunks.proofs.Laws.{bodies_before, bodies_behind, is_head, IsHead, no_tail, Reaches, SameBody as SameChunk}
+use Rattle.snd_chunks.proofs.Public.{bodies_before, bodies_behind, is_head, IsHead, no_tail, Reaches, SameBody as SameChunk}
 use Rattle.snd_chunks.specs.declared.chunk.Chunk.{Chunk}
 use Rattle.snd_chunks.specs.declared.front.Front.{Front}
 use Rattle.snd_chunks.specs.Chunks.{chunk_at}
@@ -12,7 +12,7 @@ use Rattle.snd_fields.specs.declared.field.Order.TheVariants.{Little}
 use Rattle.snd_layout.specs.Container.{KeepsHead, PiecesStay, SameBody}
 use Rattle.snd_layout.specs.Params.{Parameters}
 use Rattle.snd_layout.specs.Shape.{Shape, end}
-use Rattle.snd_wave.proofs.Laws.{pieces_kept}
+use Rattle.snd_wave.proofs.Public.{pieces_kept}
 use Rattle.snd_wave.specs.Layout.{is_own, pieces_of}
 use Rattle.snd_rf64.specs.Container.{rf64}
 use Rattle.snd_rf64.specs.Layout.{data_end, outer_end, rf64_front, rf64_shape, rf64_tail}

@@ -3,7 +3,7 @@ use Rattle.std.proofs.Common.{◌≡◌, ℕ, ◌+◌, ◌-◌, ◌<◌, ◌≤�
 use Rattle.std.proofs.lemmas.List.Elements.{All-weaker}
 use Rattle.std.specs.Prelude.{map, min, nat_lt}
 use Rattle.snd_disk.specs.Runs.{HasAt}
-use Rattle.snd_chunks.proofs.Laws.{HasHead, late_is, length-late, tail_written}
+use Rattle.snd_chunks.proofs.Public.{HasHead, late_is, length-late, tail_written}
 use Rattle.snd_chunks.specs.Chunks.{chunk_at, padded_end, tail}
 use Rattle.snd_chunks.specs.Late.{EndsLate, LateReadsBack, MayBeLate, late_bytes, late_shape, piece_behind}
 use Rattle.snd_chunks.specs.Written.{NewChunk, all_placed, chunks_bytes}
@@ -15,7 +15,7 @@ use Rattle.snd_layout.specs.Container.{closed_end, counted_shape}
 use Rattle.snd_layout.specs.Params.{AreParams, Parameters, data_bytes}
 use Rattle.snd_layout.specs.Shape.{Shape}
 use Rattle.snd_layout.specs.declared.piece.Piece.{Piece}
-use Rattle.snd_wave.proofs.Laws.{bytes_few, format_few, small}
+use Rattle.snd_wave.proofs.Public.{bytes_few, format_few, small}
 use Rattle.snd_chunks.specs.Parts.{whole_frames}
 use Rattle.snd_wave.specs.Layout.{piece_of, pieces_of}
 use Rattle.snd_wave.specs.Relaid.{IsSmall}

@@ -2,7 +2,7 @@
 use Rattle.std.proofs.Common.{◌≡◌, ℕ, ◌<◌, ◌≤◌, List, false, Ok, Err, Some, length, take, drop, get_or, refl, sym, ap, ◌∙◌, arith}
 use Rattle.std.proofs.lemmas.Bool.{le-ltb}
 use Rattle.std.specs.Prelude.{Result, codes, nat_lt}
-use Rattle.snd_chunks.proofs.Laws.{agree_whole, find_has, same_number_at, same_part, whole_length}
+use Rattle.snd_chunks.proofs.Public.{agree_whole, find_has, same_number_at, same_part, whole_length}
 use Rattle.snd_chunks.specs.declared.front.Ending.TheVariants.{AtSound}
 use Rattle.snd_chunks.specs.declared.front.Front.{Front}
 use Rattle.snd_chunks.specs.Chunks.{chunk_at, front}

@@ -4,7 +4,7 @@ pub mod HeadsOfBytes
 pub mod KeptHeads
 pub mod KeptPieces
 pub mod LateFiles
-pub mod Laws
+pub mod Public
 pub mod Layouts
 pub mod Lies
 pub mod Made

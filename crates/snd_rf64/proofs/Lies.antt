@@ -2,7 +2,7 @@
 use Rattle.std.proofs.Common.{Bool, ◌≡◌, ap, sym, subst, refl, ℕ, ◌+◌, ◌*◌, ◌-◌, ◌^◌, ◌<◌, ◌≤◌, List, All, None, Ok, length, drop, arith}
 use Rattle.std.proofs.lemmas.List.Elements.{All-drop, All-take, All-weaker}
 use Rattle.std.specs.Prelude.{codes}
-use Rattle.snd_chunks.proofs.Laws.{chain_end, in_order, is_head, IsBetween, IsHead, tail_ends}
+use Rattle.snd_chunks.proofs.Public.{chain_end, in_order, is_head, IsBetween, IsHead, tail_ends}
 use Rattle.snd_chunks.specs.declared.front.Front.{Front}
 use Rattle.snd_chunks.specs.Chunks.{chunk_at}
 use Rattle.snd_chunks.specs.Walks.{EndsBy}
@@ -19,7 +19,7 @@ use Rattle.snd_layout.specs.declared.kind.Kind.TheVariants.{Rf64}
 use Rattle.snd_layout.specs.declared.piece.Piece.{Piece}
 use Rattle.snd_layout.specs.Fit.{fit_refusal}
 use Rattle.snd_layout.proofs.StatedFormats.{good_params}
-use Rattle.snd_wave.proofs.Laws.{pieces_end}
+use Rattle.snd_wave.proofs.Public.{pieces_end}
 use Rattle.snd_chunks.specs.Parts.{body_of, whole_frames}
 use Rattle.snd_rf64.specs.Layout.{held, outer_end, rf64_front, rf64_layout, rf64_shape, rf64_tail, shape_at}
 use Rattle.snd_rf64.specs.declared.sizes.Sizes.{Sizes}

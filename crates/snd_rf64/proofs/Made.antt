@@ -6,7 +6,7 @@ use Rattle.std.proofs.lemmas.Nat.{div_below}
 use Rattle.std.specs.List.{filter}
 use Rattle.std.specs.Prelude.{codes, map, nat_le, nat_lt}
 use Rattle.snd_disk.specs.Runs.{HasAt}
-use Rattle.snd_chunks.proofs.Laws.{chain_written, has_body, has_first, has_left, has_number, has_part, has_right, head_written, length-all_placed, length-chunk_bytes, length-chunks_bytes, length-head_bytes, MayPrecede, refused, walks}
+use Rattle.snd_chunks.proofs.Public.{chain_written, has_body, has_first, has_left, has_number, has_part, has_right, head_written, length-all_placed, length-chunk_bytes, length-chunks_bytes, length-head_bytes, MayPrecede, refused, walks}
 use Rattle.snd_chunks.specs.declared.chunk.Chunk.{Chunk}
 use Rattle.snd_chunks.specs.declared.front.Ending.TheVariants.{AtSound}
 use Rattle.snd_chunks.specs.declared.front.Front.{Front}
@@ -20,7 +20,7 @@ use Rattle.snd_layout.specs.Format.{format_of}
 use Rattle.snd_layout.specs.Params.{Parameters}
 use Rattle.snd_layout.specs.Written.{written_format}
 use Rattle.snd_layout.specs.declared.piece.Piece.{Piece}
-use Rattle.snd_wave.proofs.Laws.{blocks_have_bytes, format_few, format_size, not_data}
+use Rattle.snd_wave.proofs.Public.{blocks_have_bytes, format_few, format_size, not_data}
 use Rattle.snd_chunks.specs.Parts.{body_of, format_chunk, is_format, whole_frames}
 use Rattle.snd_wave.specs.Layout.{is_own, piece_of, pieces_of}
 use Rattle.snd_wave.specs.Written.{MayBePiece, new_format}

@@ -3,7 +3,7 @@ use Rattle.std.proofs.Common.{◌≡◌, List, ℕ, ◌+◌, ◌≤◌, true, �
 use Rattle.std.proofs.lemmas.Bool.{and_parts, cases_Bool, leb-true, ltb-false}
 use Rattle.std.specs.Prelude.{Result, codes, nat_le, nat_lt}
 use Rattle.std.specs.Str.{bytes_eq}
-use Rattle.snd_chunks.proofs.Laws.{in_order, is_head, IsHead, Reaches, reaches}
+use Rattle.snd_chunks.proofs.Public.{in_order, is_head, IsHead, Reaches, reaches}
 use Rattle.snd_chunks.specs.declared.chunk.Chunk.{Chunk}
 use Rattle.snd_chunks.specs.declared.front.Ending.{Ending}
 use Rattle.snd_chunks.specs.declared.front.Ending.TheVariants.{AtSound, Cut, TooMany}

@@ -1,13 +1,13 @@
 -- The bodies of the further chunks of a file are no more bytes than the file.
 use Rattle.std.proofs.Common.{◌≡◌, ap, ℕ, ◌-◌, ◌≤◌, List, Ok, length, arith}
 use Rattle.std.specs.Prelude.{codes}
-use Rattle.snd_chunks.proofs.Laws.{front_lens, lens, tail_lens}
+use Rattle.snd_chunks.proofs.Public.{front_lens, lens, tail_lens}
 use Rattle.snd_chunks.specs.declared.chunk.Chunk.{Chunk}
 use Rattle.snd_chunks.specs.declared.front.Front.{Front}
 use Rattle.snd_layout.specs.Shape.{Shape}
 use Rattle.snd_rf64.proofs.Opens.{opens as rf64_opens, reached as rf64_reached}
 use Rattle.snd_rf64.specs.Layout.{data_end as rf64_data_end, outer_end as rf64_outer_end, rf64_front, rf64_layout, rf64_tail}
-use Rattle.snd_wave.proofs.Laws.{body_bytes, both_fit}
+use Rattle.snd_wave.proofs.Public.{body_bytes, both_fit}
 
 pub rf64_fits : (b : List ℕ) (h : Shape) → rf64_layout b ≡ Ok h → body_bytes h.pieces ≤ length b
 rf64_fits b h is =

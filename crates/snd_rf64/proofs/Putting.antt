@@ -3,7 +3,7 @@ use Rattle.std.proofs.Common.{◌≡◌, ℕ, ◌+◌, ◌-◌, ◌<◌, ◌≤�
 use Rattle.std.proofs.lemmas.List.{append-nil}
 use Rattle.std.proofs.lemmas.List.Elements.{All-weaker}
 use Rattle.std.specs.Prelude.{codes}
-use Rattle.snd_chunks.proofs.Laws.{length-chunk_bytes, length-head_bytes}
+use Rattle.snd_chunks.proofs.Public.{length-chunk_bytes, length-head_bytes}
 use Rattle.snd_chunks.specs.Written.{NewChunk, chunk_bytes, chunks_bytes, head_bytes}
 use Rattle.snd_fields.specs.Field.{bytes_of}
 use Rattle.snd_fields.specs.declared.field.Order.TheVariants.{Little}
@@ -12,7 +12,7 @@ use Rattle.snd_layout.specs.Params.{Parameters}
 use Rattle.snd_layout.specs.Shape.{Shape}
 use Rattle.snd_layout.specs.declared.kind.Kind.TheVariants.{Rf64}
 use Rattle.snd_layout.specs.declared.piece.Piece.{Piece}
-use Rattle.snd_wave.proofs.Laws.{bytes_few, Closes, format_few, IsSplit, new_are, new_few, no_bytes, small}
+use Rattle.snd_wave.proofs.Public.{bytes_few, Closes, format_few, IsSplit, new_are, new_few, no_bytes, small}
 use Rattle.snd_chunks.specs.Heads.{IsLayoutIn, with_piece}
 use Rattle.snd_wave.specs.Relaid.{AreStanding, IsSmall, standing}
 use Rattle.snd_wave.specs.Written.{MayBePiece, new_format}

@@ -3,7 +3,7 @@ use Rattle.std.proofs.Common.{◌≡◌, ◌⊎◌, ℕ, ◌+◌, ◌<◌, ◌�
 use Rattle.std.proofs.lemmas.Bool.{and_parts, le-leb, le-ltb}
 use Rattle.std.specs.Prelude.{codes, nat_le, nat_lt}
 use Rattle.std.specs.Str.{bytes_eq}
-use Rattle.snd_chunks.proofs.Laws.{find_has, in_order, is_head, IsBetween, IsHead, not_refused, Reaches, same_chain, same_chunk, same_number_at, same_part, SameHead as SameBytes, walks}
+use Rattle.snd_chunks.proofs.Public.{find_has, in_order, is_head, IsBetween, IsHead, not_refused, Reaches, same_chain, same_chunk, same_number_at, same_part, SameHead as SameBytes, walks}
 use Rattle.snd_chunks.specs.declared.chunk.Chunk.{Chunk}
 use Rattle.snd_chunks.specs.declared.front.Ending.TheVariants.{AtSound}
 use Rattle.snd_chunks.specs.declared.front.Front.{Front}
@@ -16,7 +16,7 @@ use Rattle.snd_layout.specs.Format.{format_of}
 use Rattle.snd_layout.specs.Params.{Parameters}
 use Rattle.snd_layout.specs.Shape.{Shape}
 use Rattle.snd_layout.specs.declared.kind.Kind.TheVariants.{Rf64}
-use Rattle.snd_wave.proofs.Laws.{out_of_fields, outside}
+use Rattle.snd_wave.proofs.Public.{out_of_fields, outside}
 use Rattle.snd_chunks.specs.Parts.{body_of, format_chunk, front_refusal, has_id}
 use Rattle.snd_rf64.specs.Layout.{fitted, has_sizes, rf64_front, rf64_layout, rf64_shape, sizes_in, sizes_of}
 use Rattle.snd_rf64.specs.declared.sizes.Sizes.{Sizes}

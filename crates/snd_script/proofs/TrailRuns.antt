@@ -10,7 +10,7 @@ use Rattle.snd_edits.specs.Laws.{KeepsFile}
 use Rattle.snd_edits.specs.Safe.{IsSafe}
 use Rattle.snd_file.proofs.Public.{left_at_rest}
 use Rattle.snd_edits.proofs.Public.{from_after, same_file, wider}
-use Rattle.snd_patch.proofs.Laws.{leaves_weaker}
+use Rattle.snd_patch.proofs.Public.{leaves_weaker}
 use Rattle.snd_patch.specs.Images.{LeavesEach}
 use Rattle.snd_rules.specs.Edit.{Edited}
 use Rattle.snd_session.specs.Handled.{HandleAtRest, handle_disk, handle_known}

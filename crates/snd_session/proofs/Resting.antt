@@ -21,7 +21,7 @@ use Rattle.snd_file.specs.declared.handle.File.{File}
 use Rattle.snd_edits.specs.declared.mode.Mode.{Ghosts as ModeGhosts}
 use Rattle.snd_edits.proofs.Public.{keeps_beside, same_file, sealed_keeps_file}
 use Rattle.snd_file.proofs.Public.{keeps_of, left_at_rest}
-use Rattle.snd_patch.proofs.Laws.{leaves_weaker}
+use Rattle.snd_patch.proofs.Public.{leaves_weaker}
 use Rattle.snd_patch.specs.Images.{LeavesEach}
 use Rattle.snd_meters.specs.Gauge.{Gauge}
 use Rattle.snd_rules.specs.Desk.{Mode, encodes, encoding, all_put, is_pinned, makes, pinned, reading, reads, updating, writes, writing}

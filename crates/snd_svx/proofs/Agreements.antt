@@ -5,7 +5,7 @@ use Rattle.std.proofs.lemmas.List.Elements.{All-head, All-tail}
 use Rattle.std.proofs.lemmas.Slice.Eq.{bytes_eq-Decides}
 use Rattle.std.specs.List.{list_any}
 use Rattle.std.specs.Prelude.{Result, codes, nat_le, nat_lt, ◌==◌}
-use Rattle.snd_chunks.proofs.Laws.{apart, find_has, in_order, is_head, IsApart, IsBetween, IsHead, Reaches, same_chain, same_number_at, SameHead as SameBytes, stands_in, StandsIn, walks}
+use Rattle.snd_chunks.proofs.Public.{apart, find_has, in_order, is_head, IsApart, IsBetween, IsHead, Reaches, same_chain, same_number_at, SameHead as SameBytes, stands_in, StandsIn, walks}
 use Rattle.snd_chunks.specs.declared.chunk.Chunk.{Chunk}
 use Rattle.snd_chunks.specs.declared.front.Ending.TheVariants.{AtSound}
 use Rattle.snd_chunks.specs.declared.front.Front.{Front}

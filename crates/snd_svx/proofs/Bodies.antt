@@ -3,7 +3,7 @@ use Rattle.std.proofs.Common.{◌≡◌, ℕ, ◌+◌, ◌<◌, List, take, drop
 use Rattle.std.proofs.lemmas.List.{get_or-take, get_or-drop}
 use Rattle.snd_fields.specs.Field.{number}
 use Rattle.snd_fields.specs.declared.field.Order.TheVariants.{Big}
-use Rattle.snd_chunks.proofs.Laws.{same_number}
+use Rattle.snd_chunks.proofs.Public.{same_number}
 use Rattle.snd_chunks.specs.declared.chunk.Chunk.{Chunk}
 use Rattle.snd_svx.specs.declared.header.Header.{Header}
 use Rattle.snd_svx.specs.Layout.{header_of}

@@ -1,13 +1,13 @@
 -- The head for some frames is the head for none with the values put into its fields.
 use Rattle.std.proofs.Common.{◌≡◌, ℕ, ◌+◌, ◌-◌, List, [], ◌∷◌, ◌++◌, length, refl, sym, ap, ◌∙◌, arith, append_assoc, length-append}
 use Rattle.std.specs.Prelude.{codes, replicate}
-use Rattle.snd_chunks.proofs.Laws.{length-chunks_bytes}
+use Rattle.snd_chunks.proofs.Public.{length-chunks_bytes}
 use Rattle.snd_chunks.specs.Written.{NewChunk, chunk_bytes, chunks_bytes, head_bytes}
 use Rattle.snd_fields.specs.Field.{bytes_of, with_field}
 use Rattle.snd_fields.specs.declared.field.Order.TheVariants.{Big}
 use Rattle.snd_layout.specs.Params.{Parameters, data_bytes}
 use Rattle.snd_layout.specs.Shape.{Shape}
-use Rattle.snd_wave.proofs.Laws.{three}
+use Rattle.snd_wave.proofs.Public.{three}
 use Rattle.snd_svx.specs.Made.{HeadIsCounted, with_values}
 use Rattle.snd_svx.specs.Values.{form_size, inner_value, outer_value, side_value}
 use Rattle.snd_svx.specs.Written.{chunks_before, filler, form_head, head_for, head_size, made_shape, new_header}

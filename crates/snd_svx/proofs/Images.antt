@@ -3,7 +3,7 @@ use Rattle.std.proofs.Common.{◌≡◌, ℕ, ◌+◌, ◌-◌, ◌*◌, ◌%◌
 use Rattle.std.proofs.lemmas.Bool.{le-ltb, ltb-false}
 use Rattle.std.proofs.lemmas.List.{append-nil, length-replicate}
 use Rattle.std.specs.Prelude.{min, nat_lt}
-use Rattle.snd_chunks.proofs.Laws.{chain_end, has_number, is_head, IsHead, no_tail, same_number_at, tail_from_same}
+use Rattle.snd_chunks.proofs.Public.{chain_end, has_number, is_head, IsHead, no_tail, same_number_at, tail_from_same}
 use Rattle.snd_chunks.specs.declared.chunk.Chunk.{Chunk}
 use Rattle.snd_chunks.specs.declared.front.Front.{Front}
 use Rattle.snd_chunks.specs.Chunks.{chunk_at, padded_end, tail}

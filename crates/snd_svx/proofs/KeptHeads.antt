@@ -5,7 +5,7 @@ use mathlib.Core.Sum.{⊎_set}
 use Rattle.std.specs.Prelude.{All, codes, if◌then◌else◌, map, replicate}
 use Rattle.std.proofs.lemmas.List.{length-map}
 use Rattle.std.proofs.lemmas.List.Elements.{All-weaker}
-use Rattle.snd_chunks.proofs.Laws.{all_before, all_length, all_stand, blanks_keep, has_body, has_first, has_left, has_right, length-all_placed, length-chunks_bytes, outlines_standing, pieces_read, same_length, three_stay}
+use Rattle.snd_chunks.proofs.Public.{all_before, all_length, all_stand, blanks_keep, has_body, has_first, has_left, has_right, length-all_placed, length-chunks_bytes, outlines_standing, pieces_read, same_length, three_stay}
 use Rattle.snd_chunks.specs.Chunks.{padded_end}
 use Rattle.snd_chunks.specs.Written.{NewChunk, chunks_bytes, head_bytes, pad}
 use Rattle.snd_disk.specs.Runs.{HasAt}
@@ -20,7 +20,7 @@ use Rattle.snd_layout.specs.Sector.{is_in_one_sector}
 use Rattle.snd_layout.specs.Shape.{KeepsRule, Shape, room}
 use Rattle.snd_layout.specs.declared.kind.Kind.TheVariants.{Svx}
 use Rattle.snd_wave.specs.Layout.{piece_of}
-use Rattle.snd_wave.proofs.Laws.{length-joined}
+use Rattle.snd_wave.proofs.Public.{length-joined}
 use Rattle.snd_chunks.specs.Heads.{blank, blanks, chunk_read, outline}
 use Rattle.snd_svx.specs.Layout.{shape_of}
 use Rattle.snd_svx.specs.Put.{closing_behind, svx_heads}

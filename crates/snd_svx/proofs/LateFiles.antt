@@ -4,7 +4,7 @@ use Rattle.std.proofs.lemmas.Bool.{cases_Bool}
 use Rattle.std.proofs.lemmas.List.Elements.{All-append, All-cons, All-nil, All-weaker}
 use Rattle.std.specs.Prelude.{map, min, nat_lt}
 use Rattle.snd_disk.specs.Runs.{HasAt}
-use Rattle.snd_chunks.proofs.Laws.{has_number, HasHead, late_is, length-late, tail_written}
+use Rattle.snd_chunks.proofs.Public.{has_number, HasHead, late_is, length-late, tail_written}
 use Rattle.snd_chunks.specs.Chunks.{chunk_at, padded_end, tail}
 use Rattle.snd_chunks.specs.Late.{EndsLate, LateReadsBack, MayBeLate, late_bytes, late_shape, piece_behind}
 use Rattle.snd_chunks.specs.Written.{NewChunk, all_placed, chunks_bytes}
@@ -17,7 +17,7 @@ use Rattle.snd_layout.specs.Params.{Parameters, data_bytes}
 use Rattle.snd_layout.specs.Sector.{is_in_one_sector}
 use Rattle.snd_layout.specs.Shape.{Shape, end}
 use Rattle.snd_layout.specs.declared.piece.Piece.{Piece}
-use Rattle.snd_wave.proofs.Laws.{bytes_few}
+use Rattle.snd_wave.proofs.Public.{bytes_few}
 use Rattle.snd_chunks.specs.Parts.{held}
 use Rattle.snd_wave.specs.Layout.{piece_of}
 use Rattle.snd_wave.specs.Relaid.{IsSmall}

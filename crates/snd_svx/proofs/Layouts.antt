@@ -3,7 +3,7 @@ use Rattle.std.proofs.Common.{◌≡◌, ℕ, ◌+◌, ◌<◌, ◌≤◌, List,
 use Rattle.std.proofs.lemmas.List.Elements.{All-append, All-filter, All-map, All-weaker}
 use Rattle.std.specs.List.{filter}
 use Rattle.std.specs.Prelude.{Result, codes, nat_lt}
-use Rattle.snd_chunks.proofs.Laws.{find_has, Reaches, reaches}
+use Rattle.snd_chunks.proofs.Public.{find_has, Reaches, reaches}
 use Rattle.snd_chunks.specs.declared.chunk.Chunk.{Chunk}
 use Rattle.snd_chunks.specs.declared.front.Ending.TheVariants.{AtSound}
 use Rattle.snd_chunks.specs.declared.front.Front.{Front}

@@ -7,7 +7,7 @@ pub mod HeadsOfBytes
 pub mod Images
 pub mod KeptHeads
 pub mod LateFiles
-pub mod Laws
+pub mod Public
 pub mod Layouts
 pub mod Lies
 pub mod Made

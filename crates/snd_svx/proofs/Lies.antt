@@ -5,7 +5,7 @@ use Rattle.std.proofs.lemmas.List.Elements.{All-append, All-map, All-nil, All-we
 use Rattle.std.proofs.lemmas.Slice.Eq.{bytes_eq-Decides}
 use Rattle.std.specs.List.{filter, list_any}
 use Rattle.std.specs.Prelude.{◌==◌, codes, nat_lt}
-use Rattle.snd_chunks.proofs.Laws.{bodies_before, bodies_behind, find_has, in_order, is_head, IsBetween, IsHead, no_tail, SameBody as SameChunk, tail_ends}
+use Rattle.snd_chunks.proofs.Public.{bodies_before, bodies_behind, find_has, in_order, is_head, IsBetween, IsHead, no_tail, SameBody as SameChunk, tail_ends}
 use Rattle.snd_chunks.specs.declared.chunk.Chunk.{Chunk}
 use Rattle.snd_chunks.specs.Chunks.{chunk_at}
 use Rattle.snd_chunks.specs.Walks.{EndsBy}

@@ -7,7 +7,7 @@ use Rattle.std.specs.List.{filter, list_any}
 use Rattle.std.specs.Prelude.{codes, map, nat_lt}
 use Rattle.std.specs.Str.{bytes_eq}
 use Rattle.snd_disk.specs.Runs.{HasAt}
-use Rattle.snd_chunks.proofs.Laws.{chain_written, has_body, has_first, has_left, has_others, has_part, has_right, head_written, length-all_placed, length-chunk_bytes, length-chunks_bytes, MayPrecede, no_tail, walks}
+use Rattle.snd_chunks.proofs.Public.{chain_written, has_body, has_first, has_left, has_others, has_part, has_right, head_written, length-all_placed, length-chunk_bytes, length-chunks_bytes, MayPrecede, no_tail, walks}
 use Rattle.snd_chunks.specs.Chunks.{chunk_at, padded_end}
 use Rattle.snd_chunks.specs.Heads.{chunk_read}
 use Rattle.snd_chunks.specs.Written.{NewChunk, all_placed, chunk_bytes, chunks_bytes, head_bytes, pad, placed}

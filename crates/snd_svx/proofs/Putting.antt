@@ -3,7 +3,7 @@ use Rattle.std.proofs.Common.{◌≡◌, ℕ, ◌+◌, ◌-◌, ◌<◌, ◌≤�
 use Rattle.std.proofs.lemmas.List.{append-nil}
 use Rattle.std.proofs.lemmas.List.Elements.{All-nil, All-weaker}
 use Rattle.std.specs.Prelude.{codes, if◌then◌else◌}
-use Rattle.snd_chunks.proofs.Laws.{length-chunks_bytes, length-head_bytes}
+use Rattle.snd_chunks.proofs.Public.{length-chunks_bytes, length-head_bytes}
 use Rattle.snd_chunks.specs.Written.{NewChunk, chunk_bytes, chunks_bytes, head_bytes}
 use Rattle.snd_fields.specs.Field.{bytes_of}
 use Rattle.snd_fields.specs.declared.field.Order.TheVariants.{Big}
@@ -13,7 +13,7 @@ use Rattle.snd_layout.specs.Sector.{is_in_one_sector}
 use Rattle.snd_layout.specs.Shape.{Shape}
 use Rattle.snd_layout.specs.declared.kind.Kind.TheVariants.{Svx}
 use Rattle.snd_layout.specs.declared.piece.Piece.{Piece}
-use Rattle.snd_wave.proofs.Laws.{chunks-joined, Closes, IsSplit, new_are, new_few}
+use Rattle.snd_wave.proofs.Public.{chunks-joined, Closes, IsSplit, new_are, new_few}
 use Rattle.snd_chunks.specs.Heads.{IsLayoutIn, with_piece}
 use Rattle.snd_wave.specs.Put.{filler_for}
 use Rattle.snd_wave.specs.Relaid.{AreStanding, IsSmall, standing}

@@ -1,14 +1,14 @@
 -- Where data begin behind chunks of so many bytes.
 use Rattle.std.proofs.Common.{◌≡◌, ℕ, ◌+◌, ◌-◌, List, ◌++◌, true, false, length, refl, ap, ◌∙◌, inl, inr, arith}
 use Rattle.std.proofs.lemmas.Bool.{cases_Bool}
-use Rattle.snd_chunks.proofs.Laws.{length-chunks_bytes}
+use Rattle.snd_chunks.proofs.Public.{length-chunks_bytes}
 use Rattle.snd_chunks.specs.Written.{NewChunk, chunk_bytes, chunks_bytes, head_bytes}
 use Rattle.snd_fields.specs.declared.field.Order.TheVariants.{Big}
 use Rattle.snd_layout.specs.Params.{Parameters}
 use Rattle.snd_layout.specs.Sector.{is_in_one_sector}
 use Rattle.snd_svx.specs.Start.{BeginsWith}
 use Rattle.snd_svx.specs.Written.{filler, head_size, new_header, start_without_filler}
-use Rattle.snd_wave.proofs.Laws.{length-joined, moves, stays}
+use Rattle.snd_wave.proofs.Public.{length-joined, moves, stays}
 use Rattle.snd_wave.specs.Start.{filled_start}
 
 svx_filler_bytes : (p : Parameters) (pieces : List NewChunk) → is_in_one_sector (start_without_filler p pieces - 4) 4 ≡ false → length (chunks_bytes Big (filler p pieces)) ≡ 16

@@ -1,4 +1,4 @@
 pub mod Counts
-pub mod Laws
+pub mod Public
 pub mod Left
 pub mod Names

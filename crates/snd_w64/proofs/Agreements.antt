@@ -3,7 +3,7 @@ use Rattle.std.proofs.Common.{◌≡◌, ◌⊎◌, ℕ, ◌+◌, ◌-◌, ◌<�
 use Rattle.std.proofs.lemmas.Bool.{and_left, and_parts, and_right, cases_lt, le-leb, leb-true, le-ltb, lt-leb, lt-ltb, or_from}
 use Rattle.std.proofs.lemmas.Slice.Eq.{bytes_eq-Decides}
 use Rattle.std.specs.Prelude.{codes, nat_le, nat_lt}
-use Rattle.snd_chunks.proofs.Laws.{find_has, not_refused, Reaches, reaches, same_part, walks}
+use Rattle.snd_chunks.proofs.Public.{find_has, not_refused, Reaches, reaches, same_part, walks}
 use Rattle.snd_chunks.specs.declared.chunk.Chunk.{Chunk}
 use Rattle.snd_chunks.specs.declared.front.Ending.TheVariants.{AtSound}
 use Rattle.snd_chunks.specs.declared.front.Front.{Front}

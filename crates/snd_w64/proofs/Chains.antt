@@ -5,7 +5,7 @@ use Rattle.std.proofs.lemmas.List.Elements.{All-cons, All-head, All-nil, All-tai
 use Rattle.std.specs.List.{find}
 use Rattle.std.specs.Prelude.{codes, nat_le}
 use Rattle.std.specs.Str.{bytes_eq}
-use Rattle.snd_chunks.proofs.Laws.{find_has, IsChain, same_number_at, same_part}
+use Rattle.snd_chunks.proofs.Public.{find_has, IsChain, same_number_at, same_part}
 use Rattle.snd_chunks.specs.declared.chunk.Chunk.{Chunk}
 use Rattle.snd_fields.specs.declared.field.Order.TheVariants.{Little}
 use Rattle.snd_chunks.specs.Parts.{reached}

@@ -5,7 +5,7 @@ use Rattle.std.proofs.lemmas.List.{places, take-append-drop}
 use Rattle.std.proofs.lemmas.Slice.Eq.{bytes_eq-Decides}
 use Rattle.std.specs.Prelude.{◌==◌, codes, nat_lt, option_map}
 use Rattle.std.specs.Str.{bytes_eq}
-use Rattle.snd_chunks.proofs.Laws.{has_left, has_right, same_number_at}
+use Rattle.snd_chunks.proofs.Public.{has_left, has_right, same_number_at}
 use Rattle.snd_chunks.specs.declared.chunk.Chunk.{Chunk}
 use Rattle.snd_disk.specs.Runs.{HasAt, HasFieldOf}
 use Rattle.snd_fields.specs.Field.{bytes_of}

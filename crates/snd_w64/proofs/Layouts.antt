@@ -2,7 +2,7 @@
 use Rattle.std.proofs.Common.{◌≡◌, ℕ, ◌+◌, ◌≤◌, List, All, Option, None, Some, Ok, Err, length, refl, sym, ap, ◌∙◌}
 use Rattle.std.proofs.lemmas.Bool.{and_parts, leb-true}
 use Rattle.std.specs.Prelude.{IfSome, Result, nat_le, option_map}
-use Rattle.snd_chunks.proofs.Laws.{find_has}
+use Rattle.snd_chunks.proofs.Public.{find_has}
 use Rattle.snd_chunks.specs.declared.chunk.Chunk.{Chunk}
 use Rattle.snd_chunks.specs.declared.front.Ending.TheVariants.{AtSound}
 use Rattle.snd_chunks.specs.declared.front.Front.{Front}

@@ -1,7 +1,7 @@
 -- What a layout was made from, and that it is made from it.
 use Rattle.std.proofs.Common.{◌≡◌, List, ℕ, Ok}
 use Rattle.snd_chunks.specs.declared.front.Front.{Front}
-use Rattle.snd_chunks.proofs.Laws.{opened_by, opens_by, OpensBy}
+use Rattle.snd_chunks.proofs.Public.{opened_by, opens_by, OpensBy}
 use Rattle.snd_layout.specs.Shape.{Shape}
 use Rattle.snd_w64.specs.Layout.{w64_front, w64_layout, w64_shape}
 

@@ -3,7 +3,7 @@ use Rattle.std.proofs.Common.{refl, ℕ, ◌%◌, List, ◌++◌, All, Option, N
 use Rattle.std.proofs.lemmas.Bool.{cond_both}
 use Rattle.std.proofs.lemmas.List.Elements.{All-append, All-nil, All-replicate}
 use Rattle.std.specs.Prelude.{◌==◌, codes}
-use Rattle.snd_chunks.proofs.Laws.{number_bytes}
+use Rattle.snd_chunks.proofs.Public.{number_bytes}
 use Rattle.snd_fields.proofs.Tested.{from_test}
 use Rattle.snd_fields.specs.Field.{bytes_of}
 use Rattle.snd_fields.specs.Laws.{IsByte}

@@ -3,7 +3,7 @@ use Rattle.std.proofs.Common.{◌≡◌, ◌⊎◌, ◌∙◌, ap, sym, subst, r
 use Rattle.std.proofs.lemmas.Bool.{and_parts, cases_Bool, leb-true, ltb-true}
 use Rattle.std.proofs.lemmas.List.{length-replicate}
 use Rattle.std.specs.Prelude.{IfSome, nat_le, nat_lt}
-use Rattle.snd_chunks.proofs.Laws.{same_number_at}
+use Rattle.snd_chunks.proofs.Public.{same_number_at}
 use Rattle.snd_chunks.specs.Chunks.{padded_end}
 use Rattle.snd_disk.specs.Runs.{AreApart, HasAt, HasFieldOf, IsInOneSector}
 use Rattle.snd_fields.specs.Field.{number}

@@ -8,7 +8,7 @@ use Rattle.std.proofs.lemmas.Slice.Eq.{bytes_eq-Decides}
 use Rattle.std.specs.List.{filter}
 use Rattle.std.specs.Prelude.{IfSome, codes, min, nat_lt}
 use Rattle.snd_disk.specs.Runs.{HasAt}
-use Rattle.snd_chunks.proofs.Laws.{has_left, has_number, has_right, is_head, IsHead}
+use Rattle.snd_chunks.proofs.Public.{has_left, has_number, has_right, is_head, IsHead}
 use Rattle.snd_chunks.specs.declared.chunk.Chunk.{Chunk}
 use Rattle.snd_chunks.specs.Chunks.{padded_end}
 use Rattle.snd_fields.proofs.Numbers.{length-bytes_of}

@@ -7,7 +7,7 @@ use Rattle.std.proofs.lemmas.List.Elements.{All-map}
 use Rattle.std.proofs.lemmas.Nat.{div-add-mod', div_below, le-div}
 use Rattle.std.specs.List.{filter}
 use Rattle.std.specs.Prelude.{codes, min, option_map}
-use Rattle.snd_chunks.proofs.Laws.{is_head, IsHead, no_tail, Reaches, reaches}
+use Rattle.snd_chunks.proofs.Public.{is_head, IsHead, no_tail, Reaches, reaches}
 use Rattle.snd_chunks.specs.declared.chunk.Chunk.{Chunk}
 use Rattle.snd_chunks.specs.declared.front.Ending.TheVariants.{AtSound}
 use Rattle.snd_chunks.specs.declared.front.Front.{Front}

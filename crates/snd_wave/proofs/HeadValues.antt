@@ -3,7 +3,7 @@ use Rattle.std.proofs.Common.{◌≡◌, ℕ, ◌+◌, ◌-◌, List, [], ◌∷
 use Rattle.std.proofs.lemmas.Bool.{cases_Bool}
 use Rattle.std.proofs.lemmas.List.{append-nil, places, same_lists}
 use Rattle.std.specs.Prelude.{codes}
-use Rattle.snd_chunks.proofs.Laws.{length-head_bytes}
+use Rattle.snd_chunks.proofs.Public.{length-head_bytes}
 use Rattle.snd_chunks.specs.Written.{NewChunk, chunk_bytes, chunks_bytes, head_bytes}
 use Rattle.snd_fields.specs.Field.{bytes_of, with_field}
 use Rattle.snd_fields.specs.declared.field.Order.TheVariants.{Little}

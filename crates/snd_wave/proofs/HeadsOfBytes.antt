@@ -2,7 +2,7 @@
 use Rattle.std.proofs.Common.{refl, ◌-◌, Bool, true, false, cond, List, [], ◌∷◌, ◌++◌, All, arith}
 use Rattle.std.proofs.lemmas.List.Elements.{All-append, All-cons, All-nil, All-replicate}
 use Rattle.std.specs.Prelude.{codes}
-use Rattle.snd_chunks.proofs.Laws.{all_chunks, both, number_bytes, three}
+use Rattle.snd_chunks.proofs.Public.{all_chunks, both, number_bytes, three}
 use Rattle.snd_chunks.specs.HeadLaws.{IsOfBytes}
 use Rattle.snd_chunks.specs.Written.{NewChunk, chunks_bytes, head_bytes}
 use Rattle.snd_fields.specs.Field.{bytes_of}

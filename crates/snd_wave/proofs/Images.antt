@@ -3,7 +3,7 @@ use Rattle.std.proofs.Common.{◌≡◌, ◌⊎◌, ℕ, ◌+◌, ◌-◌, ◌<�
 use Rattle.std.proofs.lemmas.Bool.{cases_Bool, cases_lt, le-ltb, ltb-false, or_parts}
 use Rattle.std.specs.Prelude.{codes, nat_lt, option_map}
 use Rattle.snd_disk.specs.Runs.{HasFieldOf}
-use Rattle.snd_chunks.proofs.Laws.{chain_end, in_order, is_head, IsHead, Reaches, same_chunk, same_number_at, tail_from_same}
+use Rattle.snd_chunks.proofs.Public.{chain_end, in_order, is_head, IsHead, Reaches, same_chunk, same_number_at, tail_from_same}
 use Rattle.snd_chunks.specs.declared.chunk.Chunk.{Chunk}
 use Rattle.snd_chunks.specs.declared.front.Ending.TheVariants.{AtSound}
 use Rattle.snd_chunks.specs.declared.front.Front.{Front}

@@ -7,7 +7,7 @@ use Rattle.std.proofs.lemmas.List.{append-nil, length-map}
 use Rattle.std.proofs.lemmas.List.Elements.{All-weaker}
 use Rattle.snd_chunks.specs.Chunks.{padded_end}
 use Rattle.snd_chunks.specs.Written.{NewChunk, chunks_bytes, pad}
-use Rattle.snd_chunks.proofs.Laws.{all_before, all_length, all_stand, blanks_keep, field_longer, length-all_placed, length-chunks_bytes, outlines_standing, over_within, same_length}
+use Rattle.snd_chunks.proofs.Public.{all_before, all_length, all_stand, blanks_keep, field_longer, length-all_placed, length-chunks_bytes, outlines_standing, over_within, same_length}
 use Rattle.snd_disk.specs.Bytes.{over}
 use Rattle.snd_disk.proofs.Public.{length-over}
 use Rattle.snd_fields.specs.declared.field.Order.TheVariants.{Little}

@@ -5,7 +5,7 @@ use Rattle.std.proofs.lemmas.List.Elements.{All-append, All-map, All-nil}
 use Rattle.std.proofs.lemmas.Slice.Eq.{bytes_eq-Decides}
 use Rattle.std.specs.List.{filter}
 use Rattle.std.specs.Prelude.{◌==◌, IfSome, codes, nat_le, nat_lt, option_map}
-use Rattle.snd_chunks.proofs.Laws.{bodies_before, bodies_behind, find_has, in_order, is_head, IsBetween, IsHead, no_tail, Reaches, SameBody as SameChunk}
+use Rattle.snd_chunks.proofs.Public.{bodies_before, bodies_behind, find_has, in_order, is_head, IsBetween, IsHead, no_tail, Reaches, SameBody as SameChunk}
 use Rattle.snd_chunks.specs.declared.chunk.Chunk.{Chunk}
 use Rattle.snd_chunks.specs.Chunks.{chunk_at}
 use Rattle.snd_fields.specs.declared.field.Order.TheVariants.{Little}

@@ -6,7 +6,7 @@ use Rattle.std.proofs.lemmas.List.Elements.{All-append, All-cons, All-head, All-
 use Rattle.std.specs.List.{filter}
 use Rattle.std.specs.Prelude.{map, nat_lt}
 use Rattle.snd_disk.specs.Runs.{HasAt}
-use Rattle.snd_chunks.proofs.Laws.{has_number, HasHead, late_is, length-all_placed, length-late, tail_written}
+use Rattle.snd_chunks.proofs.Public.{has_number, HasHead, late_is, length-all_placed, length-late, tail_written}
 use Rattle.snd_chunks.specs.Chunks.{chunk_at, padded_end, tail}
 use Rattle.snd_chunks.specs.Late.{EndsLate, LateReadsBack, MayBeLate, late_bytes, late_shape, piece_behind}
 use Rattle.snd_chunks.specs.Written.{NewChunk, all_placed, chunks_bytes, placed}

@@ -10,7 +10,7 @@ pub mod Images
 pub mod KeptHeads
 pub mod KeptPieces
 pub mod LateFiles
-pub mod Laws
+pub mod Public
 pub mod LayoutFacts
 pub mod Layouts
 pub mod Lies

@@ -3,7 +3,7 @@ use Rattle.std.proofs.Common.{◌≡◌, refl, ℕ, ◌+◌, ◌*◌, ◌-◌, �
 use Rattle.std.proofs.lemmas.Bool.{and_parts, leb-true}
 use Rattle.std.proofs.lemmas.List.Elements.{All-cons, All-drop, All-nil, All-take, All-weaker}
 use Rattle.std.specs.Prelude.{IfSome, codes, nat_le, option_map}
-use Rattle.snd_chunks.proofs.Laws.{chain_end, find_has, in_order, is_head, IsBetween, IsChain, IsHead, Reaches, tail_ends}
+use Rattle.snd_chunks.proofs.Public.{chain_end, find_has, in_order, is_head, IsBetween, IsChain, IsHead, Reaches, tail_ends}
 use Rattle.snd_chunks.specs.declared.chunk.Chunk.{Chunk}
 use Rattle.snd_chunks.specs.Chunks.{chunk_at}
 use Rattle.snd_chunks.specs.Walks.{EndsBy, IsShort, IsSound}

@@ -8,7 +8,7 @@ use Rattle.std.proofs.lemmas.Nat.{div-add-mod', div-mul-add, div_below}
 use Rattle.std.specs.List.{filter, find}
 use Rattle.std.specs.Prelude.{◌==◌, codes, map, nat_le, option_map, if◌then◌else◌}
 use Rattle.snd_disk.specs.Runs.{HasAt}
-use Rattle.snd_chunks.proofs.Laws.{chain_written, has_body, has_first, has_left, has_number, has_others, has_part, has_right, head_written, length-all_placed, length-chunk_bytes, length-chunks_bytes, length-head_bytes, no_tail, refused, walks}
+use Rattle.snd_chunks.proofs.Public.{chain_written, has_body, has_first, has_left, has_number, has_others, has_part, has_right, head_written, length-all_placed, length-chunk_bytes, length-chunks_bytes, length-head_bytes, no_tail, refused, walks}
 use Rattle.snd_chunks.specs.declared.chunk.Chunk.{Chunk}
 use Rattle.snd_chunks.specs.declared.front.Ending.TheVariants.{AtSound}
 use Rattle.snd_chunks.specs.declared.front.Front.{Front}

@@ -3,7 +3,7 @@ use Rattle.std.proofs.Common.{◌≡◌, ℕ, ◌+◌, ◌≤◌, List, [], ◌�
 use Rattle.std.proofs.lemmas.List.Elements.{All-head, All-tail}
 use Rattle.std.specs.Prelude.{map}
 use Rattle.snd_disk.specs.Runs.{HasAt}
-use Rattle.snd_chunks.proofs.Laws.{has_body, has_first, has_left, has_others, has_part, has_right, length-chunk_bytes, length-chunks_bytes}
+use Rattle.snd_chunks.proofs.Public.{has_body, has_first, has_left, has_others, has_part, has_right, length-chunk_bytes, length-chunks_bytes}
 use Rattle.snd_chunks.specs.Chunks.{padded_end}
 use Rattle.snd_chunks.specs.Written.{NewChunk, all_placed, chunk_bytes, chunks_bytes, pad}
 use Rattle.snd_fields.specs.declared.field.Order.TheVariants.{Little}

@@ -5,7 +5,7 @@ use Rattle.std.proofs.lemmas.List.{length-replicate}
 use Rattle.std.proofs.lemmas.List.Elements.{All-append, All-cons, All-nil, All-weaker}
 use Rattle.std.specs.Prelude.{codes, if◌then◌else◌, replicate}
 use Rattle.std.specs.Str.{bytes_eq}
-use Rattle.snd_chunks.proofs.Laws.{length-chunk_bytes, length-chunks_bytes, MayPrecede}
+use Rattle.snd_chunks.proofs.Public.{length-chunk_bytes, length-chunks_bytes, MayPrecede}
 use Rattle.snd_chunks.specs.Written.{NewChunk, chunk_bytes, chunks_bytes, head_bytes, placed}
 use Rattle.snd_fields.specs.declared.field.Order.TheVariants.{Little}
 use Rattle.snd_layout.specs.Blocks.{is_adpcm}

@@ -4,7 +4,7 @@ use Rattle.std.proofs.lemmas.Bool.{cases_Bool}
 use Rattle.std.proofs.lemmas.List.Sums.{sum_by-append, sum_by-cons}
 use Rattle.std.specs.List.{filter, sum_by}
 use Rattle.std.specs.Prelude.{codes, map, not}
-use Rattle.snd_chunks.proofs.Laws.{front_lens, lens, lens_cons, reaches, tail_lens}
+use Rattle.snd_chunks.proofs.Public.{front_lens, lens, lens_cons, reaches, tail_lens}
 use Rattle.snd_chunks.specs.Chunks.{chunk_at}
 use Rattle.snd_chunks.specs.declared.chunk.Chunk.{Chunk}
 use Rattle.snd_fields.specs.declared.field.Order.TheVariants.{Little}

@@ -4,7 +4,7 @@ use Rattle.std.proofs.lemmas.Bool.{cases_Bool, eqb-true}
 use Rattle.std.proofs.lemmas.List.{drop_all, length-take, length-drop, take_all}
 use Rattle.std.proofs.lemmas.List.Elements.{All-append, All-cons, All-take, All-drop}
 use Rattle.std.specs.Prelude.{◌==◌, if◌then◌else◌, slice_get}
-use Rattle.snd_chunks.proofs.Laws.{length-chunk_bytes, length-chunks_bytes}
+use Rattle.snd_chunks.proofs.Public.{length-chunk_bytes, length-chunks_bytes}
 use Rattle.snd_chunks.specs.Chunks.{padded_end}
 use Rattle.snd_chunks.specs.Written.{NewChunk, all_placed, chunk_bytes, chunks_bytes}
 use Rattle.snd_fields.specs.declared.field.Order.{Order}

@@ -5,7 +5,7 @@ use Rattle.std.proofs.lemmas.List.{places, same_lists, take-append-drop}
 use Rattle.std.specs.Prelude.{option_map}
 use Rattle.snd_disk.specs.Bytes.{over}
 use Rattle.snd_disk.specs.State.{State}
-use Rattle.snd_chunks.proofs.Laws.{length-chunks_bytes}
+use Rattle.snd_chunks.proofs.Public.{length-chunks_bytes}
 use Rattle.snd_chunks.specs.Written.{NewChunk, chunk_bytes, chunks_bytes}
 use Rattle.snd_fields.specs.declared.field.Order.{Order}
 use Rattle.snd_layout.specs.Params.{Parameters}

@@ -2,7 +2,7 @@
 use Rattle.std.proofs.Common.{◌≡◌, ℕ, ◌+◌, ◌-◌, ◌≤◌, List, ◌&&◌, Option, None, Some, length, refl, ◌∙◌, inl, inr, arith}
 use Rattle.std.proofs.lemmas.Bool.{and_parts, cases_Bool, eqb-true, leb-true}
 use Rattle.std.specs.Prelude.{◌==◌, IfSome, codes, nat_le}
-use Rattle.snd_chunks.proofs.Laws.{find_has, in_order, is_head, IsBetween, IsHead, Reaches, say_next, SaysNext}
+use Rattle.snd_chunks.proofs.Public.{find_has, in_order, is_head, IsBetween, IsHead, Reaches, say_next, SaysNext}
 use Rattle.snd_chunks.specs.declared.chunk.Chunk.{Chunk}
 use Rattle.snd_chunks.specs.Chunks.{chunk_at}
 use Rattle.snd_fields.specs.declared.field.Order.TheVariants.{Little}

@@ -1,7 +1,7 @@
 -- Where data begin behind chunks of so many bytes.
 use Rattle.std.proofs.Common.{◌≡◌, ℕ, ◌+◌, ◌-◌, ◌≤◌, List, true, false, length, refl, sym, ap, ◌∙◌, inl, inr, arith}
 use Rattle.std.proofs.lemmas.Bool.{cases_Bool}
-use Rattle.snd_chunks.proofs.Laws.{length-chunk_bytes, length-chunks_bytes}
+use Rattle.snd_chunks.proofs.Public.{length-chunk_bytes, length-chunks_bytes}
 use Rattle.snd_chunks.specs.Written.{NewChunk, chunk_bytes, chunks_bytes, head_bytes}
 use Rattle.snd_fields.specs.declared.field.Order.TheVariants.{Little}
 use Rattle.snd_layout.specs.Params.{Parameters}

@@ -2,10 +2,10 @@ use Rattle.std.proofs.Common.{◌≡◌, ◌∙◌, ◌+◌, ◌≤◌, ℕ, Lis
 use Rattle.std.proofs.lemmas.List.{take_all}
 use Rattle.std.proofs.lemmas.Option.{get_or_from_slice_get, slice_get_within}
 use Rattle.snd_disk.proofs.Public.{goes_on_then}
-use Rattle.snd_inputs.proofs.Laws.{asks_next, each_front, each_then, input_at, length-inputs, none_bad, one_more, reads_then}
+use Rattle.snd_inputs.proofs.Public.{asks_next, each_front, each_then, input_at, length-inputs, none_bad, one_more, reads_then}
 use Rattle.snd_inputs.specs.Asking.{AsksForEach}
 use Rattle.snd_inputs.specs.Inputs.{input_in, is_bad}
-use Rattle.snd_output.proofs.Laws.{changed_as}
+use Rattle.snd_output.proofs.Public.{changed_as}
 use Rattle.snd_layout.specs.Shape.{Shape, room}
 use Rattle.snd_edits.specs.Editing.{Editing}
 use Rattle.snd_file.specs.Handle.{codec_of, disk_of, known_of}

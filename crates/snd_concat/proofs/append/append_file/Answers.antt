@@ -1,8 +1,8 @@
 use Rattle.std.proofs.Common.{◌≡◌, ◌∙◌, ap, sym, refl, arith, rules}
-use Rattle.snd_inputs.proofs.Laws.{all_ahead, asks_to_copy}
+use Rattle.snd_inputs.proofs.Public.{all_ahead, asks_to_copy}
 use Rattle.snd_layout.specs.Shape.{Shape}
 use Rattle.snd_file.specs.Handle.{known_of}
-use Rattle.snd_output.proofs.Laws.{changed_as}
+use Rattle.snd_output.proofs.Public.{changed_as}
 use Rattle.snd_output.specs.Appended.{left_in}
 use Rattle.snd_concat.proofs.Gains.{gains_file, made_longer, made_unless, may_append}
 use Rattle.snd_concat.specs.Appending.{Follows}

@@ -1,13 +1,13 @@
 use Rattle.std.proofs.Common.{◌≡◌, ◌+◌, ◌∙◌, Result, Ok, Err, ap, refl, rules, subst, sym}
 use Rattle.std.specs.Prelude.{IsOk}
 use Rattle.std.proofs.lemmas.Result.{IfOk-weaker}
-use Rattle.snd_inputs.proofs.Laws.{asks_whole, held_beside, only_read, opened_same, read_as}
+use Rattle.snd_inputs.proofs.Public.{asks_whole, held_beside, only_read, opened_same, read_as}
 use Rattle.snd_inputs.specs.Inputs.{input_in, is_bad}
 use Rattle.snd_inputs.specs.Opening.{IsOpen, OpensInput}
 use Rattle.snd_lines.specs.declared.refusal.Refusal.{Refusal}
 use Rattle.snd_edits.specs.Editing.{Editing, first_editing}
 use Rattle.snd_file.specs.Handle.{codec_of, known_of}
-use Rattle.snd_output.proofs.Laws.{if_changed, unchanged_as}
+use Rattle.snd_output.proofs.Public.{if_changed, unchanged_as}
 use Rattle.snd_output.specs.Appended.{Gains}
 use Rattle.snd_concat.specs.Appending.{Follows}
 use Rattle.snd_concat.specs.Concat.{numbers_for}

@@ -1,7 +1,7 @@
 use Rattle.std.proofs.Common.{refl}
 use Rattle.std.proofs.lemmas.Result.{IfOk-weaker}
 use Rattle.snd_edits.specs.Editing.{first_editing}
-use Rattle.snd_output.proofs.Laws.{if_changed}
+use Rattle.snd_output.proofs.Public.{if_changed}
 use Rattle.snd_concat.proofs.append.append_laid.Goals as goal
 
 pub returns-clause-appended : goal.returns-clause-appended

@@ -1,9 +1,9 @@
 use Rattle.std.proofs.Common.{◌≡◌, ◌∙◌, ◌++◌, ◌∷◌, [], ℕ, List, None, Some, Ok, arith, get_or, rules, ap, refl, subst, sym}
-use Rattle.snd_inputs.proofs.Laws.{asks_looks, both_then, changes_after, does_so, done_same, reads_changes, same_inputs}
+use Rattle.snd_inputs.proofs.Public.{asks_looks, both_then, changes_after, does_so, done_same, reads_changes, same_inputs}
 use Rattle.snd_inputs.specs.Inputs.{inputs_in}
 use Rattle.snd_inputs.specs.Looking.{seen_by}
 use Rattle.snd_lines.specs.declared.refusal.Refusal.TheVariants.{SameName}
-use Rattle.snd_output.proofs.Laws.{if_changed, unchanged_err}
+use Rattle.snd_output.proofs.Public.{if_changed, unchanged_err}
 use Rattle.snd_tools.specs.Done.{Done, Said, files_after, said_of}
 use Rattle.snd_tools.specs.Shelves.{HasFiles}
 use Rattle.snd_words.specs.Repeats.{first_repeated}

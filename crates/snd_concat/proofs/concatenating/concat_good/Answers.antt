@@ -1,9 +1,9 @@
 use Rattle.std.proofs.Common.{◌≡◌, ◌∙◌, ℕ, ◌<◌, List, [], None, Some, Ok, length, get_or, rules, arith, ap, sym}
 use Rattle.std.proofs.lemmas.Result.{IfOk-weaker}
-use Rattle.snd_inputs.proofs.Laws.{both_then, changes_after, done_same, each_less, length-inputs, reads_changes, refused_as, same_inputs}
+use Rattle.snd_inputs.proofs.Public.{both_then, changes_after, done_same, each_less, length-inputs, reads_changes, refused_as, same_inputs}
 use Rattle.snd_inputs.specs.Inputs.{first_bad, inputs_in}
 use Rattle.snd_lines.specs.declared.refusal.Refusal.TheVariants.{BadBlock}
-use Rattle.snd_output.proofs.Laws.{if_changed, unchanged_as}
+use Rattle.snd_output.proofs.Public.{if_changed, unchanged_as}
 use Rattle.snd_tools.specs.Done.{Done}
 use Rattle.snd_concat.specs.Concat.{all_frames, made_if_good, shapes_of}
 use Rattle.snd_concat.specs.Making.{bytes_made}

@@ -1,6 +1,6 @@
 use Rattle.std.proofs.Common.{◌≡◌, ◌∙◌, ◌<◌, ℕ, List, [], true, false, None, Some, Ok, Err, length, get_or, slice_get, rules, arith, ap, refl, subst, sym}
 use Rattle.std.proofs.lemmas.List.{length-map}
-use Rattle.snd_inputs.proofs.Laws.{done_same, length-inputs, refused_as}
+use Rattle.snd_inputs.proofs.Public.{done_same, length-inputs, refused_as}
 use Rattle.snd_inputs.specs.Rooms.{is_full}
 use Rattle.snd_layout.specs.Shape.{Shape}
 use Rattle.snd_layout.specs.declared.kind.Kind.{Kind}

@@ -1,6 +1,6 @@
 use Rattle.std.proofs.Common.{◌≡◌, ◌∙◌, Ok, get_or, rules}
-use Rattle.snd_output.proofs.Laws.{if_changed, unchanged_as}
-use Rattle.snd_inputs.proofs.Laws.{asks_none, both_then, reads_then, same_inputs}
+use Rattle.snd_output.proofs.Public.{if_changed, unchanged_as}
+use Rattle.snd_inputs.proofs.Public.{asks_none, both_then, reads_then, same_inputs}
 use Rattle.snd_inputs.specs.Inputs.{inputs_in}
 use Rattle.std.proofs.lemmas.Result.{IfOk-weaker}
 use Rattle.snd_concat.proofs.make.make_apart.Goals as goal

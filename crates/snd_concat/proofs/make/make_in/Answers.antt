@@ -1,5 +1,5 @@
 use Rattle.std.proofs.Common.{◌∙◌, [], ◌++◌, ap, rules}
-use Rattle.snd_output.proofs.Laws.{fault_only, unchanged_err}
+use Rattle.snd_output.proofs.Public.{fault_only, unchanged_err}
 use Rattle.snd_file.specs.Handle.{codec_of, known_of}
 use Rattle.snd_tools.specs.Done.{Said}
 use Rattle.snd_concat.specs.Concat.{all_frames, all_numbers, shapes_of}

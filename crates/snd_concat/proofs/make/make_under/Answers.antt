@@ -1,8 +1,8 @@
 use Rattle.std.proofs.Common.{◌≡◌, ◌∙◌, true, None, Ok, get_or, rules}
-use Rattle.snd_output.proofs.Laws.{if_changed, unchanged_as}
-use Rattle.snd_inputs.proofs.Laws.{asks_beside, between_changes, between_files, same_inputs, still_told}
+use Rattle.snd_output.proofs.Public.{if_changed, unchanged_as}
+use Rattle.snd_inputs.proofs.Public.{asks_beside, between_changes, between_files, same_inputs, still_told}
 use Rattle.snd_inputs.specs.Inputs.{inputs_in}
-use Rattle.snd_tools.proofs.Laws.{put_beside}
+use Rattle.snd_tools.proofs.Public.{put_beside}
 use Rattle.snd_concat.specs.Making.{bytes_made}
 use Rattle.std.proofs.lemmas.Result.{IfOk-weaker}
 use Rattle.snd_concat.proofs.make.make_under.Goals as goal

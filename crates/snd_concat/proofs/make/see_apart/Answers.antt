@@ -1,5 +1,5 @@
 use Rattle.std.proofs.Common.{◌∙◌}
-use Rattle.snd_inputs.proofs.Laws.{reads_then}
+use Rattle.snd_inputs.proofs.Public.{reads_then}
 use Rattle.snd_concat.proofs.make.see_apart.Goals as goal
 
 pub returns-in_err-see-clause-reads : goal.returns-in_err-see-clause-reads

@@ -3,9 +3,9 @@ use Rattle.snd_layout.specs.Fit.{fit_refusal}
 use Rattle.snd_layout.specs.Params.{Parameters}
 use Rattle.snd_layout.specs.declared.kind.Kind.{Kind}
 use Rattle.snd_layout.specs.declared.kind.Kind.TheVariants.{Wave, Rf64, W64, Au, Dns, Voc, Svx, Sphere}
-use Rattle.snd_rf64.proofs.Laws.{no_pieces}
-use Rattle.snd_svx.proofs.Laws.{plain_may}
-use Rattle.snd_wave.proofs.Laws as wave
+use Rattle.snd_rf64.proofs.Public.{no_pieces}
+use Rattle.snd_svx.proofs.Public.{plain_may}
+use Rattle.snd_wave.proofs.Public as wave
 use Rattle.snd_container.proofs.Laid.{IsPlain, holds_plain, laid, made_kind}
 use Rattle.snd_container.proofs.made.lay_head.Goals as goal
 

@@ -2,7 +2,7 @@ use Rattle.std.proofs.Common.{◌≡◌, ◌∙◌, ap, sym, true, false}
 use Rattle.std.proofs.lemmas.Result.{on_ok_weaker}
 use Rattle.snd_carry.specs.Carried.{carried}
 use Rattle.snd_layout.specs.Shape.{Shape}
-use Rattle.snd_inputs.proofs.Laws.{asks_less}
+use Rattle.snd_inputs.proofs.Public.{asks_less}
 use Rattle.snd_file.specs.Handle.{known_of}
 use Rattle.snd_output.specs.Made.{made_with}
 use Rattle.snd_convert.specs.Convert.{carries}

@@ -1,11 +1,11 @@
 use Rattle.std.proofs.Common.{◌≡◌, false, Ok, Err, Some, refl, rules, subst}
 use Rattle.std.proofs.lemmas.Result.{IfOk-weaker}
 use Rattle.std.specs.Str.{bytes_eq}
-use Rattle.snd_inputs.proofs.Laws.{does_so, done_same, held_counts, held_done, held_one, reads_changes, refused_as, still_in}
+use Rattle.snd_inputs.proofs.Public.{does_so, done_same, held_counts, held_done, held_one, reads_changes, refused_as, still_in}
 use Rattle.snd_inputs.specs.Opening.{IsOpen, OpensInput}
 use Rattle.snd_edits.specs.Editing.{first_editing}
-use Rattle.snd_output.proofs.Laws.{if_changed, unchanged_as}
-use Rattle.snd_tools.proofs.Laws.{apart_back}
+use Rattle.snd_output.proofs.Public.{if_changed, unchanged_as}
+use Rattle.snd_tools.proofs.Public.{apart_back}
 use Rattle.snd_words.specs.Suffix.{kind_by_suffix}
 use Rattle.snd_convert.specs.Convert.{converted, done_by_plan}
 use Rattle.snd_convert.specs.Plan.{planned}

@@ -1,6 +1,6 @@
 use Rattle.std.proofs.Common.{◌≡◌, ◌∙◌, Bool, cond, false, ap, sym}
 use Rattle.std.proofs.lemmas.Result.{IfOk-weaker}
-use Rattle.snd_inputs.proofs.Laws.{done_same}
+use Rattle.snd_inputs.proofs.Public.{done_same}
 use Rattle.snd_lines.specs.declared.refusal.Refusal.TheVariants.{ContainerFull}
 use Rattle.snd_tools.specs.Done.{Done}
 use Rattle.snd_convert.specs.Convert.{is_full, made_if_good, made_of}

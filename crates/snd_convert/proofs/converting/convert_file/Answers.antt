@@ -3,7 +3,7 @@ use Rattle.snd_layout.specs.Shape.{Shape}
 use Rattle.snd_convert.specs.Convert.{done_by_plan, made_of}
 use Rattle.snd_convert.specs.Plan.{planned}
 use Rattle.snd_convert.specs.Planning.{asked_of, planned_by}
-use Rattle.snd_inputs.proofs.Laws.{done_same}
+use Rattle.snd_inputs.proofs.Public.{done_same}
 use Rattle.std.proofs.lemmas.Result.{IfOk-weaker}
 use Rattle.snd_convert.proofs.converting.convert_file.Goals as goal
 

@@ -2,7 +2,7 @@ use Rattle.std.proofs.Common.{◌≡◌, ◌∙◌, ap, sym, refl, true, false, 
 use Rattle.snd_disk.proofs.Public.{only_reads_then}
 use Rattle.snd_inputs.specs.Inputs.{is_bad}
 use Rattle.snd_layout.specs.Shape.{Shape}
-use Rattle.snd_output.proofs.Laws.{changed_err, unchanged_as}
+use Rattle.snd_output.proofs.Public.{changed_err, unchanged_as}
 use Rattle.snd_convert.specs.Planning.{asked_of, planned_by}
 use Rattle.snd_convert.proofs.Doing.{bad_refused, output_made}
 use Rattle.snd_convert.proofs.converting.convert_good.Goals as goal

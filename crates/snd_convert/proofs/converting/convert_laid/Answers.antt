@@ -1,6 +1,6 @@
 use Rattle.std.proofs.lemmas.Result.{IfOk-weaker}
 use Rattle.snd_edits.specs.Editing.{first_editing}
-use Rattle.snd_output.proofs.Laws.{if_changed}
+use Rattle.snd_output.proofs.Public.{if_changed}
 use Rattle.snd_convert.proofs.converting.convert_laid.Goals as goal
 
 pub returns-clause-done : goal.returns-clause-done

@@ -4,12 +4,12 @@ use Rattle.snd_layout.specs.Shape.{Shape}
 use Rattle.snd_disk.specs.State.{AtMost}
 use Rattle.snd_edits.specs.Known.{Known}
 use Rattle.snd_file.specs.Handle.{codec_of, disk_of, known_of}
-use Rattle.snd_output.proofs.Laws.{if_changed, unchanged_as}
+use Rattle.snd_output.proofs.Public.{if_changed, unchanged_as}
 use Rattle.snd_output.specs.Appended.{bytes_by_calls, left_in}
 use Rattle.snd_output.specs.Made.{IsMaking}
 use Rattle.snd_convert.specs.Convert.{chunks_for}
 use Rattle.snd_convert.specs.Planning.{planned_by}
-use Rattle.snd_inputs.proofs.Laws.{all_ahead, asks_then, asks_to_copy, copies_then, counts_appended, still_works}
+use Rattle.snd_inputs.proofs.Public.{all_ahead, asks_then, asks_to_copy, copies_then, counts_appended, still_works}
 use Rattle.snd_convert.proofs.Making.{begun_with, may_append, numbers_same}
 use Rattle.std.proofs.lemmas.Result.{on_ok_weaker}
 use Rattle.snd_convert.proofs.make.fill.Goals as goal

@@ -1,8 +1,8 @@
 use Rattle.std.proofs.Common.{rules}
 use Rattle.snd_convert.specs.Convert.{chunks_for, file_made, numbers_for}
 use Rattle.snd_convert.specs.Planning.{planned_by}
-use Rattle.snd_inputs.proofs.Laws.{told_as}
-use Rattle.snd_output.proofs.Laws.{fault_only}
+use Rattle.snd_inputs.proofs.Public.{told_as}
+use Rattle.snd_output.proofs.Public.{fault_only}
 use Rattle.std.proofs.lemmas.Result.{on_ok_weaker}
 use Rattle.snd_convert.proofs.make.make_in.Goals as goal
 

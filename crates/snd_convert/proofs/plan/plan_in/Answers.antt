@@ -1,5 +1,5 @@
 use Rattle.std.proofs.Common.{◌∙◌}
-use Rattle.snd_output.proofs.Laws.{same_channels}
+use Rattle.snd_output.proofs.Public.{same_channels}
 use Rattle.snd_convert.proofs.plan.plan_in.Goals as goal
 
 pub returns-clause-channels : goal.returns-clause-channels

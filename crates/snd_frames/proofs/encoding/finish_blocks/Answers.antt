@@ -4,8 +4,8 @@ use Rattle.snd_layout.specs.Blocks.{block_align}
 use Rattle.snd_layout.specs.Shape.{Shape, end}
 use Rattle.snd_block_writer.specs.Coded.{coded, rest, whole}
 use Rattle.snd_block_writer.specs.Writing.{Writing, block_size, new_blocks, next_place, padding}
-use Rattle.snd_block_writer.proofs.Laws.{is_filled, none_put, one_new, puts_as}
-use Rattle.snd_patch.proofs.Laws.{updates_more}
+use Rattle.snd_block_writer.proofs.Public.{is_filled, none_put, one_new, puts_as}
+use Rattle.snd_patch.proofs.Public.{updates_more}
 use Rattle.snd_patch.specs.Steps.{MayCount}
 use Rattle.snd_edits.specs.Encoding.{over_blocks}
 use Rattle.snd_edits.proofs.Public.{blocks_of, last_ends, may_encode, next_at_end, none_ends, whole_all}

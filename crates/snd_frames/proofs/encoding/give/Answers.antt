@@ -5,9 +5,9 @@ use Rattle.snd_layout.specs.Blocks.{block_frames}
 use Rattle.snd_layout.specs.Container.{HasRoomFor}
 use Rattle.snd_layout.specs.Shape.{Shape, end}
 use Rattle.snd_block_writer.specs.Coded.{coded, whole}
-use Rattle.snd_block_writer.proofs.Laws.{puts_as}
+use Rattle.snd_block_writer.proofs.Public.{puts_as}
 use Rattle.snd_block_writer.specs.Writing.{next_place}
-use Rattle.snd_patch.proofs.Laws.{updates_more, updates_then}
+use Rattle.snd_patch.proofs.Public.{updates_more, updates_then}
 use Rattle.snd_patch.specs.Images.{LeavesSealing}
 use Rattle.snd_patch.specs.Sealed.{counted, sealed}
 use Rattle.snd_patch.specs.Steps.{MayCount, Updates}

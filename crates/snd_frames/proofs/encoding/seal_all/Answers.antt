@@ -1,7 +1,7 @@
 use Rattle.std.proofs.Common.{◌≡◌, ◌∙◌, ap, sym, subst, ℕ, ◌+◌, List, Some, option_map, arith}
 use Rattle.snd_layout.specs.Blocks.{block_align}
 use Rattle.snd_layout.specs.Shape.{Shape}
-use Rattle.snd_patch.proofs.Laws.{updates_more, updates_then}
+use Rattle.snd_patch.proofs.Public.{updates_more, updates_then}
 use Rattle.snd_block_writer.specs.Coded.{whole}
 use Rattle.snd_patch.specs.Images.{LeavesSealing}
 use Rattle.snd_patch.specs.Sealed.{sealed}

@@ -1,5 +1,5 @@
 use Rattle.std.proofs.Common.{rules, ◌≡◌, ◌∙◌, ap, true, false}
-use Rattle.snd_blocks.proofs.Laws.{frames_are_in_blocks}
+use Rattle.snd_blocks.proofs.Public.{frames_are_in_blocks}
 use Rattle.snd_blocks.specs.Frames.{has_bad}
 use Rattle.snd_layout.specs.Blocks.{is_adpcm}
 use Rattle.snd_edits.proofs.Public.{good_frames, if_ok}

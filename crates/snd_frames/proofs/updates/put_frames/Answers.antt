@@ -1,6 +1,6 @@
 use Rattle.std.proofs.Common.{◌≡◌, ◌∙◌, ap, ◌+◌, ◌≤◌, Some, option_map, length, arith}
 use Rattle.snd_layout.specs.Shape.{end}
-use Rattle.snd_patch.proofs.Laws.{updates_then}
+use Rattle.snd_patch.proofs.Public.{updates_then}
 use Rattle.snd_frames.specs.Given.{given}
 use Rattle.snd_edits.specs.Edits.{closed_behind, coded, over_data}
 use Rattle.snd_edits.specs.Writing.{most_fields}

@@ -1,7 +1,7 @@
 use Rattle.std.proofs.Common.{true}
 use Rattle.std.proofs.lemmas.Result.{IfOk-weaker}
-use Rattle.snd_inputs.proofs.Laws.{still_told}
-use Rattle.snd_tools.proofs.Laws.{given_changes, given_files}
+use Rattle.snd_inputs.proofs.Public.{still_told}
+use Rattle.snd_tools.proofs.Public.{given_changes, given_files}
 use Rattle.snd_generate.proofs.Calling.{generates_by}
 use Rattle.snd_generate.proofs.generating.generate.Goals as goal
 

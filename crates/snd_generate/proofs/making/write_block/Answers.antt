@@ -4,7 +4,7 @@ use Rattle.snd_layout.specs.declared.kind.Kind.TheVariants.{Wave}
 use Rattle.snd_edits.specs.Edits.{written_to}
 use Rattle.snd_file.specs.Handle.{known_of}
 use Rattle.snd_edits.specs.WriteCalls.{MayWrite}
-use Rattle.snd_output.proofs.Laws.{written_is_making}
+use Rattle.snd_output.proofs.Public.{written_is_making}
 use Rattle.snd_output.specs.Made.{IsMaking}
 use Rattle.snd_generate.specs.Edited.{params}
 use Rattle.snd_generate.proofs.making.write_block.Goals as goal

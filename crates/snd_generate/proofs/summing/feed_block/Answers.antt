@@ -1,6 +1,6 @@
 use Rattle.std.proofs.Common.{◌≡◌, ◌∙◌, ap, subst, ℕ, ◌*◌, ◌≤◌, ℤ, List, length, arith, rules}
 use Rattle.snd_file.specs.Handle.{channels_of, known_of}
-use Rattle.snd_output.proofs.Laws.{count_fits}
+use Rattle.snd_output.proofs.Public.{count_fits}
 use Rattle.snd_pcm.specs.Groups.{first_groups}
 use Rattle.snd_generate.specs.Steps.{FedOn}
 use Rattle.snd_generate.proofs.Sums.{front_groups}

@@ -4,7 +4,7 @@ use Rattle.snd_edits.specs.Calls.{count_read}
 use Rattle.snd_edits.specs.Editing.{Editing}
 use Rattle.snd_edits.specs.Known.{Known}
 use Rattle.snd_file.specs.Handle.{Stands, channels_of, known_of}
-use Rattle.snd_output.proofs.Laws.{count_fits, moved_twice, none_left, read_twice, whole_places}
+use Rattle.snd_output.proofs.Public.{count_fits, moved_twice, none_left, read_twice, whole_places}
 use Rattle.snd_output.specs.Appended.{left_in, read_on}
 use Rattle.snd_generate.proofs.Sums.{fed_on}
 use Rattle.snd_generate.proofs.summing.sum_frames.Goals as goal

@@ -1,6 +1,6 @@
 use Rattle.std.proofs.Common.{true}
 use Rattle.snd_inputs.proofs.Reading.{now_out}
-use Rattle.snd_tools.proofs.Laws.{stayed_changes}
+use Rattle.snd_tools.proofs.Public.{stayed_changes}
 use Rattle.snd_inputs.proofs.output.take_output.Goals as goal
 
 pub returns-in-Err-Failed-clause-changes : goal.returns-in-Err-Failed-clause-changes

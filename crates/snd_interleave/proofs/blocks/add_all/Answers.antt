@@ -4,7 +4,7 @@ use Rattle.snd_disk.proofs.Public.{goes_on_then}
 use Rattle.snd_layout.specs.declared.codec.Codec.{Codec}
 use Rattle.snd_file.specs.Handle.{codec_of, disk_of, known_of}
 use Rattle.snd_layout.specs.Shape.{Shape}
-use Rattle.snd_output.proofs.Laws.{at_end_then, changed_as, longer_as, longer_none, longer_then}
+use Rattle.snd_output.proofs.Public.{at_end_then, changed_as, longer_as, longer_none, longer_then}
 use Rattle.snd_output.specs.Made.{IsMaking}
 use Rattle.snd_interleave.specs.Asking.{AsksEach, bytes_upto}
 use Rattle.snd_interleave.specs.Beside.{frames_from}

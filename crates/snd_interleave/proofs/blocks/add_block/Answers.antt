@@ -2,7 +2,7 @@ use Rattle.std.proofs.Common.{rules, ◌≡◌, ◌∙◌, ◌/◌, ap, subst, �
 use Rattle.snd_layout.specs.declared.codec.Codec.{Codec}
 use Rattle.snd_file.specs.Handle.{channels_of, codec_of, known_of}
 use Rattle.snd_edits.specs.Reading.{FitCodec}
-use Rattle.snd_output.proofs.Laws.{changed_as, frames_are, may_give}
+use Rattle.snd_output.proofs.Public.{changed_as, frames_are, may_give}
 use Rattle.snd_output.specs.Made.{IsMaking}
 use Rattle.snd_interleave.specs.Beside.{frames_from}
 use Rattle.snd_interleave.specs.Interleave.{channels_in}

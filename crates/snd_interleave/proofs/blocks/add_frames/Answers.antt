@@ -1,4 +1,4 @@
-use Rattle.snd_output.proofs.Laws.{if_unchanged}
+use Rattle.snd_output.proofs.Public.{if_unchanged}
 use Rattle.snd_interleave.proofs.blocks.add_frames.Goals as goal
 
 pub returns-then-are_pairs-clause-changed : goal.returns-then-are_pairs-clause-changed

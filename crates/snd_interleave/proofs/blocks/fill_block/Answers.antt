@@ -1,6 +1,6 @@
 use Rattle.std.proofs.Common.{rules, ◌≡◌, ◌∙◌, refl, sym, subst, ℕ, ◌+◌, ◌<◌, ℤ, pos, List, get_or, length, set, Ok, Err, arith}
 use Rattle.std.proofs.lemmas.List.{get_or_default, length-map}
-use Rattle.snd_output.proofs.Laws.{changed_as, width_fits}
+use Rattle.snd_output.proofs.Public.{changed_as, width_fits}
 use Rattle.snd_output.specs.Widths.{width_of}
 use Rattle.snd_recode.specs.Recoded.{changed_all}
 use Rattle.snd_pcm.specs.Width.{HasWidth, changed}

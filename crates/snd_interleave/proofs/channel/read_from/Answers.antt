@@ -1,5 +1,5 @@
 use Rattle.std.proofs.Common.{rules, true, ◌≡◌, ◌≤◌, ◌∙◌, ap, subst, length, take, arith}
-use Rattle.snd_blocks.proofs.Laws.{has_bad_part}
+use Rattle.snd_blocks.proofs.Public.{has_bad_part}
 use Rattle.snd_blocks.specs.Frames.{has_bad}
 use Rattle.snd_disk.specs.State.{AtMost}
 use Rattle.snd_layout.specs.declared.codec.Codec.{Codec}

@@ -5,7 +5,7 @@ use Rattle.snd_edits.specs.Editing.{first_editing}
 use Rattle.snd_interleave.specs.Asking.{bytes_from}
 use Rattle.snd_interleave.specs.Interleave.{numbers_of}
 use Rattle.snd_inputs.specs.Inputs.{is_bad}
-use Rattle.snd_output.proofs.Laws.{if_changed}
+use Rattle.snd_output.proofs.Public.{if_changed}
 use Rattle.std.proofs.lemmas.Result.{IfOk-weaker}
 use Rattle.snd_interleave.proofs.channel.read_input.Goals as goal
 

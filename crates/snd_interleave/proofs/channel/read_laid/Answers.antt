@@ -1,5 +1,5 @@
 use Rattle.snd_edits.specs.Editing.{first_editing}
-use Rattle.snd_output.proofs.Laws.{if_changed}
+use Rattle.snd_output.proofs.Public.{if_changed}
 use Rattle.std.proofs.lemmas.Result.{IfOk-weaker}
 use Rattle.snd_interleave.proofs.channel.read_laid.Goals as goal
 

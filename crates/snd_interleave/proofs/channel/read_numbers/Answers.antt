@@ -1,5 +1,5 @@
 use Rattle.std.proofs.Common.{take, rules}
-use Rattle.snd_output.proofs.Laws.{changed_as, fits_width}
+use Rattle.snd_output.proofs.Public.{changed_as, fits_width}
 use Rattle.snd_pcm.specs.Width.{HasWidth}
 use Rattle.snd_output.specs.Widths.{width_of}
 use Rattle.snd_interleave.proofs.Numbers.{width_is, zero_fits}

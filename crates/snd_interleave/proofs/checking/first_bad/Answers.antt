@@ -2,7 +2,7 @@ use Rattle.std.proofs.Common.{rules, ◌≡◌, ◌∙◌, ap, sym, subst, inl, 
 use Rattle.std.proofs.lemmas.Bool.{cases_lt}
 use Rattle.std.proofs.lemmas.List.{get_or_default}
 use Rattle.std.proofs.lemmas.Option.{slice_get-get_or}
-use Rattle.snd_inputs.proofs.Laws.{bad_first, bad_none}
+use Rattle.snd_inputs.proofs.Public.{bad_first, bad_none}
 use Rattle.snd_inputs.specs.Copying.{bytes_checked}
 use Rattle.snd_inputs.specs.Inputs.{is_bad}
 use Rattle.snd_edits.specs.Editing.{first_editing}

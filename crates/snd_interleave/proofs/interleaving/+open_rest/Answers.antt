@@ -5,7 +5,7 @@ use Rattle.std.proofs.lemmas.Result.{IfOk-weaker}
 use Rattle.std.specs.Prelude.{drop}
 use Rattle.std.specs.Str.{bytes_eq}
 use Rattle.std.specs.Vec.{vec_len}
-use Rattle.snd_inputs.proofs.Laws.{asks_none, done_same, held_done, held_one, only_read, read_as, reads_changes, reads_none, refused_as}
+use Rattle.snd_inputs.proofs.Public.{asks_none, done_same, held_done, held_one, only_read, read_as, reads_changes, reads_none, refused_as}
 use Rattle.snd_inputs.specs.Asking.{AsksForEach}
 use Rattle.snd_inputs.specs.Inputs.{inputs_in}
 use Rattle.snd_inputs.specs.Opening.{IsOpen, OpensInput}
@@ -15,7 +15,7 @@ use Rattle.snd_interleave.specs.Channels.{CountsWith, HoldAll}
 use Rattle.snd_interleave.specs.Opening.{AreOut, done_rest, opened_behind}
 use Rattle.snd_interleave.specs.Interleave.{done_beside}
 use Rattle.snd_interleave.proofs.Asking.{each_none, once_front, once_last, rest_held, rest_is, rest_looks}
-use Rattle.snd_output.proofs.Laws.{if_changed, unchanged_as}
+use Rattle.snd_output.proofs.Public.{if_changed, unchanged_as}
 use Rattle.snd_interleave.proofs.Counts.{counts_apart}
 use Rattle.snd_interleave.proofs.Inputs.{front_of, hold_more, last_of}
 use Rattle.snd_interleave.proofs.Joining.{makes_output}

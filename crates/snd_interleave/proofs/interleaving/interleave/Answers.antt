@@ -5,9 +5,9 @@ use Rattle.snd_words.specs.Repeats.{first_repeated}
 use Rattle.snd_interleave.specs.Channels.{HoldAll}
 use Rattle.snd_interleave.specs.Interleave.{interleaved}
 use Rattle.snd_interleave.specs.Opening.{done_rest}
-use Rattle.snd_output.proofs.Laws.{if_changed}
+use Rattle.snd_output.proofs.Public.{if_changed}
 use Rattle.snd_interleave.proofs.Inputs.{hold_none}
-use Rattle.snd_inputs.proofs.Laws.{asks_none, does_so, done_same}
+use Rattle.snd_inputs.proofs.Public.{asks_none, does_so, done_same}
 use Rattle.snd_inputs.specs.Asking.{AsksForEach}
 use Rattle.snd_interleave.proofs.Joining.{refused_as}
 use Rattle.snd_interleave.proofs.Lists.{named_at}

@@ -1,7 +1,7 @@
 use Rattle.std.proofs.Common.{rules, ◌≡◌, ◌∙◌, ap, sym, ℕ, None, Some, Ok, Err, true, false, length}
 use Rattle.snd_lines.specs.declared.refusal.Refusal.TheVariants.{ContainerFull, Open}
 use Rattle.std.proofs.lemmas.Result.{IfOk-weaker}
-use Rattle.snd_inputs.proofs.Laws.{done_same}
+use Rattle.snd_inputs.proofs.Public.{done_same}
 use Rattle.snd_inputs.specs.Inputs.{first_bad}
 use Rattle.snd_inputs.specs.Rooms.{is_full}
 use Rattle.snd_layout.specs.declared.refusal.OpenRefusal.TheVariants.{BadChannels}

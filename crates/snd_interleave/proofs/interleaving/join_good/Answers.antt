@@ -2,7 +2,7 @@ use Rattle.std.proofs.Common.{rules, ◌≡◌, ◌∙◌, ap, sym, refl, ℕ, �
 use Rattle.std.proofs.lemmas.List.{get_or_append_left}
 use Rattle.snd_inputs.specs.Inputs.{first_bad}
 use Rattle.snd_lines.specs.declared.refusal.Refusal.TheVariants.{BadBlock}
-use Rattle.snd_output.proofs.Laws.{changed_err, unchanged_as}
+use Rattle.snd_output.proofs.Public.{changed_err, unchanged_as}
 use Rattle.snd_tools.specs.Done.{Done}
 use Rattle.snd_interleave.specs.Beside.{longest}
 use Rattle.snd_interleave.specs.Channels.{most_frames}

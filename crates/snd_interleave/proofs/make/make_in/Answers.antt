@@ -1,7 +1,7 @@
 use Rattle.std.proofs.Common.{rules, ◌≡◌, ◌∙◌, ap, subst, inl, inr, ℕ, [], ◌++◌, List, Some, Err}
 use Rattle.snd_disk.proofs.Public.{goes_on_then}
 use Rattle.snd_disk.specs.Device.{GoesOnFrom}
-use Rattle.snd_inputs.proofs.Laws.{begun_as, begun_at_end, begun_room, told_as}
+use Rattle.snd_inputs.proofs.Public.{begun_as, begun_at_end, begun_room, told_as}
 use Rattle.snd_layout.specs.Params.{Parameters}
 use Rattle.snd_layout.specs.Shape.{Shape}
 use Rattle.snd_layout.specs.declared.codec.Codec.{Codec}
@@ -11,7 +11,7 @@ use Rattle.snd_output.specs.Made.{made_file}
 use Rattle.snd_interleave.specs.Beside.{frames_from}
 use Rattle.snd_interleave.specs.Channels.{CountsWith, bytes_made}
 use Rattle.snd_interleave.specs.Interleave.{channels_in}
-use Rattle.snd_output.proofs.Laws.{fault_only, unchanged_err}
+use Rattle.snd_output.proofs.Public.{fault_only, unchanged_err}
 use Rattle.snd_interleave.proofs.Asking.{each_none}
 use Rattle.snd_interleave.specs.Asking.{bytes_copied}
 use Rattle.snd_interleave.proofs.Making.{counts_not_finished}

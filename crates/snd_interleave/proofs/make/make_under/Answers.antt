@@ -1,7 +1,7 @@
 use Rattle.std.proofs.Common.{true, rules}
-use Rattle.snd_output.proofs.Laws.{unchanged_as}
-use Rattle.snd_tools.proofs.Laws.{given_changes, given_files}
-use Rattle.snd_inputs.proofs.Laws.{still_told}
+use Rattle.snd_output.proofs.Public.{unchanged_as}
+use Rattle.snd_tools.proofs.Public.{given_changes, given_files}
+use Rattle.snd_inputs.proofs.Public.{still_told}
 use Rattle.std.proofs.lemmas.Result.{on_ok_weaker}
 use Rattle.snd_interleave.proofs.Asking.{each_none}
 use Rattle.snd_interleave.specs.Asking.{bytes_copied}

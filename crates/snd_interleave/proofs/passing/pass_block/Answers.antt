@@ -3,7 +3,7 @@ use Rattle.std.proofs.lemmas.Result.{on_ok_weaker}
 use Rattle.snd_layout.specs.Params.{Parameters}
 use Rattle.snd_edits.specs.Bytes.{sources_in}
 use Rattle.snd_file.specs.Handle.{channels_of, codec_of, known_of}
-use Rattle.snd_output.proofs.Laws.{frames_are, never_is}
+use Rattle.snd_output.proofs.Public.{frames_are, never_is}
 use Rattle.snd_output.specs.Made.{IsMaking}
 use Rattle.snd_interleave.specs.Pairs.{pairs_in}
 use Rattle.snd_interleave.proofs.Adding.{given_so_many, given_works}

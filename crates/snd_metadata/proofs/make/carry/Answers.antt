@@ -2,9 +2,9 @@ use Rattle.std.proofs.Common.{rules, ◌≡◌, ◌∙◌, ap, refl, subst, sym,
 use Rattle.std.proofs.lemmas.List.{length-map, length-take, map-append, take_all, take_more}
 use Rattle.std.proofs.lemmas.List.Elements.{All-append, All-cons, All-nil}
 use Rattle.std.proofs.lemmas.List.Sums.{sum_by-take-le, sum_by_more, sum_by_more_le}
-use Rattle.snd_carry.proofs.Laws.{as_many, made_none}
+use Rattle.snd_carry.proofs.Public.{as_many, made_none}
 use Rattle.snd_chunks.specs.Written.{NewChunk}
-use Rattle.snd_inputs.proofs.Laws.{asks_less, asks_then, copies_none, copies_then}
+use Rattle.snd_inputs.proofs.Public.{asks_less, asks_then, copies_none, copies_then}
 use Rattle.snd_inputs.specs.Copying.{CopiesInto}
 use Rattle.std.specs.Prelude.{is_none}
 use Rattle.snd_container.specs.Sound.{fixed_of}
@@ -15,7 +15,7 @@ use Rattle.snd_edits.specs.Known.{Known}
 use Rattle.snd_file.specs.Handle.{Stands, known_of}
 use Rattle.snd_layout.specs.Kinds.{holds_meta}
 use Rattle.snd_edits.specs.PieceCalls.{IsUntouched, known_put}
-use Rattle.snd_output.proofs.Laws.{carried_is_making, says_of}
+use Rattle.snd_output.proofs.Public.{carried_is_making, says_of}
 use Rattle.snd_output.specs.Made.{IsChunk, made_with}
 use Rattle.snd_output.specs.declared.stop.Stop.{Stop}
 use Rattle.snd_metadata.specs.Making.{HasPut, chunks_planned, known_filled}

@@ -1,7 +1,7 @@
 use Rattle.std.proofs.Common.{◌≡◌, ◌∙◌, ap, arith, refl, subst, sym, [], false, ℕ, ◌/◌, ℤ, List}
 use Rattle.std.proofs.lemmas.Result.{on_ok_weaker}
 use Rattle.snd_disk.specs.State.{AtMost}
-use Rattle.snd_inputs.proofs.Laws.{asks_then, asks_to_copy, copies_then, counts_appended, still_works}
+use Rattle.snd_inputs.proofs.Public.{asks_then, asks_to_copy, copies_then, counts_appended, still_works}
 use Rattle.snd_layout.specs.Blocks.{is_adpcm}
 use Rattle.snd_layout.specs.Params.{Parameters}
 use Rattle.snd_layout.specs.Shape.{Shape}

@@ -9,9 +9,9 @@ use Rattle.snd_output.specs.Made.{made_file}
 use Rattle.snd_output.specs.Widths.{joined}
 use Rattle.snd_metadata.specs.Making.{chunks_planned, file_planned}
 use Rattle.snd_metadata.specs.declared.chunks.PlannedChunk.{PlannedChunk}
-use Rattle.snd_inputs.proofs.Laws.{told_as}
+use Rattle.snd_inputs.proofs.Public.{told_as}
 use Rattle.snd_layout.specs.Blocks.{is_adpcm}
-use Rattle.snd_output.proofs.Laws.{fault_only, never_is}
+use Rattle.snd_output.proofs.Public.{fault_only, never_is}
 use Rattle.snd_metadata.proofs.make.make.Goals as goal
 
 pub returns-in-Ok-finish-clause-made : goal.returns-in-Ok-finish-clause-made

@@ -1,7 +1,7 @@
 use Rattle.std.proofs.Common.{◌∙◌, ap, arith, subst, List, All}
 use Rattle.snd_carry.specs.Carried.{body_bytes}
 use Rattle.snd_chunks.specs.Written.{NewChunk}
-use Rattle.snd_inputs.proofs.Laws.{asks_less}
+use Rattle.snd_inputs.proofs.Public.{asks_less}
 use Rattle.snd_layout.specs.Shape.{Shape}
 use Rattle.snd_layout.specs.declared.piece.Piece.{Piece}
 use Rattle.snd_file.specs.Handle.{known_of}

@@ -2,7 +2,7 @@ use Rattle.std.proofs.Common.{◌≡◌, ◌∙◌, ap, sym, ℕ, ◌+◌, true,
 use Rattle.std.proofs.lemmas.List.{drop_more}
 use Rattle.snd_chunks.specs.Written.{NewChunk}
 use Rattle.snd_disk.proofs.Public.{only_reads_then}
-use Rattle.snd_inputs.proofs.Laws.{asks_less, asks_then}
+use Rattle.snd_inputs.proofs.Public.{asks_less, asks_then}
 use Rattle.snd_metadata.specs.Chunks.{is_info_list}
 use Rattle.snd_metadata.specs.Planned.{chunk_planned}
 use Rattle.snd_metadata.specs.declared.chunks.PlannedChunk.{PlannedChunk}

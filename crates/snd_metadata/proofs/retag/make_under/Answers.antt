@@ -1,7 +1,7 @@
 use Rattle.std.proofs.Common.{true}
 use Rattle.std.proofs.lemmas.Result.{on_ok_weaker}
-use Rattle.snd_inputs.proofs.Laws.{still_told}
-use Rattle.snd_tools.proofs.Laws.{given_changes, given_files}
+use Rattle.snd_inputs.proofs.Public.{still_told}
+use Rattle.snd_tools.proofs.Public.{given_changes, given_files}
 use Rattle.snd_metadata.proofs.retag.make_under.Goals as goal
 
 pub returns-clause-made : goal.returns-clause-made

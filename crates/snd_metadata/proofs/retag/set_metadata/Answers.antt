@@ -1,10 +1,10 @@
 use Rattle.std.proofs.Common.{◌≡◌, false, Ok, refl, rules, subst}
 use Rattle.std.proofs.lemmas.Result.{IfOk-weaker}
 use Rattle.std.specs.Str.{bytes_eq}
-use Rattle.snd_inputs.proofs.Laws.{does_so, done_same, held_counts, held_done, held_one, reads_changes, refused_as, still_in}
+use Rattle.snd_inputs.proofs.Public.{does_so, done_same, held_counts, held_done, held_one, reads_changes, refused_as, still_in}
 use Rattle.snd_inputs.specs.Opening.{IsOpen, OpensInput}
 use Rattle.snd_edits.specs.Editing.{first_editing}
-use Rattle.snd_tools.proofs.Laws.{apart_back}
+use Rattle.snd_tools.proofs.Public.{apart_back}
 use Rattle.snd_metadata.specs.Retagged.{retagged, retagged_file}
 use Rattle.snd_metadata.proofs.Asking.{asks_held}
 use Rattle.snd_metadata.proofs.Doing.{makes_file, retagged_as, retagged_refused}

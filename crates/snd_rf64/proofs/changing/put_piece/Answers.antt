@@ -12,7 +12,7 @@ use Rattle.snd_rf64.specs.Put.{first_place, rf64_heads}
 use Rattle.snd_rf64.specs.Layout.{shape_at}
 use Rattle.snd_wave.specs.Relaid.{AreStanding}
 use Rattle.snd_rf64.proofs.Putting.{closes, data_few, made_params, new_may, new_shape, rf64_closing, rf64_form, rf64_mark, rf64_size, rf64_split, stands}
-use Rattle.snd_wave.proofs.Laws.{as_many, can_change, new_head, new_size}
+use Rattle.snd_wave.proofs.Public.{as_many, can_change, new_head, new_size}
 use Rattle.snd_rf64.proofs.changing.put_piece.Goals as goal
 
 pub first_place-requires : goal.first_place-requires

@@ -1,5 +1,5 @@
 use Rattle.std.proofs.Common.{rules}
-use Rattle.snd_wave.proofs.Laws.{pieces_end}
+use Rattle.snd_wave.proofs.Public.{pieces_end}
 use Rattle.snd_rf64.proofs.layout.find_pieces.Goals as goal
 
 pub returns-clause-held : goal.returns-clause-held

@@ -12,7 +12,7 @@ use Rattle.snd_svx.specs.Layout.{shape_of}
 use Rattle.snd_svx.specs.Put.{closing_behind, svx_heads}
 use Rattle.snd_wave.specs.Relaid.{AreStanding}
 use Rattle.snd_svx.proofs.Putting.{closes, made_params, new_may, new_shape, svx_form, svx_mark, svx_size, svx_split, stands}
-use Rattle.snd_wave.proofs.Laws.{as_many, can_change, new_head, new_size}
+use Rattle.snd_wave.proofs.Public.{as_many, can_change, new_head, new_size}
 use Rattle.snd_svx.proofs.changing.put_piece.Goals as goal
 
 pub plan_piece-requires-clause-stand : goal.plan_piece-requires-clause-stand

@@ -1,5 +1,5 @@
 use Rattle.std.proofs.Common.{◌∙◌, add-zero, refl}
-use Rattle.snd_chunks.proofs.Laws.{same_number}
+use Rattle.snd_chunks.proofs.Public.{same_number}
 use Rattle.snd_fields.specs.declared.field.Order.TheVariants.{Big}
 use Rattle.snd_svx.proofs.Bodies.{filled_agrees}
 use Rattle.snd_svx.proofs.reads.read_number.Goals as goal

@@ -1,5 +1,5 @@
 use Rattle.std.proofs.Common.{◌∙◌, add-zero, refl}
-use Rattle.snd_chunks.proofs.Laws.{filled_agrees, same_number}
+use Rattle.snd_chunks.proofs.Public.{filled_agrees, same_number}
 use Rattle.snd_fields.specs.declared.field.Order.TheVariants.{Little}
 use Rattle.snd_w64.proofs.reads.read_number.Goals as goal
 

@@ -1,6 +1,6 @@
 use Rattle.std.proofs.Common.{◌≡◌, ◌∙◌, ◌+◌, ◌-◌, ◌≤◌, ◌++◌, ◌∷◌, [], length, rules, sym, arith}
 use Rattle.snd_disk.proofs.Public.{only_reads_then}
-use Rattle.snd_chunks.proofs.Laws.{ends_grow}
+use Rattle.snd_chunks.proofs.Public.{ends_grow}
 use Rattle.snd_chunks.specs.Walks.{EndsBy}
 use Rattle.snd_w64.specs.Layout.{chunk_at}
 use Rattle.snd_w64.specs.declared.seen.Seen.TheVariants.{Sound, Whole, Nothing}
