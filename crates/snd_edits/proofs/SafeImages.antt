@@ -13,7 +13,7 @@ use Rattle.snd_layout.specs.declared.piece.Piece.{Piece}
 use Rattle.snd_layout.specs.declared.refusal.OpenRefusal.{OpenRefusal}
 use Rattle.snd_edits.specs.Editing.{Editing}
 use Rattle.snd_edits.specs.Laws.{KeepsFile}
-use Rattle.snd_edits.specs.Safe.{IsSafe, IsUnwritten, acknowledged, chunks_of, frame_at}
+use Rattle.snd_edits.specs.Safe.{acknowledged, chunks_of, frame_at, IsSafe, IsUnwritten, SaysAs}
 use Rattle.snd_edits.proofs.EditedFiles.{lies_under}
 use Rattle.snd_edits.proofs.EditedSounds.{edited_pieces, image_pieces, sound_by}
 use Rattle.snd_edits.proofs.FixedFrames.{count_any, decode_fixed}
@@ -77,8 +77,7 @@ module _ (opened : List ℕ) (e : Editing) (x : List ℕ) (n d : ℕ) (says : Im
     sound = sound_is;
     opens = opens_as;
     params = refl;
-    kind = inl refl;
-    chunks = inl pieces_are;
+    head = inl (refl, pieces_are);
     count = ⊎_elim (λ old. inl (count_is ∙ old)) (λ new. inr (count_is ∙ new)) either;
     unwritten = λ i lt within same. stay i (omega (arith, count_is, lt)) within same;
     risen = λ more. risen (omega (arith, count_is, more)) ∙ ap (λ (m : ℕ). take m e'.frames) (sym count_is);
@@ -117,8 +116,7 @@ wider e e' x safe =
       sound = safe.sound;
       opens = safe.opens;
       params = safe.params;
-      kind = inl (⊎_elim (λ k. k) (λ k. k) safe.kind);
-      chunks = inl (⊎_elim (λ k. k) (λ k. k) safe.chunks);
+      head = inl (⊎_elim (λ k. k) (λ k. k) safe.head);
       count = inl count;
       unwritten = λ i lt within same. ap (λ (l : List (List ℤ)). frame_at l i) frames;
       risen = λ more. absurd (omega (arith, count, more));
@@ -132,8 +130,7 @@ from_after e e' x params safe =
       sound = safe.sound;
       opens = safe.opens;
       params = safe.params ∙ params;
-      kind = inr (⊎_elim (λ k. k) (λ k. k) safe.kind);
-      chunks = inr (⊎_elim (λ k. k) (λ k. k) safe.chunks);
+      head = inr (⊎_elim (λ k. k) (λ k. k) safe.head);
       count = inr count;
       unwritten = λ i lt within un. ⊎_elim (λ gone. absurd (omega (arith, count, lt, gone))) (λ stays. ap (λ (l : List (List ℤ)). frame_at l i) frames ∙ stays) un;
       risen = λ more. frames ∙ sym (take_all (length safe.sound.frames) e'.frames (omega (arith, count)));
@@ -158,12 +155,12 @@ safe_across opened e g e' x of of_g same safe =
     let file = same_file opened e g of of_g in
     let frames : safe.sound.frames ≡ e.frames = frames_at_rest g x safe ∙ same in
     let count : length safe.sound.frames ≡ acknowledged e = ap (λ (l : List (List ℤ)). length l) frames in
+    let own : SaysAs g safe.sound = ⊎_elim (λ k. k) (λ k. k) safe.head in
     record {
       sound = safe.sound;
       opens = safe.opens;
       params = safe.params ∙ file.0;
-      kind = inl (⊎_elim (λ k. k) (λ k. k) safe.kind ∙ file.1);
-      chunks = inl (⊎_elim (λ k. k) (λ k. k) safe.chunks ∙ file.2);
+      head = inl (own.0 ∙ file.1, own.1 ∙ file.2);
       count = inl count;
       unwritten = λ i lt within un. ap (λ (l : List (List ℤ)). frame_at l i) frames;
       risen = λ more. absurd (omega (arith, count, more));

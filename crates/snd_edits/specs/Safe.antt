@@ -22,6 +22,10 @@ acknowledged e = length e.frames
 abbrev pub chunks_of : Editing → List Kept
 chunks_of e = map (kept_of e.bytes) e.shape.pieces
 
+-- a sound is that of a file with the kind and the further chunks of a state
+abbrev pub SaysAs : Editing → Sound → Type 0
+SaysAs e sound = (sound.kind ≡ e.shape.kind) × (sound.pieces ≡ chunks_of e)
+
 -- a frame has no numbers where there is none
 abbrev pub frame_at : List (List ℤ) → ℕ → List ℤ
 frame_at frames i = get_or frames i []
@@ -35,8 +39,7 @@ pub record IsSafe (e e' : Editing) (x : List ℕ) : Type 0 where
   pub sound : Sound
   pub opens : sound_of x ≡ Ok sound
   pub params : sound.params ≡ e.shape.params
-  pub kind : (sound.kind ≡ e.shape.kind) ⊎ (sound.kind ≡ e'.shape.kind)
-  pub chunks : (sound.pieces ≡ chunks_of e) ⊎ (sound.pieces ≡ chunks_of e')
+  pub head : SaysAs e sound ⊎ SaysAs e' sound
   pub count : (length sound.frames ≡ acknowledged e) ⊎ (length sound.frames ≡ acknowledged e')
   pub unwritten : (i : ℕ) → i < length sound.frames → i < acknowledged e → IsUnwritten e e' i → frame_at sound.frames i ≡ frame_at e.frames i
   pub risen : acknowledged e < length sound.frames → sound.frames ≡ take (length sound.frames) e'.frames

@@ -12,3 +12,4 @@ pub mod KindHeads
 pub mod LeftSafe
 pub mod Opened
 pub mod Public
+pub mod WithoutMemory

@@ -5,7 +5,7 @@ use Rattle.snd_disk.specs.Device.{Tells}
 use Rattle.snd_disk.specs.State.{State}
 use Rattle.snd_layout.specs.Params.{Parameters}
 use Rattle.snd_layout.specs.declared.error.OpenError.{OpenError}
-use Rattle.snd_layout.specs.declared.error.OpenError.TheVariants.{Refused}
+use Rattle.snd_layout.specs.declared.error.OpenError.TheVariants.{Memory, Refused}
 use Rattle.snd_layout.specs.declared.kind.Kind.{Kind}
 use Rattle.snd_layout.specs.declared.refusal.OpenRefusal.{OpenRefusal}
 use Rattle.snd_file.specs.declared.handle.File.{File}
@@ -13,6 +13,11 @@ use Rattle.snd_edits.specs.declared.mode.Mode.{Ghosts as ModeGhosts}
 use Rattle.snd_edits.specs.Editing.{Editing}
 use Rattle.snd_file.specs.Handle.{Stands}
 use Rattle.snd_edits.specs.Making.{making_of}
+
+-- what holds where nothing is opened for want of memory
+abbrev pub IfMemory : {T : Type 0} → Type 0 → Result T OpenError → Type 0
+IfMemory P (Err Memory) = P
+IfMemory P other = Unit {0}
 
 -- What is made is a handle that stands for that state, where the disk tells what it holds; what is refused is that reason.
 abbrev pub MakesFile : {D M : Type 0} {ghosts : Ghosts D} {mode : ModeGhosts M} → (D → State) → Kind → Parameters → D → Result (File D M ghosts mode) OpenError → Type 0

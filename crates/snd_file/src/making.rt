@@ -1,6 +1,6 @@
 //! Files that are made.
 
-ghost use Rattle.std.specs.Prelude.{◌≡◌, ◌≤◌, Err, IfOk, [], false, is_none, is_some, true};
+ghost use Rattle.std.specs.Prelude.{◌≡◌, ◌≤◌, Err, IfOk, None, [], false, is_none, is_some, true};
 ghost use Rattle.snd_disk.specs.Device.{GoesOnFrom, WritesAtMost};
 ghost use Rattle.snd_block_writer.specs.Writing.{StandsFor};
 ghost use Rattle.snd_blocks.specs.Calls.{AreBlocks};
@@ -14,7 +14,7 @@ ghost use Rattle.snd_edits.specs.Known.{IsFresh};
 ghost use Rattle.snd_file.specs.Handle.{known_of};
 ghost use Rattle.snd_file.specs.Loans.{answer_of, disk_after, loan_after};
 ghost use Rattle.snd_edits.specs.Making.{making_of};
-ghost use Rattle.snd_file.specs.Making.{MakesFile};
+ghost use Rattle.snd_file.specs.Making.{IfMemory, MakesFile};
 ghost use Rattle.snd_patch.specs.Steps.{StillTells};
 
 use crate::handle::File;
@@ -31,8 +31,8 @@ use std::alloc::{AllocError, Global};
 /// bytes and reads none.
 ///
 /// The answer is `Refused` with the first reason, by number, for which the kind does not hold the
-/// parameters: then the disk is not touched. `DiskFault` where a call of the disk failed; `Memory` where there
-/// is none. The disk comes back with it.
+/// parameters, also over a disk that does not tell what it holds: then the disk is not touched. `DiskFault`
+/// where a call of the disk failed. It takes no memory. The disk comes back with the answer.
 pub fn create<'d, D: Disk>(
     alloc: Global,
     disk: &'d mut D,
@@ -43,6 +43,8 @@ pub fn create<'d, D: Disk>(
     ensures lends { loan_after result ≡ disk.entry.ghost_name }
     ensures made { MakesFile D.state kind params disk.old (answer_of result) }
     ensures untouched { (refusal : OpenRefusal) → making_of kind params ≡ Err refusal → disk_after result ≡ disk.old }
+    ensures fits { IfOk result (λ f. fit_refusal kind params ≡ None) }
+    ensures memory { IfMemory ⊥ (answer_of result) }
     ensures fresh { IfOk result (λ f. IsFresh (known_of f)) }
     ensures shape { IfOk result (λ f. (known_of f).shape ≡ new_shape kind params) }
     ensures faults { CountsOpening D.state disk.old (disk_after result) (answer_of result) }
@@ -75,7 +77,8 @@ fn writer_for(alloc: Global, kind: Kind, params: Params) -> Result<Box<BlockWrit
 }
 
 /// Makes a disk a sound file of a kind with these parameters and no frames, whose codec is ADPCM, and opens it
-/// to be written by blocks: as `create`, with its answers.
+/// to be written by blocks: as `create`, with its answers, and `Memory` where there is none: then the disk is not
+/// touched.
 pub fn create_blocks<'d, D: Disk>(
     alloc: Global,
     disk: &'d mut D,
@@ -86,6 +89,8 @@ pub fn create_blocks<'d, D: Disk>(
     ensures lends { loan_after result ≡ disk.entry.ghost_name }
     ensures made { MakesFile D.state kind params disk.old (answer_of result) }
     ensures untouched { (refusal : OpenRefusal) → making_of kind params ≡ Err refusal → disk_after result ≡ disk.old }
+    ensures fits { IfOk result (λ f. fit_refusal kind params ≡ None) }
+    ensures memory { IfMemory (disk_after result ≡ disk.old) (answer_of result) }
     ensures fresh { IfOk result (λ f. IsFresh (known_of f)) }
     ensures shape { IfOk result (λ f. (known_of f).shape ≡ new_shape kind params) }
     ensures faults { CountsOpening D.state disk.old (disk_after result) (answer_of result) }

@@ -10,6 +10,7 @@ use Rattle.snd_layout.specs.Shape.{Shape}
 use Rattle.snd_layout.specs.declared.refusal.OpenRefusal.{OpenRefusal}
 use Rattle.snd_edits.specs.Editing.{first_editing}
 use Rattle.snd_edits.proofs.Public.{begins_at_start, begins_new, is_new, making_ok, making_refused, never_refused, no_refusal}
+use Rattle.snd_file.proofs.WithoutMemory.{laid_without}
 use Rattle.snd_file.proofs.making.create_blocks.Goals as goal
 
 pub returns-clause-made : goal.returns-clause-made
@@ -31,6 +32,9 @@ returns-in-Err-clause-made g c = λ r is.
 pub returns-in-Err-lay_head-clause-made : goal.returns-in-Err-lay_head-clause-made
 returns-in-Err-lay_head-clause-made g c = λ r is.
     absurd (no_refusal _ _ c.in-Err-lay_head.error r is c.in-Err-lay_head.ensures.cause)
+
+pub returns-in-Err-lay_head-clause-memory : goal.returns-in-Err-lay_head-clause-memory
+returns-in-Err-lay_head-clause-memory g c = laid_without _ _ c.in-Err-lay_head.error _ c.in-Err-lay_head.ensures.cause
 
 pub returns-in-Err-lay_head-clause-untouched : goal.returns-in-Err-lay_head-clause-untouched
 returns-in-Err-lay_head-clause-untouched g c = λ r is.
