@@ -18,5 +18,6 @@ pub use codec::{codec_like, params_like};
 pub use ends::finish;
 pub use making::Making;
 pub use pages::frames_first;
+pub use steps::read_some;
 pub use stop::Stop;
-pub use widths::width_of;
+pub use widths::{change_numbers, width_of};

@@ -17,11 +17,9 @@ use snd_disk::Disk;
 use snd_edits::{Read, ReadError};
 use snd_file::File;
 
-// Reads frames, as many as the slice has places for, fewer only at the end.
-pub(crate) fn read_some<D: Disk>(
-    from: &mut File<'_, D, Read>,
-    into: &mut [i32],
-) -> Result<usize, Stop>
+/// Reads frames, as many as the slice has places for, fewer only at the end. `Fault` where a call of the disk failed, and
+/// `Changed` where a block of ADPCM is bad.
+pub fn read_some<D: Disk>(from: &mut File<'_, D, Read>, into: &mut [i32]) -> Result<usize, Stop>
     requires ready { IsReady (length into.old) (known_of from.old) }
     ensures loan { loan_of from.new ≡ loan_of from.old }
     ensures count { IfOk result (λ k. k ≡ next_count (length into.old) from.old) }

@@ -21,8 +21,9 @@ pub fn width_of(codec: Codec) -> u8
     }
 }
 
-// Changes numbers of one codec to numbers of another.
-pub(crate) fn change_numbers(from: Codec, to: Codec, numbers: &mut [i32])
+/// Changes numbers of one codec to numbers of another: a wider one is a multiple by a power of two, a narrower one is
+/// divided by it and rounded toward minus infinity.
+pub fn change_numbers(from: Codec, to: Codec, numbers: &mut [i32])
     requires { FitCodec from numbers.old }
     ensures changed { numbers.new ≡ change_numbers from to numbers.old }
     ensures in_range { FitCodec to numbers.new }
