@@ -7,3 +7,4 @@ mod make;
 mod plan;
 
 pub use converting::convert;
+pub use plan::{Plan, plan_of};

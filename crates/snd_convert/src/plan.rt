@@ -15,7 +15,7 @@ use snd_words::{CodecChoice, Conversion};
 
 /// The kind and the parameters of the file that is made.
 #[derive(Clone, Copy, Debug, PartialEq, Eq)]
-pub(crate) struct Plan {
+pub struct Plan {
     pub kind: Kind,
     pub params: Params,
 }
@@ -90,11 +90,7 @@ fn plan_in(
 /// why it does not. `BadRate`, `BadPair` as `Params::new` and `fit` say, and `BadPair` where the kind does not
 /// hold the order of bytes that is asked for.
 #[tactic(auto, unfolding(crate::specs::Plan::planned))]
-pub(crate) fn plan_of(
-    conversion: &Conversion<'_>,
-    kind: Kind,
-    from: Params,
-) -> Result<Plan, OpenRefusal>
+pub fn plan_of(conversion: &Conversion<'_>, kind: Kind, from: Params) -> Result<Plan, OpenRefusal>
     ensures value { plan_by result ≡ planned (asked_of conversion.now) kind from }
     ensures fits { IfOk result (λ plan. fit_refusal plan.kind plan.params ≡ None) }
     ensures channels { IfOk result (λ plan. plan.params.channels ≡ from.channels) }

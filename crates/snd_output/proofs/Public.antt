@@ -10,3 +10,4 @@ pub use Rattle.snd_output.proofs.Likeness.{like_is, same_channels}
 pub use Rattle.snd_output.proofs.MadeSounds.{frames_are as sound_frames_are}
 pub use Rattle.snd_output.proofs.Numbers.{joined_groups}
 pub use Rattle.snd_output.proofs.Ranges.{fits_width, width_fits}
+pub use Rattle.snd_output.proofs.Passing.{changed_counted, coded_are_bytes, frames_size, numbers_counted, size_of as bytes_of_samples, some_form}

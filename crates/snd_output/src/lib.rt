@@ -18,6 +18,7 @@ pub use codec::{codec_like, params_like};
 pub use ends::finish;
 pub use making::Making;
 pub use pages::frames_first;
-pub use steps::read_some;
+pub use samples::{give_passed, recode_into};
+pub use steps::{read_some, read_some_bytes};
 pub use stop::Stop;
 pub use widths::{change_numbers, width_of};

@@ -31,8 +31,15 @@ fn stay(from: Codec, to: Codec) -> bool
     from == to && !matches!(from, Codec::MuLaw)
 }
 
-// Puts the bytes of samples of one codec in another into the front of a buffer, and tells how many they are.
-fn recode_into(from: Codec, to: Codec, bytes: &[u8], numbers: &mut [i32], coded: &mut [u8]) -> usize
+/// Puts the bytes of samples of one codec in another into the front of a buffer, and tells how many they are. What
+/// the numbers held is lost.
+pub fn recode_into(
+    from: Codec,
+    to: Codec,
+    bytes: &[u8],
+    numbers: &mut [i32],
+    coded: &mut [u8],
+) -> usize
     requires pass { Pass from to }
     requires held { length bytes.now ≡ bytes_in from (length numbers.old) }
     requires fits { bytes_in to (length numbers.old) ≤ length coded.old }
@@ -49,7 +56,7 @@ fn recode_into(from: Codec, to: Codec, bytes: &[u8], numbers: &mut [i32], coded:
 
 /// Gives a file the frames that bytes are in another codec, or in its own.
 /// What the numbers and the buffer held is lost. `Fault` where a call of the disk failed.
-pub(crate) fn give_passed<E: Disk, M: Making>(
+pub fn give_passed<E: Disk, M: Making>(
     to: &mut File<'_, E, M>,
     codec: Codec,
     bytes: &[u8],

@@ -40,8 +40,9 @@ pub fn read_some<D: Disk>(from: &mut File<'_, D, Read>, into: &mut [i32]) -> Res
     }
 }
 
-// .. and as the bytes of their samples, where each sample of the codec has bytes of its own.
-pub(crate) fn read_some_bytes<D: Disk>(
+/// Reads frames as `read_some` does, as the bytes of their samples: each sample of the codec has bytes of its own.
+/// `Fault` where a call of the disk failed.
+pub fn read_some_bytes<D: Disk>(
     from: &mut File<'_, D, Read>,
     into: &mut [u8],
 ) -> Result<usize, Stop>
