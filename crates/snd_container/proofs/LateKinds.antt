@@ -15,15 +15,12 @@ use Rattle.snd_container.specs.Kinds.{container_of}
 use Rattle.snd_container.specs.Late.{LateChunksReadBack}
 use Rattle.snd_container.specs.Recognised.{recognised}
 use Rattle.snd_container.specs.Values.{any}
-use Rattle.snd_rf64.proofs.Public as rf64_late
 use Rattle.snd_rf64.proofs.Public as rf64
 use Rattle.snd_rf64.specs.Put.{rf64_heads}
 use Rattle.snd_rf64.specs.Written as rf64_written
-use Rattle.snd_svx.proofs.Public as svx_late
 use Rattle.snd_svx.proofs.Public as svx
 use Rattle.snd_svx.specs.Put.{svx_heads}
 use Rattle.snd_svx.specs.Written as svx_written
-use Rattle.snd_wave.proofs.Public as wave_late
 use Rattle.snd_wave.proofs.Public as wave
 use Rattle.snd_wave.specs.Put.{reserved_heads}
 use Rattle.snd_wave.specs.Written.{MayBePiece, reserved_head, reserved_shape, riff_head}
@@ -86,13 +83,13 @@ svx_known = record { says = svx_says; found = svx_found; told = svx.heads_read_b
 -- ---- all of them
 
 in_wave : (r : Option ℕ) → LateReadsBack MayBePiece (any Wave) (reserved_heads r)
-in_wave r = by_kind Wave (reserved_heads r) (wave_known r) MayBePiece (wave_late.late_reads_back r)
+in_wave r = by_kind Wave (reserved_heads r) (wave_known r) MayBePiece (wave.late_reads_back r)
 
 in_rf64 : LateReadsBack MayBePiece (any Rf64) rf64_heads
-in_rf64 = by_kind Rf64 rf64_heads rf64_known MayBePiece rf64_late.late_reads_back
+in_rf64 = by_kind Rf64 rf64_heads rf64_known MayBePiece rf64.late_reads_back
 
 in_svx : LateReadsBack svx_written.MayBePiece (any Svx) svx_heads
-in_svx = by_kind Svx svx_heads svx_known svx_written.MayBePiece svx_late.late_reads_back
+in_svx = by_kind Svx svx_heads svx_known svx_written.MayBePiece svx.late_reads_back
 
 pub late_chunks_read_back : LateChunksReadBack
 late_chunks_read_back None Wave holds = in_wave None
