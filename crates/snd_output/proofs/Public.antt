@@ -1,5 +1,5 @@
 -- The laws of this crate that others may cite.
-pub use Rattle.snd_output.proofs.Appending.{at_end_then, count_fits, div_sum, frames_are, longer_as, longer_none, longer_then, may_give, moved_twice, none_left, read_twice, room_fewer, room_then, whole_places}
+pub use Rattle.snd_output.proofs.Appending.{asked_all, asked_before, asked_by, asked_none, asked_on, at_end_then, bad_ahead, count_fits, div_sum, each_whole, failed_later, frames_are, given_longer, left_later, left_unread, left_unwritten, longer_as, longer_none, longer_then, may_give, moved_none, moved_twice, never_changed, none_left, one_fits, read_failed, read_none, read_twice, room_fewer, room_then, whole_places, write_failed}
 pub use Rattle.snd_output.proofs.Begun.{begun_is_making, first_is_making, new_head, new_says}
 pub use Rattle.snd_output.proofs.Bytes.{closed_now, coded_data, coded_joined, fields_in_front}
 pub use Rattle.snd_output.proofs.Carried.{SaysOf, carried_is_making, laws_of, says_of}
