@@ -15,8 +15,8 @@ use Rattle.snd_file.specs.Handle.{Stands}
 use Rattle.snd_edits.specs.Making.{making_of}
 
 -- what holds where nothing is opened for want of memory
-abbrev pub IfMemory : {T : Type 0} → Type 0 → Result T OpenError → Type 0
-IfMemory P (Err Memory) = P
+abbrev pub IfMemory : Type 0 → OpenError → Type 0
+IfMemory P Memory = P
 IfMemory P other = Unit {0}
 
 -- What is made is a handle that stands for that state, where the disk tells what it holds; what is refused is that reason.

@@ -1,6 +1,6 @@
 //! Files that are made.
 
-ghost use Rattle.std.specs.Prelude.{◌≡◌, ◌≤◌, Err, IfOk, None, [], false, is_none, is_some, true};
+ghost use Rattle.std.specs.Prelude.{◌≡◌, ◌≤◌, Err, IfErr, IfOk, None, [], false, is_none, is_some, true};
 ghost use Rattle.snd_disk.specs.Device.{GoesOnFrom, WritesAtMost};
 ghost use Rattle.snd_block_writer.specs.Writing.{StandsFor};
 ghost use Rattle.snd_blocks.specs.Calls.{AreBlocks};
@@ -44,7 +44,7 @@ pub fn create<'d, D: Disk>(
     ensures made { MakesFile D.state kind params disk.old (answer_of result) }
     ensures untouched { (refusal : OpenRefusal) → making_of kind params ≡ Err refusal → disk_after result ≡ disk.old }
     ensures fits { IfOk result (λ f. fit_refusal kind params ≡ None) }
-    ensures memory { IfMemory ⊥ (answer_of result) }
+    ensures memory { IfErr (answer_of result) (IfMemory ⊥) }
     ensures fresh { IfOk result (λ f. IsFresh (known_of f)) }
     ensures shape { IfOk result (λ f. (known_of f).shape ≡ new_shape kind params) }
     ensures faults { CountsOpening D.state disk.old (disk_after result) (answer_of result) }
@@ -90,7 +90,7 @@ pub fn create_blocks<'d, D: Disk>(
     ensures made { MakesFile D.state kind params disk.old (answer_of result) }
     ensures untouched { (refusal : OpenRefusal) → making_of kind params ≡ Err refusal → disk_after result ≡ disk.old }
     ensures fits { IfOk result (λ f. fit_refusal kind params ≡ None) }
-    ensures memory { IfMemory (disk_after result ≡ disk.old) (answer_of result) }
+    ensures memory { IfErr (answer_of result) (IfMemory (disk_after result ≡ disk.old)) }
     ensures fresh { IfOk result (λ f. IsFresh (known_of f)) }
     ensures shape { IfOk result (λ f. (known_of f).shape ≡ new_shape kind params) }
     ensures faults { CountsOpening D.state disk.old (disk_after result) (answer_of result) }
