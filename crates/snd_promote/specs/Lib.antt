@@ -1,0 +1,3 @@
+pub mod Promoted
+pub mod Images
+pub mod Laws
