@@ -1,5 +1,5 @@
 -- The first bytes of an RF64 file, and the parts of them that are read.
-use Rattle.std.proofs.Common.{◌≡◌, ℕ, ◌+◌, ◌-◌, ◌<◌, ◌^◌, List, ◌++◌, length, get_or, refl, sym, ap, ◌∙◌, arith, length-append}
+use Rattle.std.proofs.Common.{◌≡◌, ℕ, ◌-◌, ◌<◌, ◌^◌, List, ◌++◌, length, get_or, refl, ap, ◌∙◌, arith, length-append}
 use Rattle.std.specs.Prelude.{codes, unwrap_or}
 use Rattle.snd_chunks.proofs.Public.{has_left, has_right}
 use Rattle.snd_chunks.specs.Chunks.{padded_end}
@@ -9,6 +9,7 @@ use Rattle.snd_fields.specs.Field.{bytes_of, number}
 use Rattle.snd_fields.specs.declared.field.Order.TheVariants.{Little}
 use Rattle.snd_layout.specs.Params.{data_bytes}
 use Rattle.snd_layout.specs.Shape.{Shape}
+use Rattle.snd_patch.specs.Sealed.{counted}
 use Rattle.snd_rf64.specs.Values.{inner_value, outer_value, side_value}
 use Rattle.snd_rf64.specs.Written.{no_size}
 use Rattle.snd_promote.specs.Promoted.{new_front, new_size}
@@ -90,7 +91,7 @@ module _ (h : Shape) (n : ℕ) where
       (length-bytes_of Little 4 (unwrap_or h.reserve 0)) (length-bytes_of Little 8 (padded_end h.start (data_bytes h.params n) - 8)) plain
 
   -- they hang neither on the frames that there were nor on the declared length
-  pub front_counted : (m : ℕ) → new_front (record h { frames = m; declared = m }) n ≡ new_front h n
+  pub front_counted : (m : ℕ) → new_front (counted h m) n ≡ new_front h n
   unfolding new_front outer_value inner_value side_value
   front_counted m = refl
 

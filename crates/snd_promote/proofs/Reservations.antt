@@ -1,10 +1,10 @@
 -- The parts of a WAVE file with a reservation.
-use Rattle.std.proofs.Common.{◌≡◌, ℕ, ◌+◌, ◌-◌, ◌<◌, ◌≤◌, ◌^◌, List, [], ◌∷◌, ◌++◌, Bool, true, false, not, ◌&&◌, Option, None, Some, Ok, length, take, drop, get_or, refl, sym, ap, subst, ◌∙◌, inl, inr, arith, length-append, All}
+use Rattle.std.proofs.Common.{◌≡◌, ℕ, ◌+◌, ◌-◌, ◌<◌, ◌≤◌, List, [], ◌∷◌, ◌++◌, true, false, not, ◌&&◌, Option, None, Some, Ok, length, take, drop, get_or, refl, sym, ap, subst, ◌∙◌, inl, inr, arith, length-append, All}
 use Rattle.std.proofs.lemmas.Bool.{and_parts, cases_Bool, cases_lt, eqb-true, leb-true, ltb-false, not-true}
 use Rattle.std.proofs.lemmas.List.{append-nil, get_or-append-add, get_or-drop, get_or-take, get_or_append_left}
 use Rattle.std.proofs.lemmas.Slice.Eq.{bytes_eq-Decides}
-use Rattle.std.specs.List.{filter, find}
-use Rattle.std.specs.Prelude.{◌==◌, codes, is_some, nat_le, nat_lt}
+use Rattle.std.specs.List.{find}
+use Rattle.std.specs.Prelude.{◌==◌, codes, is_some, nat_le}
 use Rattle.std.specs.Str.{bytes_eq}
 use Rattle.snd_chunks.proofs.Public.{IsChain, IsHead, OpensBy, Reaches, in_order, is_head, no_tail, opens_by, reaches}
 use Rattle.snd_chunks.specs.Chunks.{chunk_at}

@@ -1,13 +1,10 @@
 -- What a promoted file owes the file that it was, and what a crash leaves of it.
-use Rattle.std.specs.Prelude.{◌≡◌, ◌⊎◌, ℕ, ◌+◌, ◌<◌, ◌≤◌, List, ◌++◌, Ok, Some, codes, drop, get_or, length, take}
+use Rattle.std.specs.Prelude.{◌≡◌, ◌⊎◌, ℕ, ◌+◌, ◌<◌, ◌≤◌, List, ◌++◌, Ok, Some, codes, drop, get_or, length}
 use Rattle.snd_disk.specs.Runs.{HasAt}
 use Rattle.snd_fields.specs.Field.{bytes_of}
 use Rattle.snd_fields.specs.declared.field.Order.TheVariants.{Little}
-use Rattle.snd_layout.specs.Container.{SameBody}
-use Rattle.snd_layout.specs.Params.{data_bytes}
 use Rattle.snd_layout.specs.Shape.{Shape, end}
 use Rattle.snd_rf64.specs.Layout.{rf64_layout}
-use Rattle.snd_wave.specs.Layout.{wave_layout}
 use Rattle.snd_promote.specs.Images.{IsPromoting}
 use Rattle.snd_promote.specs.Promoted.{MayPromote, new_front, promoted, promoted_shape}
 

@@ -1,3 +1,4 @@
 pub mod Promoted
 pub mod Images
 pub mod Laws
+pub mod Steps

@@ -1,0 +1,58 @@
+-- What a disk holds after the steps of a promotion.
+use Rattle.std.proofs.Common.{◌≡◌, false, max, ℕ, ◌-◌, List, [], ◌∷◌, ◌++◌, Ok, Err, Option, None, Some, option_map, refl, ap, ◌∙◌, arith}
+use Rattle.std.specs.Prelude.{OnOk, Result, codes, unwrap_or}
+use Rattle.snd_chunks.specs.Chunks.{padded_end}
+use Rattle.snd_disk.specs.Bytes.{over}
+use Rattle.snd_fields.specs.Field.{bytes_of}
+use Rattle.snd_fields.specs.declared.field.Order.TheVariants.{Little}
+use Rattle.snd_layout.specs.Params.{data_bytes}
+use Rattle.snd_layout.specs.Shape.{Shape}
+use Rattle.snd_patch.specs.Sealed.{counted, sealed, sealed_size}
+use Rattle.snd_container.specs.Values.{closed_end}
+use Rattle.snd_patch.specs.Steps.{MayCount}
+use Rattle.snd_rf64.specs.Values.{inner_value, outer_value, side_value}
+use Rattle.snd_rf64.specs.Written.{no_size}
+use Rattle.snd_promote.proofs.Fronts.{front_counted}
+use Rattle.snd_promote.specs.Promoted.{new_front, new_size, promoted}
+
+-- more that holds of a call that succeeded
+pub on_ok : {T E : Type 0} (r : Result T E) (P Q : Type 0) → (P → Q) → OnOk r P → OnOk r Q
+on_ok (Ok value) P Q then is = then is
+on_ok (Err error) P Q then is = is
+
+pub size_is : 255 ∷ 255 ∷ 255 ∷ 255 ∷ [] ≡ new_size
+unfolding new_size
+size_is = refl
+
+module _ (h : Shape) (n : ℕ) where
+  pub converted_contents : (o m new : Option (List ℕ)) → m ≡ option_map (λ b. over b 0 (new_front h n)) o → new ≡ option_map (λ b. over b (h.start - 4) new_size) m → new ≡ option_map (λ b. promoted b h n) o
+  converted_contents None m new one two = two ∙ ap (option_map (λ b. over b (h.start - 4) new_size)) one
+  converted_contents (Some b) m new one two = two ∙ ap (option_map (λ b. over b (h.start - 4) new_size)) one
+
+  promoted_counted : (b : List ℕ) → promoted b (counted h n) n ≡ promoted b h n
+  promoted_counted b = ap (λ (f : List ℕ). over (over b 0 f) (h.start - 4) new_size) (front_counted h n n)
+
+  pub promoted_contents : (o m new : Option (List ℕ)) → m ≡ option_map (λ b. sealed b h n) o → new ≡ option_map (λ b. promoted b (counted h n) n) m → new ≡ option_map (λ b. promoted (sealed b h n) h n) o
+  promoted_contents None m new one two = two ∙ ap (option_map (λ b. promoted b (counted h n) n)) one
+  promoted_contents (Some b) m new one two = two ∙ ap (option_map (λ b. promoted b (counted h n) n)) one ∙ ap (λ (l : List ℕ). Some l) (promoted_counted (sealed b h n))
+
+  -- the layout of the sealed file
+  pub counted_free : h.trailing ≡ false → (counted h n).declared ≡ data_bytes h.params n
+  counted_free free = rw free refl
+
+  pub may_count_sealed : (size size' : ℕ) → MayCount h n size → h.trailing ≡ false → size' ≡ sealed_size size h n → MayCount (counted h n) n size'
+  may_count_sealed size size' may free is =
+      let declared : (counted h n).declared ≡ data_bytes h.params n = counted_free free in
+      let grown : size' ≡ max size (closed_end h n) = is ∙ (rw free refl) in
+      record {
+        room = record { in_room = omega (arith, declared); on_disk = may.room.on_disk; counted = may.room.counted };
+        on_disk = may.on_disk;
+        there = omega (arith, grown, may.there);
+      }
+
+  -- the first bytes as they are put together
+  pub front_put : (bytes whole size : ℕ) (v0 v1 v2 v3 v4 v5 v6 v7 v8 v9 : List ℕ) → bytes ≡ data_bytes h.params n → whole ≡ padded_end h.start bytes - 8 → size ≡ unwrap_or h.reserve 0 → v0 ≡ [] → v1 ≡ v0 ++ codes "RF64"
+      → v2 ≡ v1 ++ bytes_of Little 4 no_size → v3 ≡ v2 ++ codes "WAVE" → v4 ≡ v3 ++ codes "ds64" → v5 ≡ v4 ++ bytes_of Little 4 size → v6 ≡ v5 ++ bytes_of Little 8 whole → v7 ≡ v6 ++ bytes_of Little 8 bytes
+      → v8 ≡ v7 ++ bytes_of Little 8 n → v9 ≡ v8 ++ bytes_of Little 4 0 → v9 ≡ new_front h n
+  unfolding new_front outer_value inner_value side_value
+  front_put bytes whole size v0 v1 v2 v3 v4 v5 v6 v7 v8 v9 counted ended sized e0 e1 e2 e3 e4 e5 e6 e7 e8 e9 = rw (e9, e8, e7, e6, e5, e4, e3, e2, e1, e0, ended, counted, sized) refl
