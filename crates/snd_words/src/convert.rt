@@ -3,7 +3,7 @@
 ghost use Rattle.std.specs.Prelude.{◌≡◌, ◌+◌, ◌≤◌, ◌∷◌, [], drop, length, option_map};
 ghost use Rattle.std.specs.List.{slice_range};
 ghost use Rattle.snd_words.specs.Asked.{IsAsked};
-ghost use Rattle.snd_words.specs.Convert.{codec_of, convert_asked, order_of, rate_of, setting_of, settings_of, settled_on};
+ghost use Rattle.snd_words.specs.Convert.{codec_of, convert_asked, order_of, rack_in_word, rate_of, setting_of, settings_of, settled_on};
 ghost use Rattle.snd_words.specs.Request.{asked_by};
 ghost use Rattle.snd_words.specs.Options.{option_count, text_behind};
 
@@ -11,6 +11,7 @@ use crate::names::two_names;
 use crate::options::{options_end, text_behind};
 use crate::request::{Request, Tool};
 use snd_fields::{Order, Words, decimal};
+use snd_rack::RackSpec;
 
 /// A codec that an option of `convert` names.
 #[derive(Clone, Copy, Debug, PartialEq, Eq)]
@@ -36,7 +37,7 @@ pub enum CodecChoice {
 }
 
 /// What `convert` is to do. What no option sets is left to the input and to the output's kind.
-#[derive(Clone, Copy, Debug, PartialEq, Eq)]
+#[derive(Drop)]
 pub struct Conversion<'a> {
     /// How many frames a second the output is to state, at most 2^63 - 1.
     pub rate: Option<u64>,
@@ -44,6 +45,8 @@ pub struct Conversion<'a> {
     pub order: Option<Order>,
     /// The output's codec.
     pub codec: Option<CodecChoice>,
+    /// What each frame is to pass through, in the range of the input's width.
+    pub rack: Option<RackSpec<'a>>,
     /// The name of the file to read.
     pub input: &'a str,
     /// The name of the file to make.
