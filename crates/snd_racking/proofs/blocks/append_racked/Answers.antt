@@ -1,0 +1,7 @@
+use Rattle.std.proofs.Common.{◌≡◌, ◌∙◌, ap, sym, length, map, arith}
+use Rattle.snd_rack.specs.Stage.{kind_of}
+use Rattle.snd_racking.proofs.Racks.{enough}
+use Rattle.snd_racking.proofs.blocks.append_racked.Goals as goal
+
+pub slice_bounds-used-end : goal.slice_bounds-used-end
+slice_bounds-used-end g c = ?
