@@ -1,5 +1,6 @@
 -- Numbers of a codec that pass stages, and are given to a file.
-use Rattle.std.proofs.Common.{◌≡◌, ◌∙◌, ap, sym, subst, ◌*◌, ◌/◌, ◌-◌, ◌^◌, ◌≤◌, ℕ, ℤ, pos, neg_ℤ, ◌≤ℤ◌, List, length, arith}
+use Rattle.std.proofs.Common.{◌≡◌, ◌∙◌, ap, sym, subst, ◌*◌, ◌/◌, ◌-◌, ◌^◌, ◌≤◌, ℕ, ℤ, pos, neg_ℤ, ◌≤ℤ◌, List, drop, length, arith}
+use Rattle.std.specs.List.{refill}
 use Rattle.std.specs.Prelude.{Result}
 use Rattle.std.proofs.Math.Nat.{div-mul-le_self}
 use Rattle.std.proofs.lemmas.Int.{ints}
@@ -14,7 +15,7 @@ use Rattle.snd_output.proofs.Appending.{frames_are, may_give}
 use Rattle.snd_output.proofs.Public.{fits_width, width_fits}
 use Rattle.snd_pcm.specs.Groups.{groups}
 use Rattle.snd_pcm.specs.Width.{changed}
-use Rattle.std.proofs.lemmas.List.{length-map}
+use Rattle.std.proofs.lemmas.List.{length-map, take_at}
 use Rattle.snd_rack.specs.Held.{Held, InRange}
 use Rattle.snd_rack.specs.Passing.{EachMayPass, channels_through, each_passed, joined}
 use Rattle.snd_rack.proofs.Public.{FramesIn, each_may, groups_in, length_groups, passed_in}
@@ -38,6 +39,11 @@ below codec = none_above (2 ^ (width_of codec - 1))
 
 above : (codec : Codec) → pos 0 ≤ℤ high_of codec
 above codec = omega (arith, ints)
+
+-- ---- a buffer whose numbers were changed
+
+pub refilled : (n : ℕ) (xs ws : List ℤ) → length ws ≡ n → refill n xs ws ≡ ws
+refilled n xs ws size = take_at ws (drop (length ws) xs) n size
 
 -- ---- frames that pass
 

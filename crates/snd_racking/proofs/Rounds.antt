@@ -20,7 +20,7 @@ use Rattle.snd_rack.specs.Passing.{later}
 use Rattle.snd_rack.proofs.Public.{channels_later, passable_later}
 use Rattle.snd_racking.specs.Appending.{ArePlaced, MayGiveRacked, passed_groups, passed_of}
 use Rattle.snd_racking.specs.Racked.{high_of, low_of}
-use Rattle.snd_racking.proofs.Turns.{changed_on, count_more, passed_more, piece_whole}
+use Rattle.snd_racking.proofs.Turns.{changed_on, count_more, passed_more, piece_whole, states_more, whole_more}
 
 -- ---- before the first piece
 
@@ -32,13 +32,16 @@ none_passed channels hs = sym (ap (λ n. later n hs) (zero-div channels))
 
 -- ---- one piece more
 
-module _ (codec : Codec) (channels : ℕ) (first then : List Held) (numbers : List ℤ) (at n : ℕ) (old to : Known) (may : MayGiveRacked codec channels first numbers old) (longer : IsLonger (at / channels) old to)
-    (states : then ≡ later (at / channels) first) (before : at % channels ≡ 0) (fits : at + n ≤ length numbers) (whole : n % channels ≡ 0) where
+module _ (codec : Codec) (channels : ℕ) (first then : List Held) (numbers : List ℤ) (at n end : ℕ) (old to : Known) (may : MayGiveRacked codec channels first numbers old) (longer : IsLonger (at / channels) old to)
+    (states : then ≡ later (at / channels) first) (before : at % channels ≡ 0) (is : at + n ≡ end) (within_all : end ≤ length numbers) (whole : n % channels ≡ 0) where
   abbrev j : ℕ
   j = at / channels
 
   abbrev piece : List ℤ
   piece = take n (drop at numbers)
+
+  fits : at + n ≤ length numbers
+  fits = omega (arith, is, within_all)
 
   same_channels : old.shape.params.channels ≡ to.shape.params.channels
   same_channels = ap (λ (s : Shape). s.params.channels) (sym longer.shape)
@@ -80,12 +83,20 @@ module _ (codec : Codec) (channels : ℕ) (first then : List Held) (numbers : Li
   }
 
   -- and then was
-  pub turn_longer : (new : Known) → IsLonger (length piece / channels) to new → IsLonger ((at + n) / channels) old new
-  turn_longer new is = longer_as (j + length piece / channels) ((at + n) / channels) old new count (longer_then j (length piece / channels) old to new longer is)
+  pub turn_longer : (new : Known) → IsLonger (length piece / channels) to new → IsLonger (end / channels) old new
+  turn_longer new more = longer_as (j + length piece / channels) (end / channels) old new (count ∙ ap (λ i. i / channels) is) (longer_then j (length piece / channels) old to new longer more)
+
+  pub turn_end : end % channels ≡ 0
+  turn_end = ap (λ i. i % channels) (sym is) ∙ whole_more channels numbers at n may.some before fits whole
+
+  pub turn_states : later (length piece / channels) then ≡ later (end / channels) first
+  turn_states =
+      ap (later (length piece / channels)) states ∙ states_more channels numbers at n may.some before fits whole first
+      ∙ ap (λ i. later (i / channels) first) is
 
   pub turn_numbers : (xs : List ℤ)
       → (xs ++ change_numbers codec old.shape.params.codec (passed_groups channels first (take at numbers))) ++ change_numbers codec to.shape.params.codec (passed_groups channels then piece)
-      ≡ xs ++ change_numbers codec old.shape.params.codec (passed_groups channels first (take (at + n) numbers))
+      ≡ xs ++ change_numbers codec old.shape.params.codec (passed_groups channels first (take end numbers))
   turn_numbers xs =
       let wanted = old.shape.params.codec in
       let done = change_numbers codec wanted (passed_groups channels first (take at numbers)) in
@@ -93,6 +104,7 @@ module _ (codec : Codec) (channels : ℕ) (first then : List Held) (numbers : Li
       ∙ ap (λ hs. (xs ++ done) ++ change_numbers codec wanted (passed_groups channels hs piece)) states
       ∙ changed_on codec wanted xs (passed_groups channels first (take at numbers)) (passed_groups channels (later j first) piece)
       ∙ ap (λ l. xs ++ change_numbers codec wanted l) (passed_more channels numbers at n may.some before fits whole first)
+      ∙ ap (λ i. xs ++ change_numbers codec wanted (passed_groups channels first (take i numbers))) is
 
 -- ---- a piece that was not given
 

@@ -84,6 +84,8 @@ fn append_started<D: Disk, E: Disk, M: Making>(
     let (channels, _) = numbers_of(from);
     let (after, _) = numbers_of(to);
     let most = piece_size(channels, after);
+    // there are no more frames than a stage counts
+    let _ = from.frames();
     let places = block.len() - block.len() % channels;
     let mut passed = ArrayVec::new();
     let mut count = 1;

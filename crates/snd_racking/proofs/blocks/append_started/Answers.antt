@@ -77,7 +77,7 @@ loop-count-preserved g c =
     let fits = count_fits now places count some (ap (λ (m : ℕ). places % m) (channels ∙ sym alike) ∙ ap (λ (m : ℕ). m % q) size ∙ whole.1) one.count in
     let from_codec : codec_of c.loop-count.from ≡ codec = ap (λ (k : Known). k.shape.params.codec) inv.read in
     let to_codec : codec_of c.loop-count.to ≡ wanted = ap (λ (s : Shape). s.params.codec) inv.written.shape in
-    let few : j + count < 2 ^ 64 = ? in
+    let few : j + count < 2 ^ 64 = omega (arith, inv.within, fits.0, here, frames, c.frames.ensures, c.frames.type_inv) in
     record {
       loan = one.loan ∙ inv.loan;
       to_loan = one.to_loan ∙ inv.to_loan;
@@ -133,7 +133,8 @@ append_block-requires-clause-may g c =
     let j = (known_of c.loop-count.from).place - first.place in
     let items = c.args.rack.now in
     let may = may_go_on items first (known_of c.args.to.now) (known_of c.loop-count.to) j c.requires.may c.numbers_of-after.ensures.frames c.requires.settled inv.within inv.written in
-    subst (λ (k : Known). MayAppendRacked _ k (known_of c.loop-count.to)) (sym inv.read) (subst (λ (hs : List Held). MayAppendRacked hs (read_on j first) (known_of c.loop-count.to)) (sym inv.states) may)
+    let hs : List Held = map (λ b. (goal.Stage-dyn g (b.vtable, b.value)).stage b.value) c.loop-count.stages in
+    subst (λ (k : Known). MayAppendRacked hs k (known_of c.loop-count.to)) (sym inv.read) (subst (λ (l : List Held). MayAppendRacked l (read_on j first) (known_of c.loop-count.to)) (sym inv.states) may)
 
 pub append_block-requires-clause-whole : goal.append_block-requires-clause-whole
 append_block-requires-clause-whole g c =
