@@ -1,12 +1,11 @@
 -- Numbers of a codec that pass stages, and are given to a file.
-use Rattle.std.proofs.Common.{◌≡◌, ◌∙◌, ap, sym, subst, ◌*◌, ◌/◌, ◌-◌, ◌^◌, ◌≤◌, ℕ, ℤ, pos, neg_ℤ, ◌≤ℤ◌, List, drop, length, arith}
+use Rattle.std.proofs.Common.{◌≡◌, ◌∙◌, ap, subst, ◌*◌, ◌/◌, ◌-◌, ◌^◌, ◌≤◌, ℕ, ℤ, pos, neg_ℤ, ◌≤ℤ◌, List, drop, length, arith}
 use Rattle.std.specs.List.{refill}
 use Rattle.std.specs.Prelude.{Result}
 use Rattle.std.proofs.Math.Nat.{div-mul-le_self}
 use Rattle.std.proofs.lemmas.Int.{ints}
 use Rattle.snd_edits.specs.Known.{Known}
 use Rattle.snd_edits.specs.Reading.{FitCodec}
-use Rattle.snd_layout.specs.Blocks.{block_frames}
 use Rattle.snd_layout.specs.declared.codec.Codec.{Codec}
 use Rattle.snd_output.specs.Appended.{GiveLeaves, MayGive}
 use Rattle.snd_output.specs.declared.stop.Stop.{Stop}
@@ -22,15 +21,8 @@ use Rattle.snd_rack.proofs.Public.{FramesIn, each_may, groups_in, length_groups,
 use Rattle.snd_racking.specs.Appending.{MayGiveRacked, passed_groups}
 use Rattle.snd_racking.specs.Racked.{high_of, low_of}
 
--- ---- the range of a codec
+-- ---- the range of a codec has 0 in it
 
-pub low_by : (codec : Codec) (width : ℕ) → width ≡ width_of codec → neg_ℤ (pos (2 ^ (width - 1))) ≡ low_of codec
-low_by codec width is = ap (λ n. neg_ℤ (pos (2 ^ (n - 1)))) is
-
-pub high_by : (codec : Codec) (width : ℕ) → width ≡ width_of codec → pos (2 ^ (width - 1) - 1) ≡ high_of codec
-high_by codec width is = ap (λ n. pos (2 ^ (n - 1) - 1)) is
-
--- it has 0 in it
 below : (codec : Codec) → low_of codec ≤ℤ pos 0
 below codec = none_above (2 ^ (width_of codec - 1))
   where

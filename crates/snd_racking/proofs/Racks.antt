@@ -13,7 +13,7 @@ use Rattle.snd_rack.specs.Passing.{AllSettled, each_passed, joined, later}
 use Rattle.snd_rack.specs.Stage.{Stated}
 use Rattle.snd_rack.proofs.Public.{all_passable, channels_held, held_later, one_after_other, racked_on}
 use Rattle.snd_racking.specs.Appending.{MayAppendRacked, MayRack, next_passed, rack_at}
-use Rattle.snd_racking.specs.Racked.{high_of, low_of, racked_in, racked_left}
+use Rattle.snd_racking.specs.Racked.{high_of, low_of, racked_in, racked_left, racked_numbers}
 use Rattle.snd_racking.proofs.Turns.{changed_on}
 
 -- the numbers of the first j frames that are left of a state
@@ -42,6 +42,10 @@ pub racked_all : (items : List Stated) (codec : Codec) (r : Editing) (n : ℕ) �
 racked_all items codec r n is same =
     ap (λ l. racked_in items codec l) (take_all n (drop r.place r.frames) (omega (arith, is, length-drop r.place r.frames)))
     ∙ ap (λ (q : Codec). racked_in items q (drop r.place r.frames)) same
+
+-- .. where none was read yet
+pub racked_first : (items : List Stated) (to : Codec) (r : Editing) → r.place ≡ 0 → change_numbers r.shape.params.codec to (racked_left items r) ≡ racked_numbers items r.shape.params.codec to r.frames
+racked_first items to r none = ap (λ n. racked_numbers items r.shape.params.codec to (drop n r.frames)) none
 
 -- the stages behind another block
 pub rack_later : (items : List Stated) (codec : Codec) (j k i : ℕ) → i ≡ j + k → j + k < 2 ^ 64 → later k (rack_at j codec items) ≡ rack_at i codec items

@@ -1,17 +1,14 @@
 -- Pieces of numbers that are given to a file through stages, one after the other.
-use Rattle.std.proofs.Common.{◌≡◌, ◌∙◌, ap, sym, subst, refl, ◌+◌, ◌-◌, ◌*◌, ◌/◌, ◌%◌, ◌<◌, ◌≤◌, ℕ, ℤ, List, [], ◌++◌, length, drop, take, arith}
-use Rattle.std.specs.Prelude.{Err, Result}
+use Rattle.std.proofs.Common.{◌≡◌, ◌∙◌, ap, sym, subst, ◌+◌, ◌-◌, ◌/◌, ◌%◌, ◌≤◌, ℕ, ℤ, List, [], ◌++◌, length, drop, take, arith}
 use Rattle.std.proofs.Math.Nat.{zero-div}
 use Rattle.std.proofs.lemmas.List.{append-nil}
 use Rattle.std.proofs.lemmas.List.Elements.{All-drop, All-take}
 use Rattle.snd_container.specs.Fixed.{InRange}
 use Rattle.snd_edits.specs.Known.{Known}
-use Rattle.snd_edits.specs.Reading.{FitCodec}
 use Rattle.snd_layout.specs.Blocks.{block_frames}
 use Rattle.snd_layout.specs.Shape.{Shape}
 use Rattle.snd_layout.specs.declared.codec.Codec.{Codec}
-use Rattle.snd_output.specs.Appended.{CountsFault, GiveLeaves, HasRoom, IsLonger}
-use Rattle.snd_output.specs.declared.stop.Stop.{Stop}
+use Rattle.snd_output.specs.Appended.{HasRoom, IsLonger}
 use Rattle.snd_output.specs.Widths.{change_numbers}
 use Rattle.snd_output.proofs.Public.{at_end_then, div_sum, longer_as, longer_then, room_fewer, room_then}
 use Rattle.snd_pcm.specs.Groups.{first_groups}
@@ -105,11 +102,3 @@ module _ (codec : Codec) (channels : ℕ) (first then : List Held) (numbers : Li
       ∙ changed_on codec wanted xs (passed_groups channels first (take at numbers)) (passed_groups channels (later j first) piece)
       ∙ ap (λ l. xs ++ change_numbers codec wanted l) (passed_more channels numbers at n may.some before fits whole first)
       ∙ ap (λ i. xs ++ change_numbers codec wanted (passed_groups channels first (take i numbers))) is
-
--- ---- a piece that was not given
-
-pub give_failed : {T : Type 0} (n m : ℕ) (first old new : Known) (stop : Stop) (result : Result T Stop) → result ≡ Err stop → GiveLeaves {T = T} m old new (Err stop) → GiveLeaves n first new result
-give_failed n m first old new stop result is left = subst (GiveLeaves n first new) (sym is) left
-
-pub count_failed : {T : Type 0} (old mid new : ℕ) (stop : Stop) (result : Result T Stop) → result ≡ Err stop → mid ≡ old → CountsFault {T = T} mid new (Err stop) → CountsFault old new result
-count_failed {T} old mid new stop result is calm counts = subst (CountsFault old new) (sym is) (subst (λ (n : ℕ). CountsFault {T = T} n new (Err stop)) calm counts)

@@ -1,4 +1,4 @@
-use Rattle.std.proofs.Common.{◌≡◌, ◌∙◌, ap, sym, ◌≤◌, length, map, arith}
+use Rattle.std.proofs.Common.{arith}
 use Rattle.snd_rack.specs.Stage.{kind_of}
 use Rattle.snd_racking.proofs.Racks.{enough}
 use Rattle.snd_racking.proofs.blocks.append_racked.Goals as goal

@@ -1,4 +1,4 @@
-use Rattle.std.proofs.Common.{rules, ◌≡◌, ◌∙◌, ap, sym, subst, refl, ℕ, ◌+◌, ◌-◌, ◌*◌, ◌/◌, ◌%◌, ◌<◌, ◌≤◌, ◌^◌, ℤ, List, ◌++◌, length, map, min, take, true, arith}
+use Rattle.std.proofs.Common.{rules, ◌≡◌, ◌∙◌, ap, sym, subst, refl, ℕ, ◌+◌, ◌-◌, ◌/◌, ◌%◌, ◌<◌, ◌≤◌, ◌^◌, ℤ, List, ◌++◌, length, map, min, take, true, arith}
 use Rattle.std.proofs.lemmas.List.{length-take-le}
 use Rattle.snd_disk.proofs.Public.{goes_on_then, only_reads_then}
 use Rattle.snd_disk.specs.State.{AtMost}
@@ -17,7 +17,6 @@ use Rattle.snd_output.proofs.Public.{asked_all, asked_before, asked_by, asked_no
 use Rattle.snd_rack.specs.Held.{Held}
 use Rattle.snd_rack.specs.Passing.{later}
 use Rattle.snd_racking.specs.Appending.{IsPiece, MayAppendRacked, next_passed, rack_at}
-use Rattle.snd_racking.specs.Racked.{racked_left}
 use Rattle.snd_racking.proofs.Racks.{may_go_on, rack_later, racked_all, racked_none, racked_so_far, racked_twice}
 use Rattle.snd_racking.proofs.blocks.append_started.Goals as goal
 

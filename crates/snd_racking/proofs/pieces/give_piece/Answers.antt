@@ -1,14 +1,14 @@
-use Rattle.std.proofs.Common.{◌≡◌, ◌∙◌, ap, sym, subst, ◌≤◌, ℕ, ℤ, List, OnOk, length, map, arith}
+use Rattle.std.proofs.Common.{◌≡◌, ◌∙◌, ap, sym, subst, ◌≤◌, ℤ, List, OnOk, length, map, arith}
 use Rattle.std.proofs.lemmas.List.{length-map}
 use Rattle.snd_edits.specs.Reading.{FitCodec}
-use Rattle.snd_file.specs.Handle.{channels_of, codec_of, known_of}
+use Rattle.snd_file.specs.Handle.{codec_of, known_of}
 use Rattle.snd_layout.specs.declared.codec.Codec.{Codec}
 use Rattle.snd_output.specs.Appended.{Gains}
 use Rattle.snd_output.specs.Widths.{change_numbers, width_of}
 use Rattle.snd_pcm.specs.Width.{changed}
 use Rattle.snd_rack.specs.Held.{Held}
 use Rattle.snd_racking.specs.Appending.{passed_groups}
-use Rattle.snd_racking.proofs.Passed.{each_may_pass, passed_fit, passed_left, passed_may, passed_room, refilled, ys_are}
+use Rattle.snd_racking.proofs.Passed.{each_may_pass, passed_fit, passed_left, passed_may, passed_room, refilled}
 use Rattle.snd_racking.proofs.pieces.give_piece.Goals as goal
 
 pub pass_frames-requires-clause-may : goal.pass_frames-requires-clause-may

@@ -1,8 +1,7 @@
-use Rattle.std.proofs.Common.{rules, ◌≡◌, ◌∙◌, ap, sym, subst, refl, ℕ, ◌+◌, ◌-◌, ◌*◌, ◌/◌, ◌%◌, ◌≤◌, ℤ, List, ◌++◌, length, drop, map, take, min, arith}
+use Rattle.std.proofs.Common.{rules, ◌≡◌, ◌∙◌, ap, sym, subst, refl, ℕ, ◌+◌, ◌-◌, ◌*◌, ◌/◌, ◌≤◌, ℤ, List, ◌++◌, length, map, take, min, arith}
 use Rattle.std.proofs.Math.Nat.{zero-div, zero-mod}
 use Rattle.std.proofs.lemmas.List.{take_all}
 use Rattle.snd_disk.proofs.Public.{goes_on_then}
-use Rattle.snd_edits.specs.Known.{Known}
 use Rattle.snd_file.specs.Handle.{channels_of, codec_of, known_of}
 use Rattle.snd_layout.specs.Shape.{Shape}
 use Rattle.snd_output.specs.Made.{IsMaking}
@@ -10,7 +9,7 @@ use Rattle.snd_output.specs.Widths.{change_numbers}
 use Rattle.snd_output.proofs.Public.{longer_as, longer_none}
 use Rattle.snd_rack.specs.Held.{Held}
 use Rattle.snd_racking.specs.Appending.{passed_groups}
-use Rattle.snd_racking.proofs.Rounds.{count_failed, give_failed, none_given, none_passed, turn_end, turn_longer, turn_may, turn_numbers, turn_states}
+use Rattle.snd_racking.proofs.Rounds.{none_given, none_passed, turn_end, turn_longer, turn_may, turn_numbers, turn_states}
 use Rattle.snd_racking.proofs.Turns.{piece_size, turn_fits, turn_whole}
 use Rattle.snd_racking.proofs.pieces.give_racked.Goals as goal
 
