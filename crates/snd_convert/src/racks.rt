@@ -70,6 +70,8 @@ pub(crate) fn put_frames<D: Disk, E: Disk, M: Making>(
     ensures asked { AsksForLeft D.state 16384 from.old from.new }
     ensures to_asked { AsksNothing E.state to.old to.new }
 {
+    let params = from.params();
+    params.are_good();
     let mut block = [0; BLOCK];
     match rack {
         Some(spec) => append_racked(from, to, spec, stages, &mut block),
