@@ -121,5 +121,6 @@ pub fn plan_of(conversion: &Conversion<'_>, kind: Kind, from: Params) -> Result<
     ensures fits { IfOk result (λ plan. fit_refusal plan.kind plan.params ≡ None) }
     ensures channels { IfOk result (λ plan. plan.params.channels ≡ from.channels) }
 {
-    plan_with(conversion, kind, from.channels, from)
+    let channels = from.channels;
+    plan_with(conversion, kind, channels, from)
 }

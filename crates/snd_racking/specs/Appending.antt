@@ -1,5 +1,6 @@
 -- How frames are put through a rack behind those of a file.
-use Rattle.std.specs.Prelude.{◌≡◌, ℕ, ◌-◌, ◌/◌, ◌%◌, ◌≤◌, false, None, ℤ, List, length}
+use Rattle.std.specs.Prelude.{◌≡◌, ℕ, ◌*◌, ◌/◌, ◌%◌, ◌≤◌, false, None, ℤ, List, length}
+use Rattle.snd_layout.specs.Blocks.{block_frames}
 use Rattle.snd_layout.specs.declared.codec.Codec.{Codec}
 use Rattle.snd_edits.specs.Editing.{Editing, frames_read}
 use Rattle.snd_edits.specs.Known.{Known}
@@ -35,13 +36,21 @@ pub record MayGiveRacked (codec : Codec) (channels : ℕ) (hs : List Held) (xs :
   pub whole : length xs % channels ≡ 0
   pub in_range : FitCodec codec xs
   pub at_end : IsAtEnd to
+  pub together : 1 ≤ block_frames to.shape.params.codec
   pub in_room : HasRoom (length xs / channels) to
+
+-- so many numbers are whole frames, one at least, which become no more numbers than are given at a time
+pub record IsPiece (channels after most : ℕ) : Type 0 where
+  pub some : 1 ≤ most
+  pub whole : most % channels ≡ 0
+  pub fits : most / channels * after ≤ 16384
 
 -- the frames that are left in one file may be put through stages behind those of another
 pub record MayAppendRacked (hs : List Held) (from to : Known) : Type 0 where
   pub working : from.broken ≡ None
   pub at_end : IsAtEnd to
   pub placed : ArePlaced from.shape.params.codec from.shape.params.channels to.shape.params.channels hs
+  pub together : 1 ≤ block_frames to.shape.params.codec
   pub in_room : HasRoom (left_in from) to
 
 -- the numbers of frames behind stages

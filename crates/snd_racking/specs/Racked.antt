@@ -1,5 +1,5 @@
 -- The numbers that frames have behind a rack.
-use Rattle.std.specs.Prelude.{ℕ, ◌-◌, ◌^◌, ℤ, pos, neg_ℤ, List}
+use Rattle.std.specs.Prelude.{◌-◌, ◌^◌, ℤ, pos, neg_ℤ, List}
 use Rattle.snd_layout.specs.declared.codec.Codec.{Codec}
 use Rattle.snd_edits.specs.Editing.{Editing}
 use Rattle.snd_output.specs.Appended.{frames_ahead}

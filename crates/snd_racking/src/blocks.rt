@@ -9,10 +9,10 @@ ghost use Rattle.snd_file.specs.Outcomes.{AsksNothing, TellsOn};
 ghost use Rattle.snd_output.specs.Appended.{AsksForLeft, CountsFiles, FindsChanged, LeavesFiles, Lengthens, OnlyReadsIn, frames_ahead, left_in, next_count, next_frames};
 ghost use Rattle.snd_rack.specs.Passing.{AllSettled, later};
 ghost use Rattle.snd_rack.specs.Stage.{kind_of};
-ghost use Rattle.snd_racking.specs.Appending.{MayAppendRacked, MayRack, next_passed, rack_at};
+ghost use Rattle.snd_racking.specs.Appending.{IsPiece, MayAppendRacked, MayRack, next_passed, rack_at};
 ghost use Rattle.snd_racking.specs.Racked.{racked_left};
 
-use crate::pieces::give_racked;
+use crate::pieces::{give_racked, piece_size};
 use crate::range::range_of;
 use arrayvec::ArrayVec;
 use snd_disk::Disk;
@@ -29,9 +29,11 @@ fn append_block<D: Disk, E: Disk, M: Making>(
     stages: &mut [Box<dyn Stage>],
     block: &mut [i32],
     passed: &mut ArrayVec<i32, 16384>,
+    most: usize,
 ) -> Result<usize, Stop>
     requires may { MayAppendRacked (map (λ b. stage b) stages.old) (known_of from.old) (known_of to.old) }
     requires whole { length block.old % channels_of from.old ≡ 0 }
+    requires piece { IsPiece (channels_of from.old) (channels_of to.old) most }
     ensures loan { loan_of from.new ≡ loan_of from.old }
     ensures to_loan { loan_of to.new ≡ loan_of to.old }
     ensures count { IfOk result (λ k. k ≡ next_count (length block.old) from.old) }
@@ -50,7 +52,7 @@ fn append_block<D: Disk, E: Disk, M: Making>(
     let (channels, codec) = numbers_of(from);
     let count = read_some(from, block)?;
     let numbers = &block[..count * channels];
-    give_racked(to, codec, channels, stages, numbers, passed)?;
+    give_racked(to, codec, channels, stages, numbers, passed, most)?;
     Ok(count)
 }
 
@@ -80,11 +82,15 @@ fn append_started<D: Disk, E: Disk, M: Making>(
     ensures to_asked { AsksNothing E.state to.old to.new }
 {
     let (channels, _) = numbers_of(from);
+    let (after, _) = numbers_of(to);
+    let most = piece_size(channels, after);
+    // there are no more frames than a stage counts
+    let _ = from.frames();
     let places = block.len() - block.len() % channels;
     let mut passed = ArrayVec::new();
     let mut count = 1;
     while count > 0 {
-        count = append_block(from, to, stages, &mut block[..places], &mut passed)?;
+        count = append_block(from, to, stages, &mut block[..places], &mut passed, most)?;
     }
     Ok(())
 }

@@ -7,7 +7,7 @@ ghost use Rattle.snd_file.specs.Outcomes.{AsksNothing, TellsOn};
 ghost use Rattle.snd_output.specs.Appended.{CountsFile, Gains, LeavesFile};
 ghost use Rattle.snd_output.specs.Widths.{change_numbers};
 ghost use Rattle.snd_rack.specs.Passing.{later};
-ghost use Rattle.snd_racking.specs.Appending.{MayGiveRacked, passed_groups};
+ghost use Rattle.snd_racking.specs.Appending.{IsPiece, MayGiveRacked, passed_groups};
 
 use arrayvec::ArrayVec;
 use snd_disk::Disk;
@@ -18,6 +18,17 @@ use snd_rack::{Stage, pass_frames};
 
 // The most numbers that are given at a time.
 const MOST_NUMBERS: usize = 16384;
+
+/// How many numbers are passed at a time: whole frames, of so many numbers before the stages and so many behind them.
+pub(crate) fn piece_size(channels: usize, after: usize) -> usize
+    requires some { 1 ≤ channels }
+    requires most { channels ≤ 256 }
+    requires some_after { 1 ≤ after }
+    requires most_after { after ≤ 256 }
+    ensures { IsPiece channels after result }
+{
+    MOST_NUMBERS / after * channels
+}
 
 // Passes whole frames of numbers of a codec through stages, and gives a file what becomes of them, all at once.
 fn give_piece<E: Disk, M: Making>(
@@ -45,8 +56,8 @@ fn give_piece<E: Disk, M: Making>(
     M::give(to, passed.as_slice())
 }
 
-/// Passes whole frames of numbers of a codec through stages, and gives a file what becomes of them, in its own codec, as many
-/// at a time as the buffer holds. What the buffer held is lost. `Fault` where a call of the disk failed.
+/// Passes whole frames of numbers of a codec through stages, and gives a file what becomes of them, in its own codec, `most`
+/// numbers at a time. What the buffer held is lost. `Fault` where a call of the disk failed.
 pub(crate) fn give_racked<E: Disk, M: Making>(
     to: &mut File<'_, E, M>,
     codec: Codec,
@@ -54,8 +65,10 @@ pub(crate) fn give_racked<E: Disk, M: Making>(
     stages: &mut [Box<dyn Stage>],
     numbers: &[i32],
     passed: &mut ArrayVec<i32, 16384>,
+    most: usize,
 ) -> Result<(), Stop>
     requires may { MayGiveRacked codec channels (map (λ b. stage b) stages.old) numbers.now (known_of to.old) }
+    requires piece { IsPiece channels (channels_of to.old) most }
     ensures loan { loan_of to.new ≡ loan_of to.old }
     ensures left { LeavesFile (length numbers.now / channels) to.old to.new result }
     ensures gains { OnOk result (Gains E.state (change_numbers codec (codec_of to.old) (passed_groups channels (map (λ b. stage b) stages.old) numbers.now)) to.old to.new) }
@@ -65,8 +78,6 @@ pub(crate) fn give_racked<E: Disk, M: Making>(
     ensures time { GoesOnFrom E.state E.left_between (disk_of to.old) (disk_of to.new) }
     ensures asked { AsksNothing E.state to.old to.new }
 {
-    let (after, _) = numbers_of(to);
-    let most = MOST_NUMBERS / after * channels;
     let mut at = 0;
     while at < numbers.len() {
         let end = at + most.min(numbers.len() - at);
