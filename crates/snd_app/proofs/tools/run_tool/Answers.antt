@@ -1,8 +1,8 @@
 use Rattle.std.proofs.Common.{◌≡◌, ◌∙◌, ap, refl, rules, []}
 use Rattle.snd_words.specs.Request.{work_of}
 use Rattle.snd_app.specs.Tools.{outcome_by, outcome_of_work}
-use Rattle.snd_app.specs.declared.tools.Reply.TheVariants.{Done}
-use Rattle.snd_app.proofs.Outcomes.{is_put_out, with_files}
+use Rattle.snd_app.specs.declared.tools.Reply.TheVariants.{Done, Refused}
+use Rattle.snd_app.proofs.Outcomes.{is_put_err, is_put_out, with_files}
 use Rattle.snd_app.proofs.tools.run_tool.Goals as goal
 
 pub returns-in-Ok-Done-clause-outcome : goal.returns-in-Ok-Done-clause-outcome
@@ -19,3 +19,12 @@ returns-in-Ok-Done-clause-done g c = λ files told is calm. (c.in-Ok-Done.ensure
 
 pub returns-in-Ok-Refused-clause-done : goal.returns-in-Ok-Refused-clause-done
 returns-in-Ok-Refused-clause-done g c = λ files told is calm. (c.in-Ok-Refused.ensures.done files told).1
+
+pub returns-in-Ok-Refused-clause-outcome : goal.returns-in-Ok-Refused-clause-outcome
+returns-in-Ok-Refused-clause-outcome g c = λ files script told.
+    let work = work_of c.args.tool.now in
+    let done = c.in-Ok-Refused.ensures.done files told in
+    let text : c.deref-in-Ok-Refused.result.now ≡ c.in-Ok-Refused.text.items = search rules in
+    let printed : Refused c.in-Ok-Refused.text ≡ c.in-Ok-Refused.field-0 = search rules in
+    with_files c.put_text-in-Ok-Refused.result _ _ _ _ (outcome_of_work work _ files) _ done.1
+    (is_put_err c.put_text-in-Ok-Refused.result _ _ _ _ (outcome_of_work work _ files) 1 c.deref-in-Ok-Refused.result.now (ap (λ t. record { out = []; err = t; status = 1 }) text ∙ ap outcome_by printed ∙ done.0) c.in-Ok-Refused.ensures.faults refl refl refl c.put_text-in-Ok-Refused.ensures)

@@ -1,0 +1,6 @@
+use Rattle.std.proofs.Common.{◌∙◌, ap, sym}
+use Rattle.snd_app.specs.Help.{usage_of}
+use Rattle.snd_app.proofs.help.usage_of.Goals as goal
+
+pub returns-in-Convert : goal.returns-in-Convert
+returns-in-Convert c = c.convert_usage.ensures ∙ ap usage_of (sym c.in-Convert.is)
