@@ -87,7 +87,7 @@ MADE = [
     # the kind and the codec that is made judge what comes out
     (["-pcms8", "-rack=map:1", "c.wav", "h.svx"], 2, kinds.svx(8000, b"\0\0")),
     (["-endian=little", "-rack=invert", "-override-sample-rate=9000", "a.wav", "h.au"], 2, kinds.au("dns", "pcm_16_le", 1, 9000, b"\xff\xff\1\0")),
-    (["-rack=invert", "v.au", "h.au"], 2, kinds.au("au", "pcm_s8", 1, 8000, b"\xff\1")),
+    (["-rack=invert", "v.au", "h.au"], 2, kinds.au("au", "pcm_s8", 1, 8000, b"\0\1")),
     # the samples of ADPCM, as sox decodes them: 100, 122, 131, 90, 84, 89, 114, 145, 107
     (["-pcm16", "-rack=gain:1/2", "m.wav", "h.au"], 9, kinds.au("au", "pcm_16_be", 1, 8000, bytes.fromhex("0032003d0041002d002a002c003900480035"))),
     # chunks go with the frames
