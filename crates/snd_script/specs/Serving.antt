@@ -16,7 +16,7 @@ use Rattle.snd_layout.specs.Shape.{Shape}
 use Rattle.snd_meters.specs.Gauge.{Gauge}
 use Rattle.snd_edits.specs.Editing.{Editing}
 use Rattle.snd_rules.specs.Desk.{Desk, OpenFile, Store, closed_desk, files_closed, open_desk, taps_closed, open_as}
-use Rattle.snd_rules.specs.Edit.{Edited, close_edit, edit_line, keep_open, open_refusal, opened_edit}
+use Rattle.snd_rules.specs.Edit.{Edited, close_edit, edit_line, edit_open, keep_open, open_refusal, opened_edit}
 use Rattle.snd_session.specs.Handled.{HandleStands, handle_disk, mode_of}
 use Rattle.snd_script.specs.Lines.{CutsOff, Reading, TakesUp}
 use Rattle.snd_script.specs.Opened.{is_making, opens_bytes}
@@ -268,6 +268,9 @@ AnswersOpen meter state told name stays edited result handle run out handle' run
     (store : Store) (e : Editing) → HandleStands state handle e →
     let file : OpenFile = record { name = name; mode = open_as stays (mode_of handle); editing = e; taps = taps_of meter run } in
     IsLineServed result (edited store file) store file run.refused run'.refused (told out) (told out') (OpenStands state store name stays (taps_of meter run') handle')
+
+abbrev pub edit_open_said : Said → Store → OpenFile → Edited
+edit_open_said said store file = edit_open store file said
 
 abbrev pub edit_open_line : List ℕ → Store → OpenFile → Edited
 edit_open_line line store file = edit_line (open_desk store file) line

@@ -4,7 +4,6 @@ ghost use Rattle.std.specs.Prelude.{◌≡◌, ◌≤◌, List, ℕ, None, Ok, O
 ghost use Rattle.snd_command.specs.Line.{command_of};
 ghost use Rattle.snd_command.specs.Said.{line_said};
 ghost use Rattle.snd_rules.specs.Desk.{updating};
-ghost use Rattle.snd_rules.specs.Edit.{edit_open};
 ghost use Rattle.snd_session.specs.Handled.{handle_known, IsSmall, LeavesHandle, mode_of};
 ghost use Rattle.snd_script.specs.Kept.{LeavesLines};
 ghost use Rattle.snd_rules.specs.Script.{asked_by, most_in, written_in};
@@ -13,7 +12,7 @@ ghost use Rattle.snd_script.specs.declared.stop.Next.TheVariants as next;
 ghost use Rattle.snd_script.specs.Used.{CommandAsks, CommandWrites, LineAsks, LineWrites, UsesOpen};
 ghost use Rattle.snd_script.specs.Tapped.{taps_of};
 ghost use Rattle.snd_script.specs.Trail.{CommandMoves, IsIdle, LineMoves, TrailsOpen};
-ghost use Rattle.snd_script.specs.Serving.{AnswersOpen, CountsHandle, CountsLine, IsWhole, ServesOpen, TakesLines, edit_open_line};
+ghost use Rattle.snd_script.specs.Serving.{AnswersOpen, CountsHandle, CountsLine, IsWhole, ServesOpen, TakesLines, edit_open_line, edit_open_said};
 
 use crate::reader::Line;
 use crate::run::Run;
@@ -35,7 +34,7 @@ fn open_command<'d, D: Disk, O: Sink>(
     requires working { (handle_known handle.old).broken ≡ None }
     requires updated { stays ≡ true → mode_of handle.old ≡ updating }
     requires small { IsSmall handle.old }
-    ensures answered { (name : List ℕ) → AnswersOpen (λ b. meter b) D.state O.told name stays (λ store file. edit_open store file (line_said said.entry)) result handle.old run.old out.old handle.new run.new out.new }
+    ensures answered { (name : List ℕ) → AnswersOpen (λ b. meter b) D.state O.told name stays (edit_open_said (line_said said.entry)) result handle.old run.old out.old handle.new run.new out.new }
     ensures lines { run.new.lines ≡ run.old.lines }
     ensures whole { IsWhole result (handle_known handle.new).broken }
     ensures counted { CountsLine D.state O.faults result handle.old out.old handle.new out.new }
