@@ -1,10 +1,7 @@
 -- What a disk holds after the steps of a promotion.
-use Rattle.std.proofs.Common.{◌≡◌, false, max, ℕ, ◌-◌, List, [], ◌∷◌, ◌++◌, Ok, Err, Option, None, Some, option_map, refl, ap, ◌∙◌, arith}
-use Rattle.std.specs.Prelude.{OnOk, Result, codes, unwrap_or}
-use Rattle.snd_chunks.specs.Chunks.{padded_end}
+use Rattle.std.proofs.Common.{◌≡◌, false, max, ℕ, ◌-◌, List, Ok, Err, Option, None, Some, option_map, refl, ap, ◌∙◌, arith}
+use Rattle.std.specs.Prelude.{OnOk, Result}
 use Rattle.snd_disk.specs.Bytes.{over}
-use Rattle.snd_fields.specs.Field.{bytes_of}
-use Rattle.snd_fields.specs.declared.field.Order.TheVariants.{Little}
 use Rattle.snd_layout.specs.Params.{data_bytes}
 use Rattle.snd_layout.specs.Shape.{Shape}
 use Rattle.snd_patch.specs.Sealed.{counted, sealed, sealed_size}

@@ -1,6 +1,6 @@
 -- What a crash may leave of a file while it is promoted, and what a fault leaves. x is what is left, b the contents at the start, h
 -- what the file says of itself, n the number of its frames. The order of the two writes is this library's own rule.
-use Rattle.std.specs.Prelude.{◌≡◌, ◌⊎◌, ℕ, ◌+◌, ◌-◌, ◌<◌, ◌≤◌, false, List, get_or}
+use Rattle.std.specs.Prelude.{◌≡◌, ◌⊎◌, ℕ, ◌+◌, ◌<◌, ◌≤◌, false, List, get_or}
 use Rattle.snd_disk.specs.Device.{IsStable, Tells}
 use Rattle.snd_disk.specs.Runs.{HasAt, IsMade}
 use Rattle.snd_disk.specs.State.{State}
