@@ -1,7 +1,7 @@
 //! Commands on an open file.
 
 ghost use Rattle.std.specs.Prelude.{◌≡◌, false, None, IfErr, IfOk, map};
-ghost use Rattle.snd_command.specs.Said.{line_said, said_of};
+ghost use Rattle.snd_command.specs.Said.{said_of};
 ghost use Rattle.snd_meters.specs.Gauge.{waiting};
 ghost use Rattle.snd_meters.specs.Gauges.{after_rest};
 ghost use Rattle.snd_file.specs.Handle.{loan_of};
@@ -17,7 +17,7 @@ use crate::handle::Handle;
 use crate::room::Room;
 use crate::step::{step_blocks, step_made, step_read, step_update};
 use arrayvec::ArrayVec;
-use snd_command::{Command, LineCommand};
+use snd_command::Command;
 use snd_disk::{Disk, Sink, Step};
 use snd_edits::Mode;
 use snd_file::File;
@@ -95,20 +95,20 @@ impl Session {
         ensures asked { AsksByRule D.Disk (session_taps (λ b. meter b) self.old) (said_of command.now) handle.old handle.new }
         ensures written { WritesByRule D.Disk (session_taps (λ b. meter b) self.old) (said_of command.now) handle.old handle.new }
     {
-        self.carry_out(handle, command.as_line(), out)
+        self.carry_out(handle, *command, out)
     }
 
     /// The same for what a line says.
     pub fn carry_out<'d, D: Disk, O: Sink>(
         &mut self,
         handle: &mut Handle<'d, D>,
-        said: LineCommand<'_, '_>,
+        said: Command<'_>,
         out: &mut O,
     ) -> Result<Reply, StepFault>
         requires whole { (handle_known handle.old).broken ≡ None }
-        requires step { is_close (line_said said) ≡ false }
-        ensures steps { Steps D.Disk O.Sink (session_taps (λ b. meter b) self.old) (line_said said.entry) result handle.old out.old handle.new out.new }
-        ensures taps { FeedsTaps D.state result (line_said said.entry) handle.old (session_taps (λ b. meter b) self.old) (session_taps (λ b. meter b) self.new) }
+        requires step { is_close (said_of said) ≡ false }
+        ensures steps { Steps D.Disk O.Sink (session_taps (λ b. meter b) self.old) (said_of said.entry) result handle.old out.old handle.new out.new }
+        ensures taps { FeedsTaps D.state result (said_of said.entry) handle.old (session_taps (λ b. meter b) self.old) (session_taps (λ b. meter b) self.new) }
     {
         let work = work_of(said);
         let meters = &mut self.meters;
