@@ -1,15 +1,17 @@
 -- A rule is followed on an open file, by what became of the call and of its reply.
-use Rattle.std.proofs.Common.{◌≡◌, ℕ, List, Bool, true, false, ◌&&◌, Option, None, Some, Result, Ok, Err, inl, refl, sym, ap, ◌∙◌, subst, arith, rules}
-use Rattle.std.specs.Prelude.{IfErr, IsErrOf, is_none, is_some}
-use Rattle.std.proofs.lemmas.Bool.{and_parts}
+use Rattle.std.proofs.Common.{◌≡◌, ℕ, List, Bool, true, false, ◌&&◌, Option, None, Some, Result, Ok, Err, inl, inr, refl, sym, ap, ◌∙◌, subst, arith, rules}
+use Rattle.std.specs.Prelude.{All, IfErr, IsErrOf, is_none, is_some}
+use Rattle.std.proofs.lemmas.Bool.{and_parts, cases_Bool}
 use Rattle.snd_disk.specs.Device.{AsksAtMost, GoesOnFrom, OnlyReadsOn, WritesAtMost}
 use Rattle.snd_disk.specs.State.{State}
 use Rattle.snd_disk.specs.declared.disk.Disk.{Ghosts}
+use Rattle.snd_fields.specs.Laws.{IsByte}
 use Rattle.snd_layout.specs.Shape.{Shape}
 use Rattle.snd_disk.specs.declared.disk.Step.{Step}
 use Rattle.snd_disk.specs.declared.streams.Sink.{Ghosts as SinkMeaning}
 use Rattle.snd_edits.specs.Editing.{Editing}
 use Rattle.snd_edits.specs.Known.{Known}
+use Rattle.snd_edits.specs.Laws.{IsStateOf}
 use Rattle.snd_file.specs.Handle.{Stands, disk_of, known_of, loan_of}
 use Rattle.snd_file.specs.Rest.{IsAtRest}
 use Rattle.snd_edits.specs.Safe.{IsSafe}
@@ -21,7 +23,7 @@ use Rattle.snd_rules.specs.Edit.{edit_by, edit_unless}
 use Rattle.snd_rules.specs.Rules.{FileEdited, Grounds, Rule, grounds_of, known_grounds}
 use Rattle.snd_rules.specs.Replies.{Answer, says, refuses}
 use Rattle.snd_rules.specs.Stepped.{IsAutomatic, IsBrokenAt, IsKnown, IsSaid, IsSilent, IsStepCause, Knows, LeavesFile, RepliesBy, RepliesUnless, Rose, changes_by, refusal_by, reply_of, IsSent}
-use Rattle.snd_session.specs.Follows.{Follows}
+use Rattle.snd_session.specs.Follows.{Follows, switches_on}
 use Rattle.snd_rules.specs.declared.reply.Reply.{Reply}
 use Rattle.snd_rules.specs.declared.reply.Reply.TheVariants as reply
 use Rattle.snd_rules.specs.declared.reply.StepFault.{StepFault}
@@ -61,6 +63,14 @@ sent_knows (Err Out) o o' rule old new answer t t' sent said replies = (reply_of
 sent_knows (Err Disk) o o' rule old new answer t t' sent said replies = absurd sent
 sent_knows (Err Memory) o o' rule old new answer t t' sent said replies = absurd sent
 
+-- ---- updates that become automatic are so then
+
+pub switched : (rule : Rule) (h : Known) → switches_on rule h ≡ true → IsAutomatic rule h
+switched rule h on = elim (cases_Bool h.automatic) [
+  | inl is ↦ inl is
+  | inr off ↦ inr (subst (λ (a : Bool). (rule.known (record h { automatic = a })).automatic ≡ true) (sym off) on)
+]
+
 -- ---- the grounds of a file are those of the state for which it stands
 
 abbrev grounds : Shape → ℕ → Bool → Bool → Grounds
@@ -90,15 +100,19 @@ module _ {D M O : Type 0} {mode : ModeGhosts M} (d : Ghosts D) (o : SinkMeaning 
   abbrev pub RestsDone : Type 0
   RestsDone = IsAutomatic rule (known_of old) → (opened : List ℕ) (e : Editing) → IsAtRest d opened old e → IsAtRest d opened new (rule.done e).editing
 
+  -- where updates become automatic, the file is at rest then, whatever a crash could leave before
+  abbrev pub BeginsDone : Type 0
+  BeginsDone = switches_on rule (known_of old) ≡ true → (opened : List ℕ) (e : Editing) → IsStateOf mode.ENCODES opened e → All IsByte e.bytes → Stands d.state old e → IsAtRest d opened new (rule.done e).editing
+
   -- a command that was carried out, and that says a text
   pub carried_out : (text : List ℕ) → loan_of new ≡ loan_of old → refusal_by rule (known_of old) ≡ None → IsSent r (o.faults out) (o.faults out') → IsSaid r (says text) (o.told out) (o.told out')
       → ((e : Editing) → Stands d.state old e → (rule.done e).answer ≡ says text) → ((e : Editing) → Stands d.state old e → Stands d.state new (rule.done e).editing)
       → IsKnown rule.puts (rule.known (known_of old)) (known_of old) (known_of new) → (d.state (disk_of new)).faults ≡ (d.state (disk_of old)).faults
       → StillTells (d.state (disk_of old)) (d.state (disk_of new)) → GoesOnFrom d.state d.left_between (disk_of old) (disk_of new)
       → (rule.changes ≡ false → OnlyReadsOn d.state d.may_leave d.left_between (disk_of old) (disk_of new))
-      → (rule.changes ≡ true → LeavesDone) → (rule.changes ≡ true → RestsDone)
+      → (rule.changes ≡ true → LeavesDone) → (rule.changes ≡ true → RestsDone) → (rule.changes ≡ true → BeginsDone)
       → AsksAtMost d.state rule.asked (disk_of old) (disk_of new) → WritesAtMost d.state (rule.written (known_of old).shape.params) (disk_of old) (disk_of new) → Follows d o rule r old out new out'
-  carried_out text loan free sent said answer stands known calm tells time reads leaves rests asked written = record {
+  carried_out text loan free sent said answer stands known calm tells time reads leaves rests begins asked written = record {
     loan = loan;
     stands = λ e here. subst (λ (x : FileEdited). LeavesFile r x e (Stands d.state new)) (edited_on None free e here) (sent_stands r _ _ (rule.done e) e _ sent (stands e here));
     said = λ e here. subst (λ (x : FileEdited). IsSaid r x.answer (o.told out) (o.told out')) (edited_on None free e here) (subst (λ (a : Answer). IsSaid r a (o.told out) (o.told out')) (sym (answer e here)) said);
@@ -114,6 +128,8 @@ module _ {D M O : Type 0} {mode : ModeGhosts M} (d : Ghosts D) (o : SinkMeaning 
         (leaves (and_parts rule.changes _ changes).0 on opened e rest);
     rests = λ changes on opened e rest. subst (λ (x : FileEdited). LeavesFile r x e (IsAtRest d opened new)) (edited_on None free e rest.stands)
         (sent_stands r _ _ (rule.done e) e _ sent (rests (and_parts rule.changes _ changes).0 on opened e rest));
+    begins = λ changes on opened e of bytes here. subst (λ (x : FileEdited). LeavesFile r x e (IsAtRest d opened new)) (edited_on None free e here)
+        (sent_stands r _ _ (rule.done e) e _ sent (begins (and_parts rule.changes _ changes).0 on opened e of bytes here));
     asked = asked;
     written = written;
   }
@@ -139,6 +155,7 @@ module _ {D M O : Type 0} {mode : ModeGhosts M} (d : Ghosts D) (o : SinkMeaning 
     reads = λ same. subst (λ (x : D). OnlyReadsOn d.state d.may_leave d.left_between (disk_of old) x) (sym disk) (search rules);
     leaves = λ changes. absurd (let none = unchanged in cc);
     rests = λ changes. absurd (let none = unchanged in cc);
+    begins = λ changes. absurd (let none = unchanged in cc);
     asked = subst (λ (x : D). AsksAtMost d.state rule.asked (disk_of old) x) (sym disk) (record { later = omega arith; most = omega arith });
     written = subst (λ (x : D). WritesAtMost d.state (rule.written (known_of old).shape.params) (disk_of old) x) (sym disk) (record { later = omega arith; most = omega arith });
   }
@@ -170,6 +187,7 @@ failed d o rule old out new loan free changes rose broken tells time leaves aske
   reads = λ same. absurd (let all : changes_by rule (known_of old) ≡ true = simp (changes, free) in cc);
   leaves = λ changes on opened e rest. subst (λ (x : FileEdited). LeavesEach d (disk_of old) (disk_of new) (IsSafe e x.editing)) (edited_on d o rule (Err Disk) old out new out None free e rest.stands) (leaves on opened e rest);
   rests = λ changes on opened e rest. tt;
+  begins = λ changes on opened e of bytes here. tt;
   asked = asked;
   written = written;
 }

@@ -32,13 +32,13 @@ use Rattle.snd_session.specs.Answered.{Puts, SaysNothing, Sends, put_refused}
 use Rattle.snd_rules.specs.Replies.{done_line, refuses}
 use Rattle.snd_rules.specs.Rules.{FileEdited, Grounds, Rule, add_rule, answered, chunk_refusal, draft_refusal, drafting, is_full, known_grounds, put_edit, refused_if, says_of, set_bext_rule, text_refusal}
 use Rattle.snd_rules.specs.Stepped.{IsAutomatic, IsBrokenAt, IsSaid, LeavesFile, RepliesUnless, Rose, changes_by, refusal_by, reply_of}
-use Rattle.snd_session.specs.Follows.{Follows}
+use Rattle.snd_session.specs.Follows.{Follows, switches_on}
 use Rattle.snd_rules.specs.declared.reply.Reply.{Reply}
 use Rattle.snd_rules.specs.declared.reply.StepFault.{StepFault}
 use Rattle.snd_rules.specs.declared.reply.StepFault.TheVariants.{Disk, Memory}
 use Rattle.snd_lines.specs.declared.refusal.Refusal.{Refusal}
 use Rattle.snd_lines.specs.declared.refusal.Refusal.TheVariants.{AutoOn, BadCommand, ChunkTooLarge, FramesWritten, NoChunks, Open, ReservedChunk, TextTooLong}
-use Rattle.snd_session.proofs.Followed.{carried_out, edited_on, refused_on, sent_cause, sent_knows, sent_memory, sent_silent, sent_stands}
+use Rattle.snd_session.proofs.Followed.{carried_out, edited_on, refused_on, sent_cause, sent_knows, sent_memory, sent_silent, sent_stands, switched}
 use Rattle.snd_session.proofs.Refused.{is_refused, not_refused}
 
 -- ---- a call that changes nothing but counts
@@ -89,6 +89,7 @@ module _ {D M O : Type 0} {mode : ModeGhosts M} (d : Ghosts D) (o : SinkMeaning 
     reads = λ plain. same.reads;
     leaves = λ changes on. absurd (by_hand changes on);
     rests = λ changes on. absurd (by_hand changes on);
+    begins = λ changes on. absurd (by_hand changes (switched rule (known_of old) on));
     asked = same.asked;
     written = same.written;
   }
@@ -112,6 +113,7 @@ module _ {D M O : Type 0} {mode : ModeGhosts M} (d : Ghosts D) (o : SinkMeaning 
     reads = reads;
     leaves = λ changes on. absurd (by_hand changes on);
     rests = λ changes on. absurd (by_hand changes on);
+    begins = λ changes on. absurd (by_hand changes (switched rule (known_of old) on));
     asked = asked;
     written = written;
   }
@@ -138,6 +140,7 @@ module _ {D M O : Type 0} {mode : ModeGhosts M} (d : Ghosts D) (o : SinkMeaning 
     reads = λ plain. same.reads;
     leaves = λ changes. absurd (let none = unchanged in cc);
     rests = λ changes. absurd (let none = unchanged in cc);
+    begins = λ changes. absurd (let none = unchanged in cc);
     asked = same.asked;
     written = same.written;
   }
@@ -163,6 +166,7 @@ module _ {D M O : Type 0} {mode : ModeGhosts M} (d : Ghosts D) (o : SinkMeaning 
     reads = λ plain. same.reads;
     leaves = λ changes on. absurd (by_hand changes on);
     rests = λ changes on. absurd (by_hand changes on);
+    begins = λ changes on. absurd (by_hand changes (switched rule (known_of old) on));
     asked = same.asked;
     written = same.written;
   }
@@ -289,7 +293,7 @@ module _ {D M O : Type 0} {mode : ModeGhosts M} (d : Ghosts D) (o : SinkMeaning 
       (λ e here. ap (λ (x : FileEdited). x.answer) (edited e here))
       (λ e here. subst (λ (x : FileEdited). Stands d.state new x.editing) (sym (edited e here)) (was.sets e here).1)
       (was.left.0, was.left.1.1) was.faults was.tells was.time (λ same. absurd (cc))
-      (λ changes on. absurd (off k.automatic may.untouched.by_hand on)) (λ changes on. absurd (off k.automatic may.untouched.by_hand on)) was.asked was.written
+      (λ changes on. absurd (off k.automatic may.untouched.by_hand on)) (λ changes on. absurd (off k.automatic may.untouched.by_hand on)) (λ changes on. absurd (cc)) was.asked was.written
     where
       may : MayPut (to_replace id was.left.0 k) k
       may = was.left.1.0
@@ -392,7 +396,7 @@ module _ {D M O : Type 0} {mode : ModeGhosts M} (d : Ghosts D) (o : SinkMeaning 
   add_done done was =
       carried_out d o adds r old out new out' done_line was.loan (add_free id body known was.left.0) was.said.sent was.said.said (λ e here. refl) was.stands
       was.left.1 was.faults was.tells was.time (λ same. absurd (cc))
-      (λ changes on. absurd (off known.automatic was.left.0.untouched.by_hand on)) (λ changes on. absurd (off known.automatic was.left.0.untouched.by_hand on)) (asks_none was.asked) was.written
+      (λ changes on. absurd (off known.automatic was.left.0.untouched.by_hand on)) (λ changes on. absurd (off known.automatic was.left.0.untouched.by_hand on)) (λ changes on. absurd (cc)) (asks_none was.asked) was.written
 
   add_fault : (T : Type 0) (step : Step) → WasAdded {T = T} d o id body (Err (piece_error.DiskFault step)) r old out new out' → Follows d o adds (Err Disk) old out new out
   add_fault T step was =

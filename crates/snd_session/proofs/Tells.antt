@@ -118,6 +118,7 @@ module _ {D M O T : Type 0} {mode : ModeGhosts M} (d : Ghosts D) (o : SinkMeanin
     reads = λ none. facts.reads;
     leaves = λ changes. absurd (cc);
     rests = λ changes. absurd (cc);
+    begins = λ changes. absurd (cc);
     asked = facts.asked;
     written = search rules;
   }
@@ -141,6 +142,7 @@ module _ {D M O T : Type 0} {mode : ModeGhosts M} (d : Ghosts D) (o : SinkMeanin
         reads = λ none. facts.reads;
         leaves = λ changes. absurd (cc);
         rests = λ changes. absurd (cc);
+        begins = λ changes. absurd (cc);
         asked = facts.asked;
         written = search rules;
       }
@@ -167,6 +169,7 @@ module _ {D M O T : Type 0} {mode : ModeGhosts M} (d : Ghosts D) (o : SinkMeanin
         reads = λ none. facts.reads;
         leaves = λ changes. absurd (cc);
         rests = λ changes. absurd (cc);
+        begins = λ changes. absurd (cc);
         asked = facts.asked;
         written = search rules;
       }

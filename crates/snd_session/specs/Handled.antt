@@ -1,5 +1,5 @@
 -- What is seen of an open file in whichever mode.
-use Rattle.std.specs.Prelude.{◌≡◌, ◌⊎◌, ℕ, List, Bool, true, false, Option, None, Some, Result, Ok, Err, IfErr, IsErrOf}
+use Rattle.std.specs.Prelude.{◌≡◌, ◌⊎◌, ℕ, List, All, Bool, true, false, Option, None, Some, Result, Ok, Err, IfErr, IsErrOf}
 use Rattle.std.specs.Borrow.{GName, MutBor}
 use Rattle.snd_command.specs.Said.{Said}
 use Rattle.snd_disk.specs.Device.{AsksAtMost, GoesOnFrom, IsStable, OnlyReadsOn, Tells, WritesAtMost}
@@ -7,11 +7,13 @@ use Rattle.snd_disk.specs.declared.disk.Disk.{Ghosts}
 use Rattle.snd_disk.specs.declared.disk.Step.{Step}
 use Rattle.snd_disk.specs.declared.streams.Sink.{Ghosts as SinkMeaning}
 use Rattle.snd_disk.specs.State.{State}
+use Rattle.snd_fields.specs.Laws.{IsByte}
 use Rattle.snd_layout.specs.Params.{Parameters}
 use Rattle.snd_meters.specs.Gauge.{Gauge}
 use Rattle.snd_edits.specs.Closing.{most_closed}
 use Rattle.snd_edits.specs.Editing.{Editing}
 use Rattle.snd_edits.specs.Known.{Known}
+use Rattle.snd_edits.specs.Laws.{IsStateOf}
 use Rattle.snd_file.specs.Handle.{Stands, disk_of, known_of, loan_of}
 use Rattle.snd_file.specs.Rest.{IsAtRest}
 use Rattle.snd_edits.specs.Safe.{IsSafe}
@@ -140,6 +142,11 @@ abbrev pub StepsToRest : {D : Type 0} (d : Ghosts D) → List Gauge → Result R
 StepsToRest d taps result said old new = IsAutomatic (rule_for taps old said) (handle_known old) → (opened : List ℕ) (e : Editing) → HandleAtRest d opened old e
     → LeavesFile result (edit_file (mode_of old) taps said e) e (HandleAtRest d opened new)
 
+-- .. and an accepted `auto on` brings it to rest, whatever a crash could leave of it before, unless the disk fails
+abbrev pub BeginsAtRest : {D : Type 0} (d : Ghosts D) → List Gauge → Result Reply StepFault → Said → Handle D d → Handle D d → Type 0
+BeginsAtRest d taps result said old new = said ≡ Said.auto true → changes_by (rule_for taps old said) (handle_known old) ≡ true → (opened : List ℕ) (e : Editing)
+    → IsStateOf (encodes (mode_of old)) opened e → All IsByte e.bytes → HandleStands d.state old e → LeavesFile result (edit_file (mode_of old) taps said e) e (HandleAtRest d opened new)
+
 -- .. and the taps, over every disk: the frames that are fed to those that are on are the ones that are said, where it tells them
 abbrev pub FeedsTaps : {D : Type 0} {ghosts : Ghosts D} → (D → State) → Result Reply StepFault → Said → Handle D ghosts → List Gauge → List Gauge → Type 0
 FeedsTaps state result said handle taps taps' =
@@ -158,6 +165,7 @@ pub record Steps {D O : Type 0} (d : Ghosts D) (o : SinkMeaning O) (taps : List 
   pub reads : OnlyChanges d taps command old new
   pub safe : StepsSafely d taps command old new
   pub rests : StepsToRest d taps result command old new
+  pub begins : BeginsAtRest d taps result command old new
   pub asked : AsksByRule d taps command old new
   pub written : WritesByRule d taps command old new
 

@@ -62,7 +62,7 @@ returns-clause-follows g c =
     (λ e here. ap (λ (x : FileEdited). x.answer) (good_read c.args.wanted e (good e here)) ∙ ap (λ fs. says (frames_text fs)) (sym (shown e here)))
     (λ e here. subst (λ (x : FileEdited). Stands g.D.Disk.state c.read_some.new.file x.editing) (sym (good_read c.args.wanted e (good e here)))
     (subst (λ (n : ℕ). Stands g.D.Disk.state c.read_some.new.file (moved_by n e)) (count e here) (stands e here)))
-    held c.in_ok-frames.ensures.calm (search rules) (search rules) (λ same. c.in_ok-frames.ensures.reads) (λ changes. absurd (cc)) (λ changes. absurd (cc)) c.in_ok-frames.ensures.asked (search rules)
+    held c.in_ok-frames.ensures.calm (search rules) (search rules) (λ same. c.in_ok-frames.ensures.reads) (λ changes. absurd (cc)) (λ changes. absurd (cc)) (λ changes. absurd (cc)) c.in_ok-frames.ensures.asked (search rules)
 
 pub returns-clause-taps : goal.returns-clause-taps
 returns-clause-taps g c =

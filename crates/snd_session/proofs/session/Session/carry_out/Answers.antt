@@ -1,5 +1,5 @@
-use Rattle.std.proofs.Common.{◌≡◌, List, false, refl, sym, subst}
-use Rattle.snd_command.specs.Said.{line_said}
+use Rattle.std.proofs.Common.{◌≡◌, List, false, refl, sym, ap, subst}
+use Rattle.snd_command.specs.Said.{Said, line_said}
 use Rattle.snd_meters.specs.Gauge.{Gauge}
 use Rattle.snd_edits.specs.Known.{Known}
 use Rattle.snd_file.specs.Handle.{known_of}
@@ -7,7 +7,7 @@ use Rattle.snd_rules.specs.Desk.{encoding, reading, updating, writing}
 use Rattle.snd_rules.specs.Stepped.{changes_by}
 use Rattle.snd_rules.specs.Rules.{Rule, rule_of}
 use Rattle.snd_session.specs.Tapped.{meter_taps, session_taps}
-use Rattle.snd_session.specs.Follows.{FeedsFile, Follows}
+use Rattle.snd_session.specs.Follows.{FeedsFile, Follows, switches_on}
 use Rattle.snd_rules.specs.Work.{work_rule}
 use Rattle.snd_rules.specs.declared.work.Work.{Work}
 use Rattle.snd_rules.specs.declared.work.Work.TheVariants.{Open, Update, Make, Close, Tell, SeekRead, SeekWrite, SeekBoth, Read, Write, Truncate, Trim, BringUp, Auto, Set, Ask, Tap, Untap}
@@ -69,6 +69,7 @@ returns-in-R-clause-steps g c =
       reads = follows.reads;
       safe = safe;
       rests = rests;
+      begins = λ auto changes. absurd (let none = ap (λ (said : Said). changes_by (rule_of reading taps said) (known_of c.in-R.file)) auto in cc);
       asked = follows.asked;
       written = follows.written;
     })
@@ -107,6 +108,7 @@ returns-in-W-clause-steps g c =
       reads = follows.reads;
       safe = safe;
       rests = rests;
+      begins = λ auto changes. follows.begins changes (ap (λ (said : Said). switches_on (rule_of writing taps said) (known_of c.in-W.file)) auto);
       asked = follows.asked;
       written = follows.written;
     })
@@ -145,6 +147,7 @@ returns-in-B-clause-steps g c =
       reads = follows.reads;
       safe = safe;
       rests = rests;
+      begins = λ auto changes. follows.begins changes (ap (λ (said : Said). switches_on (rule_of encoding taps said) (known_of c.in-B.file)) auto);
       asked = follows.asked;
       written = follows.written;
     })
@@ -183,6 +186,7 @@ returns-in-U-clause-steps g c =
       reads = follows.reads;
       safe = safe;
       rests = rests;
+      begins = λ auto changes. follows.begins changes (ap (λ (said : Said). switches_on (rule_of updating taps said) (known_of c.in-U.file)) auto);
       asked = follows.asked;
       written = follows.written;
     })

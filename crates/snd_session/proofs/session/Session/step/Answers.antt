@@ -16,6 +16,7 @@ returns g c =
       reads = steps.reads;
       safe = steps.safe;
       rests = steps.rests;
+      begins = steps.begins;
       asked = steps.asked;
       written = steps.written;
     }
