@@ -69,7 +69,7 @@ returns-in-R-clause-steps g c =
       reads = follows.reads;
       safe = safe;
       rests = rests;
-      begins = λ auto changes. absurd (let none = ap (λ (said : Said). changes_by (rule_of reading taps said) (known_of c.in-R.file)) auto in cc);
+      begins = λ auto changes. absurd (let none : changes_by (rule_of reading taps (line_said c.args.said)) (known_of c.in-R.file) ≡ false = ap (λ (said : Said). changes_by (rule_of reading taps said) (known_of c.in-R.file)) auto in cc);
       asked = follows.asked;
       written = follows.written;
     })
