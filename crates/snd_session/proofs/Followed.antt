@@ -1,5 +1,5 @@
 -- A rule is followed on an open file, by what became of the call and of its reply.
-use Rattle.std.proofs.Common.{◌≡◌, ℕ, List, Bool, true, false, ◌&&◌, Option, None, Some, Result, Ok, Err, inl, inr, refl, sym, ap, ◌∙◌, subst, arith, rules}
+use Rattle.std.proofs.Common.{◌≡◌, ℕ, List, Bool, true, false, ◌&&◌, Option, None, Some, Result, Ok, Err, inl, inr, ⊎_elim, refl, sym, ap, ◌∙◌, subst, arith, rules}
 use Rattle.std.specs.Prelude.{All, IfErr, IsErrOf, is_none, is_some}
 use Rattle.std.proofs.lemmas.Bool.{and_parts, cases_Bool}
 use Rattle.snd_disk.specs.Device.{AsksAtMost, GoesOnFrom, OnlyReadsOn, WritesAtMost}
@@ -24,6 +24,7 @@ use Rattle.snd_rules.specs.Rules.{FileEdited, Grounds, Rule, grounds_of, known_g
 use Rattle.snd_rules.specs.Replies.{Answer, says, refuses}
 use Rattle.snd_rules.specs.Stepped.{IsAutomatic, IsBrokenAt, IsKnown, IsSaid, IsSilent, IsStepCause, Knows, LeavesFile, RepliesBy, RepliesUnless, Rose, changes_by, refusal_by, reply_of, IsSent}
 use Rattle.snd_session.specs.Follows.{Follows, switches_on}
+use Rattle.snd_session.specs.Replied.{SaysKnown, known_editing}
 use Rattle.snd_rules.specs.declared.reply.Reply.{Reply}
 use Rattle.snd_rules.specs.declared.reply.Reply.TheVariants as reply
 use Rattle.snd_rules.specs.declared.reply.StepFault.{StepFault}
@@ -104,18 +105,35 @@ module _ {D M O : Type 0} {mode : ModeGhosts M} (d : Ghosts D) (o : SinkMeaning 
   abbrev pub BeginsDone : Type 0
   BeginsDone = switches_on rule (known_of old) ≡ true → (opened : List ℕ) (e : Editing) → IsStateOf mode.ENCODES opened e → All IsByte e.bytes → Stands d.state old e → IsAtRest d opened new (rule.done e).editing
 
+  -- what is said is what would be said of a file of which this is known
+  abbrev pub SaysAsKnown : Type 0
+  SaysAsKnown = SaysKnown rule r (known_of old) (o.told out) (o.told out')
+
+  pub replied : (answer : Answer) (why : Option Refusal) → refusal_by rule (known_of old) ≡ why → (edit_unless why (rule.done (known_editing (known_of old))) (known_editing (known_of old))).answer ≡ answer
+      → IsSaid r answer (o.told out) (o.told out') → IsSaid r (edit_by rule (known_editing (known_of old))).answer (o.told out) (o.told out')
+  replied answer why by is said = subst (λ (a : Answer). IsSaid r a (o.told out) (o.told out'))
+      (sym (ap (λ (w : Option Refusal). (edit_unless w (rule.done (known_editing (known_of old))) (known_editing (known_of old))).answer) by ∙ is)) said
+
+  -- a command that is not refused asks something of the disk, or its answer is told
+  pub replied_free : refusal_by rule (known_of old) ≡ None → (rule.asked ≡ 0 → IsSaid r (rule.done (known_editing (known_of old))).answer (o.told out) (o.told out')) → SaysAsKnown
+  replied_free free plain = ⊎_elim
+      (λ none. replied (rule.done (known_editing (known_of old))).answer None free refl (plain none))
+      (λ refused. absurd (let none = ap is_some free in cc))
+
   -- a command that was carried out, and that says a text
   pub carried_out : (text : List ℕ) → loan_of new ≡ loan_of old → refusal_by rule (known_of old) ≡ None → IsSent r (o.faults out) (o.faults out') → IsSaid r (says text) (o.told out) (o.told out')
-      → ((e : Editing) → Stands d.state old e → (rule.done e).answer ≡ says text) → ((e : Editing) → Stands d.state old e → Stands d.state new (rule.done e).editing)
+      → ((e : Editing) → Stands d.state old e → (rule.done e).answer ≡ says text) → (rule.asked ≡ 0 → (rule.done (known_editing (known_of old))).answer ≡ says text)
+      → ((e : Editing) → Stands d.state old e → Stands d.state new (rule.done e).editing)
       → IsKnown rule.puts (rule.known (known_of old)) (known_of old) (known_of new) → (d.state (disk_of new)).faults ≡ (d.state (disk_of old)).faults
       → StillTells (d.state (disk_of old)) (d.state (disk_of new)) → GoesOnFrom d.state d.left_between (disk_of old) (disk_of new)
       → (rule.changes ≡ false → OnlyReadsOn d.state d.may_leave d.left_between (disk_of old) (disk_of new))
       → (rule.changes ≡ true → LeavesDone) → (rule.changes ≡ true → RestsDone) → (rule.changes ≡ true → BeginsDone)
       → AsksAtMost d.state rule.asked (disk_of old) (disk_of new) → WritesAtMost d.state (rule.written (known_of old).shape.params) (disk_of old) (disk_of new) → Follows d o rule r old out new out'
-  carried_out text loan free sent said answer stands known calm tells time reads leaves rests begins asked written = record {
+  carried_out text loan free sent said answer plain stands known calm tells time reads leaves rests begins asked written = record {
     loan = loan;
     stands = λ e here. subst (λ (x : FileEdited). LeavesFile r x e (Stands d.state new)) (edited_on None free e here) (sent_stands r _ _ (rule.done e) e _ sent (stands e here));
     said = λ e here. subst (λ (x : FileEdited). IsSaid r x.answer (o.told out) (o.told out')) (edited_on None free e here) (subst (λ (a : Answer). IsSaid r a (o.told out) (o.told out')) (sym (answer e here)) said);
+    replies = replied_free free (λ none. subst (λ (a : Answer). IsSaid r a (o.told out) (o.told out')) (sym (plain none)) said);
     silent = sent_silent r _ _ _ _ sent;
     cause = sent_cause r _ _ _ _ sent calm;
     memory = sent_memory r _ _ _ sent;
@@ -145,6 +163,7 @@ module _ {D M O : Type 0} {mode : ModeGhosts M} (d : Ghosts D) (o : SinkMeaning 
     loan = loan;
     stands = λ e here. subst (λ (x : FileEdited). LeavesFile r x e (Stands d.state new)) (edited_on (Some refusal) why e here) (sent_stands r _ _ _ e _ sent (stands e here));
     said = λ e here. subst (λ (x : FileEdited). IsSaid r x.answer (o.told out) (o.told out')) (edited_on (Some refusal) why e here) said;
+    replies = λ decided. replied (refuses refusal) (Some refusal) why refl said;
     silent = sent_silent r _ _ _ _ sent;
     cause = sent_cause r _ _ _ _ sent (ap (λ x. (d.state x).faults) disk);
     memory = sent_memory r _ _ _ sent;
@@ -178,6 +197,7 @@ failed d o rule old out new loan free changes rose broken tells time leaves aske
   loan = loan;
   stands = λ e here. tt;
   said = λ e here. refl;
+  replies = λ decided. refl;
   silent = refl;
   cause = (rose, refl);
   memory = λ is. absurd (cc);

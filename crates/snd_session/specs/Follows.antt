@@ -26,6 +26,7 @@ use Rattle.snd_rules.specs.Desk.{Mode, reads, all_put}
 use Rattle.snd_rules.specs.Edit.{edit_by}
 use Rattle.snd_rules.specs.Rules.{Rule, frames_wanted, read_known}
 use Rattle.snd_session.specs.Handled.{back_of}
+use Rattle.snd_session.specs.Replied.{SaysKnown}
 use Rattle.snd_rules.specs.Stepped.{IsAutomatic, IsSaid, IsSilent, IsStepCause, Knows, LeavesFile, LeavesTaps, Rose, changes_by}
 use Rattle.snd_rules.specs.declared.reply.Reply.{Reply}
 use Rattle.snd_rules.specs.declared.reply.StepFault.{StepFault}
@@ -63,6 +64,7 @@ pub record Follows {D M O : Type 0} {mode : ModeGhosts M} (d : Ghosts D) (o : Si
   pub loan : loan_of new ≡ loan_of old
   pub stands : (e : Editing) → Stands d.state old e → LeavesFile result (edit_by rule e) e (Stands d.state new)
   pub said : (e : Editing) → Stands d.state old e → IsSaid result (edit_by rule e).answer (o.told out) (o.told out')
+  pub replies : SaysKnown rule result (known_of old) (o.told out) (o.told out')
   pub silent : IfErr result (λ fault. IsSilent fault (o.told out) (o.told out'))
   pub cause : IsStepCause result (d.state (disk_of old)).faults (d.state (disk_of new)).faults (o.faults out) (o.faults out')
   pub memory : IsErrOf result Memory → rule.takes_memory ≡ true

@@ -23,6 +23,7 @@ use Rattle.snd_rules.specs.Desk.{Mode, closed_as, encodes, encoding, all_put, fr
 use Rattle.snd_rules.specs.Edit.{edit_file}
 use Rattle.snd_rules.specs.Rules.{Rule, rule_of}
 use Rattle.snd_rules.specs.Stepped.{IsAutomatic, IsSaid, IsSilent, IsStepCause, Knows, LeavesFile, LeavesTaps, Rose, changes_by}
+use Rattle.snd_session.specs.Replied.{SaysKnown}
 use Rattle.snd_session.specs.declared.handle.Handle.{Handle}
 use Rattle.snd_session.specs.declared.handle.Handle.TheVariants.{R, W, B, U}
 use Rattle.snd_rules.specs.declared.reply.Reply.{Reply}
@@ -127,6 +128,10 @@ abbrev pub SaysReply : {D O : Type 0} {ghosts : Ghosts D} → (D → State) → 
 SaysReply state told taps result said handle out out' =
     (e : Editing) → HandleStands state handle e → IsSaid result (edit_file (mode_of handle) taps said e).answer (told out) (told out')
 
+-- .. and what is appended over every disk, where no content decides it
+abbrev pub RepliesKnown : {D O : Type 0} {ghosts : Ghosts D} → (O → Option (List ℕ)) → List Gauge → Result Reply StepFault → Said → Handle D ghosts → O → O → Type 0
+RepliesKnown told taps result said handle out out' = SaysKnown (rule_for taps handle said) result (handle_known handle) (told out) (told out')
+
 -- .. and the counts of faults
 abbrev pub CountsStep : {D O : Type 0} {ghosts : Ghosts D} → (D → State) → (O → ℕ) → Result Reply StepFault → Handle D ghosts → O → Handle D ghosts → O → Type 0
 CountsStep state faults result old out new out' =
@@ -157,6 +162,7 @@ FeedsTaps state result said handle taps taps' =
 pub record Steps {D O : Type 0} (d : Ghosts D) (o : SinkMeaning O) (taps : List Gauge) (command : Said) (result : Result Reply StepFault) (old : Handle D d) (out : O) (new : Handle D d) (out' : O) : Type 0 where
   pub stands : LeavesOpen d.state taps result command old new
   pub said : SaysReply d.state o.told taps result command old out out'
+  pub replies : RepliesKnown o.told taps result command old out out'
   pub silent : IfErr result (λ fault. IsSilent fault (o.told out) (o.told out'))
   pub cause : CountsStep d.state o.faults result old out new out'
   pub memory : LacksMemory taps result command old

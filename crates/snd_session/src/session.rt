@@ -6,7 +6,7 @@ ghost use Rattle.snd_meters.specs.Gauge.{waiting};
 ghost use Rattle.snd_meters.specs.Gauges.{after_rest};
 ghost use Rattle.snd_file.specs.Handle.{loan_of};
 ghost use Rattle.snd_rules.specs.Desk.{writes};
-ghost use Rattle.snd_session.specs.Handled.{AsksByRule, BeginsAtRest, CountsStep, FeedsTaps, FinishesAs, FinishesSafely, IsFinishCause, KnowsAfter, LacksMemory, LeavesDisk, LeavesHandle, LeavesOpen, OnlyChanges, SaysReply, Steps, StepsSafely, StepsToRest, WritesByRule, back_of, handle_disk, handle_known, handle_loan, mode_of, most_finished};
+ghost use Rattle.snd_session.specs.Handled.{AsksByRule, BeginsAtRest, CountsStep, FeedsTaps, FinishesAs, FinishesSafely, IsFinishCause, KnowsAfter, LacksMemory, LeavesDisk, LeavesHandle, LeavesOpen, OnlyChanges, RepliesKnown, SaysReply, Steps, StepsSafely, StepsToRest, WritesByRule, back_of, handle_disk, handle_known, handle_loan, mode_of, most_finished};
 ghost use Rattle.snd_rules.specs.Stepped.{IsSilent};
 ghost use Rattle.snd_rules.specs.Rules.{is_close};
 ghost use Rattle.snd_session.specs.Tapped.{meter_taps, session_taps};
@@ -84,6 +84,7 @@ impl Session {
         requires step { is_close (said_of command.now) ≡ false }
         ensures stands { LeavesOpen D.state (session_taps (λ b. meter b) self.old) result (said_of command.now) handle.old handle.new }
         ensures said { SaysReply D.state O.told (session_taps (λ b. meter b) self.old) result (said_of command.now) handle.old out.old out.new }
+        ensures replies { RepliesKnown O.told (session_taps (λ b. meter b) self.old) result (said_of command.now) handle.old out.old out.new }
         ensures silent { IfErr result (λ fault. IsSilent fault (O.told out.old) (O.told out.new)) }
         ensures cause { CountsStep D.state O.faults result handle.old out.old handle.new out.new }
         ensures memory { LacksMemory (session_taps (λ b. meter b) self.old) result (said_of command.now) handle.old }

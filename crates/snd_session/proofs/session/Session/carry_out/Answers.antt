@@ -54,6 +54,7 @@ returns-in-R-clause-steps g c =
     rw c.in-R.is (record {
       stands = follows.stands;
       said = follows.said;
+      replies = follows.replies;
       silent = follows.silent;
       cause = follows.cause;
       memory = follows.memory;
@@ -93,6 +94,7 @@ returns-in-W-clause-steps g c =
     rw c.in-W.is (record {
       stands = follows.stands;
       said = follows.said;
+      replies = follows.replies;
       silent = follows.silent;
       cause = follows.cause;
       memory = follows.memory;
@@ -132,6 +134,7 @@ returns-in-B-clause-steps g c =
     rw c.in-B.is (record {
       stands = follows.stands;
       said = follows.said;
+      replies = follows.replies;
       silent = follows.silent;
       cause = follows.cause;
       memory = follows.memory;
@@ -171,6 +174,7 @@ returns-in-U-clause-steps g c =
     rw c.in-U.is (record {
       stands = follows.stands;
       said = follows.said;
+      replies = follows.replies;
       silent = follows.silent;
       cause = follows.cause;
       memory = follows.memory;

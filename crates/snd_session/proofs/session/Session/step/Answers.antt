@@ -7,6 +7,7 @@ returns g c =
     record {
       stands = steps.stands;
       said = steps.said;
+      replies = steps.replies;
       silent = steps.silent;
       cause = steps.cause;
       memory = steps.memory;
