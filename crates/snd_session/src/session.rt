@@ -59,6 +59,9 @@ impl Session {
     /// that a `read` replies is fed to every tap that is on, in order; a read that is refused, or that fails
     /// for the disk or for want of memory, feeds none.
     ///
+    /// The reply of a command that asks nothing of the disk, or that is refused by what the handle knows,
+    /// follows from that alone, also over a disk that tells nothing.
+    ///
     /// `Disk` where a call of the disk failed: then nothing was appended, and the handle is broken.
     /// `Out` where the sink failed: then the command was carried out or refused, and a front of its reply
     /// was appended. `Memory` where there was none for the samples of a read, for the text of a `get`, or
