@@ -1,7 +1,7 @@
 -- A rule is followed on an open file, by what became of the call and of its reply.
-use Rattle.std.proofs.Common.{◌≡◌, ℕ, List, Bool, true, false, ◌&&◌, Option, None, Some, Result, Ok, Err, inl, inr, ⊎_elim, refl, sym, ap, ◌∙◌, subst, arith, rules}
+use Rattle.std.proofs.Common.{◌≡◌, ℕ, List, Bool, true, false, ◌==◌, ◌&&◌, ◌||◌, Option, None, Some, Result, Ok, Err, inl, inr, refl, sym, ap, ◌∙◌, subst, arith, rules}
 use Rattle.std.specs.Prelude.{All, IfErr, IsErrOf, is_none, is_some}
-use Rattle.std.proofs.lemmas.Bool.{and_parts, cases_Bool}
+use Rattle.std.proofs.lemmas.Bool.{and_parts, cases_Bool, cases_eq, ne_eqb}
 use Rattle.snd_disk.specs.Device.{AsksAtMost, GoesOnFrom, OnlyReadsOn, WritesAtMost}
 use Rattle.snd_disk.specs.State.{State}
 use Rattle.snd_disk.specs.declared.disk.Disk.{Ghosts}
@@ -84,6 +84,14 @@ grounds_from s s' p p' a a' w w' shape place automatic written =
 pub same_grounds : {D M : Type 0} {ghosts : Ghosts D} {mode : ModeGhosts M} (state : D → State) (file : File D M ghosts mode) (e : Editing) → Stands state file e → known_grounds (known_of file) ≡ grounds_of e
 same_grounds state file e stands = grounds_from _ _ _ _ _ _ _ _ stands.shape stands.write_place stands.automatic stands.written
 
+-- ---- what is answered where no content decides it
+
+asks_nothing : (n : ℕ) (why : Option Refusal) → (n == 0 || is_some why) ≡ true → why ≡ None → n ≡ 0
+asks_nothing n why decided free = elim (cases_eq n 0) [
+  | inl is ↦ is
+  | inr some ↦ absurd (let no : (n == 0 || is_some why) ≡ false = ap (λ (w : Option Refusal). n == 0 || is_some w) free ∙ ap (λ (b : Bool). b || false) (ne_eqb n 0 some) in cc)
+]
+
 -- ---- whole rules
 
 module _ {D M O : Type 0} {mode : ModeGhosts M} (d : Ghosts D) (o : SinkMeaning O) (rule : Rule) (r : Result Reply StepFault) (old : File D M d mode) (out : O) (new : File D M d mode) (out' : O) where
@@ -116,9 +124,7 @@ module _ {D M O : Type 0} {mode : ModeGhosts M} (d : Ghosts D) (o : SinkMeaning 
 
   -- a command that is not refused asks something of the disk, or its answer is told
   pub replied_free : refusal_by rule (known_of old) ≡ None → (rule.asked ≡ 0 → IsSaid r (rule.done (known_editing (known_of old))).answer (o.told out) (o.told out')) → SaysAsKnown
-  replied_free free plain = ⊎_elim
-      (λ none. replied (rule.done (known_editing (known_of old))).answer None free refl (plain none))
-      (λ refused. absurd (let none = ap is_some free in cc))
+  replied_free free plain decided = replied (rule.done (known_editing (known_of old))).answer None free refl (plain (asks_nothing rule.asked (refusal_by rule (known_of old)) decided free))
 
   -- a command that was carried out, and that says a text
   pub carried_out : (text : List ℕ) → loan_of new ≡ loan_of old → refusal_by rule (known_of old) ≡ None → IsSent r (o.faults out) (o.faults out') → IsSaid r (says text) (o.told out) (o.told out')

@@ -1,5 +1,5 @@
 -- What chunks say is told, by how the call on them ended.
-use Rattle.std.proofs.Common.{◌≡◌, ◌⊎◌, inl, inr, ⊎_elim, ℕ, List, Bool, true, Option, None, Some, Result, Ok, Err, refl, sym, ap, ◌∙◌, subst, arith, rules}
+use Rattle.std.proofs.Common.{◌≡◌, ◌⊎◌, inl, inr, ⊎_elim, ℕ, List, Bool, true, Option, None, Some, Result, Ok, Err, refl, sym, ap, ◌∙◌, subst, rules}
 use Rattle.std.specs.Prelude.{is_some}
 use Rattle.snd_disk.specs.Device.{AsksAtMost, OnlyReadsOn}
 use Rattle.snd_disk.specs.declared.disk.Disk.{Ghosts}
@@ -120,7 +120,7 @@ module _ {D M O T : Type 0} {mode : ModeGhosts M} (d : Ghosts D) (o : SinkMeanin
     loan = facts.loan;
     stands = λ e here. leaves_still r _ e _ (still _ (done e) e) (facts.stands e here);
     said = λ e here. said_on answer sent.said e here (same e here);
-    replies = ⊎_elim (λ none. absurd (let e : 81920 ≡ 0 = none in omega (arith, e))) (λ refused. replied d o rule r old out new out' answer why refl (known refused) sent.said);
+    replies = λ decided. replied d o rule r old out new out' answer why refl (known decided) sent.said;
     silent = sent_silent r _ _ _ _ sent.sent;
     cause = sent_cause r _ _ _ _ sent.sent calm;
     memory = sent_memory r _ _ _ sent.sent;
