@@ -86,10 +86,10 @@ same_grounds state file e stands = grounds_from _ _ _ _ _ _ _ _ stands.shape sta
 
 -- ---- what is answered where no content decides it
 
-asks_nothing : (n : ℕ) (why : Option Refusal) → (n == 0 || is_some why) ≡ true → why ≡ None → n ≡ 0
+asks_nothing : (n : ℕ) (why : Option Refusal) → ((n == 0) || is_some why) ≡ true → why ≡ None → n ≡ 0
 asks_nothing n why decided free = elim (cases_eq n 0) [
   | inl is ↦ is
-  | inr some ↦ absurd (let no : (n == 0 || is_some why) ≡ false = ap (λ (w : Option Refusal). n == 0 || is_some w) free ∙ ap (λ (b : Bool). b || false) (ne_eqb n 0 some) in cc)
+  | inr some ↦ absurd (let no : ((n == 0) || is_some why) ≡ false = ap (λ (w : Option Refusal). (n == 0) || is_some w) free ∙ ap (λ (b : Bool). b || false) (ne_eqb n 0 some) in cc)
 ]
 
 -- ---- whole rules

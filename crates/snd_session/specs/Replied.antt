@@ -23,7 +23,7 @@ known_editing h = record {
 
 -- no content decides the answer: nothing is asked of the disk, or the command is refused by what is known
 abbrev pub is_decided : Rule → Known → Bool
-is_decided rule h = rule.asked == 0 || is_some (refusal_by rule h)
+is_decided rule h = (rule.asked == 0) || is_some (refusal_by rule h)
 
 -- .. and then what is said is what would be said of that file
 abbrev pub SaysKnown : Rule → Result Reply StepFault → Known → Option (List ℕ) → Option (List ℕ) → Type 0
