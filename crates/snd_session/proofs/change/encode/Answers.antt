@@ -1,4 +1,4 @@
-use Rattle.std.proofs.Common.{ap, length, sym, ⊎_elim, ◌/◌, rules}
+use Rattle.std.proofs.Common.{ap, length, refl, sym, ⊎_elim, ◌/◌, rules}
 use Rattle.snd_layout.specs.Shape.{Shape}
 use Rattle.snd_file.specs.Handle.{known_of}
 use Rattle.snd_rules.specs.Replies.{ok_line, says}
