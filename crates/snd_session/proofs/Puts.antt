@@ -32,7 +32,7 @@ use Rattle.snd_session.specs.Answered.{Puts, SaysNothing, Sends, put_refused}
 use Rattle.snd_rules.specs.Replies.{done_line, refuses}
 use Rattle.snd_rules.specs.Rules.{FileEdited, Grounds, Rule, add_rule, answered, chunk_refusal, draft_refusal, drafting, is_full, known_grounds, put_edit, refused_if, says_of, set_bext_rule, text_refusal}
 use Rattle.snd_rules.specs.Stepped.{IsAutomatic, IsBrokenAt, IsSaid, LeavesFile, RepliesUnless, Rose, changes_by, refusal_by, reply_of}
-use Rattle.snd_session.specs.Follows.{Follows, switches_on}
+use Rattle.snd_session.specs.Follows.{Follows}
 use Rattle.snd_rules.specs.declared.reply.Reply.{Reply}
 use Rattle.snd_rules.specs.declared.reply.StepFault.{StepFault}
 use Rattle.snd_rules.specs.declared.reply.StepFault.TheVariants.{Disk, Memory}

@@ -22,7 +22,7 @@ use Rattle.snd_file.specs.Rest.{IsAtRest}
 use Rattle.snd_edits.specs.Safe.{IsSafe}
 use Rattle.snd_patch.specs.Images.{LeavesEach}
 use Rattle.snd_patch.specs.Steps.{StillTells}
-use Rattle.snd_rules.specs.Desk.{Mode, reads, all_put}
+use Rattle.snd_rules.specs.Desk.{Mode, all_put}
 use Rattle.snd_rules.specs.Edit.{edit_by}
 use Rattle.snd_rules.specs.Rules.{Rule, frames_wanted, read_known}
 use Rattle.snd_session.specs.Handled.{back_of}
