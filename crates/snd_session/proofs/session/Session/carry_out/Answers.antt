@@ -1,5 +1,5 @@
-use Rattle.std.proofs.Common.{◌≡◌, List, false, refl, sym, subst}
-use Rattle.snd_command.specs.Said.{said_of}
+use Rattle.std.proofs.Common.{◌≡◌, List, false, refl, sym, ap, subst}
+use Rattle.snd_command.specs.Said.{Said, said_of}
 use Rattle.snd_meters.specs.Gauge.{Gauge}
 use Rattle.snd_edits.specs.Known.{Known}
 use Rattle.snd_file.specs.Handle.{known_of}
@@ -7,7 +7,7 @@ use Rattle.snd_rules.specs.Desk.{encoding, reading, updating, writing}
 use Rattle.snd_rules.specs.Stepped.{changes_by}
 use Rattle.snd_rules.specs.Rules.{Rule, rule_of}
 use Rattle.snd_session.specs.Tapped.{meter_taps, session_taps}
-use Rattle.snd_session.specs.Follows.{FeedsFile, Follows}
+use Rattle.snd_session.specs.Follows.{FeedsFile, Follows, switches_on}
 use Rattle.snd_rules.specs.Work.{work_rule}
 use Rattle.snd_rules.specs.declared.work.Work.{Work}
 use Rattle.snd_rules.specs.declared.work.Work.TheVariants.{Open, Update, Make, Close, Tell, SeekRead, SeekWrite, SeekBoth, Read, Write, Truncate, Trim, BringUp, Auto, Set, Ask, Tap, Untap}
@@ -54,6 +54,7 @@ returns-in-R-clause-steps g c =
     rw c.in-R.is (record {
       stands = follows.stands;
       said = follows.said;
+      replies = follows.replies;
       silent = follows.silent;
       cause = follows.cause;
       memory = follows.memory;
@@ -69,6 +70,7 @@ returns-in-R-clause-steps g c =
       reads = follows.reads;
       safe = safe;
       rests = rests;
+      begins = λ auto changes. absurd (let none : changes_by (rule_of reading taps (said_of c.args.said)) (known_of c.in-R.file) ≡ false = ap (λ (said : Said). changes_by (rule_of reading taps said) (known_of c.in-R.file)) auto in cc);
       asked = follows.asked;
       written = follows.written;
     })
@@ -92,6 +94,7 @@ returns-in-W-clause-steps g c =
     rw c.in-W.is (record {
       stands = follows.stands;
       said = follows.said;
+      replies = follows.replies;
       silent = follows.silent;
       cause = follows.cause;
       memory = follows.memory;
@@ -107,6 +110,7 @@ returns-in-W-clause-steps g c =
       reads = follows.reads;
       safe = safe;
       rests = rests;
+      begins = λ auto changes. follows.begins changes (ap (λ (said : Said). switches_on (rule_of writing taps said) (known_of c.in-W.file)) auto);
       asked = follows.asked;
       written = follows.written;
     })
@@ -130,6 +134,7 @@ returns-in-B-clause-steps g c =
     rw c.in-B.is (record {
       stands = follows.stands;
       said = follows.said;
+      replies = follows.replies;
       silent = follows.silent;
       cause = follows.cause;
       memory = follows.memory;
@@ -145,6 +150,7 @@ returns-in-B-clause-steps g c =
       reads = follows.reads;
       safe = safe;
       rests = rests;
+      begins = λ auto changes. follows.begins changes (ap (λ (said : Said). switches_on (rule_of encoding taps said) (known_of c.in-B.file)) auto);
       asked = follows.asked;
       written = follows.written;
     })
@@ -168,6 +174,7 @@ returns-in-U-clause-steps g c =
     rw c.in-U.is (record {
       stands = follows.stands;
       said = follows.said;
+      replies = follows.replies;
       silent = follows.silent;
       cause = follows.cause;
       memory = follows.memory;
@@ -183,6 +190,7 @@ returns-in-U-clause-steps g c =
       reads = follows.reads;
       safe = safe;
       rests = rests;
+      begins = λ auto changes. follows.begins changes (ap (λ (said : Said). switches_on (rule_of updating taps said) (known_of c.in-U.file)) auto);
       asked = follows.asked;
       written = follows.written;
     })

@@ -7,6 +7,7 @@ returns g c =
     record {
       stands = steps.stands;
       said = steps.said;
+      replies = steps.replies;
       silent = steps.silent;
       cause = steps.cause;
       memory = steps.memory;
@@ -16,6 +17,7 @@ returns g c =
       reads = steps.reads;
       safe = steps.safe;
       rests = steps.rests;
+      begins = steps.begins;
       asked = steps.asked;
       written = steps.written;
     }
