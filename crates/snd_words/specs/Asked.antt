@@ -1,15 +1,17 @@
 -- What the words of a command line can ask for.
 use Rattle.std.specs.Prelude.{ℕ, ◌^◌, ◌<◌, ◌≤◌, List, All, Option}
 use Rattle.snd_fields.specs.declared.field.Order.{Order}
+use Rattle.snd_rack.specs.Stage.{Stated as StageSetting}
 use Rattle.snd_words.specs.declared.convert.CodecChoice.{CodecChoice}
 use Rattle.snd_words.specs.Stated.{IsStated, Stated}
 use Rattle.snd_words.specs.declared.topic.Topic.{Topic}
 
--- what `convert` is to do
+-- what `convert` is to do; no items stand where the words have no rack
 pub record Converting : Type 0 where
   pub rate : Option ℕ
   pub order : Option Order
   pub codec : Option CodecChoice
+  pub rack : List StageSetting
   pub input : List ℕ
   pub output : List ℕ
 

@@ -1,5 +1,5 @@
 -- What the words ask for, as the code says it.
-use Rattle.std.specs.Prelude.{Option, Some, None, option_map}
+use Rattle.std.specs.Prelude.{[], Option, Some, None, option_map, unwrap_or}
 use Rattle.snd_words.specs.Asked.{Asked, Work}
 use Rattle.snd_words.specs.declared.request.Request.{Request}
 use Rattle.snd_words.specs.declared.request.Request.TheVariants.{Info, Script, Help, HelpOn, Version, Tool as TheTool}
@@ -7,7 +7,7 @@ use Rattle.snd_words.specs.declared.request.Tool.{Tool}
 use Rattle.snd_words.specs.declared.request.Tool.TheVariants.{Convert, Concat, Interleave, Generate, SetMetadata}
 
 abbrev pub work_of : Tool → Work
-work_of (Convert c) = Work.convert (record { rate = c.rate; order = c.order; codec = c.codec; input = c.input.now; output = c.output.now })
+work_of (Convert c) = Work.convert (record { rate = c.rate; order = c.order; codec = c.codec; rack = unwrap_or c.rack []; input = c.input.now; output = c.output.now })
 work_of (Concat c) = Work.concat c.inputs c.output.now
 work_of (Interleave i) = Work.interleave i.inputs i.output.now
 work_of (Generate g) = Work.gen g.seed g.frames g.name.now

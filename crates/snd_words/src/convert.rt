@@ -3,7 +3,7 @@
 ghost use Rattle.std.specs.Prelude.{◌≡◌, ◌+◌, ◌≤◌, ◌∷◌, [], drop, length, option_map};
 ghost use Rattle.std.specs.List.{slice_range};
 ghost use Rattle.snd_words.specs.Asked.{IsAsked};
-ghost use Rattle.snd_words.specs.Convert.{codec_of, convert_asked, order_of, rate_of, setting_of, settings_of, settled_on};
+ghost use Rattle.snd_words.specs.Convert.{codec_of, convert_asked, order_of, rack_in_word, rate_of, setting_of, settings_of, settled_on};
 ghost use Rattle.snd_words.specs.Request.{asked_by};
 ghost use Rattle.snd_words.specs.Options.{option_count, text_behind};
 
@@ -11,6 +11,7 @@ use crate::names::two_names;
 use crate::options::{options_end, text_behind};
 use crate::request::{Request, Tool};
 use snd_fields::{Order, Words, decimal};
+use snd_rack::RackSpec;
 
 /// A codec that an option of `convert` names.
 #[derive(Clone, Copy, Debug, PartialEq, Eq)]
@@ -36,7 +37,7 @@ pub enum CodecChoice {
 }
 
 /// What `convert` is to do. What no option sets is left to the input and to the output's kind.
-#[derive(Clone, Copy, Debug, PartialEq, Eq)]
+#[derive(Drop)]
 pub struct Conversion<'a> {
     /// How many frames a second the output is to state, at most 2^63 - 1.
     pub rate: Option<u64>,
@@ -44,6 +45,9 @@ pub struct Conversion<'a> {
     pub order: Option<Order>,
     /// The output's codec.
     pub codec: Option<CodecChoice>,
+    /// What each frame is to pass through, in the range of the input's width: 1 to 8 items joined by commas, each
+    /// `gain:A/B`, `invert`, `map:I.J..` or `fade:N`.
+    pub rack: Option<RackSpec<'a>>,
     /// The name of the file to read.
     pub input: &'a str,
     /// The name of the file to make.
@@ -51,22 +55,25 @@ pub struct Conversion<'a> {
 }
 
 /// What one option sets.
-#[derive(Clone, Copy, Debug, PartialEq, Eq)]
-pub(crate) enum Setting {
+#[derive(Drop)]
+pub(crate) enum Setting<'a> {
     /// `-override-sample-rate=N`
     Rate(u64),
     /// `-endian=little`, `-endian=big`
     Order(Order),
     /// The name of a codec.
     Codec(CodecChoice),
+    /// `-rack=SPEC`, where SPEC is 1 to 8 items joined by commas: `gain:A/B`, `invert`, `map:I.J..`, `fade:N`.
+    Rack(RackSpec<'a>),
 }
 
 /// What some options set.
-#[derive(Clone, Copy, Debug, PartialEq, Eq)]
-pub(crate) struct Settings {
+#[derive(Drop)]
+pub(crate) struct Settings<'a> {
     rate: Option<u64>,
     order: Option<Order>,
     codec: Option<CodecChoice>,
+    rack: Option<RackSpec<'a>>,
 }
 
 #[tactic(auto, unfolding(crate::specs::Convert::rate_of))]
@@ -117,8 +124,16 @@ fn codec_of(word: &str) -> Option<CodecChoice>
     }
 }
 
+#[tactic(auto, unfolding(crate::specs::Convert::rack_in_word))]
+fn rack_in_word(word: &str) -> Option<RackSpec<'_>>
+    ensures { result ≡ rack_in_word word.now }
+{
+    let text = text_behind(b"-rack=", word.as_bytes())?;
+    RackSpec::read(text)
+}
+
 #[tactic(auto, unfolding(crate::specs::Convert::setting_of))]
-fn setting_of(word: &str) -> Option<Setting>
+fn setting_of(word: &str) -> Option<Setting<'_>>
     ensures { result ≡ setting_of word.now }
 {
     if let Some(rate) = rate_of(word) {
@@ -127,14 +142,17 @@ fn setting_of(word: &str) -> Option<Setting>
     if let Some(order) = order_of(word) {
         return Some(Setting::Order(order));
     }
-    let codec = codec_of(word)?;
-    Some(Setting::Codec(codec))
+    if let Some(codec) = codec_of(word) {
+        return Some(Setting::Codec(codec));
+    }
+    let rack = rack_in_word(word)?;
+    Some(Setting::Rack(rack))
 }
 
-impl Settings {
+impl<'a> Settings<'a> {
     /// These settings and one more, which none of them sets.
-    fn with(self, setting: Setting) -> Option<Settings>
-        ensures { result ≡ settled_on self (setting ∷ []) }
+    fn with(self, setting: Setting<'a>) -> Option<Settings<'a>>
+        ensures { result ≡ settled_on self.entry (setting.entry ∷ []) }
     {
         match setting {
             Setting::Rate(rate) if self.rate.is_none() => Some(Settings {
@@ -149,13 +167,17 @@ impl Settings {
                 codec: Some(codec),
                 ..self
             }),
+            Setting::Rack(rack) if self.rack.is_none() => Some(Settings {
+                rack: Some(rack),
+                ..self
+            }),
             _ => None,
         }
     }
 }
 
 /// What the options set that stand between the command and an end.
-fn settings_of(words: &Words, end: usize) -> Option<Settings>
+fn settings_of(words: &Words, end: usize) -> Option<Settings<'_>>
     requires { end ≤ length words.now }
     ensures { result ≡ settings_of (slice_range words.now 1 end) }
 {
@@ -163,6 +185,7 @@ fn settings_of(words: &Words, end: usize) -> Option<Settings>
         rate: None,
         order: None,
         codec: None,
+        rack: None,
     };
     for at in 1..end {
         let setting = setting_of(words.get(at)?)?;
@@ -185,6 +208,7 @@ pub(crate) fn convert_request(words: &Words) -> Option<Request<'_>>
         rate: settings.rate,
         order: settings.order,
         codec: settings.codec,
+        rack: settings.rack,
         input,
         output,
     })))
