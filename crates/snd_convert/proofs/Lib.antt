@@ -1,4 +1,5 @@
 pub mod Asking
+pub mod Behind
 pub mod Doing
 pub mod Filling
 pub mod Making

@@ -20,11 +20,15 @@ use Rattle.snd_layout.specs.Kinds.{holds_meta}
 use Rattle.snd_edits.specs.Relaid.{shape_with}
 use Rattle.snd_chunks.specs.Heads.{outline}
 use Rattle.snd_output.proofs.Public.{says_of}
-use Rattle.snd_output.specs.Appended.{HasRoom, MayAppend, left_in, numbers_left}
-use Rattle.snd_output.specs.Widths.{change_numbers, joined}
+use Rattle.snd_output.specs.Appended.{HasRoom, left_in}
+use Rattle.snd_output.specs.Widths.{change_numbers}
 use Rattle.snd_container.specs.Room.{Take}
+use Rattle.snd_rack.specs.Stage.{Stated}
+use Rattle.snd_rack.specs.declared.setting.StageKind.{StageKind}
+use Rattle.snd_racking.specs.Appending.{MayRack}
+use Rattle.snd_racking.specs.Racked.{racked_left, racked_numbers}
 use Rattle.snd_convert.specs.Convert.{carries, numbers_for}
-use Rattle.snd_convert.specs.Making.{is_full_by, known_filled, outlines_for}
+use Rattle.snd_convert.specs.Making.{FitsRack, is_full_by, known_filled, outlines_for}
 use Rattle.snd_convert.specs.Plan.{Planned}
 
 -- what is begun with the chunks that go with the frames of another
@@ -39,9 +43,10 @@ begun_with plan h good fits =
       | inr other ↦ subst P (sym other) (begun_as plan.kind plan.params good fits)
     ]
 
--- all frames of a file that is unread may be put into one that was begun, with these chunks, where its head has room for them
-module _ (plan : Planned) (from from' to to' : Known) (good : AreParams plan.params) (fits : fit_refusal plan.kind plan.params ≡ None) (unread : IsUnread from) (fresh : IsFresh to)
-    (alike : plan.params.channels ≡ from.shape.params.channels) (room_is : is_full_by plan from.shape ≡ false) where
+-- all frames of a file that is unread may be put through a rack into one that was begun, with these chunks, where its head has room
+-- for them
+module _ (items : List Stated) (boxes : List StageKind) (plan : Planned) (from from' to to' : Known) (good : AreParams plan.params) (fits : fit_refusal plan.kind plan.params ≡ None) (unread : IsUnread from) (fresh : IsFresh to)
+    (rack : FitsRack items boxes from.shape.params.channels plan.params.channels) (room_is : is_full_by plan from.shape ≡ false) where
   is_begun : IsBegun plan.kind plan.params (known_filled plan from.shape to).shape
   is_begun = begun_with plan from.shape good fits
 
@@ -53,16 +58,17 @@ module _ (plan : Planned) (from from' to to' : Known) (good : AreParams plan.par
       let left : from.shape.frames ≡ left_in from = omega (arith, unread.first) in
       subst (λ (n : ℕ). HasRoom n (known_filled plan from.shape to)) left (begun_room plan.kind plan.params (known_filled plan from.shape to).shape (known_filled plan from.shape to) is_begun fresh_filled refl from.shape.frames room_is)
 
-  may_append_filled : MayAppend from (known_filled plan from.shape to)
-  may_append_filled = record {
+  may_rack_filled : MayRack items from (known_filled plan from.shape to)
+  may_rack_filled = record {
     working = unread.working;
     at_end = begun_at_end plan.kind plan.params (known_filled plan from.shape to).shape (known_filled plan from.shape to) is_begun fresh_filled refl;
-    alike = sym alike ∙ ap (λ (q : Parameters). q.channels) (sym is_begun.params);
+    good = rack.places;
+    fits = sym rack.channels ∙ ap (λ (q : Parameters). q.channels) (sym is_begun.params);
     in_room = in_room;
   }
 
-  pub may_append : from' ≡ from → to' ≡ known_filled plan from.shape to → MayAppend from' to'
-  may_append same filled = subst (λ (k : Known). MayAppend k to') (sym same) (subst (MayAppend from) (sym filled) may_append_filled)
+  pub may_rack : from' ≡ from → to' ≡ known_filled plan from.shape to → MayRack items from' to'
+  may_rack same filled = subst (λ (k : Known). MayRack items k to') (sym same) (subst (MayRack items from) (sym filled) may_rack_filled)
 
 -- ---- what its head has room for
 
@@ -88,7 +94,8 @@ all_end size known h b long same ends = subst (λ (s : Shape). All (EndsIn (leng
 -- ---- what it has
 
 -- the numbers that are put are those of all frames
-pub numbers_same : (plan : Planned) (e : Editing) (from to : Codec) → from ≡ e.shape.params.codec → to ≡ plan.params.codec → e.place ≡ 0 → [] ++ change_numbers from to (numbers_left e) ≡ numbers_for plan e
-numbers_same plan e from to from_is to_is first =
-    ap (λ (c : Codec). change_numbers c to (numbers_left e)) from_is ∙ ap (λ (c : Codec). change_numbers e.shape.params.codec c (numbers_left e)) to_is
-    ∙ ap (λ (n : ℕ). change_numbers e.shape.params.codec plan.params.codec (joined (drop n e.frames))) first
+pub numbers_same : (items : List Stated) (plan : Planned) (e : Editing) (from to : Codec) → from ≡ e.shape.params.codec → to ≡ plan.params.codec → e.place ≡ 0
+    → [] ++ change_numbers from to (racked_left items e) ≡ numbers_for items plan e
+numbers_same items plan e from to from_is to_is first =
+    ap (λ (c : Codec). change_numbers c to (racked_left items e)) from_is ∙ ap (λ (c : Codec). change_numbers e.shape.params.codec c (racked_left items e)) to_is
+    ∙ ap (λ (n : ℕ). racked_numbers items e.shape.params.codec plan.params.codec (drop n e.frames)) first

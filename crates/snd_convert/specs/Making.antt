@@ -1,5 +1,5 @@
 -- A file that is made of an open one, as the code does it: what is asked of the two, and what comes of it.
-use Rattle.std.specs.Prelude.{◌≡◌, ℕ, ℤ, ◌+◌, Bool, List, [], Some, Result, Ok, IfOk, OnOk, map, if◌then◌else◌}
+use Rattle.std.specs.Prelude.{◌≡◌, ℕ, ℤ, ◌+◌, Bool, List, [], Some, Result, Ok, IfOk, OnOk, false, map, if◌then◌else◌}
 use Rattle.snd_carry.specs.Carried.{body_bytes, carried_pieces}
 use Rattle.snd_inputs.specs.Rooms.{exceeds}
 use Rattle.snd_inputs.specs.Copying.{AsksToCopy, bytes_checked, bytes_to_copy}
@@ -26,11 +26,21 @@ use Rattle.snd_output.specs.declared.stop.Stop.{Stop}
 use Rattle.snd_tools.specs.Shelves.{HasFiles, IsDone}
 use Rattle.snd_tools.specs.declared.answer.Answer.{Answer}
 use Rattle.snd_container.specs.Room.{Take}
+use Rattle.snd_rack.specs.Rack.{bad_place, channels_after}
+use Rattle.snd_rack.specs.Stage.{Stated, kind_of}
+use Rattle.snd_rack.specs.declared.setting.StageKind.{StageKind}
 use Rattle.snd_words.specs.declared.convert.Conversion.{Conversion}
-use Rattle.snd_convert.specs.Convert.{carries, chunks_for, done_by_plan, file_made, is_full, made_if_good, made_of, numbers_for}
+use Rattle.snd_convert.specs.Convert.{behind_rack, carries, chunks_for, done_behind, file_made, is_full, made_if_good, made_of, numbers_for}
 use Rattle.snd_convert.specs.Plan.{Planned, planned}
 use Rattle.snd_convert.specs.Planning.{asked_of, planned_by}
 use Rattle.snd_convert.specs.declared.plan.Plan.{Plan}
+
+-- Frames with so many channels may pass a rack behind which they have others: there are boxes of the kinds of its items, in their
+-- order, and none of these picks a sample that a frame does not have.
+pub record FitsRack (items : List Stated) (boxes : List StageKind) (from to : ℕ) : Type 0 where
+  pub boxes_are : boxes ≡ map kind_of items
+  pub places : bad_place items from ≡ false
+  pub channels : to ≡ channels_after items from
 
 -- the chunks that go with the frames, by their outlines; and whether the head with these has no room for the frames
 abbrev pub outlines_for : Planned → Shape → List NewChunk
@@ -70,19 +80,20 @@ abbrev pub TakesChunks : {D E M N : Type 0} {d : Ghosts D} {t : Ghosts E} {m : M
 TakesChunks state state' plan from old new = MakesWith state state' (planned_by plan) (λ r. []) from old new
 
 abbrev pub Fills : {D E M N : Type 0} {d : Ghosts D} {t : Ghosts E} {m : ModeGhosts M} {n : ModeGhosts N}
-    → (D → State) → (E → State) → Plan → File D M d m → File E N t n → File E N t n → Type 0
-Fills state state' plan from old new = MakesWith state state' (planned_by plan) (numbers_for (planned_by plan)) from old new
+    → (D → State) → (E → State) → List Stated → Plan → File D M d m → File E N t n → File E N t n → Type 0
+Fills state state' items plan from old new = MakesWith state state' (planned_by plan) (numbers_for items (planned_by plan)) from old new
 
 -- Where both disks tell what they hold, one becomes what is made of the file on the other. Or a file of a shelf does.
-abbrev pub Makes : {D M E : Type 0} {d : Ghosts D} {m : ModeGhosts M} → (D → State) → (E → State) → Plan → File D M d m → E → E → Type 0
-Makes state state' plan file old new =
-    (b : List ℕ) (e : Editing) → Tells state' old b → Stands state file e → Tells state' new (file_made (planned_by plan) e)
+abbrev pub Makes : {D M E : Type 0} {d : Ghosts D} {m : ModeGhosts M} → (D → State) → (E → State) → List Stated → Plan → File D M d m → E → E → Type 0
+Makes state state' items plan file old new =
+    (b : List ℕ) (e : Editing) → Tells state' old b → Stands state file e → Tells state' new (file_made items (planned_by plan) e)
 
 abbrev pub MakesUnder : {D M S T E : Type 0} {d : Ghosts D} {m : ModeGhosts M}
-    → (D → State) → (S → ShelfState) → List ℕ → Plan → File D M d m → S → S → Result T E → Type 0
-MakesUnder state shelf_state name plan file old new result =
+    → (D → State) → (S → ShelfState) → Conversion → Plan → File D M d m → S → S → Result T E → Type 0
+MakesUnder state shelf_state conversion plan file old new result =
+    let c = asked_of conversion in
     OnOk result ((files : Files) (e : Editing) → TellsFiles shelf_state old files → Stands state file e
-    → HasFiles shelf_state new (put files name (Some (file_made (planned_by plan) e))))
+    → HasFiles shelf_state new (put files c.output (Some (file_made c.rack (planned_by plan) e))))
 
 -- What is answered is what is to be done with an open file by a plan, where the head has room for its data; and that is done.
 abbrev pub DoesGood : {D M S E : Type 0} {d : Ghosts D} {m : ModeGhosts M}
@@ -99,18 +110,18 @@ DoesBy state shelf_state conversion plan file old new result =
     → IsDone shelf_state new answer (made_of (asked_of conversion) (planned_by plan) e) files)
 
 abbrev pub Converts : {D M S E : Type 0} {d : Ghosts D} {m : ModeGhosts M}
-    → (D → State) → (S → ShelfState) → Conversion → Kind → File D M d m → S → S → Result Answer E → Type 0
-Converts state shelf_state conversion kind file old new result =
+    → (D → State) → (S → ShelfState) → List StageKind → Conversion → Kind → File D M d m → S → S → Result Answer E → Type 0
+Converts state shelf_state kinds conversion kind file old new result =
     let c = asked_of conversion in
     IfOk result (λ answer. (files : Files) (e : Editing) → TellsFiles shelf_state old files → Stands state file e
-    → IsDone shelf_state new answer (done_by_plan c e (planned c kind e.shape.params)) files)
+    → IsDone shelf_state new answer (done_behind c kind e (behind_rack kinds c.rack e.shape.params.channels)) files)
 
 -- .. in that of a disk, by its layout
-abbrev pub ConvertsLaid : {D S E : Type 0} → (D → State) → (S → ShelfState) → Conversion → Kind → D → Shape → S → S → Result Answer E → Type 0
-ConvertsLaid state shelf_state conversion kind disk layout old new result =
+abbrev pub ConvertsLaid : {D S E : Type 0} → (D → State) → (S → ShelfState) → List StageKind → Conversion → Kind → D → Shape → S → S → Result Answer E → Type 0
+ConvertsLaid state shelf_state kinds conversion kind disk layout old new result =
     let c = asked_of conversion in
     IfOk result (λ answer. (files : Files) (b : List ℕ) → TellsFiles shelf_state old files → Tells state disk b
-    → IsDone shelf_state new answer (done_by_plan c (first_editing b layout) (planned c kind layout.params)) files)
+    → IsDone shelf_state new answer (done_behind c kind (first_editing b layout) (behind_rack kinds c.rack layout.params.channels)) files)
 
 -- the bodies of the chunks that may go with the frames of a file: none of a kind that has no such chunks
 abbrev pub bodies_in : Shape → ℕ

@@ -55,11 +55,11 @@ abbrev pub fitted : Kind → Option Order → Result Parameters OpenRefusal → 
 fitted kind order (Err why) = Err why
 fitted kind order (Ok p) = fitting kind order p (fit_refusal kind p)
 
-abbrev pub planned_as : Converting → Kind → Parameters → Result Planned OpenRefusal
-planned_as c kind from =
+abbrev pub planned_as : Converting → Kind → ℕ → Parameters → Result Planned OpenRefusal
+planned_as c kind channels from =
     let rate = unwrap_or c.rate from.rate in
-    fitted kind c.order (params_of from.channels rate (codec_in c.codec kind (unwrap_or c.order (own_order kind)) from.channels rate from.codec))
+    fitted kind c.order (params_of channels rate (codec_in c.codec kind (unwrap_or c.order (own_order kind)) channels rate from.codec))
 
--- what a file with these parameters becomes, or why it does not
-unfoldable pub planned : Converting → Kind → Parameters → Result Planned OpenRefusal
-planned c kind from = planned_as c (kind_in c.order kind) from
+-- what a file with these parameters becomes, with so many channels, or why it does not
+unfoldable pub planned : Converting → Kind → ℕ → Parameters → Result Planned OpenRefusal
+planned c kind channels from = planned_as c (kind_in c.order kind) channels from

@@ -1,6 +1,6 @@
 //! The tool that copies a file into another container or codec.
 
-ghost use Rattle.std.specs.Prelude.{◌≡◌, ◌+◌, ◌≤◌, ◌^◌, ◌∷◌, [], All, None, false};
+ghost use Rattle.std.specs.Prelude.{◌≡◌, ◌+◌, ◌≤◌, ◌^◌, ◌∷◌, [], All, None, false, length, map, take};
 ghost use Rattle.snd_disk.specs.Device.{OnlyReadsOn};
 ghost use Rattle.snd_inputs.specs.Asking.{AsksForFiles};
 ghost use Rattle.snd_inputs.specs.Copying.{CountsDiskAndShelf, CountsFileAndShelf, OnlyReadsFile};
@@ -13,12 +13,13 @@ ghost use Rattle.snd_output.specs.Appended.{FindsChanged};
 ghost use Rattle.snd_output.specs.Ends.{CountsStop};
 ghost use Rattle.snd_tools.specs.Shelves.{ChangesOne, Does, IsAllIn, NeverChanged};
 ghost use Rattle.snd_convert.specs.Convert.{converted};
-ghost use Rattle.snd_convert.specs.Making.{AsksToConvert, AsksToConvertLaid, AsksToFill, Converts, ConvertsLaid, DoesBy, DoesGood, MakesUnder, StaysTold, StaysToldOn, TellsFull, is_full_by};
-ghost use Rattle.snd_convert.specs.Planning.{asked_of, planned_by};
+ghost use Rattle.snd_convert.specs.Making.{AsksToConvert, AsksToConvertLaid, AsksToFill, Converts, ConvertsLaid, DoesBy, DoesGood, FitsRack, MakesUnder, StaysTold, StaysToldOn, TellsFull, is_full_by};
+ghost use Rattle.snd_convert.specs.Planning.{asked_of, items_of, planned_by};
 
 use crate::chunks::chunks_size;
 use crate::make::make;
-use crate::plan::{Plan, plan_of};
+use crate::plan::{Plan, plan_with};
+use crate::racks::take_boxes;
 use snd_container::room_with;
 use snd_disk::{Disk, Shelf};
 use snd_edits::Read;
@@ -27,35 +28,38 @@ use snd_inputs::{Input, close_read, exceeds_room, has_bad_block, open_input, tak
 use snd_layout::{Kind, Layout};
 use snd_lines::Refusal;
 use snd_output::Stop;
+use snd_rack::Stage;
 use snd_tools::Answer;
 use snd_words::{Conversion, kind_by_suffix};
 use std::alloc::Global;
 
-// Makes the output of an open file by its plan, under a name.
+// Makes the output of an open file by its plan.
 fn make_under<S: Shelf, D: Disk>(
     alloc: Global,
-    file: &mut File<'_, D, Read>,
-    name: &str,
+    conversion: &Conversion<'_>,
     plan: &Plan,
+    file: &mut File<'_, D, Read>,
     shelf: &mut S,
+    stages: &mut [Box<dyn Stage>],
 ) -> Result<(), Stop>
-    requires is_in { (S.state shelf.old).out name.now ≡ false }
+    requires is_in { (S.state shelf.old).out conversion.now.output.now ≡ false }
     requires unread { IsUnread (known_of file.old) }
     requires fits { fit_refusal plan.now.kind plan.now.params ≡ None }
-    requires alike { plan.now.params.channels ≡ channels_of file.old }
+    requires rack { FitsRack (items_of conversion.now.rack) (map (λ b. (stage b).kind) (take (length (items_of conversion.now.rack)) stages.old))
+        (channels_of file.old) plan.now.params.channels }
     requires room { is_full_by (planned_by plan.now) (known_of file.old).shape ≡ false }
     ensures loan { loan_of file.new ≡ loan_of file.old }
-    ensures made { MakesUnder D.state S.state name.now plan.now file.old shelf.old shelf.new result }
-    ensures changes { ChangesOne S.Shelf name.now shelf.old shelf.new }
+    ensures made { MakesUnder D.state S.state conversion.now plan.now file.old shelf.old shelf.new result }
+    ensures changes { ChangesOne S.Shelf conversion.now.output.now shelf.old shelf.new }
     ensures faults { CountsFileAndShelf D.state S.state file.old file.new shelf.old shelf.new result }
     ensures reads { OnlyReadsFile D.Disk file.old file.new }
     ensures changed { FindsChanged D.state (λ e. e.frames) file.old result }
     ensures asked { AsksToFill D.state file.old file.new }
     ensures unasked { (S.state shelf.new).asked ≡ (S.state shelf.old).asked }
 {
-    let mut disk = take_output(name, shelf)?;
-    let made = make(alloc, file, &mut disk, plan);
-    shelf.give(name, disk);
+    let mut disk = take_output(conversion.output, shelf)?;
+    let made = make(alloc, file, &mut disk, plan, &conversion.rack, stages);
+    shelf.give(conversion.output, disk);
     made
 }
 
@@ -78,11 +82,13 @@ fn convert_good<'a, S: Shelf, D: Disk>(
     plan: &Plan,
     file: &mut File<'_, D, Read>,
     shelf: &mut S,
+    stages: &mut [Box<dyn Stage>],
 ) -> Result<Answer<'a>, Stop>
     requires is_in { (S.state shelf.old).out conversion.now.output.now ≡ false }
     requires unread { IsUnread (known_of file.old) }
     requires fits { fit_refusal plan.now.kind plan.now.params ≡ None }
-    requires alike { plan.now.params.channels ≡ channels_of file.old }
+    requires rack { FitsRack (items_of conversion.now.rack) (map (λ b. (stage b).kind) (take (length (items_of conversion.now.rack)) stages.old))
+        (channels_of file.old) plan.now.params.channels }
     requires room { is_full_by (planned_by plan.now) (known_of file.old).shape ≡ false }
     ensures loan { loan_of file.new ≡ loan_of file.old }
     ensures done { DoesGood D.state S.state conversion.now plan.now file.old shelf.old shelf.new result }
@@ -98,7 +104,7 @@ fn convert_good<'a, S: Shelf, D: Disk>(
     if bad {
         return Ok(Answer::Refused(conversion.input, Refusal::BadBlock));
     }
-    match make_under(alloc, file, conversion.output, plan, shelf) {
+    match make_under(alloc, conversion, plan, file, shelf, stages) {
         Ok(()) => Ok(Answer::Made(frames)),
         Err(stop) => Err(stop),
     }
@@ -111,11 +117,13 @@ fn convert_as<'a, S: Shelf, D: Disk>(
     plan: &Plan,
     file: &mut File<'_, D, Read>,
     shelf: &mut S,
+    stages: &mut [Box<dyn Stage>],
 ) -> Result<Answer<'a>, Stop>
     requires is_in { (S.state shelf.old).out conversion.now.output.now ≡ false }
     requires unread { IsUnread (known_of file.old) }
     requires fits { fit_refusal plan.now.kind plan.now.params ≡ None }
-    requires alike { plan.now.params.channels ≡ channels_of file.old }
+    requires rack { FitsRack (items_of conversion.now.rack) (map (λ b. (stage b).kind) (take (length (items_of conversion.now.rack)) stages.old))
+        (channels_of file.old) plan.now.params.channels }
     ensures loan { loan_of file.new ≡ loan_of file.old }
     ensures done { DoesBy D.state S.state conversion.now plan.now file.old shelf.old shelf.new result }
     ensures changes { ChangesOne S.Shelf conversion.now.output.now shelf.old shelf.new }
@@ -128,7 +136,7 @@ fn convert_as<'a, S: Shelf, D: Disk>(
     if is_full(plan, file) {
         return Ok(Answer::Refused(conversion.output, Refusal::ContainerFull));
     }
-    convert_good(alloc, conversion, plan, file, shelf)
+    convert_good(alloc, conversion, plan, file, shelf, stages)
 }
 
 // Converts an open file.
@@ -138,11 +146,12 @@ fn convert_file<'a, S: Shelf, D: Disk>(
     kind: Kind,
     file: &mut File<'_, D, Read>,
     shelf: &mut S,
+    stages: &mut [Box<dyn Stage>],
 ) -> Result<Answer<'a>, Stop>
     requires is_in { (S.state shelf.old).out conversion.now.output.now ≡ false }
     requires unread { IsUnread (known_of file.old) }
     ensures loan { loan_of file.new ≡ loan_of file.old }
-    ensures done { Converts D.state S.state conversion.now kind file.old shelf.old shelf.new result }
+    ensures done { Converts D.state S.state (map (λ b. (stage b).kind) stages.old) conversion.now kind file.old shelf.old shelf.new result }
     ensures changes { ChangesOne S.Shelf conversion.now.output.now shelf.old shelf.new }
     ensures faults { CountsFileAndShelf D.state S.state file.old file.new shelf.old shelf.new result }
     ensures changed { StaysTold D.state file.old result }
@@ -150,8 +159,14 @@ fn convert_file<'a, S: Shelf, D: Disk>(
     ensures asked { AsksToConvert D.state file.old file.new }
     ensures unasked { (S.state shelf.new).asked ≡ (S.state shelf.old).asked }
 {
-    match plan_of(conversion, kind, file.params()) {
-        Ok(plan) => convert_as(alloc, conversion, &plan, file, shelf),
+    let params = file.params();
+    params.are_good();
+    let channels = match take_boxes(&conversion.rack, params.channels, stages) {
+        Ok(channels) => channels,
+        Err(why) => return Ok(Answer::Refused(conversion.input, why)),
+    };
+    match plan_with(conversion, kind, channels, params) {
+        Ok(plan) => convert_as(alloc, conversion, &plan, file, shelf, stages),
         Err(why) => Ok(Answer::Refused(conversion.output, Refusal::Open(why))),
     }
 }
@@ -164,12 +179,13 @@ fn convert_laid<'a, S: Shelf, D: Disk>(
     disk: &mut D,
     layout: Layout,
     shelf: &mut S,
+    stages: &mut [Box<dyn Stage>],
 ) -> Result<Answer<'a>, Stop>
     requires is_in { (S.state shelf.old).out conversion.now.output.now ≡ false }
     requires held { end layout layout.frames ≤ (D.state disk.old).size }
     requires room_ends { layout.start + room layout + 8 ≤ 2 ^ 63 }
     requires pieces_held { All (EndsIn (D.state disk.old).size) layout.pieces }
-    ensures done { ConvertsLaid D.state S.state conversion.now kind disk.old layout shelf.old shelf.new result }
+    ensures done { ConvertsLaid D.state S.state (map (λ b. (stage b).kind) stages.old) conversion.now kind disk.old layout shelf.old shelf.new result }
     ensures changes { ChangesOne S.Shelf conversion.now.output.now shelf.old shelf.new }
     ensures faults { CountsDiskAndShelf D.state S.state disk.old disk.new shelf.old shelf.new result }
     ensures changed { StaysToldOn D.state disk.old result }
@@ -184,7 +200,7 @@ fn convert_laid<'a, S: Shelf, D: Disk>(
             return Err(Stop::Memory);
         }
     };
-    let answer = convert_file(alloc, conversion, kind, &mut file, shelf);
+    let answer = convert_file(alloc, conversion, kind, &mut file, shelf, stages);
     let back = close_read(file);
     let _ = back;
     answer
@@ -194,13 +210,19 @@ fn convert_laid<'a, S: Shelf, D: Disk>(
 /// conversion may ask. The output is made, or replaced, whole, with the input's frames, each number in the
 /// width of the output's codec. Each other file is as before, whatever comes.
 ///
+/// With a rack each frame first passes a box for each of its items, in their order, in the range of the input's
+/// width: the first box of the item's kind that no item before took. These are started, and all boxes are dropped.
+/// The output has the channels that the rack leaves.
+///
 /// From WAVE or RF64 into either of them the further chunks go with the frames: those with at most 65536
 /// bytes, the first 240 of them, in their order and before the data. Into and from any other kind none go.
 ///
 /// All that is refused is refused before the output is touched, in this order: `SameName`;
-/// `UnknownSuffix` of the output; `MissingFile`, or why the input does not open; why the output's kind does
-/// not hold its parameters; `ContainerFull` where its head, with the chunks, has no room for the data, or the
-/// count of an ADPCM WAVE file for the frames; `BadBlock` of the input.
+/// `UnknownSuffix` of the output; `MissingFile`, or why the input does not open; `NoSuchStage` of the input where the
+/// rack has more items of a kind than there are boxes of it; `BadPlace` of the input where an item picks a sample that
+/// the frames which reach it do not have; why the output's kind does not hold its parameters; `ContainerFull` where its
+/// head, with the chunks, has no room for the data, or the count of an ADPCM WAVE file for the frames; `BadBlock` of
+/// the input.
 ///
 /// `Fault` where a call of the shelf or of a disk failed, and `Memory` where there is none: then the output
 /// may stand there in part. So it is with `Changed`, where the input has changed since its blocks were seen to
@@ -210,9 +232,10 @@ pub fn convert<'a, S: Shelf>(
     alloc: Global,
     conversion: &Conversion<'a>,
     shelf: &mut S,
+    stages: Vec<Box<dyn Stage>>,
 ) -> Result<Answer<'a>, Stop>
     requires back { IsAllIn (S.state shelf.old) }
-    ensures done { Does S.state (converted (asked_of conversion.now)) shelf.old shelf.new result }
+    ensures done { Does S.state (converted (map (λ b. (stage b).kind) stages.items) (asked_of conversion.now)) shelf.old shelf.new result }
     ensures changes { ChangesOne S.Shelf conversion.now.output.now shelf.old shelf.new }
     ensures faults { CountsStop (S.state shelf.old).faults (S.state shelf.new).faults result }
     ensures changed { NeverChanged S.state shelf.old result }
@@ -229,7 +252,9 @@ pub fn convert<'a, S: Shelf>(
         Err(why) => return Ok(Answer::Refused(conversion.input, why)),
     };
     let Input { mut disk, layout } = input;
-    let answer = convert_laid(alloc, conversion, kind, &mut disk, layout, shelf);
+    let mut stages = stages;
+    let boxes = stages.as_mut_slice();
+    let answer = convert_laid(alloc, conversion, kind, &mut disk, layout, shelf, boxes);
     shelf.give(conversion.input, disk);
     answer
 }

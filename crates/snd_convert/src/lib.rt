@@ -5,6 +5,7 @@ mod chunks;
 mod converting;
 mod make;
 mod plan;
+mod racks;
 
 pub use converting::convert;
 pub use plan::{Plan, plan_of};

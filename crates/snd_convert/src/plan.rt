@@ -86,19 +86,41 @@ fn plan_in(
     Ok(Plan { kind, params })
 }
 
-/// What a file with these parameters becomes in a file of a kind, as a conversion asks: or the first reason
-/// why it does not. `BadRate`, `BadPair` as `Params::new` and `fit` say, and `BadPair` where the kind does not
-/// hold the order of bytes that is asked for.
+// What a file with these parameters becomes, as `plan_of` does, where what is made has so many channels.
 #[tactic(auto, unfolding(crate::specs::Plan::planned))]
-pub fn plan_of(conversion: &Conversion<'_>, kind: Kind, from: Params) -> Result<Plan, OpenRefusal>
-    ensures value { plan_by result ≡ planned (asked_of conversion.now) kind from }
+pub(crate) fn plan_with(
+    conversion: &Conversion<'_>,
+    kind: Kind,
+    channels: u16,
+    from: Params,
+) -> Result<Plan, OpenRefusal>
+    ensures value { plan_by result ≡ planned (asked_of conversion.now) kind channels from }
     ensures fits { IfOk result (λ plan. fit_refusal plan.kind plan.params ≡ None) }
-    ensures channels { IfOk result (λ plan. plan.params.channels ≡ from.channels) }
+    ensures channels { IfOk result (λ plan. plan.params.channels ≡ channels) }
 {
     let kind = kind.in_order(conversion.order);
     let order = conversion.order.unwrap_or(kind.own_order());
     let rate = conversion.rate.unwrap_or(u64::from(from.rate));
-    let channels = u64::from(from.channels);
-    let codec = codec_in(conversion.codec, kind, order, channels, rate, from.codec);
-    plan_in(kind, conversion.order, from.channels, rate, codec)
+    let codec = codec_in(
+        conversion.codec,
+        kind,
+        order,
+        u64::from(channels),
+        rate,
+        from.codec,
+    );
+    plan_in(kind, conversion.order, channels, rate, codec)
+}
+
+/// What a file with these parameters becomes in a file of a kind, as a conversion asks, with the channels that it has:
+/// or the first reason why it does not. `BadRate`, `BadPair` as `Params::new` and `fit` say, and `BadPair` where the
+/// kind does not hold the order of bytes that is asked for. The conversion's rack, which may leave other channels, is
+/// not looked at.
+pub fn plan_of(conversion: &Conversion<'_>, kind: Kind, from: Params) -> Result<Plan, OpenRefusal>
+    ensures value { plan_by result ≡ planned (asked_of conversion.now) kind from.channels from }
+    ensures fits { IfOk result (λ plan. fit_refusal plan.kind plan.params ≡ None) }
+    ensures channels { IfOk result (λ plan. plan.params.channels ≡ from.channels) }
+{
+    let channels = from.channels;
+    plan_with(conversion, kind, channels, from)
 }

@@ -1,4 +1,4 @@
-use Rattle.std.proofs.Common.{◌≡◌, false, Ok, Err, Some, refl, rules, subst}
+use Rattle.std.proofs.Common.{◌≡◌, false, Ok, Err, Some, map, refl, rules, subst}
 use Rattle.std.proofs.lemmas.Result.{IfOk-weaker}
 use Rattle.std.specs.Str.{bytes_eq}
 use Rattle.snd_inputs.proofs.Public.{does_so, done_same, held_counts, held_done, held_one, reads_changes, refused_as, still_in}
@@ -7,11 +7,10 @@ use Rattle.snd_edits.specs.Editing.{first_editing}
 use Rattle.snd_output.proofs.Public.{if_changed, unchanged_as}
 use Rattle.snd_tools.proofs.Public.{apart_back}
 use Rattle.snd_words.specs.Suffix.{kind_by_suffix}
-use Rattle.snd_convert.specs.Convert.{converted, done_by_plan}
-use Rattle.snd_convert.specs.Plan.{planned}
+use Rattle.snd_convert.specs.Convert.{behind_rack, converted, done_behind}
 use Rattle.snd_convert.specs.Planning.{asked_of}
 use Rattle.snd_convert.proofs.Asking.{asked_held}
-use Rattle.snd_convert.proofs.Doing.{converted_as, converted_is, makes_by_plan}
+use Rattle.snd_convert.proofs.Doing.{converted_as, converted_is, makes_behind}
 use Rattle.snd_convert.proofs.converting.convert.Goals as goal
 
 pub returns-in_err-input-clause-changes : goal.returns-in_err-input-clause-changes
@@ -20,11 +19,12 @@ returns-in_err-input-clause-changes g c = reads_changes g.S.Shelf c.args.convers
 pub returns-in-Err-clause-done : goal.returns-in-Err-clause-done
 returns-in-Err-clause-done g c = λ files told.
     let asked = asked_of c.args.conversion.now in
+    let kinds = map (λ b. ((goal.Stage-dyn g (b.vtable, b.value)).stage b.value).kind) c.args.stages.items in
     let apart : bytes_eq asked.input asked.output ≡ false = search rules in
     let suffix : kind_by_suffix asked.output ≡ Some c.in-Some.kind = search rules in
     let looks = subst (λ r. OpensInput g.S.Shelf g.S.Disk.Disk asked.input c.args.shelf.now c.open_input.new.shelf (Ok r)) c.in-Err.is c.in_ok-input.ensures.opened in
-    refused_as g.S.Shelf.state c.open_input.new.shelf files asked.input c.in-Err.why (converted asked files) (looks.0.reads.files files told)
-    (converted_is asked files c.in-Some.kind (Err c.in-Err.why) apart suffix (looks.1 files told))
+    refused_as g.S.Shelf.state c.open_input.new.shelf files asked.input c.in-Err.why (converted kinds asked files) (looks.0.reads.files files told)
+    (converted_is kinds asked files c.in-Some.kind (Err c.in-Err.why) apart suffix (looks.1 files told))
 
 pub returns-in-Err-clause-changes : goal.returns-in-Err-clause-changes
 returns-in-Err-clause-changes g c =
@@ -43,23 +43,25 @@ convert_laid-answer-requires-clause-is_in g c =
 pub returns-clause-done : goal.returns-clause-done
 returns-clause-done g c =
     let asked = asked_of c.args.conversion.now in
+    let kinds = map (λ b. ((goal.Stage-dyn g (b.vtable, b.value)).stage b.value).kind) c.args.stages.items in
     let kind = c.in-Some.kind in
     let apart : bytes_eq asked.input asked.output ≡ false = search rules in
     let suffix : kind_by_suffix asked.output ≡ Some kind = search rules in
     let opens : IsOpen g.S.Shelf g.S.Disk.Disk asked.input c.args.shelf.now c.open_input.new.shelf c.in-Ok.input =
     subst (λ r. OpensInput g.S.Shelf g.S.Disk.Disk asked.input c.args.shelf.now c.open_input.new.shelf (Ok r)) c.in-Ok.is c.in_ok-input.ensures.opened in
-    does_so g.S.Shelf.state (converted asked) c.args.shelf.now c.give.new.self c.convert_laid-answer.result
+    does_so g.S.Shelf.state (converted kinds asked) c.args.shelf.now c.give.new.self c.convert_laid-answer.result
     (IfOk-weaker c.convert_laid-answer.result _ _
     (λ answer done files told.
     let found = opens.opened files told in
     let out = opens.out.takes.files files told in
     let e = first_editing found.0 c.in-Ok.input.layout in
-    let todo = done_by_plan asked e (planned asked kind e.shape.params) in
+    let behind = behind_rack kinds asked.rack e.shape.params.channels in
+    let todo = done_behind asked kind e behind in
     let d = done out.0 found.0 out.1 found.3.bytes in
-    done_same g.S.Shelf.state c.give.new.self files answer todo (converted asked files) (converted_as asked files kind found.0 c.in-Ok.input.layout apart suffix found.1 found.2) (
+    done_same g.S.Shelf.state c.give.new.self files answer todo (converted kinds asked files) (converted_as kinds asked files kind found.0 c.in-Ok.input.layout apart suffix found.1 found.2) (
       d.0,
       held_done g.S.Shelf g.S.Disk.Disk c.args.shelf.now c.open_input.new.shelf c.convert_laid-answer.new.shelf c.give.new.self c.in-Ok.input _ _ _ asked.input opens refl refl c.convert_laid-answer.ensures.reads c.give.ensures.given asked.output apart
-          todo files told (makes_by_plan asked e (planned asked kind e.shape.params)) d.1,
+          todo files told (makes_behind asked kind e behind) d.1,
     ))
     c.convert_laid-answer.ensures.done)
 

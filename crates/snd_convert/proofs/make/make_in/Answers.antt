@@ -1,6 +1,6 @@
 use Rattle.std.proofs.Common.{rules}
 use Rattle.snd_convert.specs.Convert.{chunks_for, file_made, numbers_for}
-use Rattle.snd_convert.specs.Planning.{planned_by}
+use Rattle.snd_convert.specs.Planning.{items_of, planned_by}
 use Rattle.snd_inputs.proofs.Public.{told_as}
 use Rattle.snd_output.proofs.Public.{fault_only}
 use Rattle.std.proofs.lemmas.Result.{on_ok_weaker}
@@ -11,9 +11,10 @@ returns-in-Ok-finish-clause-made g c =
     on_ok_weaker c.fill-filled.result
     (λ fills b r tells stands.
     let plan = planned_by c.args.plan.now in
+    let items = items_of c.args.rack.now in
     let begun = c.in-Ok.ensures.begun b tells in
     let full = fills r begun.0 stands begun.3 begun.1 in
-    told_as g.E.Disk.state c.in-Ok-finish.back.now _ (file_made plan r) (search rules) (c.in-Ok-finish.ensures.made plan.kind plan.params (chunks_for plan r) (numbers_for plan r) full.0 full.1 full.2))
+    told_as g.E.Disk.state c.in-Ok-finish.back.now _ (file_made items plan r) (search rules) (c.in-Ok-finish.ensures.made plan.kind plan.params (chunks_for plan r) (numbers_for items plan r) full.0 full.1 full.2))
     c.fill-filled.ensures.fills
 
 pub returns-in-Err-finish-clause-changed : goal.returns-in-Err-finish-clause-changed
