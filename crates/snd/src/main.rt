@@ -7,12 +7,16 @@ use snd_app::run;
 use snd_disk::Shelf;
 use snd_fields::Words;
 use snd_files::{FolderShelf, ReaderSource, WriterSink};
+use snd_rack::{Fade, Gain, Invert, Pick, Stage};
 use snd_taps::{Clips, Energy, Peak, Tap};
-use std::alloc::AllocError;
+use std::alloc::{AllocError, Global};
 use std::process::ExitCode;
 use std::{env, io};
 
 const NO_MEMORY: u8 = 4;
+
+/// How many items of one kind a rack may have.
+const STAGES: u32 = 4;
 
 /// The words that the program was called with, or none of them where one is no text.
 fn words_of(rt: &HostRuntime) -> io::Result<Words> {
@@ -25,7 +29,19 @@ fn words_of(rt: &HostRuntime) -> io::Result<Words> {
     Ok(Words::new(list))
 }
 
-/// Runs over the standard streams, with a tap of each kind, and answers the status.
+/// The stages that a rack may take.
+fn stages_of(alloc: Global) -> Result<Vec<Box<dyn Stage>>, AllocError> {
+    let mut stages: Vec<Box<dyn Stage>> = Vec::new(alloc);
+    for _ in 0..STAGES {
+        stages.push(Box::new(alloc, Gain::new())?)?;
+        stages.push(Box::new(alloc, Invert::new())?)?;
+        stages.push(Box::new(alloc, Pick::new())?)?;
+        stages.push(Box::new(alloc, Fade::new())?)?;
+    }
+    Ok(stages)
+}
+
+/// Runs over the standard streams, with a tap of each kind and four stages of each, and answers the status.
 fn run_words<S: Shelf>(rt: &HostRuntime, shelf: &mut S, words: &Words) -> Result<u8, AllocError>
     requires { IsAllIn (S.state shelf.old) }
 {
@@ -34,10 +50,20 @@ fn run_words<S: Shelf>(rt: &HostRuntime, shelf: &mut S, words: &Words) -> Result
     taps.push(Box::new(alloc, Peak::new())?)?;
     taps.push(Box::new(alloc, Clips::new())?)?;
     taps.push(Box::new(alloc, Energy::new())?)?;
+    let stages = stages_of(alloc)?;
     let mut script = ReaderSource::new(rt.stdin());
     let mut out = WriterSink::new(rt.stdout());
     let mut err = WriterSink::new(rt.stderr());
-    Ok(run(alloc, words, shelf, &mut script, &mut out, &mut err, taps))
+    Ok(run(
+        alloc,
+        words,
+        shelf,
+        &mut script,
+        &mut out,
+        &mut err,
+        taps,
+        stages,
+    ))
 }
 
 fn main(rt: HostRuntime) -> ExitCode {

@@ -13,6 +13,7 @@ use Rattle.snd_words.specs.Asked.{Asked}
 use Rattle.snd_app.specs.Outcome.{files_of, info, is_refused, outcome_of, pinned_by, text_of}
 use Rattle.snd_app.specs.Printed.{Outcome}
 use Rattle.snd_app.specs.Run.{Appends, DoneAtStream, Faults, IsOutcome, IsPut, IsRun, PrintsFront, StopsAs, Told}
+use Rattle.snd_rack.specs.declared.setting.StageKind.{StageKind}
 use Rattle.snd_taps.specs.declared.tap.TapKind.{TapKind}
 
 -- nothing is put to a sink
@@ -69,14 +70,14 @@ module _ (result : ℕ) (old new : Faults) (out err : Told) (o : Outcome) where
 
 -- what the words ask for, told otherwise
 module _ {S : Type 0} (state : S → ShelfState) (shelf : S) (result : ℕ) (old new : Faults) (out err : Told) (files : Files) (text : List ℕ) where
-  pub run_as : (kinds : List TapKind) (a a' : Asked) → a ≡ a' → IsRun result (outcome_of a kinds files text) old new out err (HasFiles state shelf (files_of a kinds files text))
-      → IsRun result (outcome_of a' kinds files text) old new out err (HasFiles state shelf (files_of a' kinds files text))
-  run_as kinds a a' is runs =
-      subst (λ (a : Asked). IsRun result (outcome_of a kinds files text) old new out err (HasFiles state shelf (files_of a kinds files text))) is runs
+  pub run_as : (taps : List TapKind) (stages : List StageKind) (a a' : Asked) → a ≡ a' → IsRun result (outcome_of a taps stages files text) old new out err (HasFiles state shelf (files_of a taps stages files text))
+      → IsRun result (outcome_of a' taps stages files text) old new out err (HasFiles state shelf (files_of a' taps stages files text))
+  run_as taps stages a a' is runs =
+      subst (λ (a : Asked). IsRun result (outcome_of a taps stages files text) old new out err (HasFiles state shelf (files_of a taps stages files text))) is runs
 
-pub done_by : {S : Type 0} (state : S → ShelfState) (shelf shelf' : S) (result : ℕ) (kinds : List TapKind) (a a' : Asked) → a ≡ a'
-    → DoneAtStream state (λ files. files_of a kinds files []) shelf shelf' result → DoneAtStream state (λ files. files_of a' kinds files []) shelf shelf' result
-done_by state shelf shelf' result kinds a a' is done = subst (λ (x : Asked). DoneAtStream state (λ files. files_of x kinds files []) shelf shelf' result) is done
+pub done_by : {S : Type 0} (state : S → ShelfState) (shelf shelf' : S) (result : ℕ) (taps : List TapKind) (stages : List StageKind) (a a' : Asked) → a ≡ a'
+    → DoneAtStream state (λ files. files_of a taps stages files []) shelf shelf' result → DoneAtStream state (λ files. files_of a' taps stages files []) shelf shelf' result
+done_by state shelf shelf' result taps stages a a' is done = subst (λ (x : Asked). DoneAtStream state (λ files. files_of x taps stages files []) shelf shelf' result) is done
 
 module _ {S D R O : Type 0} (s : ShelfMeaning S D) (r : SourceMeaning R) (o : SinkMeaning O) (shelf shelf' : S) (script script' : R) (out out' : O) where
   pub trails_by : (kinds : List TapKind) (a a' : Asked) → a ≡ a' → TrailsScript s r o kinds (pinned_by a) shelf script out shelf' out' → TrailsScript s r o kinds (pinned_by a') shelf script out shelf' out'

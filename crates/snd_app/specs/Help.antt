@@ -57,7 +57,7 @@ option_rows Info = []
 option_rows Convert =
     (entry (codes "-pcmu8") (codes "linear samples of 8 bits, unsigned") ∷ entry (codes "-pcms8") (codes "linear samples of 8 bits, signed") ∷ entry (codes "-pcm16") (codes "linear samples of 16 bits") ∷ entry (codes "-pcm24") (codes "linear samples of 24 bits") ∷ entry (codes "-pcm32") (codes "linear samples of 32 bits") ∷ [])
     ∷ (entry (codes "-ulaw") (codes "G.711 mu-law") ∷ entry (codes "-alaw") (codes "G.711 A-law") ∷ entry (codes "-ima-adpcm") (codes "IMA ADPCM, in WAVE and Wave64") ∷ entry (codes "-ms-adpcm") (codes "Microsoft ADPCM, in WAVE and Wave64") ∷ [])
-    ∷ (entry (codes "-endian=little") (codes "the lowest byte of a sample first") ∷ entry (codes "-endian=big") (codes "the highest byte of a sample first") ∷ entry (codes "-override-sample-rate=N") (codes "a rate that OUT states; no sample changes") ∷ []) ∷ []
+    ∷ (entry (codes "-endian=little") (codes "the lowest byte of a sample first") ∷ entry (codes "-endian=big") (codes "the highest byte of a sample first") ∷ entry (codes "-override-sample-rate=N") (codes "a rate that OUT states; no sample changes") ∷ entry (codes "-rack=SPEC") (codes "change the frames on the way") ∷ []) ∷ []
 option_rows Concat = []
 option_rows Interleave =
     (entry (codes "-o OUT") (codes "the file to make; it stands last") ∷ []) ∷ []
@@ -70,6 +70,14 @@ option_rows Generate = []
 option_rows Script =
     (entry (codes "--auto NAME") (codes "keep this file open, and up to date after each line") ∷ []) ∷ []
 
+-- what the text of an option is made of
+abbrev pub part_lines : Topic → List (List ℕ)
+part_lines Convert =
+    []
+    ∷ codes "SPEC is 1 to 8 stages with commas between, which each frame passes in turn:"
+    ∷ map (columns 26) (entry (codes "gain:A/B") (codes "multiply by A/B (A 0 to 65535, B 1 to 65535)") ∷ entry (codes "invert") (codes "turn the sign of each sample") ∷ entry (codes "map:I.J..") (codes "take the channels I, J .., counted from 0") ∷ entry (codes "fade:N") (codes "rise from silence over N frames") ∷ [])
+part_lines other = []
+
 abbrev pub example : Topic → List ℕ
 example Info = codes "snd info take1.wav take2.wav"
 example Convert = codes "snd convert -pcm24 take1.wav take1.au"
@@ -79,7 +87,7 @@ example SetMetadata = codes "snd metadata-set --str-title Dawn take1.wav dawn.wa
 example Generate = codes "snd gen 0 44100 noise.wav"
 example Script = codes "printf 'open r take1.wav\\nread 2\\n' | snd script"
 
--- `COMMAND --help`: the forms of the command, a line for each option, and an example
+-- `COMMAND --help`: the forms of the command, a line for each option and for what its text is made of, and an example
 abbrev pub usages : List Entry → List (List ℕ)
 usages [] = []
 usages (form ∷ others) = (codes "Usage: " ++ form.words) ∷ map (λ it. codes "       " ++ it.words) others
@@ -89,7 +97,7 @@ option_lines [] = []
 option_lines options = [] ∷ map (columns 26) options
 
 abbrev pub usage_of : Topic → List ℕ
-usage_of topic = lines (usages (forms topic) ++ notes topic ++ option_lines (all_in (option_rows topic)) ++ [] ∷ (codes "Example: " ++ example topic) ∷ [])
+usage_of topic = lines (usages (forms topic) ++ notes topic ++ option_lines (all_in (option_rows topic)) ++ part_lines topic ++ [] ∷ (codes "Example: " ++ example topic) ∷ [])
 
 abbrev pub convert_usage : List ℕ
 convert_usage = usage_of Convert

@@ -12,6 +12,7 @@ use Rattle.snd_edits.specs.declared.tag_error.TagError.{TagError}
 use Rattle.snd_lines.specs.declared.refusal.Refusal.TheVariants.{MissingFile, Open}
 use Rattle.snd_words.specs.Asked.{Asked}
 use Rattle.snd_words.specs.Grammar.{asked}
+use Rattle.snd_rack.specs.declared.setting.StageKind.{StageKind}
 use Rattle.snd_rules.specs.Desk.{closed_desk, stored}
 use Rattle.snd_rules.specs.Edit.{Edited}
 use Rattle.snd_rules.specs.Pinned.{run_steps, run_too_long}
@@ -81,15 +82,15 @@ abbrev pub outcome_of_infos : List (List ℕ) → Files → Outcome
 outcome_of_infos [] files = says []
 outcome_of_infos (name ∷ names) files = and_then (outcome_of_info name files) (outcome_of_infos names files)
 
--- what the words ask for, with taps of these kinds, over these files and with this script to come
-abbrev pub outcome_of : Asked → List TapKind → Files → List ℕ → Outcome
-outcome_of Asked.nothing kinds files text = bad_words
-outcome_of (Asked.info_of names) kinds files text = outcome_of_infos names files
-outcome_of (Asked.script name) kinds files text = outcome_of_script name kinds files text
-outcome_of Asked.help kinds files text = says usage
-outcome_of (Asked.help_on topic) kinds files text = says (usage_of topic)
-outcome_of Asked.version kinds files text = says version
-outcome_of (Asked.tool work) kinds files text = outcome_of_work work files
+-- what the words ask for, with taps and stages of these kinds, over these files and with this script to come
+abbrev pub outcome_of : Asked → List TapKind → List StageKind → Files → List ℕ → Outcome
+outcome_of Asked.nothing taps stages files text = bad_words
+outcome_of (Asked.info_of names) taps stages files text = outcome_of_infos names files
+outcome_of (Asked.script name) taps stages files text = outcome_of_script name taps files text
+outcome_of Asked.help taps stages files text = says usage
+outcome_of (Asked.help_on topic) taps stages files text = says (usage_of topic)
+outcome_of Asked.version taps stages files text = says version
+outcome_of (Asked.tool work) taps stages files text = outcome_of_work work stages files
 
 -- whether that is a script; and the name that is pinned in it, where there is one
 abbrev pub is_script : Asked → Bool
@@ -132,14 +133,14 @@ looks_for words = looks_by (asked words)
 abbrev pub names_for : List (List ℕ) → List (List ℕ)
 names_for words = names_by (asked words)
 
-abbrev pub outcome : List (List ℕ) → List TapKind → Files → List ℕ → Outcome
-outcome words kinds files text = outcome_of (asked words) kinds files text
+abbrev pub outcome : List (List ℕ) → List TapKind → List StageKind → Files → List ℕ → Outcome
+outcome words taps stages files text = outcome_of (asked words) taps stages files text
 
 -- the files that are there afterwards: only a script and a tool change any
-abbrev pub files_of : Asked → List TapKind → Files → List ℕ → Files
-files_of (Asked.script name) kinds files text = files_of_script name kinds files text
-files_of (Asked.tool work) kinds files text = after_work work files
-files_of other kinds files text = files
+abbrev pub files_of : Asked → List TapKind → List StageKind → Files → List ℕ → Files
+files_of (Asked.script name) taps stages files text = files_of_script name taps files text
+files_of (Asked.tool work) taps stages files text = after_work work stages files
+files_of other taps stages files text = files
 
-abbrev pub files_after : List (List ℕ) → List TapKind → Files → List ℕ → Files
-files_after words kinds files text = files_of (asked words) kinds files text
+abbrev pub files_after : List (List ℕ) → List TapKind → List StageKind → Files → List ℕ → Files
+files_after words taps stages files text = files_of (asked words) taps stages files text

@@ -8,6 +8,7 @@ use Rattle.snd_disk.specs.Streams.{AppendsFront}
 use Rattle.snd_disk.specs.declared.shelf.Shelf.{Ghosts as ShelfMeaning}
 use Rattle.snd_disk.specs.declared.streams.Sink.{Ghosts as SinkMeaning}
 use Rattle.snd_disk.specs.declared.streams.Source.{Ghosts as SourceMeaning}
+use Rattle.snd_rack.specs.declared.setting.StageKind.{StageKind}
 use Rattle.snd_rules.specs.Desk.{Store, stored}
 use Rattle.snd_rules.specs.Edit.{Edited}
 use Rattle.snd_rules.specs.Pinned.{run_steps}
@@ -137,12 +138,12 @@ PutsText o given text old new status = IsPut status given text (o.faults old) (o
 abbrev pub KeepsAllImages : {S D : Type 0} → ShelfMeaning S D → S → S → Type 0
 KeepsAllImages s shelf shelf' = KeepsFileImages s.state s.may_leave s.left_between shelf shelf'
 
--- a tool does its work with the files that the shelf tells, and says so
-abbrev pub ToolsAs : {S D O E : Type 0} → ShelfMeaning S D → SinkMeaning O → SinkMeaning E → Work → S → O → E → S → O → E → ℕ → Type 0
-ToolsAs s o e work shelf out err shelf' out' err' status =
+-- a tool does its work with the files that the shelf tells and stages of these kinds, and says so
+abbrev pub ToolsAs : {S D O E : Type 0} → ShelfMeaning S D → SinkMeaning O → SinkMeaning E → Work → List StageKind → S → O → E → S → O → E → ℕ → Type 0
+ToolsAs s o e work stages shelf out err shelf' out' err' status =
     (files : Files) (script : ℕ) → TellsFiles s.state shelf files
-    → IsRun status (outcome_of_work work files) (faults_with s o e script shelf out err) (faults_with s o e script shelf' out' err') (told_by o out out') (told_by e err err')
-    (HasFiles s.state shelf' (after_work work files))
+    → IsRun status (outcome_of_work work stages files) (faults_with s o e script shelf out err) (faults_with s o e script shelf' out' err') (told_by o out out') (told_by e err err')
+    (HasFiles s.state shelf' (after_work work stages files))
 
 -- Where a stream failed and no file did, all is done that was to be done with the files.
 abbrev pub DoneAtStream : {S : Type 0} → (S → ShelfState) → (Files → Files) → S → S → ℕ → Type 0

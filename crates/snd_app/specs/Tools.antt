@@ -12,6 +12,7 @@ use Rattle.snd_lines.specs.Lines.{line}
 use Rattle.snd_metadata.specs.Retagged.{retagged}
 use Rattle.snd_output.specs.declared.stop.Stop.{Stop}
 use Rattle.snd_output.specs.declared.stop.Stop.TheVariants.{Memory}
+use Rattle.snd_rack.specs.declared.setting.StageKind.{StageKind}
 use Rattle.snd_tools.specs.Done.{files_after, said_by}
 use Rattle.snd_tools.specs.Shelves.{HasFiles}
 use Rattle.snd_tools.specs.declared.answer.Answer.{Answer}
@@ -25,21 +26,21 @@ abbrev pub summary_text : Summary → List ℕ
 summary_text summary =
     line (codes "frames") (decimal summary.frames) ++ line (codes "peak") (decimal summary.peak) ++ line (codes "energy") (decimal summary.energy)
 
--- what a tool's work prints
-abbrev pub outcome_of_work : Work → Files → Outcome
-outcome_of_work (Work.convert c) files = outcome_of_tool (converted c files)
-outcome_of_work (Work.concat inputs output) files = outcome_of_tool (concatenated inputs output files)
-outcome_of_work (Work.interleave inputs output) files = outcome_of_tool (interleaved inputs output files)
-outcome_of_work (Work.gen seed frames name) files = says (summary_text (summary_of (generated seed frames)))
-outcome_of_work (Work.set_metadata settings input output) files = outcome_of_tool (retagged settings input output files)
+-- what a tool's work prints, with stages of these kinds
+abbrev pub outcome_of_work : Work → List StageKind → Files → Outcome
+outcome_of_work (Work.convert c) stages files = outcome_of_tool (converted stages c files)
+outcome_of_work (Work.concat inputs output) stages files = outcome_of_tool (concatenated inputs output files)
+outcome_of_work (Work.interleave inputs output) stages files = outcome_of_tool (interleaved inputs output files)
+outcome_of_work (Work.gen seed frames name) stages files = says (summary_text (summary_of (generated seed frames)))
+outcome_of_work (Work.set_metadata settings input output) stages files = outcome_of_tool (retagged settings input output files)
 
 -- the files then
-abbrev pub after_work : Work → Files → Files
-after_work (Work.convert c) files = files_after (converted c files) files
-after_work (Work.concat inputs output) files = files_after (concatenated inputs output files) files
-after_work (Work.interleave inputs output) files = files_after (interleaved inputs output files) files
-after_work (Work.gen seed frames name) files = put files name (Some (file_of (generated seed frames)))
-after_work (Work.set_metadata settings input output) files = files_after (retagged settings input output files) files
+abbrev pub after_work : Work → List StageKind → Files → Files
+after_work (Work.convert c) stages files = files_after (converted stages c files) files
+after_work (Work.concat inputs output) stages files = files_after (concatenated inputs output files) files
+after_work (Work.interleave inputs output) stages files = files_after (interleaved inputs output files) files
+after_work (Work.gen seed frames name) stages files = put files name (Some (file_of (generated seed frames)))
+after_work (Work.set_metadata settings input output) stages files = files_after (retagged settings input output files) files
 
 -- the name of the file that it makes
 abbrev pub made_by : Work → List ℕ
@@ -77,6 +78,6 @@ RepliesOf (Ok summary) (Err stop) = stop ≡ Memory
 RepliesOf (Err stop) result = result ≡ Err stop
 
 -- Over files that are told, what is printed is the outcome of the work, and the files are those that it leaves.
-abbrev pub CarriesOut : {S : Type 0} → (S → ShelfState) → Work → S → S → Result Reply Stop → Type 0
-CarriesOut state work old new result =
-    IfOk result (λ printed. (files : Files) → TellsFiles state old files → (outcome_by printed ≡ outcome_of_work work files) × HasFiles state new (after_work work files))
+abbrev pub CarriesOut : {S : Type 0} → (S → ShelfState) → Work → List StageKind → S → S → Result Reply Stop → Type 0
+CarriesOut state work stages old new result =
+    IfOk result (λ printed. (files : Files) → TellsFiles state old files → (outcome_by printed ≡ outcome_of_work work stages files) × HasFiles state new (after_work work stages files))

@@ -29,6 +29,13 @@ Makes OUT, or replaces it whole; its suffix names the kind.
   -endian=little            the lowest byte of a sample first
   -endian=big               the highest byte of a sample first
   -override-sample-rate=N   a rate that OUT states; no sample changes
+  -rack=SPEC                change the frames on the way
+
+SPEC is 1 to 8 stages with commas between, which each frame passes in turn:
+  gain:A/B                  multiply by A/B (A 0 to 65535, B 1 to 65535)
+  invert                    turn the sign of each sample
+  map:I.J..                 take the channels I, J .., counted from 0
+  fade:N                    rise from silence over N frames
 
 Example: snd convert -pcm24 take1.wav take1.au
 ";
@@ -104,7 +111,7 @@ Usage: snd COMMAND
 
 Options of convert: -pcmu8 -pcms8 -pcm16 -pcm24 -pcm32
     -ulaw -alaw -ima-adpcm -ms-adpcm
-    -endian=little -endian=big -override-sample-rate=N
+    -endian=little -endian=big -override-sample-rate=N -rack=SPEC
 
 Options of metadata-set: --str-title --str-artist --str-comment --str-copyright
     --str-date --str-album --bext-description --bext-originator

@@ -23,6 +23,7 @@ use snd_disk::{Shelf, Sink, Source};
 use snd_fields::Words;
 use snd_lines::Refusal;
 use snd_output::Stop;
+use snd_rack::Stage;
 use snd_script::{ScriptEnd, serve};
 use snd_taps::Tap;
 use snd_words::{Names, Request, request_of};
@@ -146,7 +147,9 @@ fn run_script<S: Shelf, R: Source, O: Sink, E: Sink>(
 ///
 /// The words `info NAME..` describe 1 to 64 files, and `script` carries out the commands that come from
 /// `script`, one a line; with `script --auto NAME` the file of the name is open in all of them, and updated
-/// automatically. The boxes of `taps` wait in their order for a script's `tap`. `convert OPTION.. IN OUT` copies a file into another container or codec. `--help`,
+/// automatically. The boxes of `taps` wait in their order for a script's `tap`. `convert OPTION.. IN OUT` copies
+/// a file into another container or codec; with `-rack=SPEC` its frames pass boxes of `stages` on the way, of which
+/// the first unused one of its kind serves each item. Every other box is dropped as it came. `--help`,
 /// `COMMAND --help` and `--version` print a text on `out`. Any other words are refused. Beside the
 /// statuses 0, 1 and 2 that the outcome has, 3 says that the shelf, the script or a sink failed, and 4 that
 /// memory ran out.
@@ -158,13 +161,15 @@ pub fn run<S: Shelf, R: Source, O: Sink, E: Sink>(
     out: &mut O,
     err: &mut E,
     taps: Vec<Box<dyn Tap>>,
+    stages: Vec<Box<dyn Stage>>,
 ) -> u8
     requires { IsAllIn (S.state shelf.old) }
 
     // The headline: over files and a script that are told, the run is the outcome of the words, the
     // files and the script, and it leaves the files that these give.
     ensures headline { RunsAs S.Shelf R.Source O.Sink E.Sink
-        (outcome words.now (map (λ b. (meter b).kind) taps.items)) (files_after words.now (map (λ b. (meter b).kind) taps.items))
+        (outcome words.now (map (λ b. (meter b).kind) taps.items) (map (λ b. (stage b).kind) stages.items))
+        (files_after words.now (map (λ b. (meter b).kind) taps.items) (map (λ b. (stage b).kind) stages.items))
         shelf.old script.old out.old err.old shelf.new script.new out.new err.new result }
 
     // Its other half: over a shelf, a script and `out` that are told, whatever a crash leaves at any moment
@@ -204,7 +209,8 @@ pub fn run<S: Shelf, R: Source, O: Sink, E: Sink>(
     // takes to read them twice, and a fixed number for each.
     ensures others { (name : List ℕ) → output_for words.now ≡ Some name → ChangesOne S.Shelf name shelf.old shelf.new }
     ensures done { (name : List ℕ) → output_for words.now ≡ Some name →
-        DoneAtStream S.state (λ files. files_after words.now (map (λ b. (meter b).kind) taps.items) files []) shelf.old shelf.new result }
+        DoneAtStream S.state (λ files. files_after words.now (map (λ b. (meter b).kind) taps.items) (map (λ b. (stage b).kind) stages.items) files [])
+        shelf.old shelf.new result }
     ensures asks { (work : Work) → asked words.now ≡ Asked.tool work → AsksForWork S.state work shelf.old shelf.new }
 
     // With a script, so does a file that no line opens to be written, and that is not pinned; and no more bytes
@@ -218,7 +224,7 @@ pub fn run<S: Shelf, R: Source, O: Sink, E: Sink>(
         Some(Request::Help) => put_text(out, usage().as_bytes(), 0),
         Some(Request::HelpOn(topic)) => put_text(out, usage_of(topic).as_bytes(), 0),
         Some(Request::Version) => put_text(out, version().as_bytes(), 0),
-        Some(Request::Tool(tool)) => run_tool(alloc, &tool, shelf, out, err),
+        Some(Request::Tool(tool)) => run_tool(alloc, &tool, shelf, out, err, stages),
         None => put_text(err, b"snd: bad words\n", 2),
     }
 }

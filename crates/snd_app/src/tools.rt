@@ -1,6 +1,6 @@
 //! The tools that make one file of others, or of nothing.
 
-ghost use Rattle.std.specs.Prelude.{◌≡◌, IfOk};
+ghost use Rattle.std.specs.Prelude.{◌≡◌, IfOk, map};
 ghost use Rattle.snd_output.specs.Ends.{CountsStop};
 ghost use Rattle.snd_tools.specs.Done.{said_by};
 ghost use Rattle.snd_tools.specs.Shelves.{ChangesOne, IsAllIn};
@@ -21,6 +21,7 @@ use snd_interleave::interleave;
 use snd_lines::{push_line, push_number_line};
 use snd_metadata::set_metadata;
 use snd_output::Stop;
+use snd_rack::Stage;
 use snd_tools::Answer;
 use snd_words::Tool;
 use std::alloc::{AllocError, Global};
@@ -96,17 +97,22 @@ fn reply_of(alloc: Global, summary: Result<Summary, Stop>) -> Result<Reply, Stop
     }
 }
 
-/// Carries out a tool's work.
-fn carry_out<S: Shelf>(alloc: Global, tool: &Tool<'_>, shelf: &mut S) -> Result<Reply, Stop>
+/// Carries out a tool's work, where it has a rack with some of the stages.
+fn carry_out<S: Shelf>(
+    alloc: Global,
+    tool: &Tool<'_>,
+    shelf: &mut S,
+    stages: Vec<Box<dyn Stage>>,
+) -> Result<Reply, Stop>
     requires all_in { IsAllIn (S.state shelf.old) }
     requires good { IsWork (work_of tool.now) }
-    ensures done { CarriesOut S.state (work_of tool.now) shelf.old shelf.new result }
+    ensures done { CarriesOut S.state (work_of tool.now) (map (λ b. (stage b).kind) stages.items) shelf.old shelf.new result }
     ensures changes { ChangesOne S.Shelf (made_by (work_of tool.now)) shelf.old shelf.new }
     ensures faults { CountsStop (S.state shelf.old).faults (S.state shelf.new).faults result }
     ensures asked { AsksForWork S.state (work_of tool.now) shelf.old shelf.new }
 {
     match tool {
-        Tool::Convert(it) => reply_to(alloc, convert(alloc, it, shelf)),
+        Tool::Convert(it) => reply_to(alloc, convert(alloc, it, shelf, stages)),
         Tool::Concat(it) => reply_to(alloc, concat(alloc, it, shelf)),
         Tool::Interleave(it) => reply_to(alloc, interleave(alloc, it, shelf)),
         Tool::Generate(it) => reply_of(alloc, generate(alloc, it, shelf)),
@@ -121,18 +127,19 @@ pub(crate) fn run_tool<S: Shelf, O: Sink, E: Sink>(
     shelf: &mut S,
     out: &mut O,
     err: &mut E,
+    stages: Vec<Box<dyn Stage>>,
 ) -> u8
     requires all_in { IsAllIn (S.state shelf.old) }
     requires good { IsWork (work_of tool.now) }
-    ensures outcome { ToolsAs S.Shelf O.Sink E.Sink (work_of tool.now)
+    ensures outcome { ToolsAs S.Shelf O.Sink E.Sink (work_of tool.now) (map (λ b. (stage b).kind) stages.items)
         shelf.old out.old err.old shelf.new out.new err.new result }
     ensures fault { result ≡ 3 →
         DescribingFaultRises S.Shelf O.Sink E.Sink shelf.old out.old err.old shelf.new out.new err.new }
-    ensures done { DoneAtStream S.state (after_work (work_of tool.now)) shelf.old shelf.new result }
+    ensures done { DoneAtStream S.state (after_work (work_of tool.now) (map (λ b. (stage b).kind) stages.items)) shelf.old shelf.new result }
     ensures changes { ChangesOne S.Shelf (made_by (work_of tool.now)) shelf.old shelf.new }
     ensures asked { AsksForWork S.state (work_of tool.now) shelf.old shelf.new }
 {
-    match carry_out(alloc, tool, shelf) {
+    match carry_out(alloc, tool, shelf, stages) {
         Ok(Reply::Done(text)) => put_text(out, &text, 0),
         Ok(Reply::Refused(text)) => put_text(err, &text, 1),
         Err(Stop::Fault) => FAULT,

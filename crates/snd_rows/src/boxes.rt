@@ -109,7 +109,16 @@ fn boxes_that_are_handed_in_are_called(rt: HostRuntime) -> Result<(), Fail> {
     taps.push(energy)?;
     let words = words_of(alloc, &["script"])?;
     let file = PLAIN.to_vec(alloc)?;
-    let printed = run_in_memory(alloc, &words, "a.wav", file, SCRIPT.to_vec(alloc)?, taps)?;
+    let stages = Vec::new(alloc);
+    let printed = run_in_memory(
+        alloc,
+        &words,
+        "a.wav",
+        file,
+        SCRIPT.to_vec(alloc)?,
+        taps,
+        stages,
+    )?;
     assert_eq!(rt; printed.status, 1);
     assert_eq!(rt; printed.out.as_slice(), PRINTED);
     for calls in [&of_peak, &of_energy] {

@@ -7,5 +7,7 @@ mod boxes;
 #[cfg(test)]
 mod faults;
 mod memory;
+#[cfg(test)]
+mod racks;
 
 pub use memory::{Printed, run_in_memory, words_of};

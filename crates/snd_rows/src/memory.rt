@@ -1,26 +1,30 @@
 ghost use Rattle.std.specs.Prelude.{◌≡◌, IfOk, map};
-ghost use Rattle.snd_app.specs.Outcome.{outcome};
+ghost use Rattle.snd_app.specs.Outcome.{files_after, outcome};
+ghost use Rattle.snd_memory.specs.MemoryShelf.{shelf_state};
+ghost use Rattle.snd_tools.specs.Shelves.{IsAllIn};
 ghost use Rattle.snd_rows.specs.Memory.{one_file, IsPrinted};
 
 use snd_app::run;
 use snd_fields::Words;
 use snd_memory::{MemoryDisk, MemoryShelf, MemorySink, MemorySource};
+use snd_rack::Stage;
 use snd_taps::Tap;
 use std::alloc::{AllocError, Global};
 
-/// What a run printed, and the status that it answered.
+/// What a run printed, the status that it answered, and the files that it left.
 #[derive(Drop)]
 pub struct Printed {
     pub out: Vec<u8>,
     pub err: Vec<u8>,
     pub status: u8,
+    pub shelf: MemoryShelf,
 }
 
 /// How many bytes of the script come at a time.
 const PIECE: usize = 4096;
 
 /// Runs the words over a shelf with one file, with streams that do not fail, a script to come, and
-/// these taps.
+/// these taps and stages.
 pub fn run_in_memory(
     alloc: Global,
     words: &Words,
@@ -28,8 +32,12 @@ pub fn run_in_memory(
     bytes: Vec<u8>,
     script: Vec<u8>,
     taps: Vec<Box<dyn Tap>>,
+    stages: Vec<Box<dyn Stage>>,
 ) -> Result<Printed, AllocError>
-    ensures { IfOk result (IsPrinted (outcome words.now (map (λ b. (meter b).kind) taps.items) (one_file name.now bytes.items) script.items)) }
+    ensures printed { IfOk result (IsPrinted
+        (outcome words.now (map (λ b. (meter b).kind) taps.items) (map (λ b. (stage b).kind) stages.items) (one_file name.now bytes.items) script.items)
+        (files_after words.now (map (λ b. (meter b).kind) taps.items) (map (λ b. (stage b).kind) stages.items) (one_file name.now bytes.items) script.items)) }
+    ensures all_in { IfOk result (λ p. IsAllIn (shelf_state p.shelf)) }
 {
     let disk = MemoryDisk::new(alloc, bytes, Vec::new(alloc))?;
     let mut shelf = MemoryShelf::new(alloc);
@@ -45,11 +53,13 @@ pub fn run_in_memory(
         &mut out,
         &mut err,
         taps,
+        stages,
     );
     Ok(Printed {
         out: out.bytes().to_vec(alloc)?,
         err: err.bytes().to_vec(alloc)?,
         status,
+        shelf,
     })
 }
 

@@ -17,7 +17,7 @@ use Rattle.snd_app.proofs.program.run.Goals as goal
 pub returns-in-Some-Info-clause-headline : goal.returns-in-Some-Info-clause-headline
 returns-in-Some-Info-clause-headline g c = λ files text told left.
     let is : Asked.info_of c.in-Some-Info.names ≡ asked c.args.words.now = search rules in
-    run_as g.S.Shelf.state _ c.run_infos.result _ _ _ _ files text _ _ _ is (c.run_infos.ensures.outcome files (g.R.Source.faults c.args.script.now) told)
+    run_as g.S.Shelf.state _ c.run_infos.result _ _ _ _ files text _ _ _ _ is (c.run_infos.ensures.outcome files (g.R.Source.faults c.args.script.now) told)
 
 pub returns-in-Some-Info-clause-fault : goal.returns-in-Some-Info-clause-fault
 returns-in-Some-Info-clause-fault g c = λ is. c.run_infos.ensures.fault is (g.R.Source.faults c.args.script.now)
@@ -51,33 +51,33 @@ returns-in-Some-Script-clause-crash g c =
 pub returns-in-Some-Script-clause-headline : goal.returns-in-Some-Script-clause-headline
 returns-in-Some-Script-clause-headline g c = λ files text told left.
     let is : Asked.script (named c.in-Some-Script.pinned) ≡ asked c.args.words.now = search rules in
-    run_as g.S.Shelf.state c.run_script.new.shelf c.run_script.result _ _ _ _ files text _ _ _ is (c.run_script.ensures.outcome files text told left)
+    run_as g.S.Shelf.state c.run_script.new.shelf c.run_script.result _ _ _ _ files text _ _ _ _ is (c.run_script.ensures.outcome files text told left)
 
 pub returns-in-Some-Help-clause-headline : goal.returns-in-Some-Help-clause-headline
 returns-in-Some-Help-clause-headline g c = λ files text told left.
     let is : Asked.help ≡ asked c.args.words.now = search rules in
-    run_as g.S.Shelf.state c.args.shelf.now c.put_text.result _ _ _ _ files text _ _ _ is
-    (with_files c.put_text.result _ _ _ _ (outcome_of Asked.help [] files text) _ (files, told, λ n. refl)
-    (is_put_out c.put_text.result _ _ _ _ (outcome_of Asked.help [] files text) c.as_bytes.result.now (ap (λ t. record { out = t; err = []; status = 0 }) (c.as_bytes.ensures.value ∙ c.usage.ensures)) refl refl refl refl c.put_text.ensures))
+    run_as g.S.Shelf.state c.args.shelf.now c.put_text.result _ _ _ _ files text _ _ _ _ is
+    (with_files c.put_text.result _ _ _ _ (outcome_of Asked.help [] [] files text) _ (files, told, λ n. refl)
+    (is_put_out c.put_text.result _ _ _ _ (outcome_of Asked.help [] [] files text) c.as_bytes.result.now (ap (λ t. record { out = t; err = []; status = 0 }) (c.as_bytes.ensures.value ∙ c.usage.ensures)) refl refl refl refl c.put_text.ensures))
 
 pub returns-in-Some-HelpOn-clause-headline : goal.returns-in-Some-HelpOn-clause-headline
 returns-in-Some-HelpOn-clause-headline g c = λ files text told left.
     let is : Asked.help_on c.in-Some-HelpOn.topic ≡ asked c.args.words.now = search rules in
-    run_as g.S.Shelf.state c.args.shelf.now c.put_text-in-Some-HelpOn.result _ _ _ _ files text _ _ _ is
-    (with_files c.put_text-in-Some-HelpOn.result _ _ _ _ (outcome_of (Asked.help_on c.in-Some-HelpOn.topic) [] files text) _ (files, told, λ n. refl)
-    (is_put_out c.put_text-in-Some-HelpOn.result _ _ _ _ (outcome_of (Asked.help_on c.in-Some-HelpOn.topic) [] files text) c.as_bytes-in-Some-HelpOn.result.now (ap (λ t. record { out = t; err = []; status = 0 }) (c.as_bytes-in-Some-HelpOn.ensures.value ∙ c.usage_of.ensures)) refl refl refl refl c.put_text-in-Some-HelpOn.ensures))
+    run_as g.S.Shelf.state c.args.shelf.now c.put_text-in-Some-HelpOn.result _ _ _ _ files text _ _ _ _ is
+    (with_files c.put_text-in-Some-HelpOn.result _ _ _ _ (outcome_of (Asked.help_on c.in-Some-HelpOn.topic) [] [] files text) _ (files, told, λ n. refl)
+    (is_put_out c.put_text-in-Some-HelpOn.result _ _ _ _ (outcome_of (Asked.help_on c.in-Some-HelpOn.topic) [] [] files text) c.as_bytes-in-Some-HelpOn.result.now (ap (λ t. record { out = t; err = []; status = 0 }) (c.as_bytes-in-Some-HelpOn.ensures.value ∙ c.usage_of.ensures)) refl refl refl refl c.put_text-in-Some-HelpOn.ensures))
 
 pub returns-in-Some-Version-clause-headline : goal.returns-in-Some-Version-clause-headline
 returns-in-Some-Version-clause-headline g c = λ files text told left.
     let is : Asked.version ≡ asked c.args.words.now = search rules in
-    run_as g.S.Shelf.state c.args.shelf.now c.put_text-in-Some-Version.result _ _ _ _ files text _ _ _ is
-    (with_files c.put_text-in-Some-Version.result _ _ _ _ (outcome_of Asked.version [] files text) _ (files, told, λ n. refl)
-    (is_put_out c.put_text-in-Some-Version.result _ _ _ _ (outcome_of Asked.version [] files text) c.as_bytes-in-Some-Version.result.now (ap (λ t. record { out = t; err = []; status = 0 }) (c.as_bytes-in-Some-Version.ensures.value ∙ c.version.ensures)) refl refl refl refl c.put_text-in-Some-Version.ensures))
+    run_as g.S.Shelf.state c.args.shelf.now c.put_text-in-Some-Version.result _ _ _ _ files text _ _ _ _ is
+    (with_files c.put_text-in-Some-Version.result _ _ _ _ (outcome_of Asked.version [] [] files text) _ (files, told, λ n. refl)
+    (is_put_out c.put_text-in-Some-Version.result _ _ _ _ (outcome_of Asked.version [] [] files text) c.as_bytes-in-Some-Version.result.now (ap (λ t. record { out = t; err = []; status = 0 }) (c.as_bytes-in-Some-Version.ensures.value ∙ c.version.ensures)) refl refl refl refl c.put_text-in-Some-Version.ensures))
 
 pub returns-in-Some-Tool-clause-headline : goal.returns-in-Some-Tool-clause-headline
 returns-in-Some-Tool-clause-headline g c = λ files text told left.
     let is : Asked.tool (work_of c.in-Some-Tool.tool) ≡ asked c.args.words.now = search rules in
-    run_as g.S.Shelf.state _ c.run_tool.result _ _ _ _ files text _ _ _ is (c.run_tool.ensures.outcome files (g.R.Source.faults c.args.script.now) told)
+    run_as g.S.Shelf.state _ c.run_tool.result _ _ _ _ files text _ _ _ _ is (c.run_tool.ensures.outcome files (g.R.Source.faults c.args.script.now) told)
 
 pub returns-in-Some-Tool-clause-fault : goal.returns-in-Some-Tool-clause-fault
 returns-in-Some-Tool-clause-fault g c = λ is. c.run_tool.ensures.fault is (g.R.Source.faults c.args.script.now)
@@ -95,7 +95,7 @@ returns-in-Some-Tool-clause-others g c = λ name named.
 pub returns-in-Some-Tool-clause-done : goal.returns-in-Some-Tool-clause-done
 returns-in-Some-Tool-clause-done g c = λ name named.
     let is : Asked.tool (work_of c.in-Some-Tool.tool) ≡ asked c.args.words.now = search rules in
-    done_by g.S.Shelf.state c.args.shelf.now c.run_tool.new.shelf c.run_tool.result _ (Asked.tool (work_of c.in-Some-Tool.tool)) (asked c.args.words.now) is c.run_tool.ensures.done
+    done_by g.S.Shelf.state c.args.shelf.now c.run_tool.new.shelf c.run_tool.result _ _ (Asked.tool (work_of c.in-Some-Tool.tool)) (asked c.args.words.now) is c.run_tool.ensures.done
 
 pub returns-in-Some-Tool-clause-asks : goal.returns-in-Some-Tool-clause-asks
 returns-in-Some-Tool-clause-asks g c = λ work named.
@@ -113,6 +113,6 @@ returns-in-Some-Tool-clause-unnamed g c = λ none.
 pub returns-in-None-clause-headline : goal.returns-in-None-clause-headline
 returns-in-None-clause-headline g c = λ files text told left.
     let is : Asked.nothing ≡ asked c.args.words.now = search rules in
-    run_as g.S.Shelf.state c.args.shelf.now c.put_text-in-None.result _ _ _ _ files text _ _ _ is
-    (with_files c.put_text-in-None.result _ _ _ _ (outcome_of Asked.nothing [] files text) _ (files, told, λ n. refl)
-    (is_put_err c.put_text-in-None.result _ _ _ _ (outcome_of Asked.nothing [] files text) 2 _ refl refl refl refl refl c.put_text-in-None.ensures))
+    run_as g.S.Shelf.state c.args.shelf.now c.put_text-in-None.result _ _ _ _ files text _ _ _ _ is
+    (with_files c.put_text-in-None.result _ _ _ _ (outcome_of Asked.nothing [] [] files text) _ (files, told, λ n. refl)
+    (is_put_err c.put_text-in-None.result _ _ _ _ (outcome_of Asked.nothing [] [] files text) 2 _ refl refl refl refl refl c.put_text-in-None.ensures))

@@ -11,8 +11,8 @@ returns-in-Ok-Done-clause-outcome g c = λ files script told.
     let done = c.in-Ok-Done.ensures.done files told in
     let text : c.deref.result.now ≡ c.in-Ok-Done.text.items = search rules in
     let printed : Done c.in-Ok-Done.text ≡ c.in-Ok-Done.field-0 = search rules in
-    with_files c.put_text.result _ _ _ _ (outcome_of_work work files) _ done.1
-    (is_put_out c.put_text.result _ _ _ _ (outcome_of_work work files) c.deref.result.now (ap (λ t. record { out = t; err = []; status = 0 }) text ∙ ap outcome_by printed ∙ done.0) c.in-Ok-Done.ensures.faults refl refl refl c.put_text.ensures)
+    with_files c.put_text.result _ _ _ _ (outcome_of_work work _ files) _ done.1
+    (is_put_out c.put_text.result _ _ _ _ (outcome_of_work work _ files) c.deref.result.now (ap (λ t. record { out = t; err = []; status = 0 }) text ∙ ap outcome_by printed ∙ done.0) c.in-Ok-Done.ensures.faults refl refl refl c.put_text.ensures)
 
 pub returns-in-Ok-Done-clause-done : goal.returns-in-Ok-Done-clause-done
 returns-in-Ok-Done-clause-done g c = λ files told is calm. (c.in-Ok-Done.ensures.done files told).1
