@@ -31,7 +31,7 @@ use Rattle.snd_rack.specs.Stage.{Stated, kind_of}
 use Rattle.snd_rack.specs.declared.setting.StageKind.{StageKind}
 use Rattle.snd_words.specs.declared.convert.Conversion.{Conversion}
 use Rattle.snd_convert.specs.Convert.{behind_rack, carries, chunks_for, done_behind, file_made, is_full, made_if_good, made_of, numbers_for}
-use Rattle.snd_convert.specs.Plan.{Planned, planned}
+use Rattle.snd_convert.specs.Plan.{Planned}
 use Rattle.snd_convert.specs.Planning.{asked_of, planned_by}
 use Rattle.snd_convert.specs.declared.plan.Plan.{Plan}
 

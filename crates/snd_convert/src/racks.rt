@@ -45,6 +45,7 @@ pub(crate) fn take_boxes(
     if spec.bad_place(count) {
         return Err(Refusal::BadPlace);
     }
+    // a map leaves 256 channels at most, which fit
     spec.are_settled();
     Ok(spec.channels_after(count) as u16)
 }
@@ -70,6 +71,9 @@ pub(crate) fn put_frames<D: Disk, E: Disk, M: Making>(
     ensures asked { AsksForLeft D.state 16384 from.old from.new }
     ensures to_asked { AsksNothing E.state to.old to.new }
 {
+    // the block has places for a frame, which has 256 numbers at most
+    let params = from.params();
+    params.are_good();
     let mut block = [0; BLOCK];
     match rack {
         Some(spec) => append_racked(from, to, spec, stages, &mut block),

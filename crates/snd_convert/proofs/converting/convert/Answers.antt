@@ -1,11 +1,13 @@
-use Rattle.std.proofs.Common.{◌≡◌, false, Ok, Err, Some, map, refl, rules, subst}
+use Rattle.std.proofs.Common.{◌≡◌, false, Ok, Err, List, Some, ap, map, refl, rules, subst}
 use Rattle.std.proofs.lemmas.Result.{IfOk-weaker}
 use Rattle.std.specs.Str.{bytes_eq}
 use Rattle.snd_inputs.proofs.Public.{does_so, done_same, held_counts, held_done, held_one, reads_changes, refused_as, still_in}
 use Rattle.snd_inputs.specs.Opening.{IsOpen, OpensInput}
 use Rattle.snd_edits.specs.Editing.{first_editing}
 use Rattle.snd_output.proofs.Public.{if_changed, unchanged_as}
+use Rattle.snd_rack.specs.declared.setting.StageKind.{StageKind}
 use Rattle.snd_tools.proofs.Public.{apart_back}
+use Rattle.snd_tools.specs.Shelves.{Does}
 use Rattle.snd_words.specs.Suffix.{kind_by_suffix}
 use Rattle.snd_convert.specs.Convert.{behind_rack, converted, done_behind}
 use Rattle.snd_convert.specs.Planning.{asked_of}
@@ -43,13 +45,15 @@ convert_laid-answer-requires-clause-is_in g c =
 pub returns-clause-done : goal.returns-clause-done
 returns-clause-done g c =
     let asked = asked_of c.args.conversion.now in
-    let kinds = map (λ b. ((goal.Stage-dyn g (b.vtable, b.value)).stage b.value).kind) c.args.stages.items in
+    let kinds = map (λ b. ((goal.Stage-dyn g (b.vtable, b.value)).stage b.value).kind) c.as_mut_slice-boxes.result.now in
+    let same = ap (map (λ b. ((goal.Stage-dyn g (b.vtable, b.value)).stage b.value).kind)) c.as_mut_slice-boxes.ensures.value in
     let kind = c.in-Some.kind in
     let apart : bytes_eq asked.input asked.output ≡ false = search rules in
     let suffix : kind_by_suffix asked.output ≡ Some kind = search rules in
     let opens : IsOpen g.S.Shelf g.S.Disk.Disk asked.input c.args.shelf.now c.open_input.new.shelf c.in-Ok.input =
     subst (λ r. OpensInput g.S.Shelf g.S.Disk.Disk asked.input c.args.shelf.now c.open_input.new.shelf (Ok r)) c.in-Ok.is c.in_ok-input.ensures.opened in
-    does_so g.S.Shelf.state (converted kinds asked) c.args.shelf.now c.give.new.self c.convert_laid-answer.result
+    subst (λ (k : List StageKind). Does g.S.Shelf.state (converted k asked) c.args.shelf.now c.give.new.self c.convert_laid-answer.result) same
+    (does_so g.S.Shelf.state (converted kinds asked) c.args.shelf.now c.give.new.self c.convert_laid-answer.result
     (IfOk-weaker c.convert_laid-answer.result _ _
     (λ answer done files told.
     let found = opens.opened files told in
@@ -63,7 +67,7 @@ returns-clause-done g c =
       held_done g.S.Shelf g.S.Disk.Disk c.args.shelf.now c.open_input.new.shelf c.convert_laid-answer.new.shelf c.give.new.self c.in-Ok.input _ _ _ asked.input opens refl refl c.convert_laid-answer.ensures.reads c.give.ensures.given asked.output apart
           todo files told (makes_behind asked kind e behind) d.1,
     ))
-    c.convert_laid-answer.ensures.done)
+    c.convert_laid-answer.ensures.done))
 
 pub returns-clause-changes : goal.returns-clause-changes
 returns-clause-changes g c =
