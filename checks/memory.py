@@ -165,6 +165,7 @@ script("a script that sets chunks of each kind", {}, [
 # ---- the other tools, other codecs, and scripts on a file that is there
 tool({"a.wav": mono, "b.au": other}, ["info", "a.wav", "no.wav", "b.au"])
 tool({"a.wav": mono}, ["convert", "-ima-adpcm", "a.wav", "x.wav"], "x.wav")
+tool({"r.wav": long}, ["convert", "-rack=gain:1/2,map:1.0,fade:100,invert", "r.wav", "x.wav"], "x.wav")
 tool({"a.wav": mono, "b.au": other}, ["concat", "a.wav", "b.au", "x.wav"], "x.wav")
 tool({"a.wav": mono, "b.au": other}, ["interleave", "a.wav", "b.au", "-o", "x.wav"], "x.wav")
 tool({"r.wav": long}, ["metadata-set", "--str-title", "Dawn", "--bext-originator", "snd", "r.wav", "x.wav"], "x.wav")
@@ -174,4 +175,4 @@ script("a script that changes a file", {"a.wav": mono}, ["open u a.wav", "auto o
 script("a script on a pinned file", {"a.wav": mono}, ["seek w 600", "write 1 2 3", "close", "truncate 10", "read 3"], "a.wav")
 script("a script that makes a file of ADPCM", {}, ["create wave ms 1 8000 m.wav", "set string title A", "write " + " ".join(map(str, range(600))), "auto on", "write 1 2", "close"])
 refusals, went_on = (sum(it) for it in zip(*counts))
-cases.end(2 * 14, f"; {refusals} allocations refused, after {went_on} of which the run went on as with memory")
+cases.end(2 * 15, f"; {refusals} allocations refused, after {went_on} of which the run went on as with memory")
