@@ -10,7 +10,7 @@ _snd() {
         # bash takes what stands behind an equals sign for the word to be completed
         *:convert:-endian=*) words="little big" ;;
         *:convert:-*=*) return ;;
-        *:convert:-*) words="-pcmu8 -pcms8 -pcm16 -pcm24 -pcm32 -ulaw -alaw -ima-adpcm -ms-adpcm -endian= -override-sample-rate=" ;;
+        *:convert:-*) words="-pcmu8 -pcms8 -pcm16 -pcm24 -pcm32 -ulaw -alaw -ima-adpcm -ms-adpcm -endian= -override-sample-rate= -rack=" ;;
         *:interleave:-*) words="-o" ;;
         *:metadata-set:-*) words="--str-title --str-artist --str-comment --str-copyright --str-date --str-album --bext-description --bext-originator --bext-orig-ref --bext-orig-date --bext-orig-time --bext-time-ref --bext-coding-hist" ;;
         *) return ;;
