@@ -2,8 +2,8 @@ use Rattle.snd_session.proofs.session.Session.step.Goals as goal
 
 pub returns : goal.returns
 returns g c =
-    let steps = rw c.as_line.ensures at c.carry_out.ensures.steps in
-    let taps = rw c.as_line.ensures at c.carry_out.ensures.taps in
+    let steps = c.carry_out.ensures.steps in
+    let taps = c.carry_out.ensures.taps in
     record {
       stands = steps.stands;
       said = steps.said;
