@@ -145,7 +145,7 @@ for it, said in helped.items():
     lacks = [word for word in re.findall(r"(?m)^  (--?[a-z]\S*)", said) if it != "--help" and word not in helped["--help"] and word != "-o"]
     cases.case(f"snd {it}", [f"a line of {len(line)}" for line in wide] + [f"--help lacks {word}" for word in form + lacks] + ["it says nothing"] * (not said))
 page = text("docs/snd.1").replace(r"\-", "-")
-options = {*re.findall(r"(?<![\w-])(-(?:pcm\w+|ulaw|alaw|ima-adpcm|ms-adpcm))\b", page)} | {f"--str-{it}" for it in ("title", "artist", "album", "comment", "copyright", "date")}
+options = {*re.findall(r"(?<![\w-])(-(?:pcm\w+|ulaw|alaw|ima-adpcm|ms-adpcm|rack))\b", page)} | {f"--str-{it}" for it in ("title", "artist", "album", "comment", "copyright", "date")}
 cases.case("snd --help: the options of the manual page", [f"it lacks {it}" for it in sorted(options) if it not in helped["--help"]] + ["none found"] * (len(options) < 15))
 
 os.mkdir("made")

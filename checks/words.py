@@ -61,7 +61,7 @@ BASH, ZSH = text("docs/completion/snd.bash"), text("docs/completion/_snd")
 def helped(title):
     """The words of a list of the help, which begins so."""
     found = re.search(rf"(?m)^{title}: (.*(?:\n +.*)*)", HELP)
-    return {re.sub(r"=N$", "=", it) for it in found[1].split()} if found else set()
+    return {re.sub(r"=[A-Z]+$", "=", it) for it in found[1].split()} if found else set()
 
 
 def section(title, kind="SS"):
