@@ -2,13 +2,12 @@
 use Rattle.std.specs.Prelude.{ℕ, List, [], ◌∷◌, Option, None, Some, Result, Ok, Err, option_map, codes, length, nat_lt, slice_index, ◌==◌, if◌then◌else◌}
 use Rattle.std.specs.Str.{bytes_eq}
 use Rattle.snd_command.specs.declared.command.Command.{Command}
-use Rattle.snd_command.specs.declared.line_command.LineCommand.{LineCommand}
 use Rattle.snd_command.specs.declared.refusal.ScriptRefusal.{ScriptRefusal}
 use Rattle.snd_command.specs.declared.refusal.ScriptRefusal.TheVariants.{LineTooLong, BadCommand}
 use Rattle.snd_command.specs.Frames.{auto_said, read_said, seek_said, tap_said, truncate_said, untap_said}
 use Rattle.snd_command.specs.Numbers.{write_said}
 use Rattle.snd_command.specs.Open.{bare_said, create_said, get_said, open_said}
-use Rattle.snd_command.specs.Said.{Said, line_said, said_of}
+use Rattle.snd_command.specs.Said.{Said, said_of}
 use Rattle.snd_command.specs.Set.{set_said}
 use Rattle.snd_command.specs.Words.{words, behind_word, trimmed}
 use Rattle.snd_command.specs.Set.{text_behind}
@@ -48,7 +47,3 @@ command_of line = if nat_lt 4096 (length line) then Err LineTooLong else line_of
 abbrev pub answer_of : Result (Option Command) ScriptRefusal → Result (Option Said) ScriptRefusal
 answer_of (Ok command) = Ok (option_map said_of command)
 answer_of (Err refusal) = Err refusal
-
-abbrev pub line_answer : Result (Option LineCommand) ScriptRefusal → Result (Option Said) ScriptRefusal
-line_answer (Ok line) = Ok (option_map line_said line)
-line_answer (Err refusal) = Err refusal

@@ -7,8 +7,6 @@ use Rattle.snd_command.specs.declared.tables.CodecWord.{CodecWord}
 use Rattle.snd_taps.specs.declared.tap.TapKind.{TapKind}
 use Rattle.snd_command.specs.declared.command.Command.{Command}
 use Rattle.snd_command.specs.declared.command.Command.TheVariants as command
-use Rattle.snd_command.specs.declared.line_command.LineCommand.{LineCommand}
-use Rattle.snd_command.specs.declared.line_command.LineCommand.TheVariants as line
 
 pub data Said : Type 0 where
   open_read : List ℕ → Said
@@ -48,7 +46,7 @@ said_of (command.SeekRead to) = seek_read to
 said_of (command.SeekWrite to) = seek_write to
 said_of (command.SeekBoth to) = seek_both to
 said_of (command.Read count) = read count
-said_of (command.Write samples) = write samples.items
+said_of (command.Write samples) = write samples.now.items
 said_of (command.Truncate to) = truncate to
 said_of command.Trim = trim
 said_of command.Update = update
@@ -56,7 +54,7 @@ said_of (command.Auto on) = auto on
 said_of (command.SetChunk id hex) = set_chunk id.0 hex.now
 said_of (command.SetString key text) = set_string key text.now
 said_of (command.SetBext key text) = set_bext key text.now
-said_of (command.SetCue places) = set_cue places.items
+said_of (command.SetCue places) = set_cue places.now.items
 said_of (command.GetChunk id) = get_chunk id.0
 said_of command.GetChunks = get_chunks
 said_of command.GetStrings = get_strings
@@ -64,31 +62,3 @@ said_of command.GetBext = get_bext
 said_of command.GetCues = get_cues
 said_of (command.Tap kind) = tap kind
 said_of (command.Untap kind) = untap kind
-
--- what a line says, with its numbers in a room
-abbrev pub line_said : LineCommand → Said
-line_said (line.OpenRead name) = open_read name.now
-line_said (line.OpenUpdate name) = open_update name.now
-line_said (line.Create kind codec channels rate name) = create kind codec channels rate name.now
-line_said line.Info = info
-line_said line.Close = close
-line_said (line.SeekRead to) = seek_read to
-line_said (line.SeekWrite to) = seek_write to
-line_said (line.SeekBoth to) = seek_both to
-line_said (line.Read count) = read count
-line_said (line.Write samples) = write samples.now.items
-line_said (line.Truncate to) = truncate to
-line_said line.Trim = trim
-line_said line.Update = update
-line_said (line.Auto on) = auto on
-line_said (line.SetChunk id hex) = set_chunk id.0 hex.now
-line_said (line.SetString key text) = set_string key text.now
-line_said (line.SetBext key text) = set_bext key text.now
-line_said (line.SetCue places) = set_cue places.now.items
-line_said (line.GetChunk id) = get_chunk id.0
-line_said line.GetChunks = get_chunks
-line_said line.GetStrings = get_strings
-line_said line.GetBext = get_bext
-line_said line.GetCues = get_cues
-line_said (line.Tap kind) = tap kind
-line_said (line.Untap kind) = untap kind

@@ -1,9 +1,5 @@
 //! The commands of a script.
 
-ghost use Rattle.std.specs.Prelude.{◌≡◌};
-ghost use Rattle.snd_command.specs.Said.{line_said, said_of};
-
-use crate::line_command::LineCommand;
 use crate::tables::CodecWord;
 use arrayvec::ArrayVec;
 use snd_fields::Id4;
@@ -17,8 +13,9 @@ pub const MOST_SAMPLES: usize = 2048;
 /// The most places that a line of `set cue` may hold.
 pub const MOST_CUES: usize = 100;
 
-/// One line of a script. Names, texts and hex digits are slices of the line.
-#[derive(Debug, PartialEq, Eq, Drop)]
+/// One line of a script, in few bytes. Names, texts and hex digits are slices of the line, and the numbers of
+/// `write` and `set cue` stand in the `NumberRoom` into which they were read.
+#[derive(Clone, Copy, Debug, PartialEq, Eq)]
 pub enum Command<'a> {
     /// `open r NAME`
     OpenRead {
@@ -56,7 +53,7 @@ pub enum Command<'a> {
     /// `read N`: how many frames, at most 1024.
     Read(u64),
     /// `write S S ..`: one sample or more.
-    Write(ArrayVec<i32, MOST_SAMPLES>),
+    Write(&'a ArrayVec<i32, MOST_SAMPLES>),
     /// `truncate N`: how many frames are to stay.
     Truncate(u64),
     /// `trim`
@@ -87,7 +84,7 @@ pub enum Command<'a> {
         text: &'a [u8],
     },
     /// `set cue N N ..`: 1 to 100 places.
-    SetCue(ArrayVec<u32, MOST_CUES>),
+    SetCue(&'a ArrayVec<u32, MOST_CUES>),
     /// `get chunk ID`
     GetChunk(Id4),
     /// `get chunks`
@@ -102,51 +99,4 @@ pub enum Command<'a> {
     Tap(TapKind),
     /// `untap T`
     Untap(TapKind),
-}
-
-impl Command<'_> {
-    /// The same in few bytes, with the numbers left where they are.
-    pub fn as_line(&self) -> LineCommand<'_, '_>
-        ensures { line_said result ≡ said_of self.now }
-    {
-        match self {
-            Command::OpenRead { name } => LineCommand::OpenRead { name },
-            Command::OpenUpdate { name } => LineCommand::OpenUpdate { name },
-            Command::Create {
-                kind,
-                codec,
-                channels,
-                rate,
-                name,
-            } => LineCommand::Create {
-                kind: *kind,
-                codec: *codec,
-                channels: *channels,
-                rate: *rate,
-                name,
-            },
-            Command::Info => LineCommand::Info,
-            Command::Close => LineCommand::Close,
-            Command::SeekRead(to) => LineCommand::SeekRead(*to),
-            Command::SeekWrite(to) => LineCommand::SeekWrite(*to),
-            Command::SeekBoth(to) => LineCommand::SeekBoth(*to),
-            Command::Read(count) => LineCommand::Read(*count),
-            Command::Write(samples) => LineCommand::Write(samples),
-            Command::Truncate(to) => LineCommand::Truncate(*to),
-            Command::Trim => LineCommand::Trim,
-            Command::Update => LineCommand::Update,
-            Command::Auto(on) => LineCommand::Auto(*on),
-            Command::SetChunk { id, hex } => LineCommand::SetChunk { id: *id, hex },
-            Command::SetString { key, text } => LineCommand::SetString { key: *key, text },
-            Command::SetBext { key, text } => LineCommand::SetBext { key: *key, text },
-            Command::SetCue(places) => LineCommand::SetCue(places),
-            Command::GetChunk(id) => LineCommand::GetChunk(*id),
-            Command::GetChunks => LineCommand::GetChunks,
-            Command::GetStrings => LineCommand::GetStrings,
-            Command::GetBext => LineCommand::GetBext,
-            Command::GetCues => LineCommand::GetCues,
-            Command::Tap(kind) => LineCommand::Tap(*kind),
-            Command::Untap(kind) => LineCommand::Untap(*kind),
-        }
-    }
 }

@@ -5,7 +5,6 @@ mod command;
 mod forms;
 mod frames;
 mod line;
-mod line_command;
 mod numbers;
 mod opens;
 mod refusal;
@@ -15,8 +14,7 @@ mod words;
 
 pub use command::{Command, MOST_CUES, MOST_SAMPLES};
 pub use forms::is_text;
-pub use line::{parse_line, read_line};
-pub use line_command::LineCommand;
+pub use line::parse_line;
 pub use numbers::NumberRoom;
 pub use refusal::ScriptRefusal;
 pub use tables::CodecWord;

@@ -1,14 +1,13 @@
 //! A whole line.
 
 ghost use Rattle.std.specs.Prelude.{◌≡◌, ◌≤◌, length, option_map};
-ghost use Rattle.snd_command.specs.Line.{answer_of, command_of, line_answer, said};
-ghost use Rattle.snd_command.specs.Said.{line_said};
+ghost use Rattle.snd_command.specs.Line.{answer_of, command_of, said};
+ghost use Rattle.snd_command.specs.Said.{said_of};
 ghost use Rattle.snd_command.specs.Set.{text_behind};
 ghost use Rattle.snd_command.specs.Words.{words};
 
 use crate::command::Command;
 use crate::frames::{parse_auto, parse_read, parse_seek, parse_tap, parse_truncate, parse_untap};
-use crate::line_command::LineCommand;
 use crate::numbers::{NumberRoom, parse_write};
 use crate::opens::{parse_bare, parse_create, parse_get, parse_open};
 use crate::refusal::ScriptRefusal;
@@ -20,13 +19,13 @@ const LONGEST_LINE: usize = 4096;
 // A command by its first word, and what stands behind that. Each arm returns, since the value of an `if`
 // is copied at each `else` around it.
 #[inline(never)]
-fn parse_command<'l, 'n>(
-    verb: &'l [u8],
-    args: &'l [u8],
-    room: &'n mut NumberRoom,
-) -> Option<LineCommand<'l, 'n>>
+fn parse_command<'a>(
+    verb: &'a [u8],
+    args: &'a [u8],
+    room: &'a mut NumberRoom,
+) -> Option<Command<'a>>
     requires { length args.now ≤ 4095 }
-    ensures { option_map line_said result ≡ said verb.now (words args.now) (text_behind args.now) }
+    ensures { option_map said_of result ≡ said verb.now (words args.now) (text_behind args.now) }
 {
     if verb == b"open".as_slice() {
         return parse_open(args);
@@ -60,11 +59,11 @@ fn parse_command<'l, 'n>(
 /// ends it is empty, or begins with `#`. `LineTooLong` comes exactly for a line of more than 4096 bytes,
 /// the spaces at its ends counted, and `BadCommand` exactly for any other line that has the form of no
 /// command. Only the space separates words.
-pub fn read_line<'l, 'n>(
-    line: &'l [u8],
-    room: &'n mut NumberRoom,
-) -> Result<Option<LineCommand<'l, 'n>>, ScriptRefusal>
-    ensures { line_answer result ≡ command_of line.now }
+pub fn parse_line<'a>(
+    line: &'a [u8],
+    room: &'a mut NumberRoom,
+) -> Result<Option<Command<'a>>, ScriptRefusal>
+    ensures { answer_of result ≡ command_of line.now }
 {
     if line.len() > LONGEST_LINE {
         return Err(ScriptRefusal::LineTooLong);
@@ -79,16 +78,5 @@ pub fn read_line<'l, 'n>(
     match parse_command(verb, args, room) {
         Some(command) => Ok(Some(command)),
         None => Err(ScriptRefusal::BadCommand),
-    }
-}
-
-/// The command of one line of a script, as `read_line` reads it, with numbers of its own.
-pub fn parse_line(line: &[u8]) -> Result<Option<Command<'_>>, ScriptRefusal>
-    ensures { answer_of result ≡ command_of line.now }
-{
-    let mut room = NumberRoom::new();
-    match read_line(line, &mut room)? {
-        Some(said) => Ok(Some(said.to_command())),
-        None => Ok(None),
     }
 }

@@ -3,12 +3,11 @@
 ghost use Rattle.std.specs.Prelude.{◌≡◌, ◌≤◌, [], length, option_map};
 ghost use Rattle.snd_command.specs.Forms.{signed};
 ghost use Rattle.snd_command.specs.Numbers.{all_of, place, places, set_cue_said, write_said};
-ghost use Rattle.snd_command.specs.Said.{line_said};
+ghost use Rattle.snd_command.specs.Said.{said_of};
 ghost use Rattle.snd_command.specs.Words.{words};
 
-use crate::command::{MOST_CUES, MOST_SAMPLES};
+use crate::command::{Command, MOST_CUES, MOST_SAMPLES};
 use crate::forms::signed;
-use crate::line_command::LineCommand;
 use crate::words::next_word;
 use arrayvec::ArrayVec;
 use snd_fields::decimal;
@@ -37,15 +36,6 @@ impl NumberRoom {
     }
 }
 
-/// The same numbers in a vector of their own.
-pub fn copy_of<T: Copy + Default + Drop, const N: usize>(numbers: &ArrayVec<T, N>) -> ArrayVec<T, N>
-    ensures { result.items ≡ numbers.now.items }
-{
-    let mut copy = ArrayVec::new();
-    copy.try_extend_from_slice(numbers).unwrap();
-    copy
-}
-
 // the numbers of `write`, where each word is one
 fn read_samples(args: &[u8], into: &mut ArrayVec<i32, MOST_SAMPLES>) -> Option<()>
     requires { length args.now ≤ 4095 }
@@ -62,15 +52,15 @@ fn read_samples(args: &[u8], into: &mut ArrayVec<i32, MOST_SAMPLES>) -> Option<(
 
 // `write S S ..`
 #[inline(never)]
-pub fn parse_write<'l, 'n>(args: &'l [u8], room: &'n mut NumberRoom) -> Option<LineCommand<'l, 'n>>
+pub fn parse_write<'a>(args: &'a [u8], room: &'a mut NumberRoom) -> Option<Command<'a>>
     requires { length args.now ≤ 4095 }
-    ensures { option_map line_said result ≡ write_said (words args.now) }
+    ensures { option_map said_of result ≡ write_said (words args.now) }
 {
     if next_word(args).is_none() {
         return None;
     }
     read_samples(args, &mut room.samples)?;
-    Some(LineCommand::Write(&room.samples))
+    Some(Command::Write(&room.samples))
 }
 
 // a place of a cue point
@@ -102,15 +92,12 @@ fn read_places(args: &[u8], into: &mut ArrayVec<u32, MOST_CUES>) -> Option<()>
 
 // `set cue N N ..`
 #[inline(never)]
-pub fn parse_set_cue<'l, 'n>(
-    args: &'l [u8],
-    room: &'n mut NumberRoom,
-) -> Option<LineCommand<'l, 'n>>
-    ensures { option_map line_said result ≡ set_cue_said (words args.now) }
+pub fn parse_set_cue<'a>(args: &'a [u8], room: &'a mut NumberRoom) -> Option<Command<'a>>
+    ensures { option_map said_of result ≡ set_cue_said (words args.now) }
 {
     if next_word(args).is_none() {
         return None;
     }
     read_places(args, &mut room.places)?;
-    Some(LineCommand::SetCue(&room.places))
+    Some(Command::SetCue(&room.places))
 }

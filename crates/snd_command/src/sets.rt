@@ -1,12 +1,12 @@
 //! The commands that set a chunk of a file that is being made.
 
 ghost use Rattle.std.specs.Prelude.{◌≡◌, drop, option_map};
-ghost use Rattle.snd_command.specs.Said.{line_said};
+ghost use Rattle.snd_command.specs.Said.{said_of};
 ghost use Rattle.snd_command.specs.Set.{is_bext_text, set_bext_said, set_chunk_said, set_said, set_string_said, text_after, text_behind};
 ghost use Rattle.snd_command.specs.Words.{words};
 
+use crate::command::Command;
 use crate::forms::{hex, ident, is_text};
-use crate::line_command::LineCommand;
 use crate::numbers::{NumberRoom, parse_set_cue};
 use crate::tables::{bext_of, info_of};
 use crate::words::{next_word, two_words};
@@ -24,18 +24,18 @@ fn behind_space(rest: &[u8]) -> &[u8]
 }
 
 // `set chunk ID HEX`
-fn parse_set_chunk(args: &[u8]) -> Option<LineCommand<'_, 'static>>
-    ensures { option_map line_said result ≡ set_chunk_said (words args.now) }
+fn parse_set_chunk(args: &[u8]) -> Option<Command<'_>>
+    ensures { option_map said_of result ≡ set_chunk_said (words args.now) }
 {
     let (id, digits) = two_words(args)?;
     let id = ident(id)?;
     let hex = hex(digits)?;
-    Some(LineCommand::SetChunk { id, hex })
+    Some(Command::SetChunk { id, hex })
 }
 
 // `set string KEY TEXT`
-fn parse_set_string(args: &[u8]) -> Option<LineCommand<'_, 'static>>
-    ensures { option_map line_said result ≡ set_string_said (words args.now) (text_after args.now) }
+fn parse_set_string(args: &[u8]) -> Option<Command<'_>>
+    ensures { option_map said_of result ≡ set_string_said (words args.now) (text_after args.now) }
 {
     let (key, rest) = next_word(args)?;
     let key = info_of(key)?;
@@ -43,7 +43,7 @@ fn parse_set_string(args: &[u8]) -> Option<LineCommand<'_, 'static>>
     if !is_text(text) {
         return None;
     }
-    Some(LineCommand::SetString { key, text })
+    Some(Command::SetString { key, text })
 }
 
 fn is_bext_text(key: BextKey, text: &[u8]) -> bool
@@ -56,8 +56,8 @@ fn is_bext_text(key: BextKey, text: &[u8]) -> bool
 }
 
 // `set bext KEY TEXT`
-fn parse_set_bext(args: &[u8]) -> Option<LineCommand<'_, 'static>>
-    ensures { option_map line_said result ≡ set_bext_said (words args.now) (text_after args.now) }
+fn parse_set_bext(args: &[u8]) -> Option<Command<'_>>
+    ensures { option_map said_of result ≡ set_bext_said (words args.now) (text_after args.now) }
 {
     let (key, rest) = next_word(args)?;
     let key = bext_of(key)?;
@@ -65,12 +65,12 @@ fn parse_set_bext(args: &[u8]) -> Option<LineCommand<'_, 'static>>
     if !is_bext_text(key, text) {
         return None;
     }
-    Some(LineCommand::SetBext { key, text })
+    Some(Command::SetBext { key, text })
 }
 
 // `set ..`, of what stands behind `set`
-pub fn parse_set<'l, 'n>(args: &'l [u8], room: &'n mut NumberRoom) -> Option<LineCommand<'l, 'n>>
-    ensures { option_map line_said result ≡ set_said (words args.now) (text_behind args.now) }
+pub fn parse_set<'a>(args: &'a [u8], room: &'a mut NumberRoom) -> Option<Command<'a>>
+    ensures { option_map said_of result ≡ set_said (words args.now) (text_behind args.now) }
 {
     let (what, rest) = next_word(args)?;
     if what == b"chunk".as_slice() {

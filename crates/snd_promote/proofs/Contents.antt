@@ -1,28 +1,23 @@
 -- What a disk holds after the steps of a promotion.
-use Rattle.std.proofs.Common.{◌≡◌, false, max, ℕ, ◌-◌, List, [], ◌∷◌, ◌++◌, Ok, Err, Option, None, Some, option_map, refl, ap, ◌∙◌, arith}
-use Rattle.std.specs.Prelude.{OnOk, Result, codes, unwrap_or}
-use Rattle.snd_chunks.specs.Chunks.{padded_end}
+use Rattle.std.proofs.Common.{◌≡◌, false, max, ℕ, ◌-◌, List, Ok, Err, Option, None, Some, option_map, refl, ap, ◌∙◌, arith}
+use Rattle.std.specs.Prelude.{OnOk, Result}
 use Rattle.snd_disk.specs.Bytes.{over}
-use Rattle.snd_fields.specs.Field.{bytes_of}
-use Rattle.snd_fields.specs.declared.field.Order.TheVariants.{Little}
 use Rattle.snd_layout.specs.Params.{data_bytes}
 use Rattle.snd_layout.specs.Shape.{Shape}
 use Rattle.snd_patch.specs.Sealed.{counted, sealed, sealed_size}
 use Rattle.snd_container.specs.Values.{closed_end}
 use Rattle.snd_patch.specs.Steps.{MayCount}
-use Rattle.snd_rf64.specs.Values.{inner_value, outer_value, side_value}
-use Rattle.snd_rf64.specs.Written.{no_size}
-use Rattle.snd_promote.proofs.Fronts.{front_counted}
-use Rattle.snd_promote.specs.Promoted.{new_front, new_size, promoted}
+use Rattle.snd_ds64.proofs.Public.{front_stays}
+use Rattle.snd_ds64.specs.Promoted.{new_front, new_size, promoted}
 
 -- more that holds of a call that succeeded
 pub on_ok : {T E : Type 0} (r : Result T E) (P Q : Type 0) → (P → Q) → OnOk r P → OnOk r Q
 on_ok (Ok value) P Q then is = then is
 on_ok (Err error) P Q then is = is
 
-pub size_is : 255 ∷ 255 ∷ 255 ∷ 255 ∷ [] ≡ new_size
-unfolding new_size
-size_is = refl
+-- the first bytes hang neither on the frames that there were nor on the declared length
+pub front_counted : (h : Shape) (n m : ℕ) → new_front (counted h m) n ≡ new_front h n
+front_counted h n m = front_stays h n m (counted h m).declared
 
 module _ (h : Shape) (n : ℕ) where
   pub converted_contents : (o m new : Option (List ℕ)) → m ≡ option_map (λ b. over b 0 (new_front h n)) o → new ≡ option_map (λ b. over b (h.start - 4) new_size) m → new ≡ option_map (λ b. promoted b h n) o
@@ -49,10 +44,3 @@ module _ (h : Shape) (n : ℕ) where
         on_disk = may.on_disk;
         there = omega (arith, grown, may.there);
       }
-
-  -- the first bytes as they are put together
-  pub front_put : (bytes whole size : ℕ) (v0 v1 v2 v3 v4 v5 v6 v7 v8 v9 : List ℕ) → bytes ≡ data_bytes h.params n → whole ≡ padded_end h.start bytes - 8 → size ≡ unwrap_or h.reserve 0 → v0 ≡ [] → v1 ≡ v0 ++ codes "RF64"
-      → v2 ≡ v1 ++ bytes_of Little 4 no_size → v3 ≡ v2 ++ codes "WAVE" → v4 ≡ v3 ++ codes "ds64" → v5 ≡ v4 ++ bytes_of Little 4 size → v6 ≡ v5 ++ bytes_of Little 8 whole → v7 ≡ v6 ++ bytes_of Little 8 bytes
-      → v8 ≡ v7 ++ bytes_of Little 8 n → v9 ≡ v8 ++ bytes_of Little 4 0 → v9 ≡ new_front h n
-  unfolding new_front outer_value inner_value side_value
-  front_put bytes whole size v0 v1 v2 v3 v4 v5 v6 v7 v8 v9 counted ended sized e0 e1 e2 e3 e4 e5 e6 e7 e8 e9 = rw (e9, e8, e7, e6, e5, e4, e3, e2, e1, e0, ended, counted, sized) refl

@@ -12,10 +12,11 @@ use Rattle.snd_layout.specs.declared.kind.Kind.{Kind}
 use Rattle.snd_patch.proofs.Public.{mix_beside, over_beside, told_between, told_mapped}
 use Rattle.snd_patch.specs.Sealed.{SameBesideFields, counted}
 use Rattle.snd_patch.specs.Steps.{KeepsBeside, StillTells}
-use Rattle.snd_promote.proofs.Fronts.{front_counted, length-new_front}
-use Rattle.snd_promote.proofs.Kept.{beside_size}
+use Rattle.snd_promote.proofs.Contents.{front_counted}
+use Rattle.snd_ds64.proofs.Public.{length-new_front}
+use Rattle.snd_ds64.proofs.Public.{beside_size}
 use Rattle.snd_promote.specs.Images.{KeepsBesideFront, SameBesideFront}
-use Rattle.snd_promote.specs.Promoted.{new_front, new_size}
+use Rattle.snd_ds64.specs.Promoted.{new_front, new_size}
 use Rattle.snd_promote.specs.Steps.{HoldsMixed}
 
 -- the reservation and the head of the data stand before the data

@@ -1,9 +1,3 @@
-pub mod Fronts
-pub mod Reservations
-pub mod Opens
-pub mod Kept
-pub mod Ways
 pub mod Moments
 pub mod Faults
 pub mod Contents
-pub mod Public

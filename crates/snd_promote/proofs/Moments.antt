@@ -10,10 +10,12 @@ use Rattle.snd_patch.proofs.Public.{leaves_by, leaves_then, leaves_weaker, over_
 use Rattle.snd_patch.specs.Images.{LeavesEach, LeavesSealing}
 use Rattle.snd_patch.specs.Sealed.{counted, sealed}
 use Rattle.snd_patch.specs.Steps.{Becomes}
-use Rattle.snd_promote.proofs.Fronts.{front_counted, length-new_front, length-new_size}
-use Rattle.snd_promote.proofs.Kept.{both, both_first, both_length, both_second, first_length}
-use Rattle.snd_promote.specs.Images.{IsPromoting, IsSealing, LeavesConverting, LeavesPromoting}
-use Rattle.snd_promote.specs.Promoted.{new_front, new_size}
+use Rattle.snd_promote.proofs.Contents.{front_counted}
+use Rattle.snd_ds64.proofs.Public.{length-new_front, length-new_size}
+use Rattle.snd_ds64.proofs.Public.{both, both_first, both_length, both_second, first_length}
+use Rattle.snd_ds64.specs.Moments.{IsPromoting}
+use Rattle.snd_promote.specs.Images.{IsSealing, LeavesConverting, LeavesPromoting}
+use Rattle.snd_ds64.specs.Promoted.{new_front, new_size}
 use Rattle.snd_promote.specs.Steps.{HasPut, Puts}
 
 -- ---- what is made of one list and of another that was held

@@ -1,4 +1,2 @@
-pub mod Promoted
 pub mod Images
-pub mod Laws
 pub mod Steps

@@ -3,7 +3,7 @@
 ghost use Rattle.std.specs.Prelude.{◌≡◌, ◌-◌, ◌≤◌, is_some, length, true};
 ghost use Rattle.snd_layout.specs.Container.{HasRoomFor};
 ghost use Rattle.snd_layout.specs.Params.{data_bytes};
-ghost use Rattle.snd_promote.specs.Promoted.{new_front, promoted_shape};
+ghost use Rattle.snd_ds64.specs.Promoted.{new_front, promoted_shape};
 
 use arrayvec::ArrayVec;
 use snd_container::data_bytes;

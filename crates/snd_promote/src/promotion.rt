@@ -5,7 +5,7 @@ ghost use Rattle.snd_disk.specs.Device.{CountsOn, GoesOnFrom, IsStable, WritesAt
 ghost use Rattle.snd_patch.specs.Sealed.{counted, sealed, sealed_size};
 ghost use Rattle.snd_patch.specs.Steps.{Becomes, KeepsSize, MayCount, StillTells};
 ghost use Rattle.snd_promote.specs.Images.{KeepsBesideFront, LeavesConverting, LeavesPromoting};
-ghost use Rattle.snd_promote.specs.Promoted.{new_front, new_size, promoted, promoted_shape};
+ghost use Rattle.snd_ds64.specs.Promoted.{new_front, new_size, promoted, promoted_shape};
 ghost use Rattle.snd_promote.specs.Steps.{HasPut, Puts};
 
 use crate::front::{front_bytes, note_promoted, size_place};

@@ -1,12 +1,12 @@
 //! What is done for a command.
 
 ghost use Rattle.std.specs.Prelude.{◌≡◌};
-ghost use Rattle.snd_command.specs.Said.{Said, line_said};
+ghost use Rattle.snd_command.specs.Said.{Said, said_of};
 ghost use Rattle.snd_rules.specs.Rules.{codec_of};
 ghost use Rattle.snd_rules.specs.Work.{SetsFor, WorksFor, WritesFor};
 
 use arrayvec::ArrayVec;
-use snd_command::{CodecWord, LineCommand, MOST_CUES, MOST_SAMPLES};
+use snd_command::{CodecWord, Command, MOST_CUES, MOST_SAMPLES};
 use snd_edits::{ima_codec, ms_codec};
 use snd_fields::Id4;
 use snd_layout::{Codec, Kind};
@@ -121,46 +121,46 @@ fn points_of(places: &ArrayVec<u32, MOST_CUES>) -> Work<'_>
 }
 
 /// What is done for a command, with a file open or with none.
-pub fn work_of<'a>(said: LineCommand<'a, 'a>) -> Work<'a>
-    ensures { WorksFor (line_said said.entry) result }
+pub fn work_of<'a>(said: Command<'a>) -> Work<'a>
+    ensures { WorksFor (said_of said.entry) result }
 {
-    if let LineCommand::Write(samples) = said {
+    if let Command::Write(samples) = said {
         return write_of(samples);
     }
-    if let LineCommand::SetCue(places) = said {
+    if let Command::SetCue(places) = said {
         return points_of(places);
     }
     match said {
-        LineCommand::OpenRead { name } => Work::Open(name),
-        LineCommand::OpenUpdate { name } => Work::Update(name),
-        LineCommand::Create {
+        Command::OpenRead { name } => Work::Open(name),
+        Command::OpenUpdate { name } => Work::Update(name),
+        Command::Create {
             kind,
             codec,
             channels,
             rate,
             name,
         } => make_of(kind, codec, channels, rate, name),
-        LineCommand::Close => Work::Close,
-        LineCommand::Info => Work::Tell,
-        LineCommand::SeekRead(to) => Work::SeekRead(to),
-        LineCommand::SeekWrite(to) => Work::SeekWrite(to),
-        LineCommand::SeekBoth(to) => Work::SeekBoth(to),
-        LineCommand::Read(count) => Work::Read(count),
-        LineCommand::Write(_) => unreachable!(),
-        LineCommand::Truncate(to) => Work::Truncate(to),
-        LineCommand::Trim => Work::Trim,
-        LineCommand::Update => Work::BringUp,
-        LineCommand::Auto(on) => Work::Auto(on),
-        LineCommand::SetChunk { id, hex } => Work::Set(Setting::Chunk(id, hex)),
-        LineCommand::SetString { key, text } => Work::Set(Setting::Text(key, text)),
-        LineCommand::SetBext { key, text } => Work::Set(Setting::Field(key, text)),
-        LineCommand::SetCue(_) => unreachable!(),
-        LineCommand::GetChunk(id) => Work::Ask(Asking::Chunk(id)),
-        LineCommand::GetChunks => Work::Ask(Asking::Chunks),
-        LineCommand::GetStrings => Work::Ask(Asking::Texts),
-        LineCommand::GetBext => Work::Ask(Asking::Broadcast),
-        LineCommand::GetCues => Work::Ask(Asking::Points),
-        LineCommand::Tap(kind) => Work::Tap(kind),
-        LineCommand::Untap(kind) => Work::Untap(kind),
+        Command::Close => Work::Close,
+        Command::Info => Work::Tell,
+        Command::SeekRead(to) => Work::SeekRead(to),
+        Command::SeekWrite(to) => Work::SeekWrite(to),
+        Command::SeekBoth(to) => Work::SeekBoth(to),
+        Command::Read(count) => Work::Read(count),
+        Command::Write(_) => unreachable!(),
+        Command::Truncate(to) => Work::Truncate(to),
+        Command::Trim => Work::Trim,
+        Command::Update => Work::BringUp,
+        Command::Auto(on) => Work::Auto(on),
+        Command::SetChunk { id, hex } => Work::Set(Setting::Chunk(id, hex)),
+        Command::SetString { key, text } => Work::Set(Setting::Text(key, text)),
+        Command::SetBext { key, text } => Work::Set(Setting::Field(key, text)),
+        Command::SetCue(_) => unreachable!(),
+        Command::GetChunk(id) => Work::Ask(Asking::Chunk(id)),
+        Command::GetChunks => Work::Ask(Asking::Chunks),
+        Command::GetStrings => Work::Ask(Asking::Texts),
+        Command::GetBext => Work::Ask(Asking::Broadcast),
+        Command::GetCues => Work::Ask(Asking::Points),
+        Command::Tap(kind) => Work::Tap(kind),
+        Command::Untap(kind) => Work::Untap(kind),
     }
 }

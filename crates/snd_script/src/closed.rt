@@ -3,7 +3,7 @@
 ghost use Rattle.std.specs.Prelude.{◌≡◌, ◌≤◌, List, ℕ, Some, false, true, OnOk};
 ghost use Rattle.snd_command.specs.Forms.{is_name};
 ghost use Rattle.snd_command.specs.Line.{command_of};
-ghost use Rattle.snd_command.specs.Said.{line_said};
+ghost use Rattle.snd_command.specs.Said.{said_of};
 ghost use Rattle.snd_layout.specs.Params.{params_of};
 ghost use Rattle.snd_rules.specs.Desk.{closed_desk};
 ghost use Rattle.snd_rules.specs.Edit.{edit_closed, edit_line};
@@ -21,7 +21,7 @@ use crate::opening::serve_disk;
 use crate::reader::Line;
 use crate::run::Run;
 use crate::stop::Stop;
-use snd_command::LineCommand;
+use snd_command::Command;
 use snd_container::fit;
 use snd_disk::{Shelf, ShelfFault, Sink, Source};
 use snd_layout::{Codec, Kind, OpenRefusal, Params};
@@ -96,23 +96,23 @@ fn params_for(kind: Kind, codec: Codec, channels: u64, rate: u64) -> Result<Para
 // One command while no file is open. A file that it opens is served up to its close.
 fn closed_command<S: Shelf, R: Source, O: Sink>(
     alloc: Global,
-    said: LineCommand<'_, '_>,
+    said: Command<'_>,
     shelf: &mut S,
     script: &mut R,
     out: &mut O,
     run: &mut Run,
 ) -> Result<(), Stop>
     requires back { (n : List ℕ) → (S.state shelf.old).out n ≡ false }
-    requires named { (name : List ℕ) → name_of (line_said said) ≡ Some name → is_name name ≡ true }
-    ensures served { ServesLine (λ b. meter b) S.state R.left O.told (λ store. edit_closed store (line_said said.entry)) result shelf.old run.old script.old out.old shelf.new run.new script.new out.new }
+    requires named { (name : List ℕ) → name_of (said_of said) ≡ Some name → is_name name ≡ true }
+    ensures served { ServesLine (λ b. meter b) S.state R.left O.told (λ store. edit_closed store (said_of said.entry)) result shelf.old run.old script.old out.old shelf.new run.new script.new out.new }
     ensures fewer { OnOk result (run.new.lines.room ≤ run.old.lines.room) }
     ensures given { TakesLines R.given run.old script.old run.new script.new }
     ensures counted { CountsRun S.state R.faults O.faults result shelf.old script.old out.old shelf.new script.new out.new }
     ensures shelf { LeavesShelf S.state S.left_between shelf.old shelf.new }
-    ensures asked { UsesOn (λ s. (S.state s).asked) R.left result asked_by (asked_by (line_said said.entry)) shelf.old run.old script.old shelf.new run.new script.new }
-    ensures written { UsesOn (λ s. (S.state s).written) R.left result written_by (written_by (line_said said.entry)) shelf.old run.old script.old shelf.new run.new script.new }
+    ensures asked { UsesOn (λ s. (S.state s).asked) R.left result asked_by (asked_by (said_of said.entry)) shelf.old run.old script.old shelf.new run.new script.new }
+    ensures written { UsesOn (λ s. (S.state s).written) R.left result written_by (written_by (said_of said.entry)) shelf.old run.old script.old shelf.new run.new script.new }
     ensures tail { LeavesLines R.left result run.old script.old run.new script.new }
-    ensures images { KeepsUnless S.Shelf (writes_name (line_said said.entry)) shelf.old shelf.new }
+    ensures images { KeepsUnless S.Shelf (writes_name (said_of said.entry)) shelf.old shelf.new }
 {
     match work_of(said) {
         Work::Open(name) => serve_name(alloc, name, &OpenAs::Read, shelf, script, out, run),

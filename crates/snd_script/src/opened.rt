@@ -2,7 +2,7 @@
 
 ghost use Rattle.std.specs.Prelude.{◌≡◌, ◌≤◌, List, ℕ, None, Ok, OnOk, false, true};
 ghost use Rattle.snd_command.specs.Line.{command_of};
-ghost use Rattle.snd_command.specs.Said.{line_said};
+ghost use Rattle.snd_command.specs.Said.{said_of};
 ghost use Rattle.snd_rules.specs.Desk.{updating};
 ghost use Rattle.snd_session.specs.Handled.{handle_known, IsSmall, LeavesHandle, mode_of};
 ghost use Rattle.snd_script.specs.Kept.{LeavesLines};
@@ -17,7 +17,7 @@ ghost use Rattle.snd_script.specs.Serving.{AnswersOpen, CountsHandle, CountsLine
 use crate::reader::Line;
 use crate::run::Run;
 use crate::stop::{Next, Stop};
-use snd_command::LineCommand;
+use snd_command::Command;
 use snd_disk::{Disk, Sink, Source};
 use snd_rules::{held_refusal, line_refusal};
 use snd_session::Handle;
@@ -25,7 +25,7 @@ use snd_taps::Tap;
 
 // One command on an open file. Closing is left to the caller.
 fn open_command<'d, D: Disk, O: Sink>(
-    said: LineCommand<'_, '_>,
+    said: Command<'_>,
     handle: &mut Handle<'d, D>,
     stays: bool,
     out: &mut O,
@@ -34,14 +34,14 @@ fn open_command<'d, D: Disk, O: Sink>(
     requires working { (handle_known handle.old).broken ≡ None }
     requires updated { stays ≡ true → mode_of handle.old ≡ updating }
     requires small { IsSmall handle.old }
-    ensures answered { (name : List ℕ) → AnswersOpen (λ b. meter b) D.state O.told name stays (edit_open_said (line_said said.entry)) result handle.old run.old out.old handle.new run.new out.new }
+    ensures answered { (name : List ℕ) → AnswersOpen (λ b. meter b) D.state O.told name stays (edit_open_said (said_of said.entry)) result handle.old run.old out.old handle.new run.new out.new }
     ensures lines { run.new.lines ≡ run.old.lines }
     ensures whole { IsWhole result (handle_known handle.new).broken }
     ensures counted { CountsLine D.state O.faults result handle.old out.old handle.new out.new }
     ensures leaves { LeavesHandle D.state D.may_leave D.left_between handle.old handle.new }
-    ensures moves { CommandMoves D.Disk (taps_of (λ b. meter b) run.old) stays (line_said said.entry) result handle.old handle.new }
-    ensures asked { CommandAsks D.Disk stays result (line_said said.entry) handle.old handle.new }
-    ensures written { CommandWrites D.Disk stays result (line_said said.entry) handle.old handle.new }
+    ensures moves { CommandMoves D.Disk (taps_of (λ b. meter b) run.old) stays (said_of said.entry) result handle.old handle.new }
+    ensures asked { CommandAsks D.Disk stays result (said_of said.entry) handle.old handle.new }
+    ensures written { CommandWrites D.Disk stays result (said_of said.entry) handle.old handle.new }
     ensures closes { result ≡ Ok next.Close → stays ≡ false }
 {
     if let Some(refusal) = held_refusal(stays, said) {
@@ -122,8 +122,8 @@ pub fn serve_open<'d, D: Disk, R: Source, O: Sink>(
 }
 
 // Whether a command closes the file.
-fn is_close(said: LineCommand<'_, '_>) -> bool
-    ensures { result ≡ is_close (line_said said.entry) }
+fn is_close(said: Command<'_>) -> bool
+    ensures { result ≡ is_close (said_of said.entry) }
 {
-    matches!(said, LineCommand::Close)
+    matches!(said, Command::Close)
 }

@@ -17,7 +17,7 @@ use crate::opened::serve_open;
 use crate::opening::{not_opened, reply_opened};
 use crate::run::Run;
 use crate::stop::Stop;
-use snd_command::LineCommand;
+use snd_command::Command;
 use snd_disk::{Disk, Shelf, ShelfFault, Sink, Source};
 use snd_lines::Refusal;
 use snd_session::Handle;
@@ -48,7 +48,7 @@ fn serve_pinned_open<'d, D: Disk, R: Source, O: Sink>(
     if let Err(stop) = reply_opened(handle, out) {
         return stop;
     }
-    if let Err(stop) = run.step(handle, LineCommand::Auto(true), out) {
+    if let Err(stop) = run.step(handle, Command::Auto(true), out) {
         return stop;
     }
     if run.refused {

@@ -2,13 +2,13 @@
 
 ghost use Rattle.std.specs.Prelude.{◌≡◌, ◌+◌, ◌-◌, ◌<◌, ◌≤◌, ◌==◌, ◌↔◌, ◌++◌, ◌∷◌, List, ℕ, [], true, false, Some, IfOk, OnOk, OnErr, length, take, drop, IsTrue};
 ghost use Rattle.std.specs.List.{position};
-ghost use Rattle.snd_command.specs.Line.{command_of, line_answer};
+ghost use Rattle.snd_command.specs.Line.{command_of, answer_of};
 ghost use Rattle.snd_disk.specs.State.{Counts};
 ghost use Rattle.snd_script.specs.Lines.{Reading, Moves, most_kept, to_take, GivesBytes, IsAtEnd, ReadsOn, TakesUp, IsPrompt, StopsShort};
 ghost use Rattle.snd_rules.specs.Script.{is_feed};
 
 use arrayvec::ArrayVec;
-use snd_command::{LineCommand, NumberRoom, ScriptRefusal, read_line};
+use snd_command::{Command, NumberRoom, ScriptRefusal, parse_line};
 use snd_disk::{Failed, Source};
 use std::marker::Model;
 
@@ -66,10 +66,10 @@ impl Line {
     }
 
     /// What it says.
-    pub fn says(&mut self) -> Result<Option<LineCommand<'_, '_>>, ScriptRefusal>
-        ensures { line_answer result ≡ command_of self.old }
+    pub fn says(&mut self) -> Result<Option<Command<'_>>, ScriptRefusal>
+        ensures { answer_of result ≡ command_of self.old }
     {
-        read_line(&self.bytes, &mut self.numbers)
+        parse_line(&self.bytes, &mut self.numbers)
     }
 }
 

@@ -2,7 +2,7 @@
 
 ghost use Rattle.std.specs.Prelude.{◌≡◌, ◌<◌, ◌≤◌, Bool, List, ℕ, false, None, OnOk};
 ghost use Rattle.snd_rules.specs.Rules.{is_close, most_on};
-ghost use Rattle.snd_command.specs.Said.{line_said};
+ghost use Rattle.snd_command.specs.Said.{said_of};
 ghost use Rattle.snd_session.specs.Handled.{handle_known, mode_of, HandleAsks, HandleWrites, IsSmall, LeavesHandle};
 ghost use Rattle.snd_rules.specs.Replies.{refuses};
 ghost use Rattle.snd_rules.specs.Script.{asked_by, written_on};
@@ -12,7 +12,7 @@ ghost use Rattle.snd_script.specs.Serving.{IsScriptCounted, IsSinkCounted, IsWho
 
 use crate::reader::{Line, NextLine, ScriptLines};
 use crate::stop::Stop;
-use snd_command::LineCommand;
+use snd_command::Command;
 use snd_disk::{Disk, Sink, Source};
 use snd_lines::Refusal;
 use snd_rules::{Reply, StepFault, put_refusal};
@@ -64,20 +64,20 @@ impl Run {
     pub fn step<'d, D: Disk, O: Sink>(
         &mut self,
         handle: &mut Handle<'d, D>,
-        said: LineCommand<'_, '_>,
+        said: Command<'_>,
         out: &mut O,
     ) -> Result<(), Stop>
         requires whole { (handle_known handle.old).broken ≡ None }
-        requires step { is_close (line_said said) ≡ false }
+        requires step { is_close (said_of said) ≡ false }
         requires small { IsSmall handle.old }
-        ensures answered { (name : List ℕ) (stays : Bool) → AnswersStep (λ b. meter b) D.state O.told name stays (line_said said.entry) result handle.old self.old out.old handle.new self.new out.new }
+        ensures answered { (name : List ℕ) (stays : Bool) → AnswersStep (λ b. meter b) D.state O.told name stays (said_of said.entry) result handle.old self.old out.old handle.new self.new out.new }
         ensures lines { self.new.lines ≡ self.old.lines }
         ensures whole { IsWhole result (handle_known handle.new).broken }
         ensures counted { CountsLine D.state O.faults result handle.old out.old handle.new out.new }
         ensures leaves { LeavesHandle D.state D.may_leave D.left_between handle.old handle.new }
-        ensures moves { StepMoves D.Disk (taps_of (λ b. meter b) self.old) (line_said said.entry) result handle.old handle.new }
-        ensures asked { HandleAsks D.state (most_on (mode_of handle.old) asked_by (line_said said.entry)) handle.old handle.new }
-        ensures written { HandleWrites D.state (written_on (mode_of handle.old) (line_said said.entry)) handle.old handle.new }
+        ensures moves { StepMoves D.Disk (taps_of (λ b. meter b) self.old) (said_of said.entry) result handle.old handle.new }
+        ensures asked { HandleAsks D.state (most_on (mode_of handle.old) asked_by (said_of said.entry)) handle.old handle.new }
+        ensures written { HandleWrites D.state (written_on (mode_of handle.old) (said_of said.entry)) handle.old handle.new }
     {
         match self.session.carry_out(handle, said, out) {
             Ok(Reply::Ok) => Ok(()),

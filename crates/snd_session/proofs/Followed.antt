@@ -1,15 +1,17 @@
 -- A rule is followed on an open file, by what became of the call and of its reply.
-use Rattle.std.proofs.Common.{◌≡◌, ℕ, List, Bool, true, false, ◌&&◌, Option, None, Some, Result, Ok, Err, inl, refl, sym, ap, ◌∙◌, subst, arith, rules}
-use Rattle.std.specs.Prelude.{IfErr, IsErrOf, is_none, is_some}
-use Rattle.std.proofs.lemmas.Bool.{and_parts}
+use Rattle.std.proofs.Common.{◌≡◌, ℕ, List, Bool, true, false, ◌==◌, ◌&&◌, ◌||◌, Option, None, Some, Result, Ok, Err, inl, inr, refl, sym, ap, ◌∙◌, subst, arith, rules}
+use Rattle.std.specs.Prelude.{All, IfErr, IsErrOf, is_none, is_some}
+use Rattle.std.proofs.lemmas.Bool.{and_parts, cases_Bool, cases_eq, ne_eqb}
 use Rattle.snd_disk.specs.Device.{AsksAtMost, GoesOnFrom, OnlyReadsOn, WritesAtMost}
 use Rattle.snd_disk.specs.State.{State}
 use Rattle.snd_disk.specs.declared.disk.Disk.{Ghosts}
+use Rattle.snd_fields.specs.Laws.{IsByte}
 use Rattle.snd_layout.specs.Shape.{Shape}
 use Rattle.snd_disk.specs.declared.disk.Step.{Step}
 use Rattle.snd_disk.specs.declared.streams.Sink.{Ghosts as SinkMeaning}
 use Rattle.snd_edits.specs.Editing.{Editing}
 use Rattle.snd_edits.specs.Known.{Known}
+use Rattle.snd_edits.specs.Laws.{IsStateOf}
 use Rattle.snd_file.specs.Handle.{Stands, disk_of, known_of, loan_of}
 use Rattle.snd_file.specs.Rest.{IsAtRest}
 use Rattle.snd_edits.specs.Safe.{IsSafe}
@@ -21,7 +23,8 @@ use Rattle.snd_rules.specs.Edit.{edit_by, edit_unless}
 use Rattle.snd_rules.specs.Rules.{FileEdited, Grounds, Rule, grounds_of, known_grounds}
 use Rattle.snd_rules.specs.Replies.{Answer, says, refuses}
 use Rattle.snd_rules.specs.Stepped.{IsAutomatic, IsBrokenAt, IsKnown, IsSaid, IsSilent, IsStepCause, Knows, LeavesFile, RepliesBy, RepliesUnless, Rose, changes_by, refusal_by, reply_of, IsSent}
-use Rattle.snd_session.specs.Follows.{Follows}
+use Rattle.snd_session.specs.Follows.{Follows, switches_on}
+use Rattle.snd_session.specs.Replied.{SaysKnown, known_editing}
 use Rattle.snd_rules.specs.declared.reply.Reply.{Reply}
 use Rattle.snd_rules.specs.declared.reply.Reply.TheVariants as reply
 use Rattle.snd_rules.specs.declared.reply.StepFault.{StepFault}
@@ -61,6 +64,14 @@ sent_knows (Err Out) o o' rule old new answer t t' sent said replies = (reply_of
 sent_knows (Err Disk) o o' rule old new answer t t' sent said replies = absurd sent
 sent_knows (Err Memory) o o' rule old new answer t t' sent said replies = absurd sent
 
+-- ---- updates that become automatic are so then
+
+pub switched : (rule : Rule) (h : Known) → switches_on rule h ≡ true → IsAutomatic rule h
+switched rule h on = elim (cases_Bool h.automatic) [
+  | inl is ↦ inl is
+  | inr off ↦ inr (subst (λ (a : Bool). (rule.known (record h { automatic = a })).automatic ≡ true) (sym off) on)
+]
+
 -- ---- the grounds of a file are those of the state for which it stands
 
 abbrev grounds : Shape → ℕ → Bool → Bool → Grounds
@@ -72,6 +83,14 @@ grounds_from s s' p p' a a' w w' shape place automatic written =
 
 pub same_grounds : {D M : Type 0} {ghosts : Ghosts D} {mode : ModeGhosts M} (state : D → State) (file : File D M ghosts mode) (e : Editing) → Stands state file e → known_grounds (known_of file) ≡ grounds_of e
 same_grounds state file e stands = grounds_from _ _ _ _ _ _ _ _ stands.shape stands.write_place stands.automatic stands.written
+
+-- ---- what is answered where no content decides it
+
+asks_nothing : (n : ℕ) (why : Option Refusal) → ((n == 0) || is_some why) ≡ true → why ≡ None → n ≡ 0
+asks_nothing n why decided free = elim (cases_eq n 0) [
+  | inl is ↦ is
+  | inr some ↦ absurd (let no : ((n == 0) || is_some why) ≡ false = ap (λ (w : Option Refusal). (n == 0) || is_some w) free ∙ ap (λ (b : Bool). b || false) (ne_eqb n 0 some) in cc)
+]
 
 -- ---- whole rules
 
@@ -90,18 +109,37 @@ module _ {D M O : Type 0} {mode : ModeGhosts M} (d : Ghosts D) (o : SinkMeaning 
   abbrev pub RestsDone : Type 0
   RestsDone = IsAutomatic rule (known_of old) → (opened : List ℕ) (e : Editing) → IsAtRest d opened old e → IsAtRest d opened new (rule.done e).editing
 
+  -- where updates become automatic, the file is at rest then, whatever a crash could leave before
+  abbrev pub BeginsDone : Type 0
+  BeginsDone = switches_on rule (known_of old) ≡ true → (opened : List ℕ) (e : Editing) → IsStateOf mode.ENCODES opened e → All IsByte e.bytes → Stands d.state old e → IsAtRest d opened new (rule.done e).editing
+
+  -- what is said is what would be said of a file of which this is known
+  abbrev pub SaysAsKnown : Type 0
+  SaysAsKnown = SaysKnown rule r (known_of old) (o.told out) (o.told out')
+
+  pub replied : (answer : Answer) (why : Option Refusal) → refusal_by rule (known_of old) ≡ why → (edit_unless why (rule.done (known_editing (known_of old))) (known_editing (known_of old))).answer ≡ answer
+      → IsSaid r answer (o.told out) (o.told out') → IsSaid r (edit_by rule (known_editing (known_of old))).answer (o.told out) (o.told out')
+  replied answer why by is said = subst (λ (a : Answer). IsSaid r a (o.told out) (o.told out'))
+      (sym (ap (λ (w : Option Refusal). (edit_unless w (rule.done (known_editing (known_of old))) (known_editing (known_of old))).answer) by ∙ is)) said
+
+  -- a command that is not refused asks something of the disk, or its answer is told
+  pub replied_free : refusal_by rule (known_of old) ≡ None → (rule.asked ≡ 0 → IsSaid r (rule.done (known_editing (known_of old))).answer (o.told out) (o.told out')) → SaysAsKnown
+  replied_free free plain decided = replied (rule.done (known_editing (known_of old))).answer None free refl (plain (asks_nothing rule.asked (refusal_by rule (known_of old)) decided free))
+
   -- a command that was carried out, and that says a text
   pub carried_out : (text : List ℕ) → loan_of new ≡ loan_of old → refusal_by rule (known_of old) ≡ None → IsSent r (o.faults out) (o.faults out') → IsSaid r (says text) (o.told out) (o.told out')
-      → ((e : Editing) → Stands d.state old e → (rule.done e).answer ≡ says text) → ((e : Editing) → Stands d.state old e → Stands d.state new (rule.done e).editing)
+      → ((e : Editing) → Stands d.state old e → (rule.done e).answer ≡ says text) → (rule.asked ≡ 0 → (rule.done (known_editing (known_of old))).answer ≡ says text)
+      → ((e : Editing) → Stands d.state old e → Stands d.state new (rule.done e).editing)
       → IsKnown rule.puts (rule.known (known_of old)) (known_of old) (known_of new) → (d.state (disk_of new)).faults ≡ (d.state (disk_of old)).faults
       → StillTells (d.state (disk_of old)) (d.state (disk_of new)) → GoesOnFrom d.state d.left_between (disk_of old) (disk_of new)
       → (rule.changes ≡ false → OnlyReadsOn d.state d.may_leave d.left_between (disk_of old) (disk_of new))
-      → (rule.changes ≡ true → LeavesDone) → (rule.changes ≡ true → RestsDone)
+      → (rule.changes ≡ true → LeavesDone) → (rule.changes ≡ true → RestsDone) → (rule.changes ≡ true → BeginsDone)
       → AsksAtMost d.state rule.asked (disk_of old) (disk_of new) → WritesAtMost d.state (rule.written (known_of old).shape.params) (disk_of old) (disk_of new) → Follows d o rule r old out new out'
-  carried_out text loan free sent said answer stands known calm tells time reads leaves rests asked written = record {
+  carried_out text loan free sent said answer plain stands known calm tells time reads leaves rests begins asked written = record {
     loan = loan;
     stands = λ e here. subst (λ (x : FileEdited). LeavesFile r x e (Stands d.state new)) (edited_on None free e here) (sent_stands r _ _ (rule.done e) e _ sent (stands e here));
     said = λ e here. subst (λ (x : FileEdited). IsSaid r x.answer (o.told out) (o.told out')) (edited_on None free e here) (subst (λ (a : Answer). IsSaid r a (o.told out) (o.told out')) (sym (answer e here)) said);
+    replies = replied_free free (λ none. subst (λ (a : Answer). IsSaid r a (o.told out) (o.told out')) (sym (plain none)) said);
     silent = sent_silent r _ _ _ _ sent;
     cause = sent_cause r _ _ _ _ sent calm;
     memory = sent_memory r _ _ _ sent;
@@ -114,6 +152,8 @@ module _ {D M O : Type 0} {mode : ModeGhosts M} (d : Ghosts D) (o : SinkMeaning 
         (leaves (and_parts rule.changes _ changes).0 on opened e rest);
     rests = λ changes on opened e rest. subst (λ (x : FileEdited). LeavesFile r x e (IsAtRest d opened new)) (edited_on None free e rest.stands)
         (sent_stands r _ _ (rule.done e) e _ sent (rests (and_parts rule.changes _ changes).0 on opened e rest));
+    begins = λ changes on opened e of bytes here. subst (λ (x : FileEdited). LeavesFile r x e (IsAtRest d opened new)) (edited_on None free e here)
+        (sent_stands r _ _ (rule.done e) e _ sent (begins (and_parts rule.changes _ changes).0 on opened e of bytes here));
     asked = asked;
     written = written;
   }
@@ -129,6 +169,7 @@ module _ {D M O : Type 0} {mode : ModeGhosts M} (d : Ghosts D) (o : SinkMeaning 
     loan = loan;
     stands = λ e here. subst (λ (x : FileEdited). LeavesFile r x e (Stands d.state new)) (edited_on (Some refusal) why e here) (sent_stands r _ _ _ e _ sent (stands e here));
     said = λ e here. subst (λ (x : FileEdited). IsSaid r x.answer (o.told out) (o.told out')) (edited_on (Some refusal) why e here) said;
+    replies = λ decided. replied (refuses refusal) (Some refusal) why refl said;
     silent = sent_silent r _ _ _ _ sent;
     cause = sent_cause r _ _ _ _ sent (ap (λ x. (d.state x).faults) disk);
     memory = sent_memory r _ _ _ sent;
@@ -139,6 +180,7 @@ module _ {D M O : Type 0} {mode : ModeGhosts M} (d : Ghosts D) (o : SinkMeaning 
     reads = λ same. subst (λ (x : D). OnlyReadsOn d.state d.may_leave d.left_between (disk_of old) x) (sym disk) (search rules);
     leaves = λ changes. absurd (let none = unchanged in cc);
     rests = λ changes. absurd (let none = unchanged in cc);
+    begins = λ changes. absurd (let none = unchanged in cc);
     asked = subst (λ (x : D). AsksAtMost d.state rule.asked (disk_of old) x) (sym disk) (record { later = omega arith; most = omega arith });
     written = subst (λ (x : D). WritesAtMost d.state (rule.written (known_of old).shape.params) (disk_of old) x) (sym disk) (record { later = omega arith; most = omega arith });
   }
@@ -161,6 +203,7 @@ failed d o rule old out new loan free changes rose broken tells time leaves aske
   loan = loan;
   stands = λ e here. tt;
   said = λ e here. refl;
+  replies = λ decided. refl;
   silent = refl;
   cause = (rose, refl);
   memory = λ is. absurd (cc);
@@ -170,6 +213,7 @@ failed d o rule old out new loan free changes rose broken tells time leaves aske
   reads = λ same. absurd (let all : changes_by rule (known_of old) ≡ true = simp (changes, free) in cc);
   leaves = λ changes on opened e rest. subst (λ (x : FileEdited). LeavesEach d (disk_of old) (disk_of new) (IsSafe e x.editing)) (edited_on d o rule (Err Disk) old out new out None free e rest.stands) (leaves on opened e rest);
   rests = λ changes on opened e rest. tt;
+  begins = λ changes on opened e of bytes here. tt;
   asked = asked;
   written = written;
 }

@@ -38,7 +38,7 @@ use Rattle.snd_rules.specs.declared.reply.StepFault.{StepFault}
 use Rattle.snd_rules.specs.declared.reply.StepFault.TheVariants.{Disk, Memory}
 use Rattle.snd_lines.specs.declared.refusal.Refusal.{Refusal}
 use Rattle.snd_lines.specs.declared.refusal.Refusal.TheVariants.{AutoOn, BadCommand, ChunkTooLarge, FramesWritten, NoChunks, Open, ReservedChunk, TextTooLong}
-use Rattle.snd_session.proofs.Followed.{carried_out, edited_on, refused_on, sent_cause, sent_knows, sent_memory, sent_silent, sent_stands}
+use Rattle.snd_session.proofs.Followed.{carried_out, edited_on, refused_on, replied, replied_free, sent_cause, sent_knows, sent_memory, sent_silent, sent_stands, switched}
 use Rattle.snd_session.proofs.Refused.{is_refused, not_refused}
 
 -- ---- a call that changes nothing but counts
@@ -80,6 +80,7 @@ module _ {D M O : Type 0} {mode : ModeGhosts M} (d : Ghosts D) (o : SinkMeaning 
     loan = same.loan;
     stands = same.stands;
     said = λ e here. refl;
+    replies = λ decided. refl;
     silent = refl;
     cause = (same.calm, refl);
     memory = λ is. takes;
@@ -89,6 +90,7 @@ module _ {D M O : Type 0} {mode : ModeGhosts M} (d : Ghosts D) (o : SinkMeaning 
     reads = λ plain. same.reads;
     leaves = λ changes on. absurd (by_hand changes on);
     rests = λ changes on. absurd (by_hand changes on);
+    begins = λ changes on. absurd (by_hand changes (switched rule (known_of old) on));
     asked = same.asked;
     written = same.written;
   }
@@ -103,6 +105,7 @@ module _ {D M O : Type 0} {mode : ModeGhosts M} (d : Ghosts D) (o : SinkMeaning 
     loan = loan;
     stands = λ e here. tt;
     said = λ e here. refl;
+    replies = λ decided. refl;
     silent = refl;
     cause = (rose, refl);
     memory = λ is. absurd (cc);
@@ -112,6 +115,7 @@ module _ {D M O : Type 0} {mode : ModeGhosts M} (d : Ghosts D) (o : SinkMeaning 
     reads = reads;
     leaves = λ changes on. absurd (by_hand changes on);
     rests = λ changes on. absurd (by_hand changes on);
+    begins = λ changes on. absurd (by_hand changes (switched rule (known_of old) on));
     asked = asked;
     written = written;
   }
@@ -128,6 +132,7 @@ module _ {D M O : Type 0} {mode : ModeGhosts M} (d : Ghosts D) (o : SinkMeaning 
     loan = same.loan;
     stands = λ e here. subst (λ (x : FileEdited). LeavesFile r x e (Stands d.state new)) (edited_on d o rule r old out new out' (Some refusal) why e here) (sent_stands r _ _ _ e _ sends.sent (same.stands e here));
     said = λ e here. subst (λ (x : FileEdited). IsSaid r x.answer (o.told out) (o.told out')) (edited_on d o rule r old out new out' (Some refusal) why e here) sends.said;
+    replies = λ decided. replied d o rule r old out new out' (refuses refusal) (Some refusal) why refl sends.said;
     silent = sent_silent r _ _ _ _ sends.sent;
     cause = sent_cause r _ _ _ _ sends.sent same.calm;
     memory = sent_memory r _ _ _ sends.sent;
@@ -138,6 +143,7 @@ module _ {D M O : Type 0} {mode : ModeGhosts M} (d : Ghosts D) (o : SinkMeaning 
     reads = λ plain. same.reads;
     leaves = λ changes. absurd (let none = unchanged in cc);
     rests = λ changes. absurd (let none = unchanged in cc);
+    begins = λ changes. absurd (let none = unchanged in cc);
     asked = same.asked;
     written = same.written;
   }
@@ -147,12 +153,13 @@ module _ {D M O : Type 0} {mode : ModeGhosts M} (d : Ghosts D) (o : SinkMeaning 
 
   -- .. and as the disk alone has it
   pub found_out : (refusal : Refusal) → IsAsBefore d rule.asked (rule.written (known_of old).shape.params) old new → refusal_by rule (known_of old) ≡ None → rule.finds (known_grounds (known_of old)) refusal ≡ true → IsByHand d o rule old out new
-      → ((e : Editing) → Stands d.state old e → rule.done e ≡ answered (refuses refusal) e) → Sends o (refuses refusal) r out out' → Follows d o rule r old out new out'
-  found_out refusal same free finds by_hand done sends = record {
+      → ((e : Editing) → Stands d.state old e → rule.done e ≡ answered (refuses refusal) e) → (rule.asked ≡ 0 → ⊥) → Sends o (refuses refusal) r out out' → Follows d o rule r old out new out'
+  found_out refusal same free finds by_hand done asks sends = record {
     loan = same.loan;
     stands = λ e here. subst (λ (x : FileEdited). LeavesFile r x e (Stands d.state new)) (sym (done e here) ∙ edited_on d o rule r old out new out' None free e here)
         (sent_stands r _ _ (answered (refuses refusal) e) e _ sends.sent (same.stands e here));
     said = λ e here. subst (λ (x : FileEdited). IsSaid r x.answer (o.told out) (o.told out')) (sym (done e here) ∙ edited_on d o rule r old out new out' None free e here) sends.said;
+    replies = replied_free d o rule r old out new out' free (λ none. absurd (asks none));
     silent = sent_silent r _ _ _ _ sends.sent;
     cause = sent_cause r _ _ _ _ sends.sent same.calm;
     memory = sent_memory r _ _ _ sends.sent;
@@ -163,6 +170,7 @@ module _ {D M O : Type 0} {mode : ModeGhosts M} (d : Ghosts D) (o : SinkMeaning 
     reads = λ plain. same.reads;
     leaves = λ changes on. absurd (by_hand changes on);
     rests = λ changes on. absurd (by_hand changes on);
+    begins = λ changes on. absurd (by_hand changes (switched rule (known_of old) on));
     asked = same.asked;
     written = same.written;
   }
@@ -275,6 +283,9 @@ module _ {D M O : Type 0} {mode : ModeGhosts M} (d : Ghosts D) (o : SinkMeaning 
     written = was.written;
   }
 
+  asks : rule.asked ≡ 0 → ⊥
+  asks none = let e : 16777216 ≡ 0 = none in omega (arith, e)
+
   put_fault : (T : Type 0) (step : Step) → WasSet {T = T} d o id body (Err (set_error.Put (piece_error.DiskFault step))) r old out new out' → refusal (known_grounds k) ≡ draft_refusal (known_grounds k) → Follows d o rule (Err Disk) old out new out
   put_fault T step was why =
       faulted d o rule old out new was.loan (record { later = was.faults.0; rises = was.faults.1 }) (step, was.left.1.1) was.tells was.time
@@ -287,9 +298,10 @@ module _ {D M O : Type 0} {mode : ModeGhosts M} (d : Ghosts D) (o : SinkMeaning 
   put_done done was why =
       carried_out d o rule r old out new out' done_line was.loan (why ∙ draft_free k may.untouched may.held) was.said.sent was.said.said
       (λ e here. ap (λ (x : FileEdited). x.answer) (edited e here))
+      (λ none. absurd (asks none))
       (λ e here. subst (λ (x : FileEdited). Stands d.state new x.editing) (sym (edited e here)) (was.sets e here).1)
       (was.left.0, was.left.1.1) was.faults was.tells was.time (λ same. absurd (cc))
-      (λ changes on. absurd (off k.automatic may.untouched.by_hand on)) (λ changes on. absurd (off k.automatic may.untouched.by_hand on)) was.asked was.written
+      (λ changes on. absurd (off k.automatic may.untouched.by_hand on)) (λ changes on. absurd (off k.automatic may.untouched.by_hand on)) (λ changes on. absurd (cc)) was.asked was.written
     where
       may : MayPut (to_replace id was.left.0 k) k
       may = was.left.1.0
@@ -310,10 +322,10 @@ module _ {D M O : Type 0} {mode : ModeGhosts M} (d : Ghosts D) (o : SinkMeaning 
       refused_reading d o rule r old out new out' NoChunks (as_before _ was was.left.1.1 (λ e here. (was.sets e here).1) was.faults was.puts) (why ∙ draft_none k was.left.1.0.0 was.left.1.0.2) was.said
   follows_drafting (Err (set_error.Put piece_error.ChunkTooLarge)) was why =
       found_out d o rule r old out new out' ChunkTooLarge (as_before _ was was.left.1.1 (λ e here. (was.sets e here).1) was.faults was.puts) (why ∙ draft_free k was.left.1.0.0 was.left.1.0.2) refl (by_hand why)
-      (λ e here. edit_large id (body e) e (was.sets e here).0.0.3) was.said
+      (λ e here. edit_large id (body e) e (was.sets e here).0.0.3) asks was.said
   follows_drafting (Err (set_error.Put piece_error.TooManyChunks)) was why =
       found_out d o rule r old out new out' (Open TooManyChunks) (as_before _ was was.left.1.1 (λ e here. (was.sets e here).1) was.faults was.puts) (why ∙ draft_free k was.left.1.0.0 was.left.1.0.2) refl (by_hand why)
-      (λ e here. edit_full id (body e) k e here.shape (was.sets e here).0.0.3 (was.sets e here).0.0.4) was.said
+      (λ e here. edit_full id (body e) k e here.shape (was.sets e here).0.0.3 (was.sets e here).0.0.4) asks was.said
   follows_drafting (Err (set_error.Put piece_error.ContainerFull)) was why = absurd was.left.1.0
   follows_drafting (Err (set_error.Put (piece_error.Broken step))) was why = absurd was.said
   follows_drafting {T} (Err (set_error.Put (piece_error.DiskFault step))) was why = silently d o rule r old out new out' Disk was.said (put_fault T step was why)
@@ -390,9 +402,9 @@ module _ {D M O : Type 0} {mode : ModeGhosts M} (d : Ghosts D) (o : SinkMeaning 
 
   add_done : {T : Type 0} (done : T) → WasAdded d o id body (Ok done) r old out new out' → Follows d o adds r old out new out'
   add_done done was =
-      carried_out d o adds r old out new out' done_line was.loan (add_free id body known was.left.0) was.said.sent was.said.said (λ e here. refl) was.stands
+      carried_out d o adds r old out new out' done_line was.loan (add_free id body known was.left.0) was.said.sent was.said.said (λ e here. refl) (λ none. refl) was.stands
       was.left.1 was.faults was.tells was.time (λ same. absurd (cc))
-      (λ changes on. absurd (off known.automatic was.left.0.untouched.by_hand on)) (λ changes on. absurd (off known.automatic was.left.0.untouched.by_hand on)) (asks_none was.asked) was.written
+      (λ changes on. absurd (off known.automatic was.left.0.untouched.by_hand on)) (λ changes on. absurd (off known.automatic was.left.0.untouched.by_hand on)) (λ changes on. absurd (cc)) (asks_none was.asked) was.written
 
   add_fault : (T : Type 0) (step : Step) → WasAdded {T = T} d o id body (Err (piece_error.DiskFault step)) r old out new out' → Follows d o adds (Err Disk) old out new out
   add_fault T step was =

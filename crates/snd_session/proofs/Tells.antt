@@ -1,5 +1,6 @@
 -- What chunks say is told, by how the call on them ended.
 use Rattle.std.proofs.Common.{◌≡◌, ◌⊎◌, inl, inr, ⊎_elim, ℕ, List, Bool, true, Option, None, Some, Result, Ok, Err, refl, sym, ap, ◌∙◌, subst, rules}
+use Rattle.std.specs.Prelude.{is_some}
 use Rattle.snd_disk.specs.Device.{AsksAtMost, OnlyReadsOn}
 use Rattle.snd_disk.specs.declared.disk.Disk.{Ghosts}
 use Rattle.snd_disk.specs.declared.disk.Step.{Step}
@@ -20,13 +21,14 @@ use Rattle.snd_rules.specs.Replies.{Answer, refuses, says}
 use Rattle.snd_rules.specs.Rules.{FileEdited, Grounds, Rule, answered, found_answer, grounds_of, known_grounds, telling_of}
 use Rattle.snd_rules.specs.Stepped.{IsSaid, LeavesFile, RepliesBy, RepliesUnless, Rose, reply_of}
 use Rattle.snd_session.specs.Follows.{Follows}
+use Rattle.snd_session.specs.Replied.{known_editing}
 use Rattle.snd_rules.specs.declared.reply.Reply.{Reply}
 use Rattle.snd_rules.specs.declared.reply.Reply.TheVariants as reply
 use Rattle.snd_rules.specs.declared.reply.StepFault.{StepFault}
 use Rattle.snd_rules.specs.declared.reply.StepFault.TheVariants.{Disk, Out, Memory}
 use Rattle.snd_lines.specs.declared.refusal.Refusal.{Refusal}
 use Rattle.snd_lines.specs.declared.refusal.Refusal.TheVariants.{ChunkTooLarge, NoSuchChunk}
-use Rattle.snd_session.proofs.Followed.{same_grounds, sent_cause, sent_knows, sent_memory, sent_silent}
+use Rattle.snd_session.proofs.Followed.{replied, same_grounds, sent_cause, sent_knows, sent_memory, sent_silent}
 
 -- a refusal: as every disk has it, or as the disk alone has it
 abbrev pub IsWhy : Option Refusal → (Refusal → Bool) → Refusal → Type 0
@@ -67,6 +69,11 @@ refused_so why finds refusal done e is answer =
     ⊎_elim (λ known. ap (λ (w : Option Refusal). (edit_unless w (answered done e) e).answer) known)
     (λ found. ap (λ (w : Option Refusal). (edit_unless w (answered done e) e).answer) found.0 ∙ answer) is
 
+refused_known : (why : Option Refusal) (finds : Refusal → Bool) (refusal : Refusal) (done : Answer) (e : Editing) → IsWhy why finds refusal → is_some why ≡ true
+    → (edit_unless why (answered done e) e).answer ≡ refuses refusal
+refused_known why finds refusal done e is refused =
+    ⊎_elim (λ known. ap (λ (w : Option Refusal). (edit_unless w (answered done e) e).answer) known) (λ found. absurd (let none = ap is_some found.0 in cc)) is
+
 replies_so : (why : Option Refusal) (rule : Rule) (refusal : Refusal) (old new : Known) → IsWhy why (rule.finds (known_grounds old)) refusal → new ≡ old → RepliesUnless why rule old new (reply_of (refuses refusal))
 replies_so why rule refusal old new is same =
     ⊎_elim (λ known. subst (λ (w : Option Refusal). RepliesUnless w rule old new (reply_of (refuses refusal))) (sym known) (refl, same))
@@ -97,6 +104,9 @@ module _ {D M O T : Type 0} {mode : ModeGhosts M} (d : Ghosts D) (o : SinkMeanin
   abbrev done : Editing → Answer
   done e = found_answer bad text (held e.bytes e.shape)
 
+  abbrev as_known : Editing
+  as_known = known_editing (known_of old)
+
   said_on : (answer : Answer) → IsSaid r answer (o.told out) (o.told out') → (e : Editing) → Stands d.state old e → (edit_unless why (answered (done e) e) e).answer ≡ answer
       → IsSaid r (edit_by rule e).answer (o.told out) (o.told out')
   said_on answer said e here is = subst (λ (a : Answer). IsSaid r a (o.told out) (o.told out')) (sym (ap (λ (w : Option Refusal). (edit_unless w (answered (done e) e) e).answer) (why_on e here) ∙ is)) said
@@ -104,11 +114,13 @@ module _ {D M O T : Type 0} {mode : ModeGhosts M} (d : Ghosts D) (o : SinkMeanin
   -- a reply was sent
   sends : (found : Result T TagError) (facts : Finds found) (answer : Answer) → Sends o answer r out out' → (d.state (disk_of new)).faults ≡ (d.state (disk_of old)).faults
       → RepliesBy rule (known_of old) (known_of new) (reply_of answer)
-      → ((e : Editing) → Stands d.state old e → (edit_unless why (answered (done e) e) e).answer ≡ answer) → Follows d o rule r old out new out'
-  sends found facts answer sent calm replies same = record {
+      → ((e : Editing) → Stands d.state old e → (edit_unless why (answered (done e) e) e).answer ≡ answer)
+      → (is_some why ≡ true → (edit_unless why (answered (done as_known) as_known) as_known).answer ≡ answer) → Follows d o rule r old out new out'
+  sends found facts answer sent calm replies same known = record {
     loan = facts.loan;
     stands = λ e here. leaves_still r _ e _ (still _ (done e) e) (facts.stands e here);
     said = λ e here. said_on answer sent.said e here (same e here);
+    replies = λ decided. replied d o rule r old out new out' answer why refl (known decided) sent.said;
     silent = sent_silent r _ _ _ _ sent.sent;
     cause = sent_cause r _ _ _ _ sent.sent calm;
     memory = sent_memory r _ _ _ sent.sent;
@@ -118,6 +130,7 @@ module _ {D M O T : Type 0} {mode : ModeGhosts M} (d : Ghosts D) (o : SinkMeanin
     reads = λ none. facts.reads;
     leaves = λ changes. absurd (cc);
     rests = λ changes. absurd (cc);
+    begins = λ changes. absurd (cc);
     asked = facts.asked;
     written = search rules;
   }
@@ -132,6 +145,7 @@ module _ {D M O T : Type 0} {mode : ModeGhosts M} (d : Ghosts D) (o : SinkMeanin
         loan = facts.loan;
         stands = λ e here. facts.stands e here;
         said = λ e here. refl;
+        replies = λ decided. refl;
         silent = refl;
         cause = (calm, refl);
         memory = λ is. refl;
@@ -141,6 +155,7 @@ module _ {D M O T : Type 0} {mode : ModeGhosts M} (d : Ghosts D) (o : SinkMeanin
         reads = λ none. facts.reads;
         leaves = λ changes. absurd (cc);
         rests = λ changes. absurd (cc);
+        begins = λ changes. absurd (cc);
         asked = facts.asked;
         written = search rules;
       }
@@ -158,6 +173,7 @@ module _ {D M O T : Type 0} {mode : ModeGhosts M} (d : Ghosts D) (o : SinkMeanin
         loan = facts.loan;
         stands = λ e here. tt;
         said = λ e here. refl;
+        replies = λ decided. refl;
         silent = refl;
         cause = (rose, refl);
         memory = λ is. absurd (cc);
@@ -167,6 +183,7 @@ module _ {D M O T : Type 0} {mode : ModeGhosts M} (d : Ghosts D) (o : SinkMeanin
         reads = λ none. facts.reads;
         leaves = λ changes. absurd (cc);
         rests = λ changes. absurd (cc);
+        begins = λ changes. absurd (cc);
         asked = facts.asked;
         written = search rules;
       }
@@ -179,15 +196,19 @@ module _ {D M O T : Type 0} {mode : ModeGhosts M} (d : Ghosts D) (o : SinkMeanin
   told (Ok x) facts replied = ⊎_elim
       (λ sent. sends (Ok x) facts (says (text x)) sent facts.faults
       (subst (λ (w : Option Refusal). RepliesUnless w rule (known_of old) (known_of new) reply.Ok) (sym facts.decides.0) (inl (refl, facts.decides.1)))
-      (λ e here. ap (λ (w : Option Refusal). (edit_unless w (answered (done e) e) e).answer) facts.decides.0 ∙ ap (found_answer bad text) (facts.answers e here)))
+      (λ e here. ap (λ (w : Option Refusal). (edit_unless w (answered (done e) e) e).answer) facts.decides.0 ∙ ap (found_answer bad text) (facts.answers e here))
+      (λ refused. absurd (let none = ap is_some facts.decides.0 in cc)))
       (λ nothing. lacks_memory (Ok x) facts nothing facts.faults facts.decides.1)
       replied
   told (Err BadBody) facts replied = sends (Err BadBody) facts (refuses bad) replied facts.faults (replies_so why rule bad _ _ facts.decides.0 facts.decides.1)
       (λ e here. refused_so why finds bad (done e) e facts.decides.0 (ap (found_answer bad text) (facts.answers e here)))
+      (refused_known why finds bad (done as_known) as_known facts.decides.0)
   told (Err (Get get.NoSuchChunk)) facts replied = sends (Err (Get get.NoSuchChunk)) facts (refuses NoSuchChunk) replied facts.faults (replies_so why rule NoSuchChunk _ _ facts.decides.0 facts.decides.1)
       (λ e here. refused_so why finds NoSuchChunk (done e) e facts.decides.0 (ap (found_answer bad text) (facts.answers e here)))
+      (refused_known why finds NoSuchChunk (done as_known) as_known facts.decides.0)
   told (Err (Get get.ChunkTooLarge)) facts replied = sends (Err (Get get.ChunkTooLarge)) facts (refuses ChunkTooLarge) replied facts.faults (replies_so why rule ChunkTooLarge _ _ facts.decides.0 facts.decides.1)
       (λ e here. refused_so why finds ChunkTooLarge (done e) e facts.decides.0 (ap (found_answer bad text) (facts.answers e here)))
+      (refused_known why finds ChunkTooLarge (done as_known) as_known facts.decides.0)
   told (Err (Get (get.DiskFault step))) facts replied = fails step (Err (Get (get.DiskFault step))) facts replied (record { later = facts.faults.0; rises = facts.faults.1 }) facts.decides
   told (Err (Get get.Memory)) facts replied = lacks_memory (Err (Get get.Memory)) facts replied facts.faults facts.decides
   told (Err (Get (get.Broken step))) facts replied = absurd facts.decides

@@ -1,5 +1,5 @@
 -- How what is done for a command leaves a file.
-use Rattle.std.specs.Prelude.{◌≡◌, ◌⊎◌, ℕ, ℤ, List, Bool, true, false, Option, None, Some, Result, IfErr, IfOk, IsErrOf, MatchResult}
+use Rattle.std.specs.Prelude.{◌≡◌, ◌⊎◌, ℕ, ℤ, List, All, Bool, true, false, Option, None, Some, Result, IfErr, IfOk, IsErrOf, MatchResult}
 use Rattle.std.specs.Borrow.{MutBor}
 use Rattle.snd_disk.specs.Device.{AsksAtMost, GoesOnFrom, IsStable, OnlyReadsOn, Tells, WritesAtMost}
 use Rattle.snd_disk.specs.State.{State}
@@ -7,11 +7,13 @@ use Rattle.snd_disk.specs.declared.disk.Disk.{Ghosts}
 use Rattle.snd_disk.specs.declared.disk.Step.{Step}
 use Rattle.snd_disk.specs.declared.streams.Sink.{Ghosts as SinkMeaning}
 use Rattle.snd_blocks.specs.Frames.{has_bad}
+use Rattle.snd_fields.specs.Laws.{IsByte}
 use Rattle.snd_layout.specs.Blocks.{is_adpcm}
 use Rattle.snd_meters.specs.Gauge.{Gauge}
 use Rattle.snd_edits.specs.Closing.{closed_to, most_closed}
 use Rattle.snd_edits.specs.Editing.{Editing, frames_left, moved_by}
 use Rattle.snd_edits.specs.Known.{Known}
+use Rattle.snd_edits.specs.Laws.{IsStateOf}
 use Rattle.snd_file.specs.Handle.{Stands, channels_of, disk_of, known_of, loan_of}
 use Rattle.snd_file.specs.declared.handle.File.{File}
 use Rattle.snd_edits.specs.declared.mode.Mode.{Ghosts as ModeGhosts}
@@ -20,10 +22,11 @@ use Rattle.snd_file.specs.Rest.{IsAtRest}
 use Rattle.snd_edits.specs.Safe.{IsSafe}
 use Rattle.snd_patch.specs.Images.{LeavesEach}
 use Rattle.snd_patch.specs.Steps.{StillTells}
-use Rattle.snd_rules.specs.Desk.{Mode, reads, all_put}
+use Rattle.snd_rules.specs.Desk.{Mode, all_put}
 use Rattle.snd_rules.specs.Edit.{edit_by}
 use Rattle.snd_rules.specs.Rules.{Rule, frames_wanted, read_known}
 use Rattle.snd_session.specs.Handled.{back_of}
+use Rattle.snd_session.specs.Replied.{SaysKnown}
 use Rattle.snd_rules.specs.Stepped.{IsAutomatic, IsSaid, IsSilent, IsStepCause, Knows, LeavesFile, LeavesTaps, Rose, changes_by}
 use Rattle.snd_rules.specs.declared.reply.Reply.{Reply}
 use Rattle.snd_rules.specs.declared.reply.StepFault.{StepFault}
@@ -45,12 +48,23 @@ ChangesToRest d rule result old new =
     changes_by rule (known_of old) ≡ true → IsAutomatic rule (known_of old) → (opened : List ℕ) (e : Editing) → IsAtRest d opened old e
     → LeavesFile result (edit_by rule e) e (IsAtRest d opened new)
 
+-- whether updates are automatic once a command is carried out, though they were not so before
+abbrev pub switches_on : Rule → Known → Bool
+switches_on rule h = (rule.known (record h { automatic = false })).automatic
+
+-- .. and then it brings a file to rest, whatever a crash could leave of that before, unless the disk fails
+abbrev pub BringsToRest : {D M : Type 0} {mode : ModeGhosts M} (d : Ghosts D) → Rule → Result Reply StepFault → File D M d mode → File D M d mode → Type 0
+BringsToRest {mode = mode} d rule result old new =
+    changes_by rule (known_of old) ≡ true → switches_on rule (known_of old) ≡ true → (opened : List ℕ) (e : Editing) → IsStateOf mode.ENCODES opened e → All IsByte e.bytes
+    → Stands d.state old e → LeavesFile result (edit_by rule e) e (IsAtRest d opened new)
+
 -- A rule is followed on a file, which keeps its loan: what it stands for afterwards, what is said, and which counts rise; what
 -- the handle knows over every disk; and what the disk is asked for.
 pub record Follows {D M O : Type 0} {mode : ModeGhosts M} (d : Ghosts D) (o : SinkMeaning O) (rule : Rule) (result : Result Reply StepFault) (old : File D M d mode) (out : O) (new : File D M d mode) (out' : O) : Type 0 where
   pub loan : loan_of new ≡ loan_of old
   pub stands : (e : Editing) → Stands d.state old e → LeavesFile result (edit_by rule e) e (Stands d.state new)
   pub said : (e : Editing) → Stands d.state old e → IsSaid result (edit_by rule e).answer (o.told out) (o.told out')
+  pub replies : SaysKnown rule result (known_of old) (o.told out) (o.told out')
   pub silent : IfErr result (λ fault. IsSilent fault (o.told out) (o.told out'))
   pub cause : IsStepCause result (d.state (disk_of old)).faults (d.state (disk_of new)).faults (o.faults out) (o.faults out')
   pub memory : IsErrOf result Memory → rule.takes_memory ≡ true
@@ -60,6 +74,7 @@ pub record Follows {D M O : Type 0} {mode : ModeGhosts M} (d : Ghosts D) (o : Si
   pub reads : changes_by rule (known_of old) ≡ false → OnlyReadsOn d.state d.may_leave d.left_between (disk_of old) (disk_of new)
   pub leaves : ChangesSafely d rule old new
   pub rests : ChangesToRest d rule result old new
+  pub begins : BringsToRest d rule result old new
   pub asked : AsksAtMost d.state rule.asked (disk_of old) (disk_of new)
   pub written : WritesAtMost d.state (rule.written (known_of old).shape.params) (disk_of old) (disk_of new)
 

@@ -1,5 +1,5 @@
 -- What is seen of an open file in whichever mode.
-use Rattle.std.specs.Prelude.{◌≡◌, ◌⊎◌, ℕ, List, Bool, true, false, Option, None, Some, Result, Ok, Err, IfErr, IsErrOf}
+use Rattle.std.specs.Prelude.{◌≡◌, ◌⊎◌, ℕ, List, All, Bool, true, false, Option, None, Some, Result, Ok, Err, IfErr, IsErrOf}
 use Rattle.std.specs.Borrow.{GName, MutBor}
 use Rattle.snd_command.specs.Said.{Said}
 use Rattle.snd_disk.specs.Device.{AsksAtMost, GoesOnFrom, IsStable, OnlyReadsOn, Tells, WritesAtMost}
@@ -7,11 +7,13 @@ use Rattle.snd_disk.specs.declared.disk.Disk.{Ghosts}
 use Rattle.snd_disk.specs.declared.disk.Step.{Step}
 use Rattle.snd_disk.specs.declared.streams.Sink.{Ghosts as SinkMeaning}
 use Rattle.snd_disk.specs.State.{State}
+use Rattle.snd_fields.specs.Laws.{IsByte}
 use Rattle.snd_layout.specs.Params.{Parameters}
 use Rattle.snd_meters.specs.Gauge.{Gauge}
 use Rattle.snd_edits.specs.Closing.{most_closed}
 use Rattle.snd_edits.specs.Editing.{Editing}
 use Rattle.snd_edits.specs.Known.{Known}
+use Rattle.snd_edits.specs.Laws.{IsStateOf}
 use Rattle.snd_file.specs.Handle.{Stands, disk_of, known_of, loan_of}
 use Rattle.snd_file.specs.Rest.{IsAtRest}
 use Rattle.snd_edits.specs.Safe.{IsSafe}
@@ -21,6 +23,7 @@ use Rattle.snd_rules.specs.Desk.{Mode, closed_as, encodes, encoding, all_put, fr
 use Rattle.snd_rules.specs.Edit.{edit_file}
 use Rattle.snd_rules.specs.Rules.{Rule, rule_of}
 use Rattle.snd_rules.specs.Stepped.{IsAutomatic, IsSaid, IsSilent, IsStepCause, Knows, LeavesFile, LeavesTaps, Rose, changes_by}
+use Rattle.snd_session.specs.Replied.{SaysKnown}
 use Rattle.snd_session.specs.declared.handle.Handle.{Handle}
 use Rattle.snd_session.specs.declared.handle.Handle.TheVariants.{R, W, B, U}
 use Rattle.snd_rules.specs.declared.reply.Reply.{Reply}
@@ -125,6 +128,10 @@ abbrev pub SaysReply : {D O : Type 0} {ghosts : Ghosts D} → (D → State) → 
 SaysReply state told taps result said handle out out' =
     (e : Editing) → HandleStands state handle e → IsSaid result (edit_file (mode_of handle) taps said e).answer (told out) (told out')
 
+-- .. and what is appended over every disk, where no content decides it
+abbrev pub RepliesKnown : {D O : Type 0} {ghosts : Ghosts D} → (O → Option (List ℕ)) → List Gauge → Result Reply StepFault → Said → Handle D ghosts → O → O → Type 0
+RepliesKnown told taps result said handle out out' = SaysKnown (rule_for taps handle said) result (handle_known handle) (told out) (told out')
+
 -- .. and the counts of faults
 abbrev pub CountsStep : {D O : Type 0} {ghosts : Ghosts D} → (D → State) → (O → ℕ) → Result Reply StepFault → Handle D ghosts → O → Handle D ghosts → O → Type 0
 CountsStep state faults result old out new out' =
@@ -140,6 +147,11 @@ abbrev pub StepsToRest : {D : Type 0} (d : Ghosts D) → List Gauge → Result R
 StepsToRest d taps result said old new = IsAutomatic (rule_for taps old said) (handle_known old) → (opened : List ℕ) (e : Editing) → HandleAtRest d opened old e
     → LeavesFile result (edit_file (mode_of old) taps said e) e (HandleAtRest d opened new)
 
+-- .. and an accepted `auto on` brings it to rest, whatever a crash could leave of it before, unless the disk fails
+abbrev pub BeginsAtRest : {D : Type 0} (d : Ghosts D) → List Gauge → Result Reply StepFault → Said → Handle D d → Handle D d → Type 0
+BeginsAtRest d taps result said old new = said ≡ Said.auto true → changes_by (rule_for taps old said) (handle_known old) ≡ true → (opened : List ℕ) (e : Editing)
+    → IsStateOf (encodes (mode_of old)) opened e → All IsByte e.bytes → HandleStands d.state old e → LeavesFile result (edit_file (mode_of old) taps said e) e (HandleAtRest d opened new)
+
 -- .. and the taps, over every disk: the frames that are fed to those that are on are the ones that are said, where it tells them
 abbrev pub FeedsTaps : {D : Type 0} {ghosts : Ghosts D} → (D → State) → Result Reply StepFault → Said → Handle D ghosts → List Gauge → List Gauge → Type 0
 FeedsTaps state result said handle taps taps' =
@@ -150,6 +162,7 @@ FeedsTaps state result said handle taps taps' =
 pub record Steps {D O : Type 0} (d : Ghosts D) (o : SinkMeaning O) (taps : List Gauge) (command : Said) (result : Result Reply StepFault) (old : Handle D d) (out : O) (new : Handle D d) (out' : O) : Type 0 where
   pub stands : LeavesOpen d.state taps result command old new
   pub said : SaysReply d.state o.told taps result command old out out'
+  pub replies : RepliesKnown o.told taps result command old out out'
   pub silent : IfErr result (λ fault. IsSilent fault (o.told out) (o.told out'))
   pub cause : CountsStep d.state o.faults result old out new out'
   pub memory : LacksMemory taps result command old
@@ -158,6 +171,7 @@ pub record Steps {D O : Type 0} (d : Ghosts D) (o : SinkMeaning O) (taps : List 
   pub reads : OnlyChanges d taps command old new
   pub safe : StepsSafely d taps command old new
   pub rests : StepsToRest d taps result command old new
+  pub begins : BeginsAtRest d taps result command old new
   pub asked : AsksByRule d taps command old new
   pub written : WritesByRule d taps command old new
 

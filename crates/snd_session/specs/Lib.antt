@@ -1,4 +1,5 @@
 pub mod Answered
 pub mod Follows
 pub mod Handled
+pub mod Replied
 pub mod Tapped

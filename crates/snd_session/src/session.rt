@@ -1,12 +1,12 @@
 //! Commands on an open file.
 
 ghost use Rattle.std.specs.Prelude.{◌≡◌, false, None, IfErr, IfOk, map};
-ghost use Rattle.snd_command.specs.Said.{line_said, said_of};
+ghost use Rattle.snd_command.specs.Said.{said_of};
 ghost use Rattle.snd_meters.specs.Gauge.{waiting};
 ghost use Rattle.snd_meters.specs.Gauges.{after_rest};
 ghost use Rattle.snd_file.specs.Handle.{loan_of};
 ghost use Rattle.snd_rules.specs.Desk.{writes};
-ghost use Rattle.snd_session.specs.Handled.{AsksByRule, CountsStep, FeedsTaps, FinishesAs, FinishesSafely, IsFinishCause, KnowsAfter, LacksMemory, LeavesDisk, LeavesHandle, LeavesOpen, OnlyChanges, SaysReply, Steps, StepsSafely, StepsToRest, WritesByRule, back_of, handle_disk, handle_known, handle_loan, mode_of, most_finished};
+ghost use Rattle.snd_session.specs.Handled.{AsksByRule, BeginsAtRest, CountsStep, FeedsTaps, FinishesAs, FinishesSafely, IsFinishCause, KnowsAfter, LacksMemory, LeavesDisk, LeavesHandle, LeavesOpen, OnlyChanges, RepliesKnown, SaysReply, Steps, StepsSafely, StepsToRest, WritesByRule, back_of, handle_disk, handle_known, handle_loan, mode_of, most_finished};
 ghost use Rattle.snd_rules.specs.Stepped.{IsSilent};
 ghost use Rattle.snd_rules.specs.Rules.{is_close};
 ghost use Rattle.snd_session.specs.Tapped.{meter_taps, session_taps};
@@ -17,7 +17,7 @@ use crate::handle::Handle;
 use crate::room::Room;
 use crate::step::{step_blocks, step_made, step_read, step_update};
 use arrayvec::ArrayVec;
-use snd_command::{Command, LineCommand};
+use snd_command::Command;
 use snd_disk::{Disk, Sink, Step};
 use snd_edits::Mode;
 use snd_file::File;
@@ -59,6 +59,9 @@ impl Session {
     /// that a `read` replies is fed to every tap that is on, in order; a read that is refused, or that fails
     /// for the disk or for want of memory, feeds none.
     ///
+    /// The reply of a command that asks nothing of the disk, or that is refused by what the handle knows,
+    /// follows from that alone, also over a disk that tells nothing.
+    ///
     /// `Disk` where a call of the disk failed: then nothing was appended, and the handle is broken.
     /// `Out` where the sink failed: then the command was carried out or refused, and a front of its reply
     /// was appended. `Memory` where there was none for the samples of a read, for the text of a `get`, or
@@ -66,7 +69,8 @@ impl Session {
     ///
     /// Where updates are automatic and the file is at rest, a crash at any moment leaves a file that opens,
     /// with as many frames as before or as the command leads to, and with every frame that the command does
-    /// not write. Unless the disk fails, the file is then at rest again.
+    /// not write. Unless the disk fails, the file is then at rest again. An accepted `auto on` brings a file
+    /// to rest, also one that was made, or one of which a crash could leave anything before.
     ///
     /// A read asks at most 1024 bytes of the disk for each frame that is wanted, and 16384 more. A write of
     /// v numbers writes at most `4 v + 72` bytes, or in ADPCM the blocks that their frames fill, one more and 64
@@ -83,6 +87,7 @@ impl Session {
         requires step { is_close (said_of command.now) ≡ false }
         ensures stands { LeavesOpen D.state (session_taps (λ b. meter b) self.old) result (said_of command.now) handle.old handle.new }
         ensures said { SaysReply D.state O.told (session_taps (λ b. meter b) self.old) result (said_of command.now) handle.old out.old out.new }
+        ensures replies { RepliesKnown O.told (session_taps (λ b. meter b) self.old) result (said_of command.now) handle.old out.old out.new }
         ensures silent { IfErr result (λ fault. IsSilent fault (O.told out.old) (O.told out.new)) }
         ensures cause { CountsStep D.state O.faults result handle.old out.old handle.new out.new }
         ensures memory { LacksMemory (session_taps (λ b. meter b) self.old) result (said_of command.now) handle.old }
@@ -92,23 +97,24 @@ impl Session {
         ensures reads { OnlyChanges D.Disk (session_taps (λ b. meter b) self.old) (said_of command.now) handle.old handle.new }
         ensures safe { StepsSafely D.Disk (session_taps (λ b. meter b) self.old) (said_of command.now) handle.old handle.new }
         ensures rests { StepsToRest D.Disk (session_taps (λ b. meter b) self.old) result (said_of command.now) handle.old handle.new }
+        ensures begins { BeginsAtRest D.Disk (session_taps (λ b. meter b) self.old) result (said_of command.now) handle.old handle.new }
         ensures asked { AsksByRule D.Disk (session_taps (λ b. meter b) self.old) (said_of command.now) handle.old handle.new }
         ensures written { WritesByRule D.Disk (session_taps (λ b. meter b) self.old) (said_of command.now) handle.old handle.new }
     {
-        self.carry_out(handle, command.as_line(), out)
+        self.carry_out(handle, *command, out)
     }
 
     /// The same for what a line says.
     pub fn carry_out<'d, D: Disk, O: Sink>(
         &mut self,
         handle: &mut Handle<'d, D>,
-        said: LineCommand<'_, '_>,
+        said: Command<'_>,
         out: &mut O,
     ) -> Result<Reply, StepFault>
         requires whole { (handle_known handle.old).broken ≡ None }
-        requires step { is_close (line_said said) ≡ false }
-        ensures steps { Steps D.Disk O.Sink (session_taps (λ b. meter b) self.old) (line_said said.entry) result handle.old out.old handle.new out.new }
-        ensures taps { FeedsTaps D.state result (line_said said.entry) handle.old (session_taps (λ b. meter b) self.old) (session_taps (λ b. meter b) self.new) }
+        requires step { is_close (said_of said) ≡ false }
+        ensures steps { Steps D.Disk O.Sink (session_taps (λ b. meter b) self.old) (said_of said.entry) result handle.old out.old handle.new out.new }
+        ensures taps { FeedsTaps D.state result (said_of said.entry) handle.old (session_taps (λ b. meter b) self.old) (session_taps (λ b. meter b) self.new) }
     {
         let work = work_of(said);
         let meters = &mut self.meters;

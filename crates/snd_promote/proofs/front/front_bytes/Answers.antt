@@ -4,7 +4,7 @@ use Rattle.snd_fields.specs.Field.{bytes_of}
 use Rattle.snd_fields.specs.declared.field.Order.TheVariants.{Little}
 use Rattle.snd_layout.specs.Params.{data_bytes}
 use Rattle.snd_layout.specs.Shape.{Shape}
-use Rattle.snd_promote.proofs.Contents.{front_put}
+use Rattle.snd_ds64.proofs.Public.{front_put}
 use Rattle.snd_promote.proofs.front.front_bytes.Goals as goal
 
 pub returns-clause-items : goal.returns-clause-items

@@ -4,9 +4,9 @@ use Rattle.snd_disk.specs.Device.{IsStable}
 use Rattle.snd_patch.specs.Steps.{Becomes, KeepsSize}
 use Rattle.snd_promote.proofs.Contents.{converted_contents, on_ok}
 use Rattle.snd_promote.proofs.Faults.{early_start, front_beside, size_beside}
-use Rattle.snd_promote.proofs.Fronts.{length-new_front, length-new_size}
+use Rattle.snd_ds64.proofs.Public.{length-new_front, length-new_size}
 use Rattle.snd_promote.proofs.Moments.{front_leaves, size_leaves}
-use Rattle.snd_promote.specs.Promoted.{new_size, promoted}
+use Rattle.snd_ds64.specs.Promoted.{new_size, promoted}
 use Rattle.snd_promote.specs.Steps.{HasPut}
 use Rattle.snd_promote.proofs.promotion.convert.Goals as goal
 

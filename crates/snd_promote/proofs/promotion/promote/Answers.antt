@@ -9,7 +9,7 @@ use Rattle.snd_promote.proofs.Contents.{counted_free, may_count_sealed, promoted
 use Rattle.snd_promote.proofs.Faults.{early_start, promoted_beside, sealed_beside}
 use Rattle.snd_promote.proofs.Moments.{promotion_leaves, seal_leaves}
 use Rattle.snd_promote.specs.Images.{KeepsBesideFront, LeavesConverting}
-use Rattle.snd_promote.specs.Promoted.{promoted, promoted_shape}
+use Rattle.snd_ds64.specs.Promoted.{promoted, promoted_shape}
 use Rattle.snd_promote.proofs.promotion.promote.Goals as goal
 
 pub convert-requires-clause-counts : goal.convert-requires-clause-counts

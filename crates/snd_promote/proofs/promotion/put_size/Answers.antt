@@ -1,7 +1,7 @@
 use Rattle.std.proofs.Common.{ℕ, List, arith, subst}
 use Rattle.std.specs.Prelude.{OnOk}
-use Rattle.snd_promote.proofs.Contents.{size_is}
-use Rattle.snd_promote.specs.Promoted.{new_size}
+use Rattle.snd_ds64.proofs.Public.{size_is}
+use Rattle.snd_ds64.specs.Promoted.{new_size}
 use Rattle.snd_promote.specs.Steps.{HasPut, Puts}
 use Rattle.snd_promote.proofs.promotion.put_size.Goals as goal
 

@@ -1,5 +1,5 @@
 use Rattle.std.proofs.Common.{rules, ◌∙◌, arith}
-use Rattle.snd_command.specs.Said.{line_said}
+use Rattle.snd_command.specs.Said.{said_of}
 use Rattle.snd_rules.specs.Edit.{edit_closed}
 use Rattle.snd_rules.specs.Replies.{refuses}
 use Rattle.snd_rules.specs.Script.{asked_by, written_by}
@@ -14,15 +14,15 @@ use Rattle.snd_script.proofs.closed.closed_command.Goals as goal
 
 pub returns-in-Err-clause-served : goal.returns-in-Err-clause-served
 returns-in-Err-clause-served g c = λ store s has left.
-    replied_closed _ store _ _ _ _ _ _ _ s (edit_closed store (line_said c.args.said)) (refuses (refusal.Open c.in-Err.refusal)) (ShelfStands g.S.Shelf.state c.args.shelf.now _)
+    replied_closed _ store _ _ _ _ _ _ _ s (edit_closed store (said_of c.args.said)) (refuses (refusal.Open c.in-Err.refusal)) (ShelfStands g.S.Shelf.state c.args.shelf.now _)
     (c.in-Make.ensures.closed store ∙ c.in-Err.ensures.made store c.in-Make.name.now)
     c.refuse.ensures.lines left c.refuse.ensures.answered (still_stands g.S.Shelf.state c.args.shelf.now store _ _ c.refuse.ensures.taps has)
 
 pub returns-in-Close : goal.returns-in-Close
 returns-in-Close g c = record {
   served = λ store s has left.
-      replied_closed _ store _ _ _ _ _ _ _ s (edit_closed store (line_said c.args.said)) (refuses refusal.NotOpen) (ShelfStands g.S.Shelf.state c.args.shelf.now _)
-      (needs_open c.work_of.result store (edit_closed store (line_said c.args.said)) c.in-Close.is (c.work_of.ensures.closed store))
+      replied_closed _ store _ _ _ _ _ _ _ s (edit_closed store (said_of c.args.said)) (refuses refusal.NotOpen) (ShelfStands g.S.Shelf.state c.args.shelf.now _)
+      (needs_open c.work_of.result store (edit_closed store (said_of c.args.said)) c.in-Close.is (c.work_of.ensures.closed store))
       c.refuse-in-Close.ensures.lines left c.refuse-in-Close.ensures.answered (still_stands g.S.Shelf.state c.args.shelf.now store _ _ c.refuse-in-Close.ensures.taps has);
   fewer = search rules;
   given = search rules;

@@ -1,7 +1,7 @@
 use Rattle.std.proofs.Common.{◌≡◌, refl, ap, sym, ◌∙◌, None, Ok, Some, rules, subst}
 use Rattle.std.proofs.lemmas.Result.{err_from_is_err_and}
 use Rattle.snd_command.specs.Line.{command_of}
-use Rattle.snd_command.specs.Said.{line_said}
+use Rattle.snd_command.specs.Said.{said_of}
 use Rattle.snd_rules.specs.Desk.{OpenFile, open_desk, open_as}
 use Rattle.snd_rules.specs.Edit.{Edited, line_edit}
 use Rattle.snd_session.specs.Handled.{mode_of}
@@ -31,9 +31,9 @@ returns-in-Ok-None-clause-moves g c = λ pins opened store name e on rest.
 pub returns-in-Ok-Some-clause-moves : goal.returns-in-Ok-Some-clause-moves
 returns-in-Ok-Some-clause-moves g c = λ pins opened store name e on rest.
     let command = command_of c.args.line.now in
-    let said : command ≡ Ok (Some (line_said c.in-Ok-Some.said)) = search rules in
+    let said : command ≡ Ok (Some (said_of c.in-Ok-Some.said)) = search rules in
     moves_as g.D.Disk opened _ e _ _ c.args.handle.now c.open_command.new.handle
-    (sym (ap (λ x. state_behind e (line_edit (open_desk store (pinned_file name (taps_of (λ b. (goal.Tap-dyn g b).meter b.1) c.args.run.now) e)) x)) said ∙ said_behind store name (taps_of (λ b. (goal.Tap-dyn g b).meter b.1) c.args.run.now) e (line_said c.in-Ok-Some.said)))
+    (sym (ap (λ x. state_behind e (line_edit (open_desk store (pinned_file name (taps_of (λ b. (goal.Tap-dyn g b).meter b.1) c.args.run.now) e)) x)) said ∙ said_behind store name (taps_of (λ b. (goal.Tap-dyn g b).meter b.1) c.args.run.now) e (said_of c.in-Ok-Some.said)))
     (c.open_command.ensures.moves pins opened e on rest)
 
 pub returns-in_err-refuse-in-Err-clause-moves : goal.returns-in_err-refuse-in-Err-clause-moves
@@ -51,7 +51,7 @@ returns-in_ok-refuse-in-Err-clause-moves g c = λ pins opened store name e on re
 pub returns-in-Ok-Some-clause-answered : goal.returns-in-Ok-Some-clause-answered
 returns-in-Ok-Some-clause-answered g c = λ name store e stands.
     let file : OpenFile = record { name = name; mode = open_as c.args.stays (mode_of c.args.handle.now); editing = e; taps = taps_of (λ b. (goal.Tap-dyn g b).meter b.1) c.args.run.now } in
-    let said : command_of c.args.line.now ≡ Ok (Some (line_said c.in-Ok-Some.said)) = search rules in
+    let said : command_of c.args.line.now ≡ Ok (Some (said_of c.in-Ok-Some.said)) = search rules in
     subst (λ (x : Edited). IsLineServed c.open_command.result x store file c.args.run.now.refused c.open_command.new.run.refused (g.O.Sink.told c.args.out.now) (g.O.Sink.told c.open_command.new.out)
     (OpenStands g.D.Disk.state store name c.args.stays (taps_of (λ b. (goal.Tap-dyn g b).meter b.1) c.open_command.new.run) c.open_command.new.handle))
     (sym (ap (line_edit (open_desk store file)) said)) (c.open_command.ensures.answered name store e stands)

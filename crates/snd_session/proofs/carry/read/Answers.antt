@@ -1,4 +1,4 @@
-use Rattle.std.proofs.Common.{◌≡◌, ◌∙◌, ◌*◌, ◌≤◌, ℕ, false, [], length, take, ap, sym, subst, refl, rules, arith}
+use Rattle.std.proofs.Common.{◌≡◌, ◌∙◌, ◌+◌, ◌*◌, ◌≤◌, ℕ, false, [], length, take, ap, sym, subst, refl, rules, arith}
 use Rattle.std.proofs.lemmas.List.{places}
 use Rattle.snd_blocks.specs.Frames.{has_bad}
 use Rattle.snd_lines.specs.declared.refusal.Refusal.TheVariants.{BadBlock}
@@ -31,7 +31,7 @@ returns-in_default-clause-follows g c =
       asked = c.read_some.ensures.asked;
       written = search rules;
     })
-    refl held.0 (λ changes. absurd (cc)) (λ e here. bad_read c.args.wanted e (bad refl e here)) (record { said = c.refuse.ensures.said; sent = c.refuse.ensures.sent })
+    refl held.0 (λ changes. absurd (cc)) (λ e here. bad_read c.args.wanted e (bad refl e here)) (λ none. let e : 1024 * c.args.wanted + 16384 ≡ 0 = none in omega (arith, e)) (record { said = c.refuse.ensures.said; sent = c.refuse.ensures.sent })
 
 pub returns-in_default-clause-taps : goal.returns-in_default-clause-taps
 returns-in_default-clause-taps g c =
@@ -60,9 +60,10 @@ returns-clause-follows g c =
     (read_text channels k (take (k * channels) c.deref.result.now))
     c.read_some.ensures.loan refl c.say_frames.ensures.sent c.say_frames.ensures.said
     (λ e here. ap (λ (x : FileEdited). x.answer) (good_read c.args.wanted e (good e here)) ∙ ap (λ fs. says (frames_text fs)) (sym (shown e here)))
+    (λ none. absurd (let e : 1024 * c.args.wanted + 16384 ≡ 0 = none in omega (arith, e)))
     (λ e here. subst (λ (x : FileEdited). Stands g.D.Disk.state c.read_some.new.file x.editing) (sym (good_read c.args.wanted e (good e here)))
     (subst (λ (n : ℕ). Stands g.D.Disk.state c.read_some.new.file (moved_by n e)) (count e here) (stands e here)))
-    held c.in_ok-frames.ensures.calm (search rules) (search rules) (λ same. c.in_ok-frames.ensures.reads) (λ changes. absurd (cc)) (λ changes. absurd (cc)) c.in_ok-frames.ensures.asked (search rules)
+    held c.in_ok-frames.ensures.calm (search rules) (search rules) (λ same. c.in_ok-frames.ensures.reads) (λ changes. absurd (cc)) (λ changes. absurd (cc)) (λ changes. absurd (cc)) c.in_ok-frames.ensures.asked (search rules)
 
 pub returns-clause-taps : goal.returns-clause-taps
 returns-clause-taps g c =

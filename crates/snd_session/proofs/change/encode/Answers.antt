@@ -1,4 +1,4 @@
-use Rattle.std.proofs.Common.{ap, length, sym, ⊎_elim, ◌/◌, rules}
+use Rattle.std.proofs.Common.{ap, length, refl, sym, ⊎_elim, ◌/◌, rules}
 use Rattle.snd_layout.specs.Shape.{Shape}
 use Rattle.snd_file.specs.Handle.{known_of}
 use Rattle.snd_rules.specs.Replies.{ok_line, says}
@@ -15,9 +15,9 @@ returns-in-Ok g c =
     let xs = c.args.samples.now in
     carried_out g.D.Disk g.O.Sink (encode_rule xs) c.say_ok.result c.args.file.now c.args.out.now c.encode_frames.new.self c.say_ok.new.out (ok_line (length xs / h.shape.params.channels))
     c.encode_frames.ensures.loan (encode_free xs h.shape h.write_place c.in-Ok.ensures.left.1) c.say_ok.ensures.sent (search rules)
-    (λ e here. ap (λ (s : Shape). says (ok_line (length xs / s.params.channels))) (sym here.shape)) c.in-Ok.ensures.stands
+    (λ e here. ap (λ (s : Shape). says (ok_line (length xs / s.params.channels))) (sym here.shape)) (λ none. refl) c.in-Ok.ensures.stands
     c.in-Ok.ensures.left.2 (search rules) (search rules) (search rules) (search rules)
-    (λ changes on. c.in-Ok.ensures.leaves (⊎_elim (λ is. is) (λ is. is) on)) (λ changes on. c.in-Ok.ensures.rests (⊎_elim (λ is. is) (λ is. is) on)) (search rules)
+    (λ changes on. c.in-Ok.ensures.leaves (⊎_elim (λ is. is) (λ is. is) on)) (λ changes on. c.in-Ok.ensures.rests (⊎_elim (λ is. is) (λ is. is) on)) (λ changes on. absurd (cc)) (search rules)
     (blocks_within _ _ _ h.automatic c.encode_frames.ensures.written)
 
 pub returns-in-Err-DiskFault : goal.returns-in-Err-DiskFault

@@ -5,8 +5,8 @@ use Rattle.snd_fields.specs.Field.{bytes_of}
 use Rattle.snd_fields.specs.declared.field.Order.TheVariants.{Little}
 use Rattle.snd_layout.specs.Shape.{Shape, end}
 use Rattle.snd_rf64.specs.Layout.{rf64_layout}
-use Rattle.snd_promote.specs.Images.{IsPromoting}
-use Rattle.snd_promote.specs.Promoted.{MayPromote, new_front, promoted, promoted_shape}
+use Rattle.snd_ds64.specs.Moments.{IsPromoting}
+use Rattle.snd_ds64.specs.Promoted.{MayPromote, new_front, promoted, promoted_shape}
 
 -- The reservation of a file stands at place 12, with its size behind its identifier; its body has room for all that `ds64` states,
 -- and ends 8 bytes before the data.

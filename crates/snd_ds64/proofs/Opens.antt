@@ -24,11 +24,11 @@ use Rattle.snd_layout.specs.declared.refusal.OpenRefusal.{OpenRefusal}
 use Rattle.snd_rf64.specs.Layout.{data_end, fitted, has_sizes, held, outer_end, rf64_front, rf64_layout, rf64_shape, rf64_tail, shape_at, sizes_in, sizes_of}
 use Rattle.snd_wave.proofs.Public.{counted}
 use Rattle.snd_wave.specs.Layout.{pieces_of, wave_front}
-use Rattle.snd_promote.proofs.Fronts.{HasMiddle, front_parts, has_long}
-use Rattle.snd_promote.proofs.Kept.{promoted_keeps, front_there}
-use Rattle.snd_promote.proofs.Reservations.{Reserved, not_format, reserved_parts}
-use Rattle.snd_promote.specs.Laws.{OpensPromoted, PromotedReadsBack}
-use Rattle.snd_promote.specs.Promoted.{MayPromote, new_front, promoted, promoted_shape}
+use Rattle.snd_ds64.proofs.Fronts.{HasMiddle, front_parts, has_long}
+use Rattle.snd_ds64.proofs.Kept.{promoted_keeps, front_there}
+use Rattle.snd_ds64.proofs.Reservations.{Reserved, not_format, reserved_parts}
+use Rattle.snd_ds64.specs.Laws.{OpensPromoted, PromotedReadsBack}
+use Rattle.snd_ds64.specs.Promoted.{MayPromote, new_front, promoted, promoted_shape}
 
 -- ---- a layout from its parts
 

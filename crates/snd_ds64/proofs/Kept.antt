@@ -1,15 +1,19 @@
 -- What a promoted file has of the file that it was.
 use Rattle.std.proofs.Common.{◌≡◌, ◌⊎◌, ℕ, ◌+◌, ◌-◌, ◌<◌, ◌≤◌, List, length, drop, get_or, sym, subst, ◌∙◌, inl, inr, arith}
-use Rattle.std.proofs.lemmas.List.{get_or-drop, get_or_default, length-drop, same_lists}
+use Rattle.std.proofs.lemmas.List.{get_or-drop, get_or_default, length-drop, places, same_lists}
 use Rattle.snd_disk.proofs.Public.{length-over, over_in}
 use Rattle.snd_disk.specs.Bytes.{over}
 use Rattle.snd_disk.specs.Runs.{HasAt, IsBeside}
 use Rattle.snd_layout.specs.Shape.{Shape}
-use Rattle.snd_patch.proofs.Public.{over_beside}
-use Rattle.snd_promote.proofs.Fronts.{length-new_front, length-new_size}
-use Rattle.snd_promote.proofs.Reservations.{Reserved, reserved_parts}
-use Rattle.snd_promote.specs.Laws.{PromotedKeeps}
-use Rattle.snd_promote.specs.Promoted.{MayPromote, new_front, new_size, promoted}
+use Rattle.snd_ds64.proofs.Fronts.{length-new_front, length-new_size}
+use Rattle.snd_ds64.proofs.Reservations.{Reserved, reserved_parts}
+use Rattle.snd_ds64.specs.Laws.{PromotedKeeps}
+use Rattle.snd_ds64.specs.Promoted.{MayPromote, new_front, new_size, promoted}
+
+-- bytes beside those that are put stay
+over_beside : (b : List ℕ) (at : ℕ) (s : List ℕ) (i : ℕ) → IsBeside i at (length s) → get_or (over b at s) i 0 ≡ get_or b i 0
+over_beside b at s i (inl lt) = grind (arith, places)
+over_beside b at s i (inr le) = grind (arith, places)
 
 -- ---- two places of a list, of which the first is its beginning
 

@@ -1,6 +1,6 @@
 //! The laws of promoted files, proved of every file. The functions do nothing: their contracts are the laws.
 
-ghost use Rattle.snd_promote.specs.Laws.{OpensPromoted, PromotedKeeps, PromotedReadsBack, PromotesFromTo, PromotingIsWhole, ReservationStands};
+ghost use Rattle.snd_ds64.specs.Laws.{OpensPromoted, PromotedKeeps, PromotedReadsBack, PromotesFromTo, PromotingIsWhole, ReservationStands};
 
 /// A WAVE file with a reservation that is promoted opens as RF64, with its parameters, its start, its
 /// frames and its further chunks, and holds the samples and the bodies that it held.

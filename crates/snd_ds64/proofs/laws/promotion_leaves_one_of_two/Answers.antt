@@ -1,5 +1,5 @@
-use Rattle.snd_promote.proofs.Ways.{promotes_from_to, promoting_is_whole}
-use Rattle.snd_promote.proofs.laws.promotion_leaves_one_of_two.Goals as goal
+use Rattle.snd_ds64.proofs.Ways.{promotes_from_to, promoting_is_whole}
+use Rattle.snd_ds64.proofs.laws.promotion_leaves_one_of_two.Goals as goal
 
 pub returns-clause-whole : goal.returns-clause-whole
 returns-clause-whole c = promoting_is_whole

@@ -4,11 +4,11 @@ use Rattle.std.proofs.lemmas.Bool.{cases_lt}
 use Rattle.std.proofs.lemmas.List.{get_or_default, same_lists}
 use Rattle.snd_disk.specs.Runs.{HasAt, HasFieldOf, IsBeside, IsInOneSector, IsPatching}
 use Rattle.snd_rf64.specs.Layout.{rf64_layout}
-use Rattle.snd_promote.proofs.Fronts.{length-new_front}
-use Rattle.snd_promote.proofs.Kept.{AreThere, are_there, beside_size, both_beside, both_first, both_length, both_second}
-use Rattle.snd_promote.proofs.Opens.{promoted_reads_back}
-use Rattle.snd_promote.specs.Laws.{PromotesFromTo, PromotingIsWhole}
-use Rattle.snd_promote.specs.Promoted.{new_front, new_size, promoted, promoted_shape}
+use Rattle.snd_ds64.proofs.Fronts.{length-new_front}
+use Rattle.snd_ds64.proofs.Kept.{AreThere, are_there, beside_size, both_beside, both_first, both_length, both_second}
+use Rattle.snd_ds64.proofs.Opens.{promoted_reads_back}
+use Rattle.snd_ds64.specs.Laws.{PromotesFromTo, PromotingIsWhole}
+use Rattle.snd_ds64.specs.Promoted.{new_front, new_size, promoted, promoted_shape}
 
 -- the first bytes lie in one sector
 pub in_one : (n : ℕ) → n ≡ 48 → IsInOneSector 0 n

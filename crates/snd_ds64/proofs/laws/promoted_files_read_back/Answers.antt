@@ -1,7 +1,7 @@
-use Rattle.snd_promote.proofs.Kept.{promoted_keeps}
-use Rattle.snd_promote.proofs.Opens.{opens_promoted, promoted_reads_back}
-use Rattle.snd_promote.proofs.Reservations.{reservation_stands}
-use Rattle.snd_promote.proofs.laws.promoted_files_read_back.Goals as goal
+use Rattle.snd_ds64.proofs.Kept.{promoted_keeps}
+use Rattle.snd_ds64.proofs.Opens.{opens_promoted, promoted_reads_back}
+use Rattle.snd_ds64.proofs.Reservations.{reservation_stands}
+use Rattle.snd_ds64.proofs.laws.promoted_files_read_back.Goals as goal
 
 pub returns-clause-reservation : goal.returns-clause-reservation
 returns-clause-reservation c = reservation_stands

@@ -29,8 +29,8 @@ use Rattle.snd_layout.specs.declared.kind.Kind.{Kind}
 use Rattle.snd_layout.specs.declared.kind.Kind.TheVariants.{Rf64, Wave}
 use Rattle.snd_wave.proofs.Public.{keeps_laws}
 use Rattle.snd_wave.specs.Layout.{data_end, is_own, is_reserve, outer_end, pieces_of, reserve_of, wave_front, wave_layout, wave_shape, wave_tail}
-use Rattle.snd_promote.specs.Laws.{ReservationStands}
-use Rattle.snd_promote.specs.Promoted.{MayPromote}
+use Rattle.snd_ds64.specs.Laws.{ReservationStands}
+use Rattle.snd_ds64.specs.Promoted.{MayPromote}
 
 -- RF64 holds what WAVE holds, but for ADPCM
 codec_fits : (c r : ℕ) (codec : Codec) → fit_refusal Wave (record { channels = c; rate = r; codec = codec }) ≡ None → is_adpcm codec ≡ false → fit_refusal Rf64 (record { channels = c; rate = r; codec = codec }) ≡ None

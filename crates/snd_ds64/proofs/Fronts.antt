@@ -1,5 +1,5 @@
 -- The first bytes of an RF64 file, and the parts of them that are read.
-use Rattle.std.proofs.Common.{◌≡◌, ℕ, ◌-◌, ◌<◌, ◌^◌, List, ◌++◌, length, get_or, refl, ap, ◌∙◌, arith, length-append}
+use Rattle.std.proofs.Common.{◌≡◌, ℕ, ◌-◌, ◌<◌, ◌^◌, List, [], ◌∷◌, ◌++◌, length, get_or, refl, ap, ◌∙◌, arith, length-append}
 use Rattle.std.specs.Prelude.{codes, unwrap_or}
 use Rattle.snd_chunks.proofs.Public.{has_left, has_right}
 use Rattle.snd_chunks.specs.Chunks.{padded_end}
@@ -9,10 +9,9 @@ use Rattle.snd_fields.specs.Field.{bytes_of, number}
 use Rattle.snd_fields.specs.declared.field.Order.TheVariants.{Little}
 use Rattle.snd_layout.specs.Params.{data_bytes}
 use Rattle.snd_layout.specs.Shape.{Shape}
-use Rattle.snd_patch.specs.Sealed.{counted}
 use Rattle.snd_rf64.specs.Values.{inner_value, outer_value, side_value}
 use Rattle.snd_rf64.specs.Written.{no_size}
-use Rattle.snd_promote.specs.Promoted.{new_front, new_size}
+use Rattle.snd_ds64.specs.Promoted.{new_front, new_size}
 
 -- ---- joined lists
 
@@ -91,9 +90,9 @@ module _ (h : Shape) (n : ℕ) where
       (length-bytes_of Little 4 (unwrap_or h.reserve 0)) (length-bytes_of Little 8 (padded_end h.start (data_bytes h.params n) - 8)) plain
 
   -- they hang neither on the frames that there were nor on the declared length
-  pub front_counted : (m : ℕ) → new_front (counted h m) n ≡ new_front h n
+  pub front_stays : (frames declared : ℕ) → new_front (record h { frames = frames; declared = declared }) n ≡ new_front h n
   unfolding new_front outer_value inner_value side_value
-  front_counted m = refl
+  front_stays frames declared = refl
 
 pub length-new_size : length new_size ≡ 4
 unfolding new_size
@@ -106,3 +105,15 @@ has_long b p n has few =
     let same : i ≡ r = omega (arith, re) in
     ap (λ k. get_or b k 0) qe ∙ has i (omega (arith, length-bytes_of Little 8 n)) ∙ ap (λ k. get_or (bytes_of Little 8 n) k 0) same)
     ∙ number_of_bytes Little 8 n few
+
+pub size_is : 255 ∷ 255 ∷ 255 ∷ 255 ∷ [] ≡ new_size
+unfolding new_size
+size_is = refl
+
+module _ (h : Shape) (n : ℕ) where
+  -- the first bytes as they are put together
+  pub front_put : (bytes whole size : ℕ) (v0 v1 v2 v3 v4 v5 v6 v7 v8 v9 : List ℕ) → bytes ≡ data_bytes h.params n → whole ≡ padded_end h.start bytes - 8 → size ≡ unwrap_or h.reserve 0 → v0 ≡ [] → v1 ≡ v0 ++ codes "RF64"
+      → v2 ≡ v1 ++ bytes_of Little 4 no_size → v3 ≡ v2 ++ codes "WAVE" → v4 ≡ v3 ++ codes "ds64" → v5 ≡ v4 ++ bytes_of Little 4 size → v6 ≡ v5 ++ bytes_of Little 8 whole → v7 ≡ v6 ++ bytes_of Little 8 bytes
+      → v8 ≡ v7 ++ bytes_of Little 8 n → v9 ≡ v8 ++ bytes_of Little 4 0 → v9 ≡ new_front h n
+  unfolding new_front outer_value inner_value side_value
+  front_put bytes whole size v0 v1 v2 v3 v4 v5 v6 v7 v8 v9 counted ended sized e0 e1 e2 e3 e4 e5 e6 e7 e8 e9 = rw (e9, e8, e7, e6, e5, e4, e3, e2, e1, e0, ended, counted, sized) refl

@@ -1,0 +1,6 @@
+pub mod Fronts
+pub mod Reservations
+pub mod Opens
+pub mod Kept
+pub mod Ways
+pub mod Public

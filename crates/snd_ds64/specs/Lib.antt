@@ -1,0 +1,3 @@
+pub mod Promoted
+pub mod Moments
+pub mod Laws
