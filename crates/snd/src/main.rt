@@ -9,7 +9,7 @@ use snd_fields::Words;
 use snd_files::{FolderShelf, ReaderSource, WriterSink};
 use snd_rack::{Fade, Gain, Invert, Pick, Stage};
 use snd_taps::{Clips, Energy, Peak, Tap};
-use std::alloc::{AllocError, Global};
+use std::alloc::AllocError;
 use std::process::ExitCode;
 use std::{env, io};
 
@@ -29,18 +29,6 @@ fn words_of(rt: &HostRuntime) -> io::Result<Words> {
     Ok(Words::new(list))
 }
 
-/// The stages that a rack may take.
-fn stages_of(alloc: Global) -> Result<Vec<Box<dyn Stage>>, AllocError> {
-    let mut stages: Vec<Box<dyn Stage>> = Vec::new(alloc);
-    for _ in 0..STAGES {
-        stages.push(Box::new(alloc, Gain::new())?)?;
-        stages.push(Box::new(alloc, Invert::new())?)?;
-        stages.push(Box::new(alloc, Pick::new())?)?;
-        stages.push(Box::new(alloc, Fade::new())?)?;
-    }
-    Ok(stages)
-}
-
 /// Runs over the standard streams, with a tap of each kind and four stages of each, and answers the status.
 fn run_words<S: Shelf>(rt: &HostRuntime, shelf: &mut S, words: &Words) -> Result<u8, AllocError>
     requires { IsAllIn (S.state shelf.old) }
@@ -50,7 +38,13 @@ fn run_words<S: Shelf>(rt: &HostRuntime, shelf: &mut S, words: &Words) -> Result
     taps.push(Box::new(alloc, Peak::new())?)?;
     taps.push(Box::new(alloc, Clips::new())?)?;
     taps.push(Box::new(alloc, Energy::new())?)?;
-    let stages = stages_of(alloc)?;
+    let mut stages: Vec<Box<dyn Stage>> = Vec::new(alloc);
+    for _ in 0..STAGES {
+        stages.push(Box::new(alloc, Gain::new())?)?;
+        stages.push(Box::new(alloc, Invert::new())?)?;
+        stages.push(Box::new(alloc, Pick::new())?)?;
+        stages.push(Box::new(alloc, Fade::new())?)?;
+    }
     let mut script = ReaderSource::new(rt.stdin());
     let mut out = WriterSink::new(rt.stdout());
     let mut err = WriterSink::new(rt.stderr());

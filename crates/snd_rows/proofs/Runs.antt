@@ -1,5 +1,5 @@
 -- From the headline to what was printed.
-use Rattle.std.proofs.Common.{◌≡◌, inl, inr, ℕ, List, [], ◌++◌, Bool, true, false, cond, Some, refl, sym, ◌∙◌, ap}
+use Rattle.std.proofs.Common.{◌≡◌, inl, inr, ℕ, List, [], ◌++◌, Bool, true, false, cond, Some, refl, sym, subst, ◌∙◌, ap}
 use Rattle.std.proofs.Math.Path.{fun_ext}
 use Rattle.snd_disk.specs.Shelf.{Files, SameFiles}
 use Rattle.snd_app.specs.Outcome.{files_after, outcome}

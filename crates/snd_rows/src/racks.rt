@@ -83,39 +83,15 @@ impl<T: Stage> Stage for Counted<T> {
     }
 }
 
-/// Boxes that count, and their counts, in the same order.
-#[derive(Drop)]
-struct Counting {
-    stages: Vec<Box<dyn Stage>>,
-    counts: Vec<Calls>,
-}
-
-impl Counting {
-    fn new(alloc: Global) -> Counting {
-        Counting {
-            stages: Vec::new(alloc),
-            counts: Vec::new(alloc),
-        }
-    }
-
-    fn add<T: Stage>(&mut self, alloc: Global, inner: T) -> Result<(), AllocError> {
-        let calls = Calls::none(alloc)?;
-        self.counts.push(calls.clone()?)?;
-        let stage = Box::new(alloc, Counted { inner, calls })?;
-        self.stages.push(stage)
-    }
-
-    /// Four of each kind, as the program hands them in.
-    fn four_of_each(alloc: Global) -> Result<Counting, AllocError> {
-        let mut all = Counting::new(alloc);
-        for _ in 0..4u32 {
-            all.add(alloc, Gain::new())?;
-            all.add(alloc, Invert::new())?;
-            all.add(alloc, Pick::new())?;
-            all.add(alloc, Fade::new())?;
-        }
-        Ok(all)
-    }
+/// A stage that counts, whose counts come behind those of the others.
+fn make_counted<T: Stage>(
+    alloc: Global,
+    inner: T,
+    counts: &mut Vec<Calls>,
+) -> Result<Counted<T>, AllocError> {
+    let calls = Calls::none(alloc)?;
+    counts.push(calls.clone()?)?;
+    Ok(Counted { inner, calls })
 }
 
 /// What a conversion of the plain file is answered, and the file that it makes.
@@ -147,19 +123,36 @@ fn convert(
     })
 }
 
+/// Whether the first two stages were started once and applied to both frames, and no other was called.
+fn are_first_two(counts: &[Calls]) -> bool {
+    for (at, calls) in counts.iter().enumerate() {
+        let wanted = if at < 2 { (1, 2, 2) } else { (0, 0, 0) };
+        if calls.counts() != wanted {
+            return false;
+        }
+    }
+    true
+}
+
 /// A gain and an inversion are started once and applied to both frames, and no other box is called.
 #[test]
 fn stages_that_are_handed_in_are_called(rt: HostRuntime) -> Result<(), Fail> {
     let alloc = rt.alloc();
-    let Counting { stages, counts } = Counting::four_of_each(alloc)?;
+    let mut counts = Vec::new(alloc);
+    let mut stages: Vec<Box<dyn Stage>> = Vec::new(alloc);
+    // four of each kind, as the program hands them in
+    for _ in 0..4u32 {
+        stages.push(Box::new(alloc, make_counted(alloc, Gain::new(), &mut counts)?)?)?;
+        stages.push(Box::new(alloc, make_counted(alloc, Invert::new(), &mut counts)?)?)?;
+        stages.push(Box::new(alloc, make_counted(alloc, Pick::new(), &mut counts)?)?)?;
+        stages.push(Box::new(alloc, make_counted(alloc, Fade::new(), &mut counts)?)?)?;
+    }
     let done = convert(alloc, "-rack=gain:1/2,invert", stages)?;
     assert_eq!(rt; done.status, 0);
     assert_eq!(rt; done.out.as_slice(), b"ok 2\n".as_slice());
     assert_eq!(rt; done.made.as_slice(), HALVED);
-    for (at, calls) in counts.iter().enumerate() {
-        let wanted = if at < 2 { (1, 2, 2) } else { (0, 0, 0) };
-        assert_eq!(rt; calls.counts(), wanted);
-    }
+    assert_eq!(rt; counts.len(), 16);
+    assert!(rt; are_first_two(&counts));
     Ok(())
 }
 
@@ -167,11 +160,11 @@ fn stages_that_are_handed_in_are_called(rt: HostRuntime) -> Result<(), Fail> {
 #[test]
 fn boxes_serve_in_their_order(rt: HostRuntime) -> Result<(), Fail> {
     let alloc = rt.alloc();
-    let mut all = Counting::new(alloc);
-    all.add(alloc, Invert::new())?;
-    all.add(alloc, Gain::new())?;
-    all.add(alloc, Gain::new())?;
-    let Counting { stages, counts } = all;
+    let mut counts = Vec::new(alloc);
+    let mut stages: Vec<Box<dyn Stage>> = Vec::new(alloc);
+    stages.push(Box::new(alloc, make_counted(alloc, Invert::new(), &mut counts)?)?)?;
+    stages.push(Box::new(alloc, make_counted(alloc, Gain::new(), &mut counts)?)?)?;
+    stages.push(Box::new(alloc, make_counted(alloc, Gain::new(), &mut counts)?)?)?;
     let done = convert(alloc, "-rack=gain:3/1,gain:5/1", stages)?;
     assert_eq!(rt; done.status, 0);
     assert_eq!(rt; done.made.as_slice(), RAISED);
@@ -188,11 +181,11 @@ fn boxes_serve_in_their_order(rt: HostRuntime) -> Result<(), Fail> {
 #[test]
 fn frames_pass_one_box_after_the_other(rt: HostRuntime) -> Result<(), Fail> {
     let alloc = rt.alloc();
-    let mut all = Counting::new(alloc);
-    all.add(alloc, Invert::new())?;
-    all.add(alloc, Invert::new())?;
-    all.add(alloc, Pick::new())?;
-    let Counting { stages, counts } = all;
+    let mut counts = Vec::new(alloc);
+    let mut stages: Vec<Box<dyn Stage>> = Vec::new(alloc);
+    stages.push(Box::new(alloc, make_counted(alloc, Invert::new(), &mut counts)?)?)?;
+    stages.push(Box::new(alloc, make_counted(alloc, Invert::new(), &mut counts)?)?)?;
+    stages.push(Box::new(alloc, make_counted(alloc, Pick::new(), &mut counts)?)?)?;
     let done = convert(alloc, "-rack=invert,map:0.0.0,invert", stages)?;
     assert_eq!(rt; done.status, 0);
     assert_eq!(rt; done.made.as_slice(), WIDE);
