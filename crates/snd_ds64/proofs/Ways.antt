@@ -15,7 +15,7 @@ pub in_one : (n : ℕ) → n ≡ 48 → IsInOneSector 0 n
 in_one n is = rw is refl
 
 -- what has both places as they were is as it was
-all_old : (b x : List ℕ) (at : ℕ) (f s : List ℕ) → IsPatching b 0 f at s x → HasFieldOf x b 0 (length f) → HasFieldOf x b at (length s) → x ≡ b
+pub all_old : (b x : List ℕ) (at : ℕ) (f s : List ℕ) → IsPatching b 0 f at s x → HasFieldOf x b 0 (length f) → HasFieldOf x b at (length s) → x ≡ b
 all_old b x at f s way first second = same_lists x b way.size (λ i d lt.
     get_or_default x i d 0 lt ∙ by_place i (cases_lt i (length f)) (cases_lt i at) (cases_lt i (at + length s)) ∙ get_or_default b i 0 d (omega (arith, lt, way.size)))
   where
