@@ -168,11 +168,11 @@ fn boxes_serve_in_their_order(rt: HostRuntime) -> Result<(), Fail> {
     let done = convert(alloc, "-rack=gain:3/1,gain:5/1", stages)?;
     assert_eq!(rt; done.status, 0);
     assert_eq!(rt; done.made.as_slice(), RAISED);
-    let wanted = [(0, 0), (1, 3), (1, 5)];
-    for (calls, (starts, number)) in counts.iter().zip(wanted) {
+    let wanted = [(0, 0, 0), (1, 3, 2), (1, 5, 2)];
+    for (calls, (starts, number, applies)) in counts.iter().zip(wanted) {
         assert_eq!(rt; calls.starts.get(), starts);
         assert_eq!(rt; calls.number.get(), number);
-        assert_eq!(rt; calls.applies.get(), starts * 2);
+        assert_eq!(rt; calls.applies.get(), applies);
     }
     Ok(())
 }
