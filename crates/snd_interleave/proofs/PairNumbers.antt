@@ -6,7 +6,6 @@ use Rattle.snd_fields.specs.declared.field.Order.{Order}
 use Rattle.snd_layout.specs.Blocks.{block_align, is_adpcm}
 use Rattle.snd_layout.specs.declared.codec.Codec.{Codec}
 use Rattle.snd_layout.specs.declared.codec.Codec.TheVariants.{U8, S8, S16, S24, S32, MuLaw, ALaw, Ima, Ms}
-use Rattle.snd_container.specs.Sound.{fixed_of}
 use Rattle.snd_edits.specs.Bytes.{numbers_in, sources_in}
 use Rattle.snd_edits.specs.Editing.{Editing}
 use Rattle.snd_edits.specs.Known.{Known}

@@ -46,7 +46,7 @@ abbrev pub SuitsPairs : Codec → Codec → Type 0
 SuitsPairs codec own = (is_pair codec ≡ true) × (own ≡ codec)
 
 -- so none of them has blocks
-pub pairs_whole : (codec own : Codec) → SuitsPairs codec own → is_adpcm own ≡ true → 8192 ≡ 16384
+pub pairs_whole : (codec own : Codec) → SuitsPairs codec own → is_adpcm own ≡ true → ◌≡◌ {A = ℕ} 8192 16384
 pairs_whole (S16 order) own suits blocks = absurd (let never : is_adpcm (S16 order) ≡ true = sym (ap is_adpcm suits.1) ∙ blocks in cc)
 pairs_whole U8 own suits blocks = absurd (let never = suits.0 in cc)
 pairs_whole S8 own suits blocks = absurd (let never = suits.0 in cc)

@@ -50,7 +50,7 @@ fn fill_two<D: Disk, U: Held>(
     let last = &mut inputs[1];
     U::read(alloc, last, place, count, codec, second)?;
     U::join(buffer, second, count, block);
-    U::are_counted(block, count * 2);
+    U::are_counted(block, count, 2);
     Ok(())
 }
 
@@ -86,7 +86,7 @@ fn fill<D: Disk, U: Held>(
         U::read(alloc, input, place, count, codec, buffer)?;
         U::put(buffer, count, channels, i, block);
     }
-    U::are_counted(block, count * channels);
+    U::are_counted(block, count, channels);
     Ok(())
 }
 

@@ -75,10 +75,10 @@ pub(crate) trait Held: Copy {
         ensures left { (codec : Codec) → suits codec codec → HasChannel 2 0 count (numbers codec left.now) (numbers codec block.new) }
         ensures right { (codec : Codec) → suits codec codec → HasChannel 2 1 count (numbers codec right.now) (numbers codec block.new) };
 
-    /// How many samples some are.
-    fn are_counted(some: &[Self], count: usize)
-        requires { length some.now ≡ PER * count }
-        ensures { (codec : Codec) → suits codec codec → length (numbers codec some.now) ≡ count };
+    /// How many samples a block of so many frames has.
+    fn are_counted(block: &[Self], count: usize, channels: usize)
+        requires { length block.now ≡ PER * (count * channels) }
+        ensures { (codec : Codec) → suits codec codec → length (numbers codec block.now) ≡ count * channels };
 
     /// How many frames are best put first behind those of a file, of the most.
     fn count_first<E: Disk, M: Making>(to: &File<'_, E, M>) -> usize
@@ -111,7 +111,9 @@ pub(crate) trait Held: Copy {
 
     ghost some: { 1 ≤ MOST };
 
-    ghost few: { PER * MOST ≤ 16384 };
+    ghost few: { MOST ≤ 16384 };
+
+    ghost small: { PER ≤ 2 };
 }
 
 impl Held for i32 {
@@ -151,7 +153,7 @@ impl Held for i32 {
         put_numbers(right, 2, 1, block);
     }
 
-    fn are_counted(_some: &[i32], _count: usize) {}
+    fn are_counted(_block: &[i32], _count: usize, _channels: usize) {}
 
     fn count_first<E: Disk, M: Making>(_to: &File<'_, E, M>) -> usize {
         Self::MOST
@@ -171,6 +173,8 @@ impl Held for i32 {
     ghost some = { Prim.search rules };
 
     ghost few = { Prim.search rules };
+
+    ghost small = { Prim.search rules };
 }
 
 impl Held for u8 {
@@ -209,7 +213,7 @@ impl Held for u8 {
         join_pairs(left, right, block);
     }
 
-    fn are_counted(_some: &[u8], _count: usize) {}
+    fn are_counted(_block: &[u8], _count: usize, _channels: usize) {}
 
     fn count_first<E: Disk, M: Making>(to: &File<'_, E, M>) -> usize {
         frames_first(to, Self::MOST)
@@ -229,4 +233,6 @@ impl Held for u8 {
     ghost some = { Prim.search rules };
 
     ghost few = { Prim.search rules };
+
+    ghost small = { Prim.search rules };
 }

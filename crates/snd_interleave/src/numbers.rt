@@ -70,6 +70,13 @@ fn read_input<D: Disk>(
     }
 }
 
+// The codec of an input.
+fn codec_in<D: Disk>(input: &Input<D>) -> Codec
+    ensures { result ≡ input.now.layout.params.codec }
+{
+    input.layout.params.codec
+}
+
 /// Puts zeros into a slice from a place on.
 pub(crate) fn put_zeros<T: Copy>(zero: T, from: usize, into: &mut [T])
     requires { from ≤ length into.old }
@@ -98,7 +105,7 @@ pub(crate) fn read_numbers<D: Disk>(
     ensures reads { Reads D.Disk input.old input.new }
     ensures asked { AsksInput D.state (bytes_from place (length into.old)) input.old input.new }
 {
-    let own = input.layout.params.codec;
+    let own = codec_in(input);
     let count = read_input(alloc, input, place, into)?;
     put_zeros(0, count, into);
     change_numbers(own, codec, into);

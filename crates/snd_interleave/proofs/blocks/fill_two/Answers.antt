@@ -16,6 +16,12 @@ returns-in_err-read-clause-reads g c = head_read g.D.Disk c.args.inputs.now c.re
 pub returns-in_err-read-clause-asked : goal.returns-in_err-read-clause-asked
 returns-in_err-read-clause-asked g c = asked_head g.D.Disk c.args.inputs.now c.requires.two c.index-inputs-0.result c.read.new.input (bytes_from c.args.place c.args.count) c.read.ensures.asked
 
+pub returns-in_err-read-clause-changed : goal.returns-in_err-read-clause-changed
+returns-in_err-read-clause-changed g c =
+    changed_as _ _ c.in_err-read.field-0.0 c.from_residual.result (search rules)
+    (λ bad es hold none. one_bad g.D.Disk.state c.args.inputs.now es 0 (head g.D.Disk c.args.inputs.now c.requires.two c.index-inputs-0.result c.read.new.input) (head_within g.D.Disk c.args.inputs.now c.requires.two c.index-inputs-0.result c.read.new.input) (head_is g.D.Disk c.args.inputs.now c.requires.two c.index-inputs-0.result c.read.new.input) hold none bad)
+    c.in_err-read.ensures.changed
+
 pub returns-in_err-read-2-clause-faults : goal.returns-in_err-read-2-clause-faults
 returns-in_err-read-2-clause-faults g c =
     let first = c.args.inputs.now in
@@ -39,7 +45,7 @@ returns-in_err-read-2-clause-changed g c =
     let now = mid g.D.Disk c.args.inputs.now c.requires.two c.index-inputs-0.result c.read.new.input in
     changed_as _ _ c.in_err-read-2.field-0.0 c.from_residual-in_err-read-2.result (search rules)
     (λ bad es hold none.
-    one_bad g.D.Disk.state now es 1 (last g.D.Disk c.args.inputs.now c.requires.two c.index-inputs-0.result c.read.new.input c.index-inputs-1.result) (last_within g.D.Disk c.args.inputs.now c.requires.two c.index-inputs-0.result c.read.new.input c.index-inputs-1.result) (last_is g.D.Disk c.args.inputs.now c.requires.two c.index-inputs-0.result c.read.new.input c.index-inputs-1.result) (hold_still g.D.Disk first now es (head_read g.D.Disk c.args.inputs.now c.requires.two c.index-inputs-0.result c.read.new.input c.read.ensures.reads) hold) none bad)
+    one_bad g.D.Disk.state now es 1 (last g.D.Disk c.args.inputs.now c.requires.two c.index-inputs-0.result c.read.new.input c.index-inputs-1.result c.read-2.new.input) (last_within g.D.Disk c.args.inputs.now c.requires.two c.index-inputs-0.result c.read.new.input c.index-inputs-1.result c.read-2.new.input) (last_is g.D.Disk c.args.inputs.now c.requires.two c.index-inputs-0.result c.read.new.input c.index-inputs-1.result c.read-2.new.input) (hold_still g.D.Disk first now es (head_read g.D.Disk c.args.inputs.now c.requires.two c.index-inputs-0.result c.read.new.input c.read.ensures.reads) hold) none bad)
     c.in_err-read-2.ensures.changed
 
 pub returns-clause-filled : goal.returns-clause-filled
@@ -47,8 +53,8 @@ returns-clause-filled g c =
     let first = c.args.inputs.now in
     let codec = c.args.codec in
     let itself = c.requires.suit.itself in
-    two_filled g.D.Disk first (mid g.D.Disk c.args.inputs.now c.requires.two c.index-inputs-0.result c.read.new.input) codec c.args.place c.args.count (head g.D.Disk c.args.inputs.now c.requires.two c.index-inputs-0.result) (last g.D.Disk c.args.inputs.now c.requires.two c.index-inputs-0.result c.read.new.input c.index-inputs-1.result) (g.U.Held.numbers codec c.read.new.into) (g.U.Held.numbers codec c.read-2.new.into) (g.U.Held.numbers codec c.join.new.block)
-    c.requires.two (head_read g.D.Disk c.args.inputs.now c.requires.two c.index-inputs-0.result c.read.new.input c.read.ensures.reads) (head_is g.D.Disk c.args.inputs.now c.requires.two c.index-inputs-0.result) (last_is g.D.Disk c.args.inputs.now c.requires.two c.index-inputs-0.result c.read.new.input c.index-inputs-1.result) c.in_ok-read.ensures.read c.in_ok-read-2.ensures.read
+    two_filled g.D.Disk first (mid g.D.Disk c.args.inputs.now c.requires.two c.index-inputs-0.result c.read.new.input) codec c.args.place c.args.count (head g.D.Disk c.args.inputs.now c.requires.two c.index-inputs-0.result c.read.new.input) (last g.D.Disk c.args.inputs.now c.requires.two c.index-inputs-0.result c.read.new.input c.index-inputs-1.result c.read-2.new.input) (g.U.Held.numbers codec c.read.new.into) (g.U.Held.numbers codec c.read-2.new.into) (g.U.Held.numbers codec c.join.new.block)
+    c.requires.two (head_read g.D.Disk c.args.inputs.now c.requires.two c.index-inputs-0.result c.read.new.input c.read.ensures.reads) (head_is g.D.Disk c.args.inputs.now c.requires.two c.index-inputs-0.result c.read.new.input) (last_is g.D.Disk c.args.inputs.now c.requires.two c.index-inputs-0.result c.read.new.input c.index-inputs-1.result c.read-2.new.input) c.in_ok-read.ensures.read c.in_ok-read-2.ensures.read
     (c.join.ensures.left codec itself) (c.join.ensures.right codec itself) (c.are_counted.ensures codec itself)
 
 pub returns-clause-in_range : goal.returns-clause-in_range

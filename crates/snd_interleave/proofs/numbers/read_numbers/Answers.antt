@@ -2,6 +2,7 @@ use Rattle.std.proofs.Common.{rules, ◌≡◌, ◌∙◌, ◌-◌, ap, sym, sub
 use Rattle.std.proofs.lemmas.List.{length-map}
 use Rattle.snd_layout.specs.declared.codec.Codec.{Codec}
 use Rattle.snd_edits.specs.Editing.{Editing}
+use Rattle.snd_edits.specs.Reading.{FitCodec}
 use Rattle.snd_output.proofs.Public.{changed_as, fits_width, width_fits}
 use Rattle.snd_output.specs.Widths.{change_numbers, width_of}
 use Rattle.snd_pcm.specs.Width.{HasWidth}
@@ -15,15 +16,16 @@ pub change_numbers-requires : goal.change_numbers-requires
 change_numbers-requires g c =
     let codec = c.args.input.now.layout.params.codec in
     let fit = fits_width codec (take c.in_ok-count.count c.read_input.new.into) c.in_ok-count.ensures.in_range in
-    width_fits codec c.put_zeros.new.into
-    (all_fit (HasWidth (width_of codec)) c.read_input.new.into c.put_zeros.new.into c.in_ok-count.count (zero_fits (width_of codec) (width_is codec)) fit c.put_zeros.ensures.front c.put_zeros.ensures.zeros)
+    subst (λ (q : Codec). FitCodec q c.put_zeros.new.into) (sym c.codec_in-own.ensures)
+    (width_fits codec c.put_zeros.new.into
+    (all_fit (HasWidth (width_of codec)) c.read_input.new.into c.put_zeros.new.into c.in_ok-count.count (zero_fits (width_of codec) (width_is codec)) fit c.put_zeros.ensures.front c.put_zeros.ensures.zeros))
 
 pub returns-clause-read : goal.returns-clause-read
 returns-clause-read g c = λ e holds.
     let h = c.args.input.now.layout in
     let all : h.frames ≡ length e.frames = sym (ap (λ (f : Editing). f.shape.frames) holds.opened) ∙ holds.count in
     let many : length (numbers_of e) ≡ h.frames = length-map e.frames (λ frame. get_or frame 0 (pos 0)) ∙ sym all in
-    let own : e.shape.params.codec ≡ h.params.codec = ap (λ (f : Editing). f.shape.params.codec) holds.opened in
+    let own : e.shape.params.codec ≡ c.codec_in-own.result = ap (λ (f : Editing). f.shape.params.codec) holds.opened ∙ sym c.codec_in-own.ensures in
     let xs = c.put_zeros.new.into in
     let size : length xs ≡ length c.args.into.now = c.put_zeros.auto.into ∙ c.read_input.auto.into in
     let count = c.in_ok-count.count in
