@@ -14,5 +14,6 @@ pub mod Making
 pub mod Opened
 pub mod PairBytes
 pub mod PairNumbers
+pub mod Places
 pub mod Reading
 pub mod TwoReads

@@ -76,9 +76,9 @@ loop-place-preserved g c =
       loan = one.loan ∙ inv.loan;
       known = longer_then n k known (known_of c.loop-place.to) (known_of c.add_block.new.to) inv.known one.left;
       within = omega (arith, c.min-count.ensures, inv.within);
-      some = g.met.U.Held.some;
+      some = omega (arith, c.MOST-most.ensures, g.met.U.Held.some);
       few = omega arith;
-      whole = λ own suits blocks. g.met.U.Held.whole (codec_of c.args.to.now) own suits blocks;
+      whole = λ own suits blocks. c.MOST-most.ensures ∙ g.met.U.Held.whole (codec_of c.args.to.now) own suits blocks;
       lengthens = λ kind p pieces xs es e hold stands making.
           let channels = channels_in (codec_of c.args.to.now) es in
           let before = inv.lengthens kind p pieces xs es e hold stands making in
@@ -101,7 +101,7 @@ pub returns-in_err-add_block-clause-faults : goal.returns-in_err-add_block-claus
 returns-in_err-add_block-clause-faults g c =
     let inv = c.loop-place.invariant in
     let stop = c.in_err-add_block.field-0.0 in
-    let failed : c.from_residual.result ≡ Err stop = search rules in
+    let failed : c.from_residual-in_err-add_block.result ≡ Err stop = search rules in
     subst (CountsWith g.D.Disk.state c.args.inputs.now c.add_block.new.inputs (g.E.Disk.state (disk_of c.args.to.now)).faults (g.E.Disk.state (disk_of c.add_block.new.to)).faults) (sym failed)
     (adding_then g.D.Disk.state c.args.inputs.now c.loop-place.inputs c.add_block.new.inputs c.loop-place.auto.inputs {T = Unit {0}} (Err stop) _ _ _ inv.calm inv.to_calm c.in_err-add_block.ensures.faults)
 
@@ -128,7 +128,7 @@ returns-in_err-add_block-clause-asked g c =
 
 pub returns-in_err-add_block-clause-changed : goal.returns-in_err-add_block-clause-changed
 returns-in_err-add_block-clause-changed g c =
-    changed_as _ _ c.in_err-add_block.field-0.0 c.from_residual.result (search rules)
+    changed_as _ _ c.in_err-add_block.field-0.0 c.from_residual-in_err-add_block.result (search rules)
     (λ bad es hold none. bad es (hold_still g.D.Disk c.args.inputs.now c.loop-place.inputs es c.loop-place.invariant.reads hold) none) c.in_err-add_block.ensures.changed
 
 pub returns-in_err-add_block-clause-unasked : goal.returns-in_err-add_block-clause-unasked

@@ -22,8 +22,8 @@ give-requires g c =
       size = c.fill.auto.block ∙ c.requires.all ∙ ap (λ (n : ℕ). g.U.Held.PER * n) all;
       at_end = c.requires.at_end;
       room = c.requires.room;
-      in_range = subst (λ (q : Codec). HaveEach (g.U.Held.fits q) (c.args.count * channels_of c.args.to.now) (g.U.Held.numbers q c.fill.new.block)) codec
-          (subst (λ (n : ℕ). HaveEach (g.U.Held.fits c.numbers_of-codec.codec) n (g.U.Held.numbers c.numbers_of-codec.codec c.fill.new.block)) all c.in_ok-fill.ensures.in_range);
+      in_range = subst (λ (n : ℕ). HaveEach (g.U.Held.fits (codec_of c.args.to.now)) n (g.U.Held.numbers (codec_of c.args.to.now) c.fill.new.block)) all
+          (subst (λ (q : Codec). HaveEach (g.U.Held.fits q) (c.args.count * length c.args.inputs.now) (g.U.Held.numbers q c.fill.new.block)) codec c.in_ok-fill.ensures.in_range);
     }
 
 pub returns-clause-lengthens : goal.returns-clause-lengthens

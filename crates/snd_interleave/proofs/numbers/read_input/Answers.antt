@@ -25,5 +25,4 @@ pub returns-in-Err-BadBlock-clause-changed : goal.returns-in-Err-BadBlock-clause
 returns-in-Err-BadBlock-clause-changed g c = λ e holds.
     let h = c.args.input.now.layout in
     let k = c.frames_ahead-count.result in
-    let finds : (b : List ℕ) → Tells g.D.Disk.state c.args.input.now.disk b → has_bad (take k (drop c.args.place (frames_in b h))) ≡ true = search rules in
-    ap is_bad holds.opened ∙ has_bad_part (frames_in e.bytes h) c.args.place k (finds e.bytes holds.bytes)
+    ap is_bad holds.opened ∙ has_bad_part (frames_in e.bytes h) c.args.place k (c.in-Err-BadBlock.ensures.bad (search rules) e.bytes holds.bytes)
