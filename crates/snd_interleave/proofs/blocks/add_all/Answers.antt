@@ -136,3 +136,24 @@ returns-in_err-add_block-clause-unasked g c = c.add_block.ensures.unasked ∙ c.
 
 pub returns-clause-asked : goal.returns-clause-asked
 returns-clause-asked g c = each_once g.D.Disk.state c.loop-place.place c.args.inputs.now c.loop-place.inputs c.requires.mono c.loop-place.invariant.asked
+
+pub slice_bounds-add_block-end : goal.slice_bounds-add_block-end
+slice_bounds-add_block-end g c = ?
+
+pub slice_bounds-add_block-end-in-loop-place : goal.slice_bounds-add_block-end-in-loop-place
+slice_bounds-add_block-end-in-loop-place g c = ?
+
+pub overflow_mul-size-in-loop-place : goal.overflow_mul-size-in-loop-place
+overflow_mul-size-in-loop-place g c = ?
+
+pub slice_bounds-add_block-end-in-loop-place-2 : goal.slice_bounds-add_block-end-in-loop-place-2
+slice_bounds-add_block-end-in-loop-place-2 g c = ?
+
+pub add_block-requires-clause-size : goal.add_block-requires-clause-size
+add_block-requires-clause-size g c = ?
+
+pub add_block-requires-clause-two : goal.add_block-requires-clause-two
+add_block-requires-clause-two g c = ?
+
+pub add_block-requires-clause-all : goal.add_block-requires-clause-all
+add_block-requires-clause-all g c = ?
