@@ -18,13 +18,14 @@ use Rattle.snd_inputs.specs.declared.input.Input.{Input}
 use Rattle.snd_layout.specs.Blocks.{block_align, block_frames, is_adpcm}
 use Rattle.snd_layout.specs.Params.{Parameters}
 use Rattle.snd_layout.specs.Shape.{Shape, end}
-use Rattle.snd_edits.specs.Calls.{count_read}
-use Rattle.snd_edits.specs.Known.{Known}
-use Rattle.snd_edits.specs.Reading.{bytes_to_read}
+use Rattle.snd_layout.specs.declared.codec.Codec.{Codec}
+use Rattle.snd_edits.specs.Reading.{bytes_of_frames, bytes_to_read}
 use Rattle.snd_output.proofs.Public.{div_sum}
 use Rattle.snd_words.proofs.Runs.{drop_get}
 use Rattle.snd_interleave.specs.Asking.{AsksEach, AsksFirst, AsksInput, AsksOnce, AsksWhole, asked_of, bytes_copied, bytes_from, bytes_upto, bytes_whole}
-use Rattle.snd_interleave.specs.Channels.{AreMono, ReadAll}
+use Rattle.snd_interleave.specs.Channels.{AreMono, ReadAll, layouts_of, most_frames}
+use Rattle.snd_interleave.specs.Held.{AllSuit}
+use Rattle.snd_interleave.proofs.Bad.{few_frames}
 
 -- ---- the bytes of frames
 
@@ -127,26 +128,33 @@ bytes_all h n mono =
     subst (λ (c : ℕ). bytes_upto n h ≤ cond (is_adpcm h.params.codec) ((h.frames / per + 2 * (h.frames / (16384 / c) + 2)) * align) (h.frames * align)) (sym mono)
     (upto_all (is_adpcm h.params.codec) per align h.frames (min n h.frames) (let e : min n h.frames ≤ h.frames = omega arith in e))
 
--- what a file of one channel is asked for that is read from a frame on
-pub asks_frames : (k k' : Known) (place places a b : ℕ) → k' ≡ record k { place = place } → k.shape.params.channels ≡ 1 → place < k.shape.frames
-    → AtMost a (bytes_to_read k'.shape.params (count_read places k')) b → AtMost a (bytes_from place places k.shape) b
-asks_frames k k' place places a b left mono before asked =
-    let n = min places (k.shape.frames - place) in
-    let count : count_read places k' ≡ n =
-    ap (count_read places) left ∙ ap (λ (c : ℕ). min (places / c) (k.shape.frames - place)) mono ∙ one places (k.shape.frames - place) in
-    let same : k'.shape.params ≡ k.shape.params = ap (λ (x : Known). x.shape.params) left in
-    let is : bytes_to_read k'.shape.params (count_read places k') ≡ bytes_from place places k.shape =
-    ap (bytes_to_read k'.shape.params) count ∙ ap (λ (p : Parameters). bytes_to_read p n) same ∙ sym (ap (λ (t : Bool). cond t (bytes_to_read k.shape.params n) 0) (lt-ltb place k.shape.frames before)) in
-    subst (λ (m : ℕ). AtMost a m b) is asked
-  where
-    one : (many ahead : ℕ) → min (many / 1) ahead ≡ min many ahead
-    one many ahead = omega arith
+-- what an input is asked for that is read from a frame on
+pub asks_here : (h : Shape) (place most count a b : ℕ) → place < h.frames → count ≡ min most (h.frames - place) → AtMost a (bytes_to_read h.params count) b → AtMost a (bytes_from place most h) b
+asks_here h place most count a b before is asked =
+    let same : bytes_to_read h.params count ≡ bytes_from place most h =
+    ap (bytes_to_read h.params) is ∙ sym (ap (λ (t : Bool). cond t (bytes_to_read h.params (min most (h.frames - place))) 0) (lt-ltb place h.frames before)) in
+    subst (λ (m : ℕ). AtMost a m b) same asked
+
+-- .. where it has no blocks
+pub asks_plain : (h : Shape) (place most count a b : ℕ) → is_adpcm h.params.codec ≡ false → place < h.frames → count ≡ min most (h.frames - place) → AtMost a (bytes_of_frames h.params count) b → AtMost a (bytes_from place most h) b
+asks_plain h place most count a b plain before is asked =
+    let per = block_align h.params.channels h.params.codec in
+    let same : bytes_of_frames h.params count ≡ bytes_to_read h.params count = sym (ap (λ (t : Bool). cond t ((count / block_frames h.params.codec + 2) * per) (count * per)) plain) in
+    asks_here h place most count a b before is (subst (λ (m : ℕ). AtMost a m b) same asked)
 
 -- a block is whole, or ends where the frames do
-pub ends_at : (frames n count k : ℕ) → k ≡ count → count ≡ min (frames - n) 16384 → n ≤ frames → (k ≡ 16384) ⊎ (frames ≤ n + k)
-ends_at frames n count k same is within = elim (cases_lt (frames - n) 16384) [ inl few ↦ inr (omega (arith, same, is, few)) | inr many ↦ inl (omega (arith, same, is, many)) ]
+pub ends_at : (frames n most count : ℕ) → most ≡ 16384 → count ≡ min (frames - n) most → n ≤ frames → (count ≡ 16384) ⊎ (frames ≤ n + count)
+ends_at frames n most count whole is within = elim (cases_lt (frames - n) 16384) [ inl few ↦ inr (omega (arith, whole, is, few, within)) | inr many ↦ inl (omega (arith, whole, is, many)) ]
 
 -- ---- several inputs
+
+-- each block is whole where some have blocks, or ends where the frames do
+pub ends_of : {D : Type 0} {ghosts : Ghosts D} (Suits : Codec → Codec → Type 0) (codec : Codec) (frames n most count : ℕ) (xs : List (Input D ghosts)) → AllSuit Suits codec xs → ((own : Codec) → Suits codec own → is_adpcm own ≡ true → most ≡ 16384)
+    → frames ≡ most_frames (layouts_of xs) → count ≡ min (frames - n) most → n ≤ frames → (k : ℕ) (d : Input D ghosts) → k < length xs → is_adpcm (get_or xs k d).layout.params.codec ≡ true
+    → (count ≡ 16384) ⊎ ((get_or xs k d).layout.frames ≤ n + count)
+ends_of Suits codec frames n most count xs suit whole all is within k d lt blocks =
+    ⊎_elim (λ same. inl same) (λ end. inr (let few = few_frames xs k d lt in omega (arith, few, all, end)))
+    (ends_at frames n most count (whole (get_or xs k d).layout.params.codec (suit.each k d lt) blocks) is within)
 
 module _ {D : Type 0} {ghosts : Ghosts D} (state : D → State) where
   same_asked : (xs : List (Input D ghosts)) (k : ℕ) (d d' : Input D ghosts) → k < length xs → asked_of state (get_or xs k d') ≡ asked_of state (get_or xs k d)
@@ -196,7 +204,7 @@ module _ {D : Type 0} {ghosts : Ghosts D} (state : D → State) where
   ]
 
   -- a run of frames, and the next
-  each_next : (n m : ℕ) (xs ys zs : List (Input D ghosts)) → ReadAll ghosts xs ys
+  pub each_next : (n m : ℕ) (xs ys zs : List (Input D ghosts)) → ReadAll ghosts xs ys
       → ((k : ℕ) (d : Input D ghosts) → k < length xs → is_adpcm (get_or xs k d).layout.params.codec ≡ true → (m ≡ 16384) ⊎ ((get_or xs k d).layout.frames ≤ n + m))
       → AsksEach state (bytes_upto n) xs ys → AsksEach state (bytes_from n m) ys zs → AsksEach state (bytes_upto (n + m)) xs zs
   each_next n m xs ys zs reads ends before next k d d' lt =
@@ -209,15 +217,6 @@ module _ {D : Type 0} {ghosts : Ghosts D} (state : D → State) where
     where
       chained : (f g g' s a b c : ℕ) → g ≡ g' → f + g' ≤ s → AtMost a f b → AtMost b g c → AtMost a s c
       chained f g g' s a b c e le one two = record { later = omega (arith, one.later, two.later); most = omega (arith, e, le, one.most, two.most) }
-
-  pub each_then : (n m : ℕ) (xs ys zs : List (Input D ghosts)) → ReadAll ghosts xs ys → (m ≡ 16384) ⊎ ((k : ℕ) (d : Input D ghosts) → k < length xs → (get_or xs k d).layout.frames ≤ n + m)
-      → AsksEach state (bytes_upto n) xs ys → AsksEach state (bytes_from n m) ys zs → AsksEach state (bytes_upto (n + m)) xs zs
-  each_then n m xs ys zs reads ends = each_next n m xs ys zs reads (λ k d lt blocks. ⊎_elim (λ whole. inl whole) (λ all. inr (all k d lt)) ends)
-
-  -- .. of so many frames as may be, where none of them has blocks
-  pub each_then_plain : (n m : ℕ) (xs ys zs : List (Input D ghosts)) → ReadAll ghosts xs ys → ((k : ℕ) (d : Input D ghosts) → k < length xs → is_adpcm (get_or xs k d).layout.params.codec ≡ false)
-      → AsksEach state (bytes_upto n) xs ys → AsksEach state (bytes_from n m) ys zs → AsksEach state (bytes_upto (n + m)) xs zs
-  each_then_plain n m xs ys zs reads plain = each_next n m xs ys zs reads (λ k d lt blocks. absurd (let never : true ≡ false = sym blocks ∙ plain k d lt in cc))
 
   -- and what comes to no more than all
   pub each_once : (n : ℕ) (xs ys : List (Input D ghosts)) → AreMono xs → AsksEach state (bytes_upto n) xs ys → AsksOnce state xs ys

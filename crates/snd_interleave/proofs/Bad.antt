@@ -42,8 +42,3 @@ pub few_frames : {D : Type 0} {ghosts : Ghosts D} (xs : List (Input D ghosts)) (
 few_frames [] k d lt = absurd (omega (arith, lt))
 few_frames (x ∷ xs) zero d lt = omega arith
 few_frames (x ∷ xs) (suc k) d lt = let later = few_frames xs k d (omega (arith, lt)) in omega (arith, later)
-
-pub all_end : {D : Type 0} {ghosts : Ghosts D} (frames n k : ℕ) (xs : List (Input D ghosts)) → (k ≡ 16384) ⊎ (frames ≤ n + k) → frames ≡ most_frames (layouts_of xs)
-    → (k ≡ 16384) ⊎ ((j : ℕ) (d : Input D ghosts) → j < length xs → (get_or xs j d).layout.frames ≤ n + k)
-all_end frames n k xs (inl whole) all = inl whole
-all_end frames n k xs (inr end) all = inr (λ j d lt. omega (arith, few_frames xs j d lt, all, end))

@@ -6,7 +6,7 @@ use Rattle.std.proofs.lemmas.List.Concat.{flat_map-append}
 use Rattle.std.proofs.lemmas.Grind.{get_or-set_at}
 use Rattle.std.proofs.lemmas.List.{get_or-set_other, length-drop, length-map, places, same_lists, nil_from_length, get_or_default, take-append-drop, get_or-drop}
 use Rattle.std.specs.List.{flat_map, range_with_len}
-use Rattle.snd_interleave.specs.Beside.{FitsChannel, HasChannel, KeepsChannels, frame_at, frames_from}
+use Rattle.snd_interleave.specs.Beside.{HasChannel, HaveEach, KeepsChannels, frame_at, frames_from}
 
 -- ---- places in a block of frames of n numbers
 
@@ -34,23 +34,13 @@ place_apart n i w j c within within' other same = elim (cases_lt j i) [
 
 module _ (n w i : ℕ) (numbers block : List ℤ) (y : ℤ) (within : w < n) (size : length block ≡ length numbers * n) (lt : i < length numbers) where
   -- one number more of a channel is put
-  pub put_more : y ≡ get_or numbers i (pos 0) → HasChannel n w (take i numbers) block → HasChannel n w (take (i + 1) numbers) (set block (i * n + w) y)
+  pub put_more : y ≡ get_or numbers i (pos 0) → HasChannel n w i numbers block → HasChannel n w (i + 1) numbers (set block (i * n + w) y)
   put_more is so_far j below = elim (cases_lt j i) [
-    | inl before ↦
-        get_or-set_other block (i * n + w) (j * n + w) y (pos 0) (frame_apart n i w j w within within (inl before))
-        ∙ so_far j (grind (arith, places)) ∙ grind (arith, places)
-    | inr le ↦
-        let here : j ≡ i = grind (arith, places) in
-        get_or-set_at block (i * n + w) (j * n + w) y (pos 0) (ap (λ (k : ℕ). k * n + w) here) (let at = in_frame n (length numbers) i w lt within in omega (arith, at, size))
-        ∙ is ∙ grind (arith, places)
-  ]
-
-  pub fits_more : (P : ℤ → Type 0) → P y → FitsChannel n w i P block → FitsChannel n w (i + 1) P (set block (i * n + w) y)
-  fits_more P fits so_far j below = elim (cases_lt j i) [
-    | inl before ↦ subst P (sym (get_or-set_other block (i * n + w) (j * n + w) y (pos 0) (frame_apart n i w j w within within (inl before)))) (so_far j before)
+    | inl before ↦ get_or-set_other block (i * n + w) (j * n + w) y (pos 0) (frame_apart n i w j w within within (inl before)) ∙ so_far j before
     | inr le ↦
         let here : j ≡ i = omega (arith, le, below) in
-        subst P (sym (get_or-set_at block (i * n + w) (j * n + w) y (pos 0) (ap (λ (k : ℕ). k * n + w) here) (let at = in_frame n (length numbers) i w lt within in omega (arith, at, size)))) fits
+        get_or-set_at block (i * n + w) (j * n + w) y (pos 0) (ap (λ (k : ℕ). k * n + w) here) (let at = in_frame n (length numbers) i w lt within in omega (arith, at, size))
+        ∙ is ∙ ap (λ (k : ℕ). get_or numbers k (pos 0)) (sym here)
   ]
 
   pub others_more : (old : List ℤ) (count : ℕ) → KeepsChannels n w count old block → KeepsChannels n w count old (set block (i * n + w) y)
@@ -83,13 +73,13 @@ frames_are channels n at (suc count) block many size is =
     (λ j c lt within. dropped n block j c ∙ is (suc j) c (omega (arith, lt)) within ∙ ap (λ (k : ℕ). get_or (frame_at channels k) c (pos 0)) (let e : at + suc j ≡ at + 1 + j = omega arith in e)))
 
 -- what holds of each number of each frame holds of all
-pub each_place : (P : ℤ → Type 0) (n count : ℕ) (block : List ℤ) → length block ≡ count * n → ((j c : ℕ) → j < count → c < n → P (get_or block (j * n + c) (pos 0))) → All P block
-each_place P n count block size is k d lt =
-    let some : 1 ≤ n = positive n (λ none. let e : count * n ≡ count * 0 = ap (λ (m : ℕ). count * m) none in omega (arith, e, size, lt)) in
+pub each_place : (P : ℤ → Type 0) (n count : ℕ) (block : List ℤ) → ((j c : ℕ) → j < count → c < n → P (get_or block (j * n + c) (pos 0))) → HaveEach P (count * n) block
+each_place P n count block is k lt =
+    let some : 1 ≤ n = positive n (λ none. let e : count * n ≡ count * 0 = ap (λ (m : ℕ). count * m) none in omega (arith, e, lt)) in
     let split : k ≡ k / n * n + k % n = omega (arith, some) in
-    let below : k / n < count = frame_below n count (k / n) (omega (arith, split, size, lt)) in
+    let below : k / n < count = frame_below n count (k / n) (omega (arith, split, lt)) in
     let inside : k % n < n = omega (arith, some) in
-    subst P (ap (λ (i : ℕ). get_or block i (pos 0)) (sym split) ∙ get_or_default block k (pos 0) d lt) (is (k / n) (k % n) below inside)
+    subst P (ap (λ (i : ℕ). get_or block i (pos 0)) (sym split)) (is (k / n) (k % n) below inside)
   where
     positive : (m : ℕ) → (m ≡ 0 → ⊥) → 1 ≤ m
     positive m some = elim (cases_lt 0 m) [ inl lt ↦ omega (arith, lt) | inr le ↦ absurd (some (omega (arith, le))) ]

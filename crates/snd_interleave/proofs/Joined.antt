@@ -1,7 +1,7 @@
 -- Frames of two channels that are put one behind the other.
 use Rattle.std.proofs.Common.{◌≡◌, ◌≢◌, ◌∙◌, ap, subst, inl, inr, ℕ, ◌+◌, ◌*◌, ◌<◌, List, get_or, arith}
 use Rattle.std.proofs.lemmas.Bool.{cases_lt}
-use Rattle.snd_interleave.specs.Pairs.{AreJoined, SamePair, frame_of}
+use Rattle.snd_interleave.specs.Held.{AreJoined, SamePair, frame_of}
 
 module _ (one other block new frame : List ℕ) (i next : ℕ) (by_one : next ≡ i + 1) (is : frame ≡ frame_of one other i) (first : SamePair new (i * 2 + 0) frame 0) (second : SamePair new (i * 2 + 1) frame 1)
     (others : (k : ℕ) → k ≢ i * 2 + 0 → k ≢ i * 2 + 1 → SamePair new k block k) (so_far : AreJoined i one other block) where

@@ -1,6 +1,7 @@
 pub mod Adding
 pub mod Asking
 pub mod Bad
+pub mod ChannelNumbers
 pub mod Counts
 pub mod Filling
 pub mod Frames
@@ -10,10 +11,9 @@ pub mod Joining
 pub mod Judging
 pub mod Lists
 pub mod Making
-pub mod Numbers
 pub mod Opened
 pub mod PairBytes
 pub mod PairNumbers
+pub mod Places
 pub mod Reading
-pub mod TwoPairs
 pub mod TwoReads

@@ -12,7 +12,7 @@ use Rattle.snd_pcm.proofs.RoundTrips.{samples_of_parts}
 use Rattle.snd_pcm.proofs.Series.{get_or-samples, length-samples}
 use Rattle.snd_pcm.specs.Pcm.{samples, value}
 use Rattle.snd_pcm.specs.declared.linear.Linear.TheVariants.{S16}
-use Rattle.snd_interleave.specs.Pairs.{HasPairs, KeepsPairs, SamePair, pairs_in}
+use Rattle.snd_interleave.specs.Held.{HasPairs, KeepsPairs, SamePair, pairs_in}
 use Rattle.snd_interleave.proofs.Frames.{frame_apart, in_frame, place_apart}
 
 -- ---- where they stand
@@ -101,10 +101,8 @@ module _ (order : Order) where
     in_block : (j c : ℕ) → j < pairs_in pairs → c < n → j * n + c < pairs_in block
     in_block j c lt inside = let fits = pair_within n (length pairs) j c lt inside in omega (arith, fits, size)
 
-    pub has_channel : HasPairs n w pairs block → (j : ℕ) → j < length (numbers pairs) → get_or (numbers block) (j * n + w) (pos 0) ≡ get_or (numbers pairs) j (pos 0)
-    has_channel has j lt =
-        let below : j < pairs_in pairs = omega (arith, lt, count_of_pairs pairs) in
-        same_pair block pairs (j * n + w) j (in_block j w below within) below (has j below)
+    pub has_channel : HasPairs n w pairs block → (j : ℕ) → j < pairs_in pairs → get_or (numbers block) (j * n + w) (pos 0) ≡ get_or (numbers pairs) j (pos 0)
+    has_channel has j below = same_pair block pairs (j * n + w) j (in_block j w below within) below (has j below)
 
     pub keeps_channels : (old : List ℕ) → length old ≡ length block → KeepsPairs n w (pairs_in pairs) old block → (j c : ℕ) → j < pairs_in pairs → c < n → c ≢ w
         → get_or (numbers block) (j * n + c) (pos 0) ≡ get_or (numbers old) (j * n + c) (pos 0)

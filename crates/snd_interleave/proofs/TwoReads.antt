@@ -39,7 +39,7 @@ module _ {D : Type 0} (ghosts : Ghosts D) (xs : List (Input D ghosts)) (two : le
     abbrev pub last : Input D ghosts
     last = get_or mid 1 d'
 
-    last_within : 1 < length mid
+    pub last_within : 1 < length mid
     last_within = omega (arith, two, length-set xs 0 y)
 
     pub last_is : last ≡ get_or mid 1 last

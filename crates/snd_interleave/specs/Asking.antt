@@ -35,14 +35,7 @@ bytes_copied h = bytes_to_copy h.params h.frames
 abbrev pub bytes_whole : Shape → ℕ
 bytes_whole h = bytes_checked h + bytes_copied h
 
--- no more are asked of an open file from a frame on, or of the disk of one, by its layout
-abbrev pub AsksFile : {D M : Type 0} {d : Ghosts D} {m : ModeGhosts M} → (D → State) → ℕ → ℕ → File D M d m → File D M d m → Type 0
-AsksFile state place most old new = AsksAtMost state (bytes_from place most (known_of old).shape) (disk_of old) (disk_of new)
-
-abbrev pub AsksLaid : {D : Type 0} → (D → State) → ℕ → ℕ → Shape → D → D → Type 0
-AsksLaid state place most h old new = AsksAtMost state (bytes_from place most h) old new
-
--- .. or so many by its layout of an input, or of each of several
+-- no more are asked of an input, by its layout, or of each of several
 abbrev pub AsksInput : {D : Type 0} {ghosts : Ghosts D} → (D → State) → (Shape → ℕ) → Input D ghosts → Input D ghosts → Type 0
 AsksInput state most old new = AtMost (asked_of state old) (most old.layout) (asked_of state new)
 

@@ -19,17 +19,17 @@ longest (xs ∷ rest) = max (length xs) (longest rest)
 abbrev pub side_by_side : List (List ℤ) → List ℤ
 side_by_side channels = frames_from channels 0 (longest channels)
 
--- ---- a block of frames of so many channels
+-- ---- a block of so many frames of so many channels
 
--- one channel of the frames that a block has is this list
-abbrev pub HasChannel : ℕ → ℕ → List ℤ → List ℤ → Type 0
-HasChannel channels which xs block = (j : ℕ) → j < length xs → get_or block (j * channels + which) (pos 0) ≡ get_or xs j (pos 0)
+-- one channel of its frames is this list
+abbrev pub HasChannel : ℕ → ℕ → ℕ → List ℤ → List ℤ → Type 0
+HasChannel channels which count xs block = (j : ℕ) → j < count → get_or block (j * channels + which) (pos 0) ≡ get_or xs j (pos 0)
 
--- the others stay, in so many frames
+-- the others stay
 abbrev pub KeepsChannels : ℕ → ℕ → ℕ → List ℤ → List ℤ → Type 0
 KeepsChannels channels which count old new =
     (j c : ℕ) → j < count → c < channels → c ≢ which → get_or new (j * channels + c) (pos 0) ≡ get_or old (j * channels + c) (pos 0)
 
--- each of its numbers, in so many frames, has a property
-abbrev pub FitsChannel : ℕ → ℕ → ℕ → (ℤ → Type 0) → List ℤ → Type 0
-FitsChannel channels which count P block = (j : ℕ) → j < count → P (get_or block (j * channels + which) (pos 0))
+-- each of so many numbers has a property
+abbrev pub HaveEach : (ℤ → Type 0) → ℕ → List ℤ → Type 0
+HaveEach P count xs = (j : ℕ) → j < count → P (get_or xs j (pos 0))

@@ -41,10 +41,6 @@ pub record Reads {D : Type 0} (ghosts : Ghosts D) (old new : Input D ghosts) : T
 abbrev pub faults_of : {D : Type 0} {ghosts : Ghosts D} → (D → State) → Input D ghosts → ℕ
 faults_of state input = (state input.disk).faults
 
--- numbers are those of a list from a place on, and zeros behind its end
-abbrev pub AreNumbersAt : ℕ → List ℤ → List ℤ → Type 0
-AreNumbersAt place all xs = (j : ℕ) → j < length xs → get_or xs j (pos 0) ≡ get_or all (place + j) (pos 0)
-
 -- ---- several
 
 pub record HoldAll {D : Type 0} {ghosts : Ghosts D} (state : D → State) (inputs : List (Input D ghosts)) (es : List Editing) : Type 0 where
@@ -116,16 +112,9 @@ abbrev pub CountsAddingTo : {D E N T : Type 0} {ghosts : Ghosts D} {t : Ghosts E
     → (D → State) → (E → State) → List (Input D ghosts) → List (Input D ghosts) → File E N t n → File E N t n → Result T Stop → Type 0
 CountsAddingTo state state' old new to to' result = CountsWith state old new (faults_of_file state' to) (faults_of_file state' to') result
 
--- That of an open file alone. There is never no memory.
-abbrev pub CountsReadOf : {E N T : Type 0} {t : Ghosts E} {n : ModeGhosts N} → (E → State) → File E N t n → File E N t n → Result T Stop → Type 0
-CountsReadOf state old new result = CountsRead (faults_of_file state old) (faults_of_file state new) result
-
 -- ---- when one is said to have changed
 
--- a file on a disk, or an input, is so only where it has a bad block
-abbrev pub LaidChanged : {D T : Type 0} → (D → State) → D → Shape → Result T Stop → Type 0
-LaidChanged state disk layout result = IfChanged ((b : List ℕ) → Tells state disk b → is_bad (first_editing b layout) ≡ true) result
-
+-- an input is so only where it has a bad block
 abbrev pub InputChanged : {D T : Type 0} {ghosts : Ghosts D} → (D → State) → Input D ghosts → Result T Stop → Type 0
 InputChanged state input result = IfChanged ((e : Editing) → Holds state input e → is_bad e ≡ true) result
 
@@ -143,10 +132,9 @@ StayTold state shelf_state inputs shelf result =
 
 -- ---- what is made of them
 
--- a block has as many frames of the inputs, from one on, as a buffer has places
-abbrev pub HasFrames : {D : Type 0} {ghosts : Ghosts D} → (D → State) → List (Input D ghosts) → Codec → ℕ → List ℤ → List ℤ → Type 0
-HasFrames state inputs codec place buffer block =
-    (es : List Editing) → HoldAll state inputs es → block ≡ frames_from (channels_in codec es) place (length buffer)
+-- numbers are so many frames of the inputs, from one on
+abbrev pub AreFrames : {D : Type 0} {ghosts : Ghosts D} → (D → State) → List (Input D ghosts) → Codec → ℕ → ℕ → List ℤ → Type 0
+AreFrames state inputs codec place count xs = (es : List Editing) → HoldAll state inputs es → xs ≡ frames_from (channels_in codec es) place count
 
 -- Where the disks tell what they hold, a file that was being made then has so many frames of the inputs more, from one on.
 abbrev pub Lengthens : {D E N : Type 0} {d : Ghosts D} {t : Ghosts E} {n : ModeGhosts N} → (D → State) → (E → State) → ℕ → ℕ → List (Input D d) → File E N t n → File E N t n → Type 0

@@ -1,7 +1,7 @@
 pub mod Asking
 pub mod Beside
 pub mod Channels
+pub mod Held
 pub mod Interleave
 pub mod Opening
-pub mod Pairs
 pub mod Reading

@@ -50,7 +50,7 @@ fn join_good<'a, S: Shelf, D: Disk>(
     ensures unasked { (S.state shelf.new).asked ≡ (S.state shelf.old).asked }
 {
     let output = interleaving.output;
-    let bad = first_bad(alloc, inputs)?;
+    let bad = first_bad(inputs)?;
     if let Some(at) = bad {
         let names = &interleaving.inputs;
         let name = names.get(at).unwrap_or(output);

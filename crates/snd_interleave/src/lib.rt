@@ -3,13 +3,12 @@
 #![tactic(auto)]
 
 mod blocks;
-mod channel;
 mod checking;
+mod held;
 mod interleaving;
 mod judge;
 mod make;
+mod numbers;
 mod pairs;
-mod passing;
-mod scatter;
 
 pub use interleaving::interleave;

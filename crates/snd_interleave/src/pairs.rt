@@ -1,94 +1,21 @@
-//! The numbers of one input of 16 bits, as the pairs of bytes that they are.
+//! The samples of one input of 16 bits, as the pairs of bytes that they are.
 
-ghost use Rattle.std.specs.Prelude.{◌≡◌, ◌+◌, ◌*◌, ◌%◌, ◌<◌, ◌≤◌, ◌^◌, ℕ, [], IfOk, None, OnOk, get_or, length, take, true};
-ghost use Rattle.snd_disk.specs.Device.{IfOkTold, OnlyReadsOn};
-ghost use Rattle.snd_inputs.specs.Copying.{OnlyReadsFile};
-ghost use Rattle.snd_layout.specs.Shape.{end, room};
+ghost use Rattle.std.specs.Prelude.{◌≡◌, ◌≢◌, ◌+◌, ◌*◌, ◌/◌, ◌%◌, ◌<◌, ◌≤◌, ℕ, IfOk, OnOk, get_or, length, take, true};
 ghost use Rattle.snd_edits.specs.Bytes.{numbers_in};
-ghost use Rattle.snd_file.specs.Handle.{IfOkStanding, channels_of, codec_of, known_of, loan_of};
 ghost use Rattle.snd_output.specs.Ends.{CountsStop, IsUnchanged};
-ghost use Rattle.snd_interleave.specs.Asking.{AsksFile, AsksInput, AsksLaid, bytes_from};
-ghost use Rattle.snd_interleave.specs.Channels.{CountsReadOf, Reads, faults_of};
-ghost use Rattle.snd_interleave.specs.Pairs.{is_pair, pairs_in};
-ghost use Rattle.snd_interleave.specs.Reading.{GivesHeld, GivesLaid, GivesNumbers, HasNumbers, IsCount};
+ghost use Rattle.snd_interleave.specs.Asking.{AsksInput, bytes_from};
+ghost use Rattle.snd_interleave.specs.Channels.{Reads, faults_of};
+ghost use Rattle.snd_interleave.specs.Held.{AreJoined, HasPairs, KeepsPairs, SamePair, frame_of, is_pair, pairs_in};
+ghost use Rattle.snd_interleave.specs.Reading.{GivesHeld, HasChannelOf, IsCount};
 
-use crate::channel::bare_layout;
+use crate::numbers::put_zeros;
 use snd_disk::Disk;
-use snd_edits::{Read, ReadError};
-use snd_file::{File, open_laid};
-use snd_inputs::{Input, close_read};
-use snd_layout::Layout;
+use snd_frames::{frames_ahead, read_raw};
+use snd_inputs::Input;
 use snd_output::Stop;
-use std::alloc::Global;
 
-// Reads the pairs of an open file of one channel, from a frame on: as many as the slice has places for,
-// fewer only at the end.
-fn read_from<D: Disk>(
-    file: &mut File<'_, D, Read>,
-    place: u64,
-    into: &mut [u8],
-) -> Result<usize, Stop>
-    requires working { (known_of file.old).broken ≡ None }
-    requires mono { channels_of file.old ≡ 1 }
-    requires pairs { is_pair (codec_of file.old) ≡ true }
-    requires whole { length into.old % 2 ≡ 0 }
-    requires within { place < (known_of file.old).shape.frames }
-    ensures loan { loan_of file.new ≡ loan_of file.old }
-    ensures count { IfOk result (IsCount place (known_of file.old).shape.frames (pairs_in into.old)) }
-    ensures read { IfOkStanding D.state file.old result (GivesNumbers place (numbers_in (codec_of file.old) into.new)) }
-    ensures faults { CountsReadOf D.state file.old file.new result }
-    ensures unchanged { IsUnchanged result }
-    ensures reads { OnlyReadsFile D.Disk file.old file.new }
-    ensures asked { AsksFile D.state place (pairs_in into.old) file.old file.new }
-{
-    let Ok(()) = file.seek_read(place) else {
-        unreachable!()
-    };
-    match file.read_bytes(into) {
-        Ok(count) => Ok(count),
-        Err(ReadError::DiskFault(_)) => Err(Stop::Fault),
-        Err(_) => unreachable!(),
-    }
-}
-
-// .. of the file on a disk, by its layout
-fn read_laid<D: Disk>(
-    alloc: Global,
-    disk: &mut D,
-    layout: Layout,
-    place: u64,
-    into: &mut [u8],
-) -> Result<usize, Stop>
-    requires held { end layout layout.frames ≤ (D.state disk.old).size }
-    requires room_ends { layout.start + room layout + 8 ≤ 2 ^ 63 }
-    requires no_pieces { layout.pieces ≡ [] }
-    requires mono { layout.params.channels ≡ 1 }
-    requires pairs { is_pair layout.params.codec ≡ true }
-    requires whole { length into.old % 2 ≡ 0 }
-    requires within { place < layout.frames }
-    ensures count { IfOk result (IsCount place layout.frames (pairs_in into.old)) }
-    ensures read { IfOkTold D.state disk.old result (GivesLaid place (numbers_in layout.params.codec into.new) layout) }
-    ensures faults { CountsStop (D.state disk.old).faults (D.state disk.new).faults result }
-    ensures unchanged { IsUnchanged result }
-    ensures reads { OnlyReadsOn D.state D.may_leave D.left_between disk.old disk.new }
-    ensures asked { AsksLaid D.state place (pairs_in into.old) layout disk.old disk.new }
-{
-    let mut file = match open_laid(alloc, disk, layout) {
-        Ok(file) => file,
-        Err((_, back)) => {
-            let _ = back;
-            return Err(Stop::Memory);
-        }
-    };
-    let count = read_from(&mut file, place, into);
-    let back = close_read(file);
-    let _ = back;
-    count
-}
-
-// .. of an input
+// Reads pairs of an input from a frame on, as many as the slice has places for, fewer only at the end.
 fn read_input<D: Disk>(
-    alloc: Global,
     input: &mut Input<D>,
     place: u64,
     into: &mut [u8],
@@ -106,25 +33,16 @@ fn read_input<D: Disk>(
     if place >= input.layout.frames {
         return Ok(0);
     }
-    let layout = bare_layout(alloc, &input.layout);
-    read_laid(alloc, &mut input.disk, layout, place, into)
-}
-
-// Puts zeros into bytes from a place on.
-fn put_zeros(from: usize, into: &mut [u8])
-    requires { from ≤ length into.old }
-    ensures zeros { (j : ℕ) → from ≤ j → j < length into.new → get_or into.new j 0 ≡ 0 }
-    ensures front { take from into.new ≡ take from into.old }
-{
-    for byte in into[from..].iter_mut() {
-        *byte = 0;
+    let count = frames_ahead(&input.layout, place, into.len() / 2);
+    let wanted = &mut into[..2 * count];
+    match read_raw(&mut input.disk, &input.layout, place, count, wanted) {
+        Ok(()) => Ok(count),
+        Err(_) => Err(Stop::Fault),
     }
 }
 
-/// Reads the numbers of an input of 16 bits from a frame on, as the pairs of bytes that they are: as many as
-/// the slice has places for, with zeros behind its end.
+/// Reads the pairs of an input from a frame on, as many as the slice has places for, with zeros behind its end.
 pub(crate) fn read_pairs<D: Disk>(
-    alloc: Global,
     input: &mut Input<D>,
     place: u64,
     into: &mut [u8],
@@ -132,13 +50,87 @@ pub(crate) fn read_pairs<D: Disk>(
     requires mono { input.old.layout.params.channels ≡ 1 }
     requires pairs { is_pair input.old.layout.params.codec ≡ true }
     requires whole { length into.old % 2 ≡ 0 }
-    ensures read { OnOk result (HasNumbers D.state input.old place (numbers_in input.old.layout.params.codec into.new)) }
+    ensures read {
+        OnOk result (HasChannelOf D.state input.old input.old.layout.params.codec place (pairs_in into.old) (numbers_in input.old.layout.params.codec into.new)) }
     ensures faults { CountsStop (faults_of D.state input.old) (faults_of D.state input.new) result }
     ensures unchanged { IsUnchanged result }
     ensures reads { Reads D.Disk input.old input.new }
     ensures asked { AsksInput D.state (bytes_from place (pairs_in into.old)) input.old input.new }
 {
-    let count = read_input(alloc, input, place, into)?;
-    put_zeros(2 * count, into);
+    let count = read_input(input, place, into)?;
+    put_zeros(0, 2 * count, into);
     Ok(())
+}
+
+/// Puts pairs of bytes into a block of as many frames, as one of their channels.
+pub(crate) fn put_pairs(pairs: &[u8], channels: usize, which: usize, block: &mut [u8])
+    requires within { which < channels }
+    requires size { length block.old ≡ length pairs.now * channels }
+    ensures put { HasPairs channels which pairs.now block.new }
+    ensures others { KeepsPairs channels which (pairs_in pairs.now) block.old block.new }
+{
+    for i in 0..pairs.len() / 2 {
+        // both are read before one is put, so that a pair is moved as one
+        let (first, second) = (pairs[2 * i], pairs[2 * i + 1]);
+        let at = 2 * (i * channels + which);
+        block[at] = first;
+        block[at + 1] = second;
+    }
+}
+
+// The pairs of two channels that are a frame of both.
+#[inline(always)]
+fn frame_of(left: &[u8], right: &[u8], i: usize) -> [u8; 4]
+    requires within { 2 * i + 1 < length left.now }
+    requires alike { length right.now ≡ length left.now }
+    ensures { result ≡ frame_of left.now right.now i }
+{
+    [left[2 * i], left[2 * i + 1], right[2 * i], right[2 * i + 1]]
+}
+
+// Puts a frame of two pairs.
+#[inline(always)]
+fn put_frame(block: &mut [u8], i: usize, frame: [u8; 4])
+    requires { 4 * i + 3 < length block.old }
+    ensures left { SamePair block.new (i * 2 + 0) frame 0 }
+    ensures right { SamePair block.new (i * 2 + 1) frame 1 }
+    ensures others { (k : ℕ) → k ≢ i * 2 + 0 → k ≢ i * 2 + 1 → SamePair block.new k block.old k }
+{
+    block[4 * i] = frame[0];
+    block[4 * i + 1] = frame[1];
+    block[4 * i + 2] = frame[2];
+    block[4 * i + 3] = frame[3];
+}
+
+// Frames of two channels, four at a time, as far as they go: all four are read before they are put, which lets the
+// compiler move them at once.
+fn join_fours(left: &[u8], right: &[u8], block: &mut [u8])
+    requires size { length block.old ≡ length left.now * 2 }
+    requires alike { length right.now ≡ length left.now }
+    ensures { AreJoined (4 * (length left.now / 8)) left.now right.now block.new }
+{
+    for i in 0..left.len() / 8 {
+        let (one, two, three, four) = (4 * i, 4 * i + 1, 4 * i + 2, 4 * i + 3);
+        let first = frame_of(left, right, one);
+        let second = frame_of(left, right, two);
+        let third = frame_of(left, right, three);
+        let fourth = frame_of(left, right, four);
+        put_frame(block, one, first);
+        put_frame(block, two, second);
+        put_frame(block, three, third);
+        put_frame(block, four, fourth);
+    }
+}
+
+/// Puts the pairs of two channels side by side, as frames of both.
+pub(crate) fn join_pairs(left: &[u8], right: &[u8], block: &mut [u8])
+    requires size { length block.old ≡ length left.now * 2 }
+    requires alike { length right.now ≡ length left.now }
+    ensures left { HasPairs 2 0 left.now block.new }
+    ensures right { HasPairs 2 1 right.now block.new }
+{
+    join_fours(left, right, block);
+    for i in 4 * (left.len() / 8)..left.len() / 2 {
+        put_frame(block, i, frame_of(left, right, i));
+    }
 }

@@ -13,7 +13,7 @@ use Rattle.snd_interleave.proofs.Asking.{each_none}
 use Rattle.snd_interleave.specs.Asking.{bytes_whole}
 use Rattle.snd_interleave.proofs.Joining.{all_mono, beside_is, beside_none, full_is, none_first, refused_as, room_is}
 use Rattle.snd_interleave.proofs.Inputs.{all_unread}
-use Rattle.snd_interleave.proofs.Numbers.{most_numbers, shapes_are}
+use Rattle.snd_interleave.proofs.ChannelNumbers.{most_numbers, shapes_are}
 use Rattle.snd_interleave.proofs.interleaving.join.Goals as goal
 
 pub returns-in-Some-first_misfit-clause-done : goal.returns-in-Some-first_misfit-clause-done

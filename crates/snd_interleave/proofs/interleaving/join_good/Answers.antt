@@ -13,7 +13,7 @@ use Rattle.snd_interleave.proofs.Counts.{adding_then}
 use Rattle.snd_interleave.proofs.Inputs.{hold_still, read_then, same_layouts, still_mono}
 use Rattle.snd_interleave.proofs.Joining.{output_made, refused_as}
 use Rattle.snd_interleave.proofs.Lists.{named_at}
-use Rattle.snd_interleave.proofs.Numbers.{most_numbers}
+use Rattle.snd_interleave.proofs.ChannelNumbers.{most_numbers}
 use Rattle.snd_interleave.proofs.interleaving.join_good.Goals as goal
 
 pub returns-in_err-bad-clause-changed : goal.returns-in_err-bad-clause-changed

@@ -15,7 +15,7 @@ use Rattle.snd_output.proofs.Public.{fault_only, unchanged_err}
 use Rattle.snd_interleave.proofs.Asking.{each_none}
 use Rattle.snd_interleave.specs.Asking.{bytes_copied}
 use Rattle.snd_interleave.proofs.Making.{counts_not_finished}
-use Rattle.snd_interleave.proofs.Numbers.{most_numbers}
+use Rattle.snd_interleave.proofs.ChannelNumbers.{most_numbers}
 use Rattle.std.proofs.lemmas.Result.{on_ok_weaker}
 use Rattle.snd_interleave.proofs.make.make_in.Goals as goal
 

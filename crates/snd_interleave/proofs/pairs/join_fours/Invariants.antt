@@ -1,0 +1,6 @@
+use Rattle.std.proofs.Common.{◌*◌}
+use Rattle.snd_interleave.specs.Held.{AreJoined}
+use Rattle.snd_interleave.proofs.pairs.join_fours.Given as goal
+
+abbrev pub invariant-loop-i : goal.invariant-loop-i
+invariant-loop-i l = AreJoined (4 * l.i) l.left l.right l.block

@@ -1,6 +1,0 @@
-use Rattle.std.proofs.Common.{◌*◌}
-use Rattle.snd_interleave.specs.Pairs.{AreJoined}
-use Rattle.snd_interleave.proofs.scatter.join_fours.Given as goal
-
-abbrev pub invariant-loop-i : goal.invariant-loop-i
-invariant-loop-i l = AreJoined (4 * l.i) l.left l.right l.block

@@ -1,5 +1,0 @@
-use Rattle.snd_interleave.specs.Pairs.{AreJoined}
-use Rattle.snd_interleave.proofs.scatter.join_pairs.Given as goal
-
-abbrev pub invariant-loop-i : goal.invariant-loop-i
-invariant-loop-i l = AreJoined l.i l.left l.right l.block
