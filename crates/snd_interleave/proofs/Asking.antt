@@ -16,7 +16,6 @@ use Rattle.snd_inputs.specs.Looking.{AsksToLook}
 use Rattle.snd_inputs.specs.Opening.{IsOpen}
 use Rattle.snd_inputs.specs.declared.input.Input.{Input}
 use Rattle.snd_layout.specs.Blocks.{block_align, block_frames, is_adpcm}
-use Rattle.snd_layout.specs.Params.{Parameters}
 use Rattle.snd_layout.specs.Shape.{Shape, end}
 use Rattle.snd_layout.specs.declared.codec.Codec.{Codec}
 use Rattle.snd_edits.specs.Reading.{bytes_of_frames, bytes_to_read}

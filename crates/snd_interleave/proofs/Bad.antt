@@ -1,5 +1,5 @@
 -- Inputs of which one has a bad block.
-use Rattle.std.proofs.Common.{◌≡◌, ◌∙◌, sym, subst, ℕ, zero, suc, ◌+◌, ◌<◌, ◌≤◌, true, false, List, [], ◌∷◌, None, Some, length, get_or, Result, Ok, Err, inl, inr, ◌⊎◌, arith}
+use Rattle.std.proofs.Common.{◌≡◌, ◌∙◌, sym, subst, ℕ, zero, suc, ◌<◌, ◌≤◌, true, false, List, [], ◌∷◌, None, Some, length, get_or, Result, Ok, Err, arith}
 use Rattle.std.proofs.lemmas.List.Quantifiers.{position-Some}
 use Rattle.snd_disk.specs.declared.disk.Disk.{Ghosts}
 use Rattle.snd_disk.specs.State.{State}

@@ -1,5 +1,5 @@
 -- A block that is filled with the frames of inputs, channel after channel.
-use Rattle.std.proofs.Common.{◌≡◌, ◌∙◌, ap, sym, subst, ℕ, ◌+◌, ◌*◌, ◌<◌, ℤ, pos, List, [], length, get_or, arith}
+use Rattle.std.proofs.Common.{◌≡◌, ◌∙◌, sym, subst, ℕ, ◌+◌, ◌*◌, ◌<◌, ℤ, pos, List, [], length, get_or, arith}
 use Rattle.std.proofs.lemmas.List.{length-map}
 use Rattle.snd_disk.specs.declared.disk.Disk.{Ghosts}
 use Rattle.snd_layout.specs.declared.codec.Codec.{Codec}

@@ -1,10 +1,8 @@
 -- Numbers of files of one channel that are read.
-use Rattle.std.proofs.Common.{◌≡◌, ◌∙◌, ap, sym, subst, inl, inr, ℕ, ◌+◌, ◌-◌, ◌*◌, ◌<◌, ◌≤◌, ℤ, pos, List, All, length, take, drop, map, get_or, min, arith}
+use Rattle.std.proofs.Common.{◌≡◌, ◌∙◌, ap, sym, subst, inl, inr, ℕ, ◌+◌, ◌-◌, ◌<◌, ◌≤◌, ℤ, pos, List, All, length, take, drop, map, get_or, min, arith}
 use Rattle.std.proofs.lemmas.Bool.{cases_lt}
 use Rattle.std.proofs.lemmas.List.{drop-map, get_or-drop, get_or-take, get_or_past, places, take-map}
-use Rattle.snd_edits.specs.Editing.{Editing}
 use Rattle.snd_pcm.specs.Groups.{first_groups}
-use Rattle.snd_interleave.specs.Interleave.{numbers_of}
 use Rattle.snd_interleave.specs.Reading.{AreNumbersAt}
 use Rattle.snd_interleave.proofs.Lists.{heads}
 

@@ -1,15 +1,11 @@
 -- How many bytes are asked of inputs that are read side by side. It is said for the proofs alone.
 use Rattle.std.specs.Prelude.{◌≡◌, ℕ, ◌+◌, ◌-◌, ◌*◌, ◌/◌, ◌<◌, ◌≤◌, List, get_or, length, min, nat_lt, if◌then◌else◌}
 use Rattle.snd_disk.specs.declared.disk.Disk.{Ghosts}
-use Rattle.snd_disk.specs.Device.{AsksAtMost}
 use Rattle.snd_disk.specs.State.{AtMost, State}
 use Rattle.snd_inputs.specs.Copying.{bytes_checked, bytes_to_copy}
 use Rattle.snd_inputs.specs.declared.input.Input.{Input}
 use Rattle.snd_layout.specs.Blocks.{block_align, block_frames, is_adpcm}
 use Rattle.snd_layout.specs.Shape.{Shape}
-use Rattle.snd_file.specs.declared.handle.File.{File}
-use Rattle.snd_edits.specs.declared.mode.Mode.{Ghosts as ModeGhosts}
-use Rattle.snd_file.specs.Handle.{disk_of, known_of}
 use Rattle.snd_edits.specs.Reading.{bytes_to_read}
 
 -- what was asked of an input so far

@@ -1,5 +1,5 @@
 -- Inputs that are open side by side, as the code has them. It is said for the proofs alone.
-use Rattle.std.specs.Prelude.{◌≡◌, ◌⊎◌, ℕ, ℤ, pos, true, ◌+◌, ◌<◌, ◌≤◌, List, [], ◌∷◌, ◌++◌, Option, None, Some, Result, Ok, Err, IfOk, OnOk, Vec, get_or, length, map, max}
+use Rattle.std.specs.Prelude.{◌≡◌, ◌⊎◌, ℕ, ℤ, true, ◌<◌, ◌≤◌, List, [], ◌∷◌, ◌++◌, Option, None, Some, Result, Ok, Err, IfOk, OnOk, Vec, get_or, length, map, max}
 use Rattle.std.specs.declared.alloc.Global.{Global}
 use Rattle.snd_chunks.specs.Written.{NewChunk}
 use Rattle.snd_disk.specs.declared.disk.Disk.{Ghosts}
@@ -16,10 +16,9 @@ use Rattle.snd_layout.specs.declared.codec.Codec.{Codec}
 use Rattle.snd_layout.specs.declared.kind.Kind.{Kind}
 use Rattle.snd_file.specs.declared.handle.File.{File}
 use Rattle.snd_edits.specs.declared.mode.Mode.{Ghosts as ModeGhosts}
-use Rattle.snd_edits.specs.Editing.{Editing, first_editing}
+use Rattle.snd_edits.specs.Editing.{Editing}
 use Rattle.snd_file.specs.Handle.{Stands, codec_of}
 use Rattle.snd_inputs.specs.Inputs.{first_bad, is_bad}
-use Rattle.snd_output.specs.Appended.{CountsRead}
 use Rattle.snd_output.specs.Ends.{IfChanged}
 use Rattle.snd_output.specs.Made.{IsMaking, made_file}
 use Rattle.snd_output.specs.declared.stop.Stop.{Stop}

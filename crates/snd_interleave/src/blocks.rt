@@ -140,7 +140,60 @@ fn places_for<U: Held>(alloc: Global, count: usize) -> Result<Vec<U>, Stop>
     Ok(places)
 }
 
-// Puts all frames there, as many at a time as two buffers and a block have places for, fewer at first.
+// Puts all frames there by such places, which have room for the most samples of a channel, and of all of them: as many at a
+// time, but fewer at first.
+fn add_by<D: Disk, E: Disk, M: Making, U: Held>(
+    alloc: Global,
+    inputs: &mut [Input<D>],
+    to: &mut File<'_, E, M>,
+    frames: u64,
+    buffer: &mut [U],
+    second: &mut [U],
+    block: &mut [U],
+) -> Result<(), Stop>
+    requires mono { AreMono inputs.old }
+    requires suit { AllSuit U.suits (codec_of to.old) inputs.old }
+    requires alike { channels_of to.old ≡ length inputs.old }
+    requires at_end { IsAtEnd (known_of to.old) }
+    requires room { HasRoom frames (known_of to.old) }
+    requires all { frames ≡ most_frames (layouts_of inputs.old) }
+    requires size { length buffer.old ≡ U.PER * U.MOST }
+    requires two { length second.old ≡ U.PER * U.MOST }
+    requires block { length block.old ≡ U.PER * (U.MOST * length inputs.old) }
+    ensures loan { loan_of to.new ≡ loan_of to.old }
+    ensures works { BreaksByFault (known_of to.new) result }
+    ensures lengthens { OnOk result (Lengthens D.state E.state 0 frames inputs.old to.old to.new) }
+    ensures faults { CountsAddingTo D.state E.state inputs.old inputs.new to.old to.new result }
+    ensures changed { StayGood D.state inputs.old result }
+    ensures reads { ReadAll D.Disk inputs.old inputs.new }
+    ensures tells { TellsOn E.state to.old to.new }
+    ensures time { GoesOnFrom E.state E.left_between (disk_of to.old) (disk_of to.new) }
+    ensures asked { AsksOnce D.state inputs.old inputs.new }
+    ensures unasked { AsksNothing E.state to.old to.new }
+{
+    let (channels, _) = numbers_of(to);
+    let mut most = U::count_first(to);
+    let mut place = 0;
+    while place < frames {
+        let count = (frames - place).min(most as u64) as usize;
+        let size = U::PER * count;
+        add_block(
+            alloc,
+            inputs,
+            to,
+            place,
+            count,
+            &mut buffer[..size],
+            &mut second[..size],
+            &mut block[..size * channels],
+        )?;
+        place += count as u64;
+        most = U::MOST;
+    }
+    Ok(())
+}
+
+// Puts all frames there, by two buffers and a block.
 fn add_all<D: Disk, E: Disk, M: Making, U: Held>(
     alloc: Global,
     inputs: &mut [Input<D>],
@@ -168,25 +221,15 @@ fn add_all<D: Disk, E: Disk, M: Making, U: Held>(
     let mut buffer = places_for::<U>(alloc, U::MOST)?;
     let mut second = places_for::<U>(alloc, U::MOST)?;
     let mut block = places_for::<U>(alloc, U::MOST * channels)?;
-    let mut most = U::count_first(to);
-    let mut place = 0;
-    while place < frames {
-        let count = (frames - place).min(most as u64) as usize;
-        let size = U::PER * count;
-        add_block(
-            alloc,
-            inputs,
-            to,
-            place,
-            count,
-            &mut buffer[..size],
-            &mut second[..size],
-            &mut block[..size * channels],
-        )?;
-        place += count as u64;
-        most = U::MOST;
-    }
-    Ok(())
+    add_by(
+        alloc,
+        inputs,
+        to,
+        frames,
+        &mut buffer,
+        &mut second,
+        &mut block,
+    )
 }
 
 // Whether the samples of a codec are pairs: linear ones of 16 bits.

@@ -29,15 +29,20 @@ use std::alloc::Global;
 pub(crate) trait Held: Copy {
     // how many of these are one sample, and the most samples of a channel that are held at once
     ghost PER: { ℕ };
+
     ghost MOST: { ℕ };
 
     // the numbers that some are in a codec, which of a file that is made suit it, and of an input, and what each number is
     ghost numbers: { Codec → List Self → List ℤ };
+
     ghost suits: { Codec → Codec → Type 0 };
+
     ghost fits: { Codec → ℤ → Type 0 };
 
     const PER: usize;
+
     const MOST: usize;
+
     const ZERO: Self;
 
     /// Reads so many samples of an input from a frame on, with zeros behind its end, as those of a codec.

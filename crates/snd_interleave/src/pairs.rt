@@ -15,11 +15,7 @@ use snd_inputs::Input;
 use snd_output::Stop;
 
 // Reads pairs of an input from a frame on, as many as the slice has places for, fewer only at the end.
-fn read_input<D: Disk>(
-    input: &mut Input<D>,
-    place: u64,
-    into: &mut [u8],
-) -> Result<usize, Stop>
+fn read_input<D: Disk>(input: &mut Input<D>, place: u64, into: &mut [u8]) -> Result<usize, Stop>
     requires mono { input.old.layout.params.channels ≡ 1 }
     requires pairs { is_pair input.old.layout.params.codec ≡ true }
     requires whole { length into.old % 2 ≡ 0 }
@@ -50,8 +46,7 @@ pub(crate) fn read_pairs<D: Disk>(
     requires mono { input.old.layout.params.channels ≡ 1 }
     requires pairs { is_pair input.old.layout.params.codec ≡ true }
     requires whole { length into.old % 2 ≡ 0 }
-    ensures read {
-        OnOk result (HasChannelOf D.state input.old input.old.layout.params.codec place (pairs_in into.old) (numbers_in input.old.layout.params.codec into.new)) }
+    ensures read { OnOk result (HasChannelOf D.state input.old input.old.layout.params.codec place (pairs_in into.old) (numbers_in input.old.layout.params.codec into.new)) }
     ensures faults { CountsStop (faults_of D.state input.old) (faults_of D.state input.new) result }
     ensures unchanged { IsUnchanged result }
     ensures reads { Reads D.Disk input.old input.new }

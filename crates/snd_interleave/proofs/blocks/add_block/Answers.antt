@@ -1,7 +1,7 @@
 use Rattle.std.proofs.Common.{rules, ◌≡◌, ◌∙◌, ◌*◌, ap, subst, sym, ℕ, ℤ, List, ◌++◌, length}
 use Rattle.std.proofs.lemmas.Result.{on_ok_weaker}
 use Rattle.snd_layout.specs.declared.codec.Codec.{Codec}
-use Rattle.snd_file.specs.Handle.{channels_of, codec_of, known_of}
+use Rattle.snd_file.specs.Handle.{channels_of, codec_of}
 use Rattle.snd_output.proofs.Public.{changed_as}
 use Rattle.snd_output.specs.Made.{IsMaking}
 use Rattle.snd_interleave.specs.Beside.{HaveEach, frames_from}

@@ -1,4 +1,4 @@
-use Rattle.std.proofs.Common.{rules, ◌≡◌, ◌∙◌, ap, sym, inl, inr, true, ℕ, ◌+◌, ◌<◌, List, get_or, length, arith}
+use Rattle.std.proofs.Common.{rules, ◌≡◌, ◌∙◌, ap, sym, inl, inr, ℕ, ◌+◌, ◌<◌, List, get_or, length, arith}
 use Rattle.std.proofs.lemmas.Bool.{cases_lt}
 use Rattle.std.proofs.lemmas.List.{get_or_read}
 use Rattle.snd_disk.specs.declared.disk.Disk.{Ghosts}

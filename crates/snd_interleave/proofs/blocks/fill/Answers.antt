@@ -1,8 +1,8 @@
-use Rattle.std.proofs.Common.{rules, ◌≡◌, ◌∙◌, ap, refl, sym, subst, ℕ, ◌+◌, ◌*◌, ◌<◌, ℤ, pos, get_or, length, set, Ok, Err, arith}
+use Rattle.std.proofs.Common.{rules, ◌≡◌, ◌∙◌, refl, sym, subst, ◌+◌, ◌<◌, pos, get_or, length, set, Ok, Err, arith}
 use Rattle.std.proofs.lemmas.List.{get_or_default}
 use Rattle.snd_output.proofs.Public.{changed_as}
 use Rattle.snd_interleave.specs.Asking.{bytes_from}
-use Rattle.snd_interleave.specs.Beside.{HaveEach, KeepsChannels, frame_at}
+use Rattle.snd_interleave.specs.Beside.{frame_at}
 use Rattle.snd_interleave.specs.Channels.{CountsInputs}
 use Rattle.snd_interleave.specs.Interleave.{channels_in}
 use Rattle.snd_interleave.proofs.Asking.{first_each, first_more, first_none}

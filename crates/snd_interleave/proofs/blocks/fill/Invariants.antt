@@ -1,4 +1,4 @@
-use Rattle.std.proofs.Common.{◌≡◌, ◌+◌, ◌*◌, ◌<◌, ℕ, List, get_or, length, pos}
+use Rattle.std.proofs.Common.{◌≡◌, ◌+◌, ◌*◌, ◌<◌, ℕ, List, get_or, pos}
 use Rattle.snd_edits.specs.Editing.{Editing}
 use Rattle.snd_interleave.specs.Asking.{AsksFirst, bytes_from}
 use Rattle.snd_interleave.specs.Beside.{frame_at}

@@ -1,12 +1,12 @@
-use Rattle.std.proofs.Common.{rules, ◌≡◌, ◌∙◌, ap, sym, subst, get_or, length, set, Ok, Err, arith}
+use Rattle.std.proofs.Common.{rules, ◌≡◌, sym, subst, set, Ok, Err}
 use Rattle.snd_output.proofs.Public.{changed_as}
 use Rattle.snd_interleave.specs.Asking.{bytes_from}
 use Rattle.snd_interleave.specs.Channels.{CountsInputs}
 use Rattle.snd_interleave.proofs.Bad.{one_bad}
 use Rattle.snd_interleave.proofs.ChannelNumbers.{each_of_two}
-use Rattle.snd_interleave.proofs.Filling.{still_suit, two_filled}
+use Rattle.snd_interleave.proofs.Filling.{two_filled}
 use Rattle.snd_interleave.proofs.Frames.{each_place}
-use Rattle.snd_interleave.proofs.Inputs.{hold_still, still_mono}
+use Rattle.snd_interleave.proofs.Inputs.{hold_still}
 use Rattle.snd_interleave.proofs.TwoReads.{asked_both, asked_head, both_read, counts_both, head, head_is, head_read, head_within, last, last_is, last_within, mid}
 use Rattle.snd_interleave.proofs.blocks.fill_two.Goals as goal
 

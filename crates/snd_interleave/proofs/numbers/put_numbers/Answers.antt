@@ -1,4 +1,4 @@
-use Rattle.std.proofs.Common.{rules, ◌≡◌, ◌∙◌, ℤ, pos, get_or, length, to_z, of_z, w32}
+use Rattle.std.proofs.Common.{rules, ◌∙◌, length}
 use Rattle.snd_interleave.proofs.Frames.{others_more, put_more}
 use Rattle.snd_interleave.proofs.numbers.put_numbers.Goals as goal
 

@@ -1,9 +1,7 @@
-use Rattle.std.proofs.Common.{rules, ◌≡◌, ◌∙◌, ◌≤◌, ap, sym, ℕ, List, true, drop, length, take, arith}
+use Rattle.std.proofs.Common.{rules, ◌∙◌, ◌≤◌, ap, sym, drop, length, take, arith}
 use Rattle.std.proofs.lemmas.List.{length-take, take-append-le}
 use Rattle.snd_blocks.proofs.Public.{has_bad_part}
-use Rattle.snd_blocks.specs.Frames.{has_bad}
 use Rattle.snd_blocks.specs.Sound.{frames_in}
-use Rattle.snd_disk.specs.Device.{Tells}
 use Rattle.snd_edits.specs.Editing.{Editing}
 use Rattle.snd_inputs.specs.Inputs.{is_bad}
 use Rattle.snd_interleave.specs.Interleave.{numbers_of}

@@ -1,4 +1,4 @@
-use Rattle.std.proofs.Common.{rules, ◌≡◌, ◌∙◌, ◌-◌, ap, sym, subst, ℕ, ℤ, pos, List, All, get_or, length, min, take, arith}
+use Rattle.std.proofs.Common.{rules, ◌≡◌, ◌∙◌, ◌-◌, ap, sym, subst, ℕ, ℤ, pos, List, get_or, length, min, take, arith}
 use Rattle.std.proofs.lemmas.List.{length-map}
 use Rattle.snd_layout.specs.declared.codec.Codec.{Codec}
 use Rattle.snd_edits.specs.Editing.{Editing}

@@ -1,4 +1,4 @@
-use Rattle.std.proofs.Common.{◌≡◌, ◌≤◌, ◌*◌, ap, subst, All, length, get_or, pos, arith}
+use Rattle.std.proofs.Common.{◌≡◌, ◌≤◌, ◌*◌, ap, subst, All, length, pos, arith}
 use Rattle.std.proofs.lemmas.List.{get_or_default}
 use Rattle.snd_layout.specs.Params.{Parameters}
 use Rattle.snd_file.specs.Handle.{channels_of, codec_of, known_of}

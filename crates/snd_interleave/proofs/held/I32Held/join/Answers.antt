@@ -1,5 +1,4 @@
-use Rattle.std.proofs.Common.{◌≡◌, ◌∙◌, ◌*◌, ◌<◌, subst, ℕ, length, arith}
-use Rattle.snd_interleave.specs.Beside.{HasChannel}
+use Rattle.std.proofs.Common.{◌∙◌, arith}
 use Rattle.snd_interleave.proofs.held.I32Held.join.Goals as goal
 
 pub returns-clause-left : goal.returns-clause-left

@@ -1,8 +1,5 @@
-use Rattle.std.proofs.Common.{◌≡◌, subst, All, ℕ, length, pos, arith}
+use Rattle.std.proofs.Common.{◌≡◌, subst, ℕ, length, pos, arith}
 use Rattle.std.proofs.lemmas.Result.{on_ok_weaker}
-use Rattle.snd_disk.specs.State.{AtMost}
-use Rattle.snd_output.specs.Widths.{width_of}
-use Rattle.snd_pcm.specs.Width.{HasWidth}
 use Rattle.snd_interleave.specs.Asking.{AsksInput, bytes_from}
 use Rattle.snd_interleave.specs.Reading.{HasChannelOf}
 use Rattle.snd_interleave.proofs.held.I32Held.read.Goals as goal

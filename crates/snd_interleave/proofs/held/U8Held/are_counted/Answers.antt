@@ -1,4 +1,4 @@
-use Rattle.std.proofs.Common.{◌≡◌, ◌∙◌, ◌*◌, ◌/◌, length, arith}
+use Rattle.std.proofs.Common.{◌≡◌, ◌∙◌, ◌*◌, arith}
 use Rattle.snd_interleave.specs.Held.{pairs_in}
 use Rattle.snd_interleave.proofs.PairNumbers.{pairs_counted}
 use Rattle.snd_interleave.proofs.held.U8Held.are_counted.Goals as goal

@@ -1,5 +1,4 @@
-use Rattle.std.proofs.Common.{◌≡◌, ◌∙◌, ap, sym, true, false, arith}
-use Rattle.snd_layout.specs.Blocks.{is_adpcm}
+use Rattle.std.proofs.Common.{arith}
 use Rattle.snd_file.specs.Handle.{codec_of}
 use Rattle.snd_interleave.specs.Held.{pairs_whole}
 use Rattle.snd_interleave.proofs.PairNumbers.{pairs_plain}

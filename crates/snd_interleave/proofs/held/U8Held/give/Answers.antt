@@ -1,4 +1,4 @@
-use Rattle.std.proofs.Common.{◌≡◌, ◌≤◌, ◌*◌, ap, subst, ℤ, List, ◌++◌, length, arith}
+use Rattle.std.proofs.Common.{◌≤◌, ap, subst, ℤ, List, ◌++◌, arith}
 use Rattle.std.proofs.lemmas.Result.{on_ok_weaker}
 use Rattle.snd_layout.specs.Params.{Parameters}
 use Rattle.snd_edits.specs.Bytes.{sources_in}

@@ -1,4 +1,4 @@
-use Rattle.std.proofs.Common.{◌≡◌, ◌∙◌, ◌*◌, length, arith}
+use Rattle.std.proofs.Common.{◌≡◌, ◌*◌, length, arith}
 use Rattle.snd_interleave.proofs.PairNumbers.{channel_put}
 use Rattle.snd_interleave.proofs.held.U8Held.join.Goals as goal
 

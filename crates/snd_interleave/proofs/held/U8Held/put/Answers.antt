@@ -1,4 +1,4 @@
-use Rattle.std.proofs.Common.{◌≡◌, ◌∙◌, ◌*◌, ap, sym, ℕ, length, arith}
+use Rattle.std.proofs.Common.{◌≡◌, ◌∙◌, ◌*◌, ap, sym, ℕ, arith}
 use Rattle.snd_interleave.proofs.PairNumbers.{channel_put, channels_kept}
 use Rattle.snd_interleave.proofs.held.U8Held.put.Goals as goal
 

@@ -7,7 +7,7 @@ use Rattle.snd_file.specs.Outcomes.{AsksNothing, TellsOn}
 use Rattle.snd_output.specs.Appended.{IsLonger}
 use Rattle.snd_interleave.specs.Asking.{AsksEach, bytes_upto}
 use Rattle.snd_interleave.specs.Channels.{AreCalm, Lengthens, ReadAll}
-use Rattle.snd_interleave.proofs.blocks.add_all.Given as goal
+use Rattle.snd_interleave.proofs.blocks.add_by.Given as goal
 
 abbrev pub invariant-loop-place : goal.invariant-loop-place
 invariant-loop-place g l = record {
