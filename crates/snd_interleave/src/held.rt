@@ -69,16 +69,20 @@ pub(crate) trait Held: Copy {
         requires within { which < channels }
         requires size { length from.now ≡ PER * count }
         requires room { length block.old ≡ PER * (count * channels) }
-        ensures put { (codec : Codec) → suits codec codec → HasChannel channels which count (numbers codec from.now) (numbers codec block.new) }
-        ensures others { (codec : Codec) → suits codec codec → KeepsChannels channels which count (numbers codec block.old) (numbers codec block.new) };
+        ensures put { (codec : Codec) → suits codec codec →
+            HasChannel channels which count (numbers codec from.now) (numbers codec block.new) }
+        ensures others { (codec : Codec) → suits codec codec →
+            KeepsChannels channels which count (numbers codec block.old) (numbers codec block.new) };
 
     /// Puts so many samples of two channels into a block of frames of both.
     fn join(left: &[Self], right: &[Self], count: usize, block: &mut [Self])
         requires size { length left.now ≡ PER * count }
         requires alike { length right.now ≡ PER * count }
         requires room { length block.old ≡ PER * (count * 2) }
-        ensures left { (codec : Codec) → suits codec codec → HasChannel 2 0 count (numbers codec left.now) (numbers codec block.new) }
-        ensures right { (codec : Codec) → suits codec codec → HasChannel 2 1 count (numbers codec right.now) (numbers codec block.new) };
+        ensures left { (codec : Codec) → suits codec codec →
+            HasChannel 2 0 count (numbers codec left.now) (numbers codec block.new) }
+        ensures right { (codec : Codec) → suits codec codec →
+            HasChannel 2 1 count (numbers codec right.now) (numbers codec block.new) };
 
     /// How many samples a block of so many frames has.
     fn are_counted(block: &[Self], count: usize, channels: usize)
@@ -102,7 +106,8 @@ pub(crate) trait Held: Copy {
         requires size { length block.now ≡ PER * (count * channels_of to.old) }
         requires at_end { IsAtEnd (known_of to.old) }
         requires room { HasRoom count (known_of to.old) }
-        requires in_range { HaveEach (fits (codec_of to.old)) (count * channels_of to.old) (numbers (codec_of to.old) block.now) }
+        requires in_range { HaveEach (fits (codec_of to.old)) (count * channels_of to.old)
+            (numbers (codec_of to.old) block.now) }
         ensures loan { loan_of to.new ≡ loan_of to.old }
         ensures left { OnOk result (IsLonger count (known_of to.old) (known_of to.new)) }
         ensures works { BreaksByFault (known_of to.new) result }

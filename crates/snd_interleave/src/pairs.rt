@@ -46,7 +46,8 @@ pub(crate) fn read_pairs<D: Disk>(
     requires mono { input.old.layout.params.channels ≡ 1 }
     requires pairs { is_pair input.old.layout.params.codec ≡ true }
     requires whole { length into.old % 2 ≡ 0 }
-    ensures read { OnOk result (HasChannelOf D.state input.old input.old.layout.params.codec place (pairs_in into.old) (numbers_in input.old.layout.params.codec into.new)) }
+    ensures read { OnOk result (HasChannelOf D.state input.old input.old.layout.params.codec place
+        (pairs_in into.old) (numbers_in input.old.layout.params.codec into.new)) }
     ensures faults { CountsStop (faults_of D.state input.old) (faults_of D.state input.new) result }
     ensures unchanged { IsUnchanged result }
     ensures reads { Reads D.Disk input.old input.new }
