@@ -166,7 +166,7 @@ put(FILE, rows.STEPS[0])
 done, events = traced(program, ["script"], rows.AUTOMATIC, b"a.wav")
 cases.case("the calls of an automatic write", [] if events == rows.EVENTS else [f"{events}"])
 
-# ---- what a power cut may leave of three files, at each moment
+# ---- what a power cut may leave of four files, at each moment
 for what, lines, found, stages in rows.CUTS:
     put(FILE, found[0])
     done, events = traced(program, ["script", "--auto", "a.wav"], lines, b"a.wav")
@@ -177,4 +177,4 @@ for what, lines, found, stages in rows.CUTS:
         met += [left] if left != met[-1] else []
     wanted = [{found[i] for i in stage} for stage in stages]
     cases.case(f"what a power cut may leave: {what}", [] if met == wanted else [f"{len(met)} stages for {len(wanted)}: {met}"])
-cases.end(2 * len(rows.RUNS) + 6 + 2 * 5 + 2 + 1 + 3)
+cases.end(2 * len(rows.RUNS) + 6 + 2 * 5 + 2 + 1 + 4)

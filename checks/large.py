@@ -1,13 +1,13 @@
 #!/usr/bin/env -S python3 -B
 """Files of some 20 MB, for each tool of the built program: `info`, `convert` into each width, order, law and codec of ADPCM and from
-these, `concat`, `interleave`, `metadata-set` and `gen`; and a script that reads and changes such a file. Each run ends with status
+these, `import` and `export`, `concat`, `interleave`, `metadata-set` and `gen`; and a script that reads and changes such a file. Each run ends with status
 0 and its whole text, the file that is made is compared byte for byte with what it is to be, and no other file is changed. A body
 that wants memory for large inputs alone fails here. One more file, mostly a hole in the disk, grows to the most that its head can
 say. Needs Python 3, and 200 MB of disk."""
 import os
 import random
 
-from lib import blocks, kinds
+from lib import blocks, kinds, vox
 from lib.head import Cases, ended, finished, first_difference, run, start
 from lib.kinds import chunk
 
@@ -107,6 +107,48 @@ for codec in ("ima", "ms"):
     makes(["convert", "-pcm16", "d.wav", "b.wav"], f"ok {many * each}\n", "b.wav", sound("wave", "pcm_16_le", b"".join(map(bytes_of.get, coded))))
 os.remove("d.wav")
 
+# ---- samples without a head and PVF, both ways
+put("d.raw", data)
+makes(["import", "raw", "pcm_16_le", "1", str(RATE), "d.raw", "b.wav"], ok, "b.wav", sound("wave", "pcm_16_le", data))
+makes(["import", "raw", "pcm_16_be", "1", str(RATE), "d.raw", "b.wav"], ok, "b.wav", sound("wave", "pcm_16_le", spread(2, [high, low])))
+os.remove("d.raw")
+makes(["export", "raw", "a.wav", "b.raw"], ok, "b.raw", data)
+as_pvf = f"PVF1\n1 {RATE} 16\n".encode() + spread(2, [high, low])
+makes(["export", "pvf", "a.wav", "b.pvf"], ok, "b.pvf", as_pvf)
+put("d.pvf", as_pvf)
+makes(["import", "pvf", "d.pvf", "b.wav"], ok, "b.wav", sound("wave", "pcm_16_le", data))
+os.remove("d.pvf")
+
+# ---- VOX, both ways: some codes, and some numbers, again and again
+
+
+def repeated(step, part, many):
+    """What a part becomes that stands so many times, by a step from a state and a part to what it becomes and the state behind it."""
+    state, found, whole = vox.START, {}, []
+    for _ in range(many):
+        if state not in found:
+            found[state] = step(state, part)
+        became, state = found[state]
+        whole.append(became)
+    return whole
+
+
+def bytes_heard(state, part):
+    numbers, after = vox.read(state, part)
+    return kinds.coded("pcm_16_le", numbers), after
+
+
+MANY = frames // 2000
+part = dice.randbytes(1000)
+put("d.vox", part * MANY)
+heard = repeated(bytes_heard, part, MANY)
+makes(["import", "vox", str(RATE), "d.vox", "b.wav"], ok, "b.wav", sound("wave", "pcm_16_le", b"".join(heard)))
+os.remove("d.vox")
+part = [dice.randint(-9000, 9000) for _ in range(2000)]
+put("d.wav", sound("wave", "pcm_16_le", kinds.coded("pcm_16_le", part) * MANY))
+makes(["export", "vox", "d.wav", "b.vox"], ok, "b.vox", b"".join(repeated(vox.written, part, MANY)))
+os.remove("d.wav")
+
 # ---- files joined
 makes(["concat", "a.wav", "c.wav", "b.wav"], f"ok {2 * frames}\n", "b.wav", sound("wave", "pcm_16_le", data + spread(2, [None, high])))
 makes(["interleave", "a.wav", "c.wav", "-o", "b.wav"], ok, "b.wav", sound("wave", "pcm_16_le", spread(4, [low, high, None, high]), 2))
@@ -169,4 +211,4 @@ def to_the_end():
 
 cases.case("a file that is full", to_the_end())
 os.remove("most.wav")
-cases.end(1 + 5 + 4 + 4 + 4 + 1 + 1 + 2 + 1)
+cases.end(1 + 5 + 4 + 4 + 7 + 4 + 1 + 1 + 2 + 1)

@@ -10,7 +10,7 @@ import struct
 import subprocess
 import sys
 
-from lib import kinds
+from lib import blocks, kinds
 from lib.head import SECONDS, TOP, Cases, ended, finished, first_difference, has, start
 from lib.kinds import chunk
 
@@ -162,6 +162,11 @@ script("a script that sets chunks of each kind", {}, [
     "create wave pcm_16_le 1 8000 j.wav", "set string title A", "set chunk abcd 0102", "set cue 5", "set bext originator X", "get chunk abcd", "get chunks",
     "get cues", "set chunk data 00", "write 1", "set chunk abcd 03", "close"])
 
+# ---- one with a reservation is made, and another becomes RF64
+script("a script that reserves", {}, ["create wave pcm_16_le 1 8000 r.wav", "reserve", "set string title A", "reserve", "write 1 2", "close", "open u r.wav", "auto on", "promote", "seek w 2", "write 3"])
+room = mono[:4] + struct.pack("<I", len(mono) + 28) + b"WAVE" + chunk(b"JUNK", bytes(28)) + mono[12:]
+script("a pinned file that is promoted", {"r.wav": room}, ["promote", "promote", "seek w 600", "write 1 2 3"], "r.wav")
+
 # ---- the other tools, other codecs, and scripts on a file that is there
 tool({"a.wav": mono, "b.au": other}, ["info", "a.wav", "no.wav", "b.au"])
 tool({"a.wav": mono}, ["convert", "-ima-adpcm", "a.wav", "x.wav"], "x.wav")
@@ -170,9 +175,13 @@ tool({"a.wav": mono, "b.au": other}, ["concat", "a.wav", "b.au", "x.wav"], "x.wa
 tool({"a.wav": mono, "b.au": other}, ["interleave", "a.wav", "b.au", "-o", "x.wav"], "x.wav")
 tool({"r.wav": long}, ["metadata-set", "--str-title", "Dawn", "--bext-originator", "snd", "r.wav", "x.wav"], "x.wav")
 tool({}, ["gen", "7", "5000", "x.wav"], "x.wav")
+tool({"a.raw": samples[:90_001]}, ["import", "raw", "pcm_24_be", "2", "8000", "a.raw", "x.wav"], "x.wav")
+tool({"a.vox": samples[:20_000]}, ["import", "vox", "8000", "a.vox", "x.wav"], "x.wav")
+tool({"r.wav": long}, ["export", "pvf", "r.wav", "x.pvf"], "x.pvf")
+tool({"m.wav": blocks.whole_file("wave", "ima", 1, RATE, range(-3000, 3000))}, ["export", "vox", "m.wav", "x.vox"], "x.vox")
 script("a script that reads and taps", {"a.wav": mono}, ["open r a.wav", "tap peak", "tap energy", "read 600", "untap peak", "get strings", "untap energy", "close", "open r no.wav"])
 script("a script that changes a file", {"a.wav": mono}, ["open u a.wav", "auto on", "seek w 600", "write 1 2 3", "truncate 10", "read 3", "update", "close"])
 script("a script on a pinned file", {"a.wav": mono}, ["seek w 600", "write 1 2 3", "close", "truncate 10", "read 3"], "a.wav")
 script("a script that makes a file of ADPCM", {}, ["create wave ms 1 8000 m.wav", "set string title A", "write " + " ".join(map(str, range(600))), "auto on", "write 1 2", "close"])
 refusals, went_on = (sum(it) for it in zip(*counts))
-cases.end(2 * 15, f"; {refusals} allocations refused, after {went_on} of which the run went on as with memory")
+cases.end(2 * 21, f"; {refusals} allocations refused, after {went_on} of which the run went on as with memory")

@@ -1,11 +1,12 @@
 #!/usr/bin/env -S python3 -B
 """What a power cut leaves of a file that `snd script --auto` updates. Scripts of random edits with fixed seeds run on real files
-under strace: many on WAVE files of linear samples in all shapes, and some on files of each other kind and of the laws of G.711.
-From its calls each image is rebuilt that a cut may leave at each moment (lib/crash_images.py), random mixes with a fixed seed. Each
-is opened and read by the program: it must have its parameters and its further chunks, the frames that were acknowledged or those
-of the command under way, and each frame that this command does not write. What is wanted comes from a list of frames that is
-edited beside the program. The same traces with calls left out or in another order must leave images that are not safe. Needs
-Python 3, and the Debian package strace, without which it is skipped. It takes some minutes."""
+under strace: many on WAVE files of linear samples in all shapes, some on files of each other kind and of the laws of G.711, and
+some on WAVE files with a reservation, which become RF64 on the way. From its calls each image is rebuilt that a cut may leave at each
+moment (lib/crash_images.py), random mixes with a fixed seed. Each is opened and read by the program: it must have its kind, or while it
+is promoted the one of before or after, its parameters and its further chunks, the frames that were acknowledged or those of the command
+under way, and each frame that this command does not write. What is wanted comes from a list of frames that is edited beside the program.
+The same traces with calls left out or in another order must leave images that are not safe. Needs Python 3, and the Debian package
+strace, without which it is skipped. It takes some minutes."""
 import os
 import random
 import struct
@@ -25,6 +26,7 @@ RUNS, LINES, LEAST = 432, 40, 20000
 OTHERS = 4
 CODECS = {8: "pcm_u8", 16: "pcm_16_le", 24: "pcm_24_le", 32: "pcm_32_le"}
 RATE = 8000
+NONE = b"\xff" * 4
 
 
 # ---- the files
@@ -38,18 +40,23 @@ def chunk(id, body):
 
 
 class Shape:
-    """A file but for its frames: the chunks before the data and behind them, and what is wrong with it as it is given."""
+    """A WAVE file but for its frames: a reservation, the chunks before the data and behind them, and what is wrong with it as it is given."""
 
-    def __init__(self, before=b"", behind=b"", fact=False, front=b"", part=False, loose=b""):
-        self.before, self.behind, self.fact, self.front, self.part, self.loose = before, behind, fact, front, part, loose
+    def __init__(self, before=b"", behind=b"", fact=False, front=b"", part=False, loose=b"", room=None):
+        self.before, self.behind, self.fact, self.front, self.part, self.loose, self.room = before, behind, fact, front, part, loose, room
 
-    def bytes(self, codec, channels, frames, given=False):
-        bits = kinds.width(codec)
-        align = channels * bits // 8
+    def bytes(self, codec, channels, frames, given=False, count=None):
+        """The file; where it has become RF64, `count` frames of it were in it then."""
+        align = channels * kinds.size(codec)
         data = coded(codec, frames) + (b"p" * (align - 1) if given and self.part else b"")
-        body = b"WAVE" + chunk(b"fmt ", struct.pack("<HHIIHH", 1, channels, RATE, RATE * align, align, bits))
-        body += self.front + (chunk(b"fact", struct.pack("<I", len(frames))) if self.fact else b"") + self.before
+        body = b"WAVE" + (b"" if self.room is None else chunk(b"JUNK", self.room)) + chunk(b"fmt ", kinds.format_body(codec, channels, RATE))
+        body += self.front + (chunk(b"fact", struct.pack("<I", len(frames) if count is None else count)) if self.fact else b"") + self.before
+        start = 8 + len(body) + 8
         body += chunk(b"data", data) + self.behind
+        if count is not None:
+            # EBU Tech 3306: the first chunk has the sizes, and the count
+            sizes = struct.pack("<QQQI", len(body), len(data), len(frames), 0)
+            return b"RF64" + NONE + b"WAVEds64" + body[8:12] + sizes + body[40:start - 12] + NONE + body[start - 8:]
         size = 7 if given and self.loose else len(body)
         return b"RIFF" + struct.pack("<I", size) + body + (self.loose if given else b"")
 
@@ -57,7 +64,7 @@ class Shape:
 class Other:
     """A file of another kind, or of a law. RF64 and 8SVX files have chunks before the data."""
 
-    behind, part, loose = b"", False, b""
+    behind, part, loose, room = b"", False, b"", None
 
     def __init__(self, kind):
         self.kind = kind
@@ -92,20 +99,39 @@ SHAPES = {
 }
 
 
+# with a reservation, in the same sizes of heads, and one that is larger than it need be
+RESERVED = {
+    "no further chunk": Shape(room=bytes(28)),
+    "chunks before the data": Shape(NOTES, room=bytes(28)),
+    # of a law; others begin two bytes before it
+    "data that begin a sector": Shape(NOTES + chunk(b"wxyz", b"w" * (512 - 82 - len(NOTES) - 8)), room=bytes(28)),
+    "sizes in three sectors": Shape(chunk(b"abcd", b"u" * 900) + NOTES, fact=True, room=bytes(28)),
+    "sizes in three sectors, and bytes behind them": Shape(chunk(b"abcd", b"u" * 910) + NOTES, room=bytes(28), loose=b"loose ends"),
+    "a chunk behind the data": Shape(NOTES, chunk(b"note", b"kept"), room=bytes(28)),
+    "a count of frames in the head": Shape(fact=True, room=bytes(28)),
+    "a count of frames in two sectors": Shape(fact=True, front=chunk(b"fill", b"f" * (510 - 8 - 8 - 72)), room=bytes(28)),
+    "a part of a frame at the end": Shape(NOTES, part=True, room=bytes(28)),
+    "a wrong size and bytes behind it": Shape(loose=b"loose ends", room=bytes(28)),
+    "a large reservation": Shape(NOTES, room=b"r" * 700),
+}
 OTHER = {f"another kind: {kind}": (kind, codecs) for kind, codecs in (*kinds.HOLDS.items(), ("wave", kinds.LAWS)) if kind != "wave" or codecs == kinds.LAWS}
 
 
 def further(image):
-    """The chunks of an image but for what tells the number of frames, and where its data begin; None where it is no WAVE file."""
-    if len(image) < 12 or image[:4] != b"RIFF" or image[8:12] != b"WAVE":
+    """The chunks of an image but for what tells the number of frames, and where its data begin; None where it is no WAVE or RF64 file."""
+    if len(image) < 48 and image[:4] == b"RF64" or image[:4] not in (b"RIFF", b"RF64") or image[8:12] != b"WAVE":
         return None
-    at, end, found, start = 12, len(image), [], None
+    at, end, found, start, is_wide = 12, len(image), [], None, image[:4] == b"RF64"
     while at + 8 <= end:
         id, size = image[at:at + 4], struct.unpack_from("<I", image, at + 4)[0]
         if id == b"data" and start is None:
             start = at + 8
+            whole, size = struct.unpack_from("<QQ", image, 20) if is_wide else (struct.unpack_from("<I", image, 4)[0], size)
             # what is behind the data counts as far as the whole goes
-            end = min(end, 8 + struct.unpack_from("<I", image, 4)[0])
+            end = min(end, 8 + whole)
+        elif at == 12 and id in (b"JUNK", b"ds64"):
+            # a reservation, or what it has become
+            found.append((b"", image[at + 8 + 28:at + 8 + size]))
         else:
             found.append((id, b"" if id == b"fact" else image[at + 8:at + 8 + size]))
         at += 8 + size + size % 2
@@ -117,10 +143,12 @@ def further(image):
 class Model:
     """What the lines of a script do to a list of frames, and what they answer."""
 
-    def __init__(self, kind, codec, channels, frames, grows):
-        self.kind, self.codec, self.channels, self.frames, self.grows = kind, codec, channels, frames, grows
+    def __init__(self, kind, codec, channels, frames, grows, has_room):
+        self.kind, self.codec, self.channels, self.frames, self.grows, self.has_room = kind, codec, channels, frames, grows, has_room
         self.bits = kinds.width(codec)
         self.read_at = self.write_at = 0
+        # how many frames there were when it became RF64
+        self.count = None
 
     def shown(self):
         return f"ok {len(self.frames)} {self.channels} {RATE} {self.kind} {self.codec}"
@@ -144,6 +172,10 @@ class Model:
             return [self.truncate(int(rest[0]))]
         if what == "trim":
             return [f"ok {len(self.frames)}" if self.grows else "error 25 TrailingData"]
+        if what == "promote":
+            return [self.promote()]
+        if what == "reserve":
+            return ["error 44 WrongMode"]
         return [{"info": self.shown(), "update": f"ok {len(self.frames)}"}.get(what, "error 40 BadCommand")]
 
     def write(self, numbers):
@@ -162,6 +194,14 @@ class Model:
         self.frames = self.frames[:self.write_at] + new + self.frames[self.write_at + len(new):]
         self.write_at += len(new)
         return f"ok {len(new)}"
+
+    def promote(self):
+        if not self.has_room:
+            return "error 60 NoRoom"
+        if not self.grows:
+            return "error 25 TrailingData"
+        self.kind, self.count, self.has_room = "rf64", len(self.frames), False
+        return f"ok {self.count}"
 
     def seek(self, which, to):
         if to > len(self.frames):
@@ -201,7 +241,8 @@ def random_lines(dice, model):
     many, bits, channels = len(model.frames), model.bits, model.channels
     # the longest number and its space, in a line of 4096 bytes
     large = 4000 // (len(str(1 << (bits - 1))) + 2) // channels
-    what = dice.choice(["behind"] * 5 + ["over"] * 4 + ["over the end"] * 3 + ["cut"] * 2 + ["refused"] * 2 + ["trim", "update", "read", "nothing"])
+    more = ["promote"] * 2 if model.has_room else []
+    what = dice.choice(["behind"] * 5 + ["over"] * 4 + ["over the end"] * 3 + ["cut"] * 2 + ["refused"] * 2 + ["trim", "update", "read", "nothing"] + more)
     if what in ("behind", "over", "over the end"):
         at = many if what == "behind" else dice.randint(max(many - 20, 0), many) if what == "over the end" else dice.randint(0, many)
         count = dice.choice([1, 2, dice.randint(1, 40), dice.randint(1, large)])
@@ -218,7 +259,7 @@ def random_lines(dice, model):
     if what == "read":
         return [f"seek r {dice.randint(0, many)}", f"read {dice.randint(0, 30)}"]
     if what == "refused":
-        return [dice.choice([f"seek rw {many + 1}", f"truncate {many + 9}", "open u a.wav", "create wave pcm_u8 1 8000 a.wav", "close", "auto off", "auto on",
+        return [dice.choice([f"seek rw {many + 1}", f"truncate {many + 9}", "open u a.wav", "create wave pcm_u8 1 8000 a.wav", "close", "auto off", "auto on", "reserve", "promote",
                              "write", "write 2147483648", write_of([0] * (channels + 1)), write_of([1 << (bits - 1)] * channels), "nonsense"])]
     return [{"nothing": dice.choice(["", "# a remark", "info"])}.get(what, what)]
 
@@ -241,6 +282,12 @@ class Run:
             self.name = list(SHAPES)[seed % len(SHAPES)]
             self.shape, self.kind, self.codec, self.channels = SHAPES[self.name], "wave", CODECS[8 * (1 + seed // 9 % 4)], 1 + seed // 36 % 3
             self.further = further
+        elif seed >= FIRST_RESERVED:
+            time = seed - FIRST_RESERVED
+            self.name = list(RESERVED)[time % len(RESERVED)]
+            self.shape, self.kind, self.channels, self.further = RESERVED[self.name], "wave", 1 + time // len(RESERVED) // len(kinds.HOLDS["wave"]), further
+            self.codec = kinds.HOLDS["wave"][time // len(RESERVED) % len(kinds.HOLDS["wave"])]
+            self.name = f"a reservation, {self.name}"
         else:
             self.name, time = list(OTHER)[(seed - RUNS) % len(OTHER)], (seed - RUNS) // len(OTHER)
             self.kind, codecs = OTHER[self.name]
@@ -251,8 +298,8 @@ class Run:
         frames = [tuple(kinds.kept(self.codec, it)) for it in frames]
         self.first = self.shape.bytes(self.codec, self.channels, frames, True)
         self.chunks = self.further(self.first)
-        model = Model(self.kind, self.codec, self.channels, frames, not self.shape.behind)
-        self.replies, self.states, lines = [model.shown(), f"ok {len(frames)}"], [frames, frames, frames], []
+        model = Model(self.kind, self.codec, self.channels, frames, not self.shape.behind, self.shape.room is not None)
+        self.replies, self.states, self.kinds, lines = [model.shown(), f"ok {len(frames)}"], [frames, frames, frames], [self.kind] * 3, []
         while len(lines) < LINES:
             for line in random_lines(self.dice, model):
                 lines.append(line)
@@ -260,8 +307,9 @@ class Run:
                 if answer:
                     self.replies.append("\n".join(answer))
                     self.states.append(model.frames)
+                    self.kinds.append(model.kind)
         self.replies = [f"{it}\n".encode() for it in self.replies]
-        self.texts = {id(it): texts(it) for it in self.states}
+        self.texts, self.count = {id(it): texts(it) for it in self.states}, model.count
         with open("a.wav", "wb") as file:
             file.write(self.first)
         self.done, self.events = traced(program, ["script", "--auto", "a.wav"], lines, b"a.wav")
@@ -277,14 +325,15 @@ class Run:
         wrong += [f"a call that is not known: {it[1]}" for it in self.events if it[0] == "unknown"]
         wrong += [f"{len(held) - 1} writes or cuts are not synced at the end"] * (len(held) > 1)
         wrong += first_difference("the file, and what its calls make of it", self.last, held[-1])
-        want = self.shape.bytes(self.codec, self.channels, self.states[-1])
+        want = self.shape.bytes(self.codec, self.channels, self.states[-1], *([] if self.count is None else [False, self.count]))
         return wrong + first_difference("the file at the end", self.last[:len(want)] if self.shape.loose or self.shape.part else self.last, want)
 
     def unsafe(self, out, image, answer):
         """Why an image is not safe when so many replies are out, or None."""
         opened, frames, closed = answer
         old, new = self.states[out], self.states[min(out + 1, len(self.states) - 1)]
-        if opened != f"ok {len(frames)} {self.channels} {RATE} {self.kind} {self.codec}" or closed != f"ok {len(frames)}":
+        kinds_then = {self.kinds[out], self.kinds[min(out + 1, len(self.kinds) - 1)]}
+        if opened not in {f"ok {len(frames)} {self.channels} {RATE} {it} {self.codec}" for it in kinds_then} or closed != f"ok {len(frames)}":
             return f"it says {opened!r} and {closed!r}, and has {len(frames)} frames"
         if len(frames) not in (len(old), len(new)):
             return f"it has {len(frames)} frames, for {len(old)} or {len(new)}"
@@ -312,9 +361,11 @@ class Run:
                 why = self.unsafe(out, image, answers[image])
                 faults += [f"after call {at}, with {out} replies out: {why}"] if why else []
         wrong = []
-        want = told_by_info(0)[0] if share else []
+        first = told_by_info(0)[0] if share else []
         for at in range(0, len(distinct), share) if share else []:
             told, frames = told_by_info(at)
+            # where the kind changes, that is told by the first bytes
+            want = ["kind rf64" if it.startswith("kind ") and distinct[at][:4] == b"RF64" else it for it in first]
             if told != want or frames != [f"frames {len(answers[distinct[at]][1])}"]:
                 wrong.append(f"`info` says {told + frames} of an image, for {want}")
         for i in range(len(distinct)):
@@ -325,7 +376,7 @@ class Run:
 # ---- traces that are wrong
 
 def is_size(event, at):
-    return event[0] == "put" and event[1] == at and len(event[2]) == 4
+    return event[0] == "put" and event[1] == at and len(event[2]) == 4 and event[2] != NONE
 
 
 def swapped(events, i, j):
@@ -362,9 +413,45 @@ def sizes_unsynced(run, events):
     events[:] = kept
 
 
-images_tried = moments_tried = in_flight = unsafe_found = 0
+def turns(events):
+    """The places of the writes that turn a file into RF64."""
+    return [i for i, event in enumerate(events) if event[0] == "put" and event[1] == 0 and len(event[2]) == 48]
+
+
+def front_unsynced(run, events):
+    """The sync is left out between the two writes of a promotion."""
+    for i in reversed(turns(events)):
+        del events[i + 1]
+
+
+def front_last(run, events):
+    """The size that says nothing is written before the first 48 bytes of RF64."""
+    for i in turns(events):
+        swapped(events, i, i + 2)
+
+
+def front_in_two(run, events):
+    """The mark of RF64 is written first, and its sizes behind a sync."""
+    for i in reversed(turns(events)):
+        events[i:i + 1] = [("put", 0, events[i][2][:12]), ("sync",), ("put", 12, events[i][2][12:])]
+
+
+FIRST_RESERVED = RUNS + OTHERS * len(OTHER)
+SEEDS = FIRST_RESERVED + 2 * len(RESERVED) * len(kinds.HOLDS["wave"])
+LEAST_TURNED = 60
+images_tried = moments_tried = in_flight = unsafe_found = turned = 0
 WRONG = {it: 0 for it in (whole_first, whole_last, data_unsynced, sizes_unsynced)}
-for seed in range(RUNS + OTHERS * len(OTHER)):
+WRONG_TURNS = {it: 0 for it in (front_unsynced, front_last, front_in_two)}
+
+
+def wrong_traces(run, seed):
+    """The tables of wrong traces that are tried on a run: some runs of each shape and each width; of those that become RF64 also each whose
+    sizes lie in more than one sector."""
+    tables = [WRONG] if seed % 23 == 0 and (seed < RUNS or seed >= FIRST_RESERVED) else []
+    return tables + ([WRONG_TURNS] if turns(run.events) and (seed % 7 == 0 or run.chunks[1] > 512) else [])
+
+
+for seed in range(SEEDS):
     name = f"run {seed}"
     try:
         run = Run(seed)
@@ -373,17 +460,20 @@ for seed in range(RUNS + OTHERS * len(OTHER)):
         total, faults, told = run.judge(found, 50)
         images_tried, moments_tried, unsafe_found = images_tried + total, moments_tried + len(found), unsafe_found + len(faults)
         in_flight += sum(len(each) for _, each in found if len(each) > 1)
+        turned += len(turns(run.events))
         wrong = run.wrong_end(held) + faults + told
-        # some runs, of each shape and each width
-        for change in WRONG if seed % 23 == 0 and seed < RUNS else ():
-            events = list(run.events)
-            change(run, events)
-            WRONG[change] += len(run.judge(moments(run.dice, run.first, events, run.replies)[0], 0)[1])
+        for table in wrong_traces(run, seed):
+            for change in table:
+                events = list(run.events)
+                change(run, events)
+                table[change] += len(run.judge(moments(run.dice, run.first, events, run.replies)[0], 0)[1])
     except (ValueError, IndexError, subprocess.TimeoutExpired) as error:
         wrong = [f"it could not be followed: {error}"]
     cases.case(name, wrong)
+WRONG |= WRONG_TURNS
 for change, many in WRONG.items():
     cases.case(f"a wrong trace: {change.__doc__}", [] if many else ["no image that is not safe was found"])
 cases.case("the number of images", [] if in_flight >= LEAST else [f"{in_flight} at moments that leave more than one, for {LEAST} or more"])
+cases.case("the number of promotions", [] if turned >= LEAST_TURNED else [f"{turned}, for {LEAST_TURNED} or more"])
 print(f"power_cut: images that are not safe, of wrong traces: {', '.join(f'{change.__name__} {many}' for change, many in WRONG.items())}")
-cases.end(RUNS + OTHERS * len(OTHER) + len(WRONG) + 1, f"; {images_tried} images at {moments_tried} moments ({in_flight} at those that leave more than one), {unsafe_found} unsafe")
+cases.end(SEEDS + len(WRONG) + 2, f"; {images_tried} images at {moments_tried} moments ({in_flight} at those that leave more than one), {turned} promotions, {unsafe_found} unsafe")

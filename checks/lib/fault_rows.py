@@ -13,6 +13,14 @@ def of_bytes(whole, size, data):
     return b"RIFF" + bytes([whole, 0, 0, 0]) + b"WAVEfmt \x10\0\0\0\x01\0\x01\0\x40\x1f\0\0\x40\x1f\0\0\x01\0\x08\0data" + bytes([size, 0, 0, 0]) + data
 
 
+# a WAVE file with a reservation; the same once its first 48 bytes are those of RF64; and once the size of 32 bits says nothing
+HEAD = b"fmt \x10\0\0\0\x01\0\x01\0\x40\x1f\0\0\x80\x3e\0\0\x02\0\x10\0data"
+SIZES = b"ds64\x1c\0\0\0\x4c\0\0\0\0\0\0\0\x04\0\0\0\0\0\0\0\x02" + bytes(11)
+RESERVED = b"RIFF\x4c\0\0\0WAVEJUNK\x1c\0\0\0" + bytes(28) + HEAD + b"\x04\0\0\0\x01\0\xff\xff"
+BETWEEN = b"RF64\xff\xff\xff\xffWAVE" + SIZES + HEAD + b"\x04\0\0\0\x01\0\xff\xff"
+PROMOTED = b"RF64\xff\xff\xff\xffWAVE" + SIZES + HEAD + b"\xff\xff\xff\xff\x01\0\xff\xff"
+LONGER = b"RF64\xff\xff\xff\xffWAVEds64\x1c\0\0\0\x4e\0\0\0\0\0\0\0\x06\0\0\0\0\0\0\0\x03" + bytes(11) + HEAD + b"\xff\xff\xff\xff\x01\0\xff\xff\x05\0"
+
 # what is shown, the lines of a script on a pinned file, the images of the file from before the change to after it, and which of these a
 # power cut may leave, in turn
 CUTS = [
@@ -31,6 +39,8 @@ CUTS = [
      [of_bytes(42, 5, b"\x80\x81\x7f\x82\x7e\0"), of_bytes(40, 5, b"\x80\x81\x7f\x82\x7e\0"), of_bytes(40, 3, b"\x80\x81\x7f\x82\x7e\0"), of_bytes(40, 3, b"\x80\x81\x7f\0\x7e\0"),
       of_bytes(40, 3, b"\x80\x81\x7f\0\0\0"), of_bytes(40, 3, b"\x80\x81\x7f\x82"), of_bytes(40, 3, b"\x80\x81\x7f\0")],
      [[0], [0, 1], [1], [1, 2], [2], [2, 3], [2, 3, 4, 5, 6], [6]]),
+    # from the first write on it is RF64
+    ("a file is promoted", ["promote"], [RESERVED, BETWEEN, PROMOTED], [[0], [0, 1], [1], [1, 2], [2]]),
 ]
 
 # what is shown, the words, the file before, the script, its answers, the file at the end, the frames that may be found where it stopped, and
@@ -46,6 +56,10 @@ RUNS = [
      [[0, 1, -1, 5], [0, 1, -1, 5, 2]], 16),
     ("a pinned file that is cut", AUTO, CUTS[2][2][0], "truncate 3\n", ["ok 5 1 8000 wave pcm_u8\n", "ok 5\n", "ok 3\n"], CUTS[2][2][-1],
      [[0, 1, -1, 2, -2], [0, 1, -1]], 16),
+    # a promotion makes nine calls: the seal, two writes, each with its sync
+    ("a pinned file that is promoted", AUTO, RESERVED, "promote\n", ["ok 2 1 8000 wave pcm_16_le\n", "ok 2\n", "ok 2\n"], PROMOTED, [[1, -1]], 19),
+    ("a file that is promoted and grows", ["script"], RESERVED, "open u a.wav\nauto on\npromote\nseek w 2\nwrite 5\nclose\n",
+     ["ok 2 1 8000 wave pcm_16_le\n", "ok 2\n", "ok 2\n", "ok 2\n", "ok 1\n", "ok 3\n"], LONGER, [[1, -1], [1, -1, 5]], 27),
 ]
 
 # a script whose write is automatic, and its calls: the seal with `auto on`; the data, the count and the size of the whole, each with its

@@ -5,9 +5,9 @@ ghost use Rattle.std.specs.Prelude.{◌≡◌};
 
 use snd_disk::{Disk, Shelf};
 use snd_fields::Order;
-use snd_file::create;
 use snd_files::FolderShelf;
 use snd_layout::{Codec, Kind, Params};
+use snd_opening::create;
 use std::alloc::Global;
 use std::io::Write;
 use std::process::ExitCode;

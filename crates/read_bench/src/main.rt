@@ -8,8 +8,9 @@ ghost use Rattle.snd_file.specs.Handle.{disk_of, loan_of};
 
 use snd_disk::{Disk, Shelf};
 use snd_edits::{Read, ReadError};
-use snd_file::{File, open_read};
+use snd_file::File;
 use snd_files::FolderShelf;
+use snd_opening::open_read;
 use std::alloc::Global;
 use std::env;
 use std::io::{self, Write};

@@ -1,7 +1,7 @@
 -- The texts of `--help`, of `COMMAND --help` and of `--version`, made of the same parts.
 use Rattle.std.specs.Prelude.{ℕ, ◌-◌, List, [], ◌∷◌, ◌++◌, length, replicate, codes, map}
 use Rattle.snd_words.specs.declared.topic.Topic.{Topic}
-use Rattle.snd_words.specs.declared.topic.Topic.TheVariants.{Info, Convert, Concat, Interleave, SetMetadata, Generate, Script}
+use Rattle.snd_words.specs.declared.topic.Topic.TheVariants.{Info, Convert, Concat, Interleave, SetMetadata, Generate, Import, Export, Script}
 
 -- a form of the words, or an option, and what it does
 pub record Entry : Type 0 where
@@ -39,6 +39,8 @@ forms Concat = entry (codes "snd concat IN IN.. OUT") (codes "join 2 to 64 files
 forms Interleave = entry (codes "snd interleave IN IN.. -o OUT") (codes "join 2 to 64 mono files, as channels") ∷ []
 forms SetMetadata = entry (codes "snd metadata-set OPTION TEXT.. IN OUT") (codes "copy WAVE or RF64 with other texts") ∷ []
 forms Generate = entry (codes "snd gen SEED N NAME") (codes "make a file of N frames, and edit it") ∷ []
+forms Import = entry (codes "snd import raw CODEC N N IN OUT") (codes "make a file of samples without a head") ∷ entry (codes "snd import vox N IN OUT") (codes "make a file of Dialogic VOX") ∷ entry (codes "snd import pvf IN OUT") (codes "make a file of PVF") ∷ []
+forms Export = entry (codes "snd export raw IN OUT") (codes "write the samples without a head") ∷ entry (codes "snd export vox IN OUT") (codes "write Dialogic VOX") ∷ entry (codes "snd export pvf IN OUT") (codes "write PVF") ∷ []
 forms Script = entry (codes "snd script") (codes "carry out commands on standard input") ∷ entry (codes "snd script --auto NAME") (codes "the same, with a file kept up to date") ∷ []
 
 -- what there is to say of it
@@ -49,9 +51,11 @@ notes Concat = codes "OUT takes kind, codec, channels and rate from the first IN
 notes Interleave = codes "OUT takes kind, codec and rate from the first IN, not from its suffix." ∷ []
 notes SetMetadata = codes "Each option takes the word after it as its text." ∷ []
 notes Generate = codes "The same SEED (0 to 4294967295) and N (1 to 10000000) make the same WAVE file." ∷ []
+notes Import = codes "Makes OUT, or replaces it whole; its suffix names the kind." ∷ []
+notes Export = codes "Makes OUT, or replaces it whole, under any name." ∷ []
 notes Script = codes "One command stands on each line, and each is answered before the next is read." ∷ []
 
--- its options, as they stand on the lines of `--help`
+-- its options, as they stand on the lines of `--help`; or the forms of the files that it reads or makes
 abbrev pub option_rows : Topic → List (List Entry)
 option_rows Info = []
 option_rows Convert =
@@ -67,15 +71,24 @@ option_rows SetMetadata =
     ∷ (entry (codes "--bext-orig-ref") (codes "reference of the originator, at most 32 bytes") ∷ entry (codes "--bext-orig-date") (codes "date of origin, at most 10 bytes") ∷ entry (codes "--bext-orig-time") (codes "time of origin, at most 8 bytes") ∷ [])
     ∷ (entry (codes "--bext-time-ref") (codes "place on the time line, as a number of samples") ∷ entry (codes "--bext-coding-hist") (codes "coding history, at most 1024 bytes") ∷ []) ∷ []
 option_rows Generate = []
+option_rows Import =
+    (entry (codes "raw CODEC N N") (codes "samples without a head: their codec, channels, rate") ∷ entry (codes "vox N") (codes "Dialogic VOX, one channel of 16 bits: its rate") ∷ entry (codes "pvf") (codes "PVF, whose head says all") ∷ []) ∷ []
+option_rows Export =
+    (entry (codes "raw") (codes "samples in the codec of IN; of ADPCM pcm_16_le") ∷ entry (codes "vox") (codes "Dialogic VOX, of one channel") ∷ entry (codes "pvf") (codes "PVF of 8, 16 or 32 bits") ∷ []) ∷ []
 option_rows Script =
     (entry (codes "--auto NAME") (codes "keep this file open, and up to date after each line") ∷ []) ∷ []
 
--- what the text of an option is made of
+-- what the text of an option is made of, or which words may stand for one
 abbrev pub part_lines : Topic → List (List ℕ)
 part_lines Convert =
     []
     ∷ codes "SPEC is 1 to 8 stages with commas between, which each frame passes in turn:"
     ∷ map (columns 26) (entry (codes "gain:A/B") (codes "multiply by A/B (A 0 to 65535, B 1 to 65535)") ∷ entry (codes "invert") (codes "turn the sign of each sample") ∷ entry (codes "map:I.J..") (codes "take the channels I, J .., counted from 0") ∷ entry (codes "fade:N") (codes "rise from silence over N frames") ∷ [])
+part_lines Import =
+    []
+    ∷ codes "CODEC is one of these:"
+    ∷ codes "  pcm_u8 pcm_s8 pcm_16_le pcm_16_be pcm_24_le pcm_24_be pcm_32_le pcm_32_be"
+    ∷ codes "  ulaw alaw" ∷ []
 part_lines other = []
 
 abbrev pub example : Topic → List ℕ
@@ -85,6 +98,8 @@ example Concat = codes "snd concat take1.wav take2.wav both.wav"
 example Interleave = codes "snd interleave left.wav right.wav -o stereo.wav"
 example SetMetadata = codes "snd metadata-set --str-title Dawn take1.wav dawn.wav"
 example Generate = codes "snd gen 0 44100 noise.wav"
+example Import = codes "snd import raw pcm_16_le 2 48000 take1.raw take1.wav"
+example Export = codes "snd export raw take1.wav take1.raw"
 example Script = codes "printf 'open r take1.wav\\nread 2\\n' | snd script"
 
 -- `COMMAND --help`: the forms of the command, a line for each option and for what its text is made of, and an example
@@ -105,10 +120,16 @@ convert_usage = usage_of Convert
 abbrev pub metadata_usage : List ℕ
 metadata_usage = usage_of SetMetadata
 
+abbrev pub import_usage : List ℕ
+import_usage = usage_of Import
+
+abbrev pub export_usage : List ℕ
+export_usage = usage_of Export
+
 -- `--help`: the forms of all commands, the options of two by their names, and what names and files can be
 abbrev pub all_forms : List Entry
 all_forms =
-    forms Info ++ forms Convert ++ forms Concat ++ forms Interleave ++ forms SetMetadata ++ forms Generate ++ forms Script
+    forms Info ++ forms Convert ++ forms Concat ++ forms Interleave ++ forms SetMetadata ++ forms Generate ++ forms Import ++ forms Export ++ forms Script
     ++ entry (codes "snd COMMAND --help") (codes "print what one command takes") ∷ entry (codes "snd --help") (codes "print this text") ∷ entry (codes "snd --version") (codes "print the version") ∷ []
 
 abbrev pub names_in : List Entry → List ℕ

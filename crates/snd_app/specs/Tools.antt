@@ -2,6 +2,9 @@
 use Rattle.std.specs.Prelude.{◌≡◌, ℕ, List, [], ◌∷◌, ◌++◌, Some, Result, Ok, Err, IfOk, codes, decimal}
 use Rattle.snd_concat.specs.Concat.{concatenated}
 use Rattle.snd_convert.specs.Convert.{converted}
+use Rattle.snd_export.specs.Export.{exported}
+use Rattle.snd_import.specs.Import.{imported}
+use Rattle.snd_import.specs.Making.{AsksOnce}
 use Rattle.snd_disk.specs.Shelf.{Files, ShelfState, put}
 use Rattle.snd_disk.specs.Shelves.{TellsFiles}
 use Rattle.snd_generate.specs.Edited.{file_of, generated, summary_of}
@@ -33,6 +36,8 @@ outcome_of_work (Work.concat inputs output) stages files = outcome_of_tool (conc
 outcome_of_work (Work.interleave inputs output) stages files = outcome_of_tool (interleaved inputs output files)
 outcome_of_work (Work.gen seed frames name) stages files = says (summary_text (summary_of (generated seed frames)))
 outcome_of_work (Work.set_metadata settings input output) stages files = outcome_of_tool (retagged settings input output files)
+outcome_of_work (Work.import_as form input output) stages files = outcome_of_tool (imported form input output files)
+outcome_of_work (Work.export_as form input output) stages files = outcome_of_tool (exported form input output files)
 
 -- the files then
 abbrev pub after_work : Work → List StageKind → Files → Files
@@ -41,6 +46,8 @@ after_work (Work.concat inputs output) stages files = files_after (concatenated 
 after_work (Work.interleave inputs output) stages files = files_after (interleaved inputs output files) files
 after_work (Work.gen seed frames name) stages files = put files name (Some (file_of (generated seed frames)))
 after_work (Work.set_metadata settings input output) stages files = files_after (retagged settings input output files) files
+after_work (Work.import_as form input output) stages files = files_after (imported form input output files) files
+after_work (Work.export_as form input output) stages files = files_after (exported form input output files) files
 
 -- the name of the file that it makes
 abbrev pub made_by : Work → List ℕ
@@ -49,6 +56,8 @@ made_by (Work.concat inputs output) = output
 made_by (Work.interleave inputs output) = output
 made_by (Work.gen seed frames name) = name
 made_by (Work.set_metadata settings input output) = output
+made_by (Work.import_as form input output) = output
+made_by (Work.export_as form input output) = output
 
 -- how many bytes it may ask of its inputs; of `gen`, which has none and reads the file that it made,
 -- nothing is said
@@ -58,6 +67,8 @@ AsksForWork state (Work.concat inputs output) old new = AsksForFiles state input
 AsksForWork state (Work.interleave inputs output) old new = AsksForEach 1 16384 state inputs old new
 AsksForWork state (Work.gen seed frames name) old new = Unit {0}
 AsksForWork state (Work.set_metadata settings input output) old new = AsksForEach 2 164864 state (input ∷ []) old new
+AsksForWork state (Work.import_as form input output) old new = AsksOnce state input old new
+AsksForWork state (Work.export_as form input output) old new = AsksForEach 1 16384 state (input ∷ []) old new
 
 -- ---- as the code says it
 

@@ -1,7 +1,7 @@
 //! The texts of `--help`, of `COMMAND --help` and of `--version`, in lines of at most 79 characters.
 
 ghost use Rattle.std.specs.Prelude.{◌≡◌};
-ghost use Rattle.snd_app.specs.Help.{convert_usage, metadata_usage, usage, usage_of, version};
+ghost use Rattle.snd_app.specs.Help.{convert_usage, export_usage, import_usage, metadata_usage, usage, usage_of, version};
 
 use snd_words::Topic;
 
@@ -84,6 +84,36 @@ The same SEED (0 to 4294967295) and N (1 to 10000000) make the same WAVE file.
 Example: snd gen 0 44100 noise.wav
 ";
 
+const IMPORT: &str = "\
+Usage: snd import raw CODEC N N IN OUT
+       snd import vox N IN OUT
+       snd import pvf IN OUT
+Makes OUT, or replaces it whole; its suffix names the kind.
+
+  raw CODEC N N             samples without a head: their codec, channels, rate
+  vox N                     Dialogic VOX, one channel of 16 bits: its rate
+  pvf                       PVF, whose head says all
+
+CODEC is one of these:
+  pcm_u8 pcm_s8 pcm_16_le pcm_16_be pcm_24_le pcm_24_be pcm_32_le pcm_32_be
+  ulaw alaw
+
+Example: snd import raw pcm_16_le 2 48000 take1.raw take1.wav
+";
+
+const EXPORT: &str = "\
+Usage: snd export raw IN OUT
+       snd export vox IN OUT
+       snd export pvf IN OUT
+Makes OUT, or replaces it whole, under any name.
+
+  raw                       samples in the codec of IN; of ADPCM pcm_16_le
+  vox                       Dialogic VOX, of one channel
+  pvf                       PVF of 8, 16 or 32 bits
+
+Example: snd export raw take1.wav take1.raw
+";
+
 const SCRIPT: &str = "\
 Usage: snd script
        snd script --auto NAME
@@ -103,6 +133,12 @@ Usage: snd COMMAND
   snd interleave IN IN.. -o OUT          join 2 to 64 mono files, as channels
   snd metadata-set OPTION TEXT.. IN OUT  copy WAVE or RF64 with other texts
   snd gen SEED N NAME                    make a file of N frames, and edit it
+  snd import raw CODEC N N IN OUT        make a file of samples without a head
+  snd import vox N IN OUT                make a file of Dialogic VOX
+  snd import pvf IN OUT                  make a file of PVF
+  snd export raw IN OUT                  write the samples without a head
+  snd export vox IN OUT                  write Dialogic VOX
+  snd export pvf IN OUT                  write PVF
   snd script                             carry out commands on standard input
   snd script --auto NAME                 the same, with a file kept up to date
   snd COMMAND --help                     print what one command takes
@@ -156,6 +192,20 @@ fn metadata_usage() -> &'static str
     SET_METADATA
 }
 
+/// What `import --help` prints.
+fn import_usage() -> &'static str
+    ensures { result.now ≡ import_usage }
+{
+    IMPORT
+}
+
+/// What `export --help` prints.
+fn export_usage() -> &'static str
+    ensures { result.now ≡ export_usage }
+{
+    EXPORT
+}
+
 /// What `COMMAND --help` prints of a command.
 pub fn usage_of(topic: Topic) -> &'static str
     ensures { result.now ≡ usage_of topic }
@@ -167,6 +217,8 @@ pub fn usage_of(topic: Topic) -> &'static str
         Topic::Interleave => INTERLEAVE,
         Topic::SetMetadata => metadata_usage(),
         Topic::Generate => GENERATE,
+        Topic::Import => import_usage(),
+        Topic::Export => export_usage(),
         Topic::Script => SCRIPT,
     }
 }

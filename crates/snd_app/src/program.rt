@@ -149,10 +149,10 @@ fn run_script<S: Shelf, R: Source, O: Sink, E: Sink>(
 /// `script`, one a line; with `script --auto NAME` the file of the name is open in all of them, and updated
 /// automatically. The boxes of `taps` wait in their order for a script's `tap`. `convert OPTION.. IN OUT` copies
 /// a file into another container or codec; with `-rack=SPEC` its frames pass boxes of `stages` on the way, of which
-/// the first unused one of its kind serves each item. Every other box is dropped as it came. `--help`,
-/// `COMMAND --help` and `--version` print a text on `out`. Any other words are refused. Beside the
-/// statuses 0, 1 and 2 that the outcome has, 3 says that the shelf, the script or a sink failed, and 4 that
-/// memory ran out.
+/// the first unused one of its kind serves each item. Every other box is dropped as it came. `import` and `export`
+/// take samples without a head, PVF and VOX in and out. `--help`, `COMMAND --help` and `--version` print a text on
+/// `out`. Any other words are refused. Beside the statuses 0, 1 and 2 that the outcome has, 3 says that the shelf, the
+/// script or a sink failed, and 4 that memory ran out.
 pub fn run<S: Shelf, R: Source, O: Sink, E: Sink>(
     alloc: Global,
     words: &Words,

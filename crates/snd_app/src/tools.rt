@@ -16,7 +16,9 @@ use itoa::Buffer;
 use snd_concat::concat;
 use snd_convert::convert;
 use snd_disk::{Shelf, Sink};
+use snd_export::export;
 use snd_generate::{Summary, generate};
+use snd_import::import;
 use snd_interleave::interleave;
 use snd_lines::{push_line, push_number_line};
 use snd_metadata::set_metadata;
@@ -117,6 +119,8 @@ fn carry_out<S: Shelf>(
         Tool::Interleave(it) => reply_to(alloc, interleave(alloc, it, shelf)),
         Tool::Generate(it) => reply_of(alloc, generate(alloc, it, shelf)),
         Tool::SetMetadata(it) => reply_to(alloc, set_metadata(alloc, it, shelf)),
+        Tool::Import(it) => reply_to(alloc, import(alloc, it, shelf)),
+        Tool::Export(it) => reply_to(alloc, export(alloc, it, shelf)),
     }
 }
 

@@ -9,9 +9,10 @@ use Rattle.snd_layout.specs.Kinds.{kind_named}
 use Rattle.snd_command.specs.Tables.{codec_of, named}
 use Rattle.snd_command.specs.Said.{Said}
 
--- `info`, `close`, `trim`, `update`: nothing stands behind them
+-- `info`, `close`, `trim`, `update`, `reserve`, `promote`: nothing stands behind them
 abbrev pub bare_said : List ℕ → List (List ℕ) → Option Said
-bare_said verb [] = named verb ((codes "info", Said.info) ∷ (codes "close", Said.close) ∷ (codes "trim", Said.trim) ∷ (codes "update", Said.update) ∷ [])
+bare_said verb [] = named verb ((codes "info", Said.info) ∷ (codes "close", Said.close) ∷ (codes "trim", Said.trim) ∷ (codes "update", Said.update)
+    ∷ (codes "reserve", Said.reserve) ∷ (codes "promote", Said.promote) ∷ [])
 bare_said verb args = None
 
 -- `open r NAME`, `open u NAME`: the words behind `open`

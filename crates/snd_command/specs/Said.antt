@@ -23,6 +23,8 @@ pub data Said : Type 0 where
   trim : Said
   update : Said
   auto : Bool → Said
+  reserve : Said
+  promote : Said
   set_chunk : List ℕ → List ℕ → Said
   set_string : InfoKey → List ℕ → Said
   set_bext : BextKey → List ℕ → Said
@@ -51,6 +53,8 @@ said_of (command.Truncate to) = truncate to
 said_of command.Trim = trim
 said_of command.Update = update
 said_of (command.Auto on) = auto on
+said_of command.Reserve = reserve
+said_of command.Promote = promote
 said_of (command.SetChunk id hex) = set_chunk id.0 hex.now
 said_of (command.SetString key text) = set_string key text.now
 said_of (command.SetBext key text) = set_bext key text.now

@@ -62,6 +62,10 @@ pub enum Command<'a> {
     Update,
     /// `auto on`, `auto off`
     Auto(bool),
+    /// `reserve`
+    Reserve,
+    /// `promote`
+    Promote,
     /// `set chunk ID HEX`
     SetChunk {
         /// The chunk's identifier.

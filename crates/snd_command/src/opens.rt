@@ -12,7 +12,8 @@ use crate::words::{five_words, next_word, one_word, two_words};
 use snd_fields::decimal;
 use snd_layout::Kind;
 
-// `info`, `close`, `trim`, `update`, each with nothing behind it; each arm returns, as in `parse_command`
+// `info`, `close`, `trim`, `update`, `reserve`, `promote`, each with nothing behind it; each arm returns, as in
+// `parse_command`
 pub fn parse_bare<'a>(verb: &'a [u8], args: &'a [u8]) -> Option<Command<'a>>
     ensures { option_map said_of result ≡ bare_said verb.now (words args.now) }
 {
@@ -26,6 +27,10 @@ pub fn parse_bare<'a>(verb: &'a [u8], args: &'a [u8]) -> Option<Command<'a>>
         return Some(Command::Trim);
     } else if verb == b"update".as_slice() {
         return Some(Command::Update);
+    } else if verb == b"reserve".as_slice() {
+        return Some(Command::Reserve);
+    } else if verb == b"promote".as_slice() {
+        return Some(Command::Promote);
     }
     None
 }

@@ -1,5 +1,5 @@
 -- The heads of files of a kind that is given chunks.
-use Rattle.std.proofs.Common.{◌≡◌, ◌∙◌, ap, refl, inl, inr, ℕ, ◌≤◌, true, false, List, Ok, Option, Some, length}
+use Rattle.std.proofs.Common.{◌≡◌, ℕ, ◌≤◌, true, false, List, Ok, Option, Some, length}
 use Rattle.std.proofs.Math.Logic.{∥∥₁_elim, ∥∥₁_map}
 use Rattle.snd_chunks.specs.HeadLaws.{KeepsPieceLaws}
 use Rattle.snd_chunks.specs.Written.{NewChunk}

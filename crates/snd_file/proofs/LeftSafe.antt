@@ -1,14 +1,11 @@
 -- What calls leave of a file at rest, at every moment; and where they leave it at rest again.
 use Rattle.std.proofs.Common.{◌≡◌, ◌⊎◌, ◌∙◌, ap, sym, subst, inl, inr, ⊎_elim, ℕ, ◌<◌, ◌≤◌, Bool, true, false, cond, List, [], All, Ok}
-use Rattle.std.specs.Prelude.{Result}
 use Rattle.std.proofs.lemmas.Bool.{cases_Bool, lt-ltb}
 use Rattle.snd_disk.proofs.Public.{same_some}
-use Rattle.snd_disk.specs.Device.{IsStable, OnlyReadsOn}
+use Rattle.snd_disk.specs.Device.{IsStable}
 use Rattle.snd_disk.specs.Runs.{IsMade}
 use Rattle.snd_disk.specs.declared.disk.Disk.{Ghosts}
-use Rattle.snd_fields.specs.Laws.{IsByte}
 use Rattle.snd_layout.specs.Shape.{Shape}
-use Rattle.snd_layout.specs.declared.error.OpenError.{OpenError}
 use Rattle.snd_layout.specs.declared.kind.Kind.TheVariants.{Voc}
 use Rattle.snd_patch.proofs.Public.{leaves_by, leaves_then, leaves_weaker, stable_start_closes, still}
 use Rattle.snd_patch.specs.Images.{IsCounting, IsCutting, IsShrinking, LeavesCutting, LeavesEach, LeavesSealing, LeavesShrinking, held_closing}
@@ -20,11 +17,10 @@ use Rattle.snd_edits.specs.Edits.{cut_to, sealed_to, truncated_to}
 use Rattle.snd_file.specs.Handle.{Stands, disk_of, known_of}
 use Rattle.snd_edits.specs.Laws.{IsEdited, IsStateOf, KeepsFile, Leads}
 use Rattle.snd_edits.specs.Outcomes.{Done, Faulted, Outcome, aimed}
-use Rattle.snd_file.specs.Rest.{IsAtRest, LeavesSafe, OpensAtRest}
+use Rattle.snd_file.specs.Rest.{IsAtRest, LeavesSafe}
 use Rattle.snd_edits.specs.Safe.{IsSafe}
 use Rattle.snd_edits.specs.SafeLaws.{Rests}
-use Rattle.snd_file.specs.Updating.{UpdatesFile}
-use Rattle.snd_edits.proofs.Public.{at_rest, cut_safe, fields_apart, leads_to_edited, sealed_safe, trimmed_safe, updated_is_edited, updating_begins, wider}
+use Rattle.snd_edits.proofs.Public.{at_rest, cut_safe, fields_apart, leads_to_edited, sealed_safe, trimmed_safe, wider}
 
 -- what a state owes its file in every mode
 pub keeps_of : (t : Bool) (opened : List ℕ) (e : Editing) → IsStateOf t opened e → KeepsFile opened e
@@ -114,20 +110,3 @@ pub rests_after : {D M : Type 0} {mode : ModeGhosts M} (d : Ghosts D) (opened : 
     → IsAtRest d opened new e'
 rests_after {mode = mode} d opened new e e' by_place ed leads rests stands stable =
     rests_in d opened new e' (subst (λ (t : Bool). IsStateOf t opened e') (sym by_place) (leads_to_edited opened e e' ed leads)) rests stands stable
-
--- a file that is opened to be updated
-pub opens_at_rest : {D M : Type 0} {mode : ModeGhosts M} (d : Ghosts D) (disk : D) (file : File D M d mode) → mode.ENCODES ≡ false → UpdatesFile d.state disk (Ok file) → OnlyReadsOn d.state d.may_leave d.left_between disk (disk_of file) → OpensAtRest d disk file
-opens_at_rest d disk file by_place opened reads = λ b e told stable is fit.
-    let stood = opened b told in
-    let one : ◌≡◌ {A = Result Editing OpenError} (Ok stood.0) (Ok e) = sym stood.1 ∙ is in
-    let same : stood.0 ≡ e = cc in
-    let first = (updating_begins b e is).0 in
-    let bytes : All IsByte b = subst (λ (s : Editing). All IsByte s.bytes) (sym first.is) fit.bytes in
-    let off : e.automatic ≡ false = sym (ap (λ (s : Editing). s.automatic) first.is) in
-    record {
-      state = subst (λ (t : Bool). IsStateOf t b e) (sym by_place) (updated_is_edited b e bytes is);
-      stands = subst (Stands d.state file) same stood.2;
-      stable = λ x left. reads.keeps.contents ∙ stable x (reads.images.now.no_more x left);
-      fit = fit;
-      sized = λ either free. absurd (⊎_elim (λ on. let no = sym off ∙ on in cc) (λ encodes. let no = sym by_place ∙ encodes in cc) either);
-    }

@@ -10,6 +10,6 @@ pub mod HeadProps
 pub mod KeptChunks
 pub mod KindHeads
 pub mod LeftSafe
-pub mod Opened
 pub mod Public
-pub mod WithoutMemory
+pub mod Reserved
+pub mod Turned

@@ -7,10 +7,9 @@ pub mod Given
 pub mod Handle
 pub mod Heads
 pub mod Loans
-pub mod Making
 pub mod Outcomes
 pub mod PieceCalls
 pub mod Pieces
+pub mod Promoting
 pub mod Reading
 pub mod Rest
-pub mod Updating

@@ -2,23 +2,22 @@
 //! nothing else reaches the disk, and it is closed to give the disk back.
 #![tactic(auto)]
 
+mod beginning;
 mod cutting;
 mod encoding;
 mod file;
 mod handle;
-mod making;
 mod meta;
-mod open;
 mod pieces;
-mod updating;
+mod promoting;
+mod reserving;
 mod writing;
 
+pub use beginning::at_first_frame;
 pub use handle::File;
-pub use making::{create, create_blocks};
-pub use open::{open_laid, open_read};
 pub use snd_edits::{
     AutoError, CanMake, CanRead, CanSeal, CanShrink, CanWrite, DiskFault, Encode, GetError, Mode,
     PieceReadError, Read, ReadError, SeekError, ShrinkError, Update, UpdateError, Write,
     WriteError, ima_codec, may_be_piece, ms_codec,
 };
-pub use updating::open_update;
+pub use snd_reservations::{PromoteError, ReserveError};

@@ -12,7 +12,8 @@ ghost use Rattle.snd_generate.specs.Steps.{Calls, EditsFile, Overwrites};
 use crate::writing::{CHANGED, stop_of, write};
 use snd_disk::Disk;
 use snd_edits::{AutoError, SeekError, ShrinkError, Update};
-use snd_file::{File, open_update};
+use snd_file::File;
+use snd_opening::open_update;
 use snd_output::Stop;
 use std::alloc::Global;
 

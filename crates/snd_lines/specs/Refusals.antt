@@ -2,7 +2,7 @@
 use Rattle.std.specs.Prelude.{ℕ, List, codes}
 use Rattle.snd_layout.specs.Names.{refusal_name as open_name, refusal_number as open_number}
 use Rattle.snd_lines.specs.declared.refusal.Refusal.{Refusal}
-use Rattle.snd_lines.specs.declared.refusal.Refusal.TheVariants.{Open, AdpcmUpdate, UnknownLength, PartFrame, SampleRange, SeekRange, TrailingData, ContainerFull, Straddle, FramesWritten, ReservedChunk, NoChunks, ChunkTooLarge, AutoOn, AdpcmSeek, NoSuchChunk, BadBlock, BadCommand, LineTooLong, NotOpen, AlreadyOpen, WrongMode, NoSuchTap, TapOn, SameName, MixedParams, NotMono, UnknownSuffix, MissingFile, BadInfo, BadCue, BadBext, TextTooLong, Pinned, NoSuchStage, BadPlace, WrongCount}
+use Rattle.snd_lines.specs.declared.refusal.Refusal.TheVariants.{Open, AdpcmUpdate, UnknownLength, PartFrame, SampleRange, SeekRange, TrailingData, ContainerFull, Straddle, FramesWritten, ReservedChunk, NoChunks, ChunkTooLarge, AutoOn, AdpcmSeek, NoSuchChunk, BadBlock, BadCommand, LineTooLong, NotOpen, AlreadyOpen, WrongMode, NoSuchTap, TapOn, SameName, MixedParams, NotMono, UnknownSuffix, MissingFile, NoRoom, BadInfo, BadCue, BadBext, TextTooLong, Pinned, NoSuchStage, BadPlace, WrongCount}
 
 abbrev pub refusal_number : Refusal → ℕ
 refusal_number (Open refusal) = open_number refusal
@@ -34,6 +34,7 @@ refusal_number MixedParams = 51
 refusal_number NotMono = 52
 refusal_number UnknownSuffix = 54
 refusal_number MissingFile = 56
+refusal_number NoRoom = 60
 refusal_number BadInfo = 61
 refusal_number BadCue = 62
 refusal_number BadBext = 63
@@ -73,6 +74,7 @@ refusal_name MixedParams = codes "MixedParams"
 refusal_name NotMono = codes "NotMono"
 refusal_name UnknownSuffix = codes "UnknownSuffix"
 refusal_name MissingFile = codes "MissingFile"
+refusal_name NoRoom = codes "NoRoom"
 refusal_name BadInfo = codes "BadInfo"
 refusal_name BadCue = codes "BadCue"
 refusal_name BadBext = codes "BadBext"

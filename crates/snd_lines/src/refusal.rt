@@ -66,6 +66,8 @@ pub enum Refusal {
     UnknownSuffix,
     /// There is no file of this name.
     MissingFile,
+    /// The head keeps no place free for 64-bit sizes, or can keep none.
+    NoRoom,
     /// The INFO list does not read.
     BadInfo,
     /// The cue points do not read.
@@ -119,6 +121,7 @@ impl Refusal {
             Refusal::NotMono => 52,
             Refusal::UnknownSuffix => 54,
             Refusal::MissingFile => 56,
+            Refusal::NoRoom => 60,
             Refusal::BadInfo => 61,
             Refusal::BadCue => 62,
             Refusal::BadBext => 63,
@@ -164,6 +167,7 @@ impl Refusal {
             Refusal::NotMono => "NotMono",
             Refusal::UnknownSuffix => "UnknownSuffix",
             Refusal::MissingFile => "MissingFile",
+            Refusal::NoRoom => "NoRoom",
             Refusal::BadInfo => "BadInfo",
             Refusal::BadCue => "BadCue",
             Refusal::BadBext => "BadBext",

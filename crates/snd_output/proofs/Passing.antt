@@ -1,9 +1,9 @@
 -- Samples that pass from one file to another by their bytes.
-use Rattle.std.proofs.Common.{◌≡◌, ◌∙◌, ap, sym, subst, refl, ℕ, ◌+◌, ◌-◌, ◌*◌, ◌/◌, ◌%◌, ◌<◌, ◌≤◌, ℤ, Bool, List, [], ◌++◌, All, Option, Some, length, take, min, true, false, arith}
+use Rattle.std.proofs.Common.{◌≡◌, ◌∙◌, ap, sym, subst, refl, ℕ, ◌+◌, ◌*◌, ◌/◌, ◌%◌, ◌<◌, ◌≤◌, ℤ, List, [], ◌++◌, All, Option, Some, length, take, min, true, false, arith}
 use Rattle.std.proofs.Math.Nat.{mul-div_cancel, mul-le-mul_left, mul-le-mul_right, mul-mod_left}
 use Rattle.std.proofs.lemmas.Nat.{div-add-mod'}
 use Rattle.std.proofs.lemmas.List.{length-map, length-take-le, take_at}
-use Rattle.std.specs.Prelude.{Err, IsTrue, Result, is_none}
+use Rattle.std.specs.Prelude.{Err, Result, is_none}
 use Rattle.snd_fields.specs.Laws.{IsByte}
 use Rattle.snd_layout.specs.Blocks.{block_align, block_frames, is_adpcm}
 use Rattle.snd_layout.specs.Params.{Parameters}
@@ -32,7 +32,7 @@ use Rattle.snd_recode.specs.Recoded.{changed_all, recoded}
 use Rattle.snd_recode.proofs.Public.{all_same_width, recoded_fit}
 use Rattle.snd_output.specs.Appended.{HasRoom, IsAtEnd, MayAppend, MayGive, MayPass, Pass, bytes_in, coded_in, has_two_zeros, left_in, next_numbers}
 use Rattle.snd_output.specs.Widths.{change_numbers, width_of}
-use Rattle.snd_output.proofs.Appending.{block_numbers, count_fits, div_sum, room_fewer}
+use Rattle.snd_output.proofs.Appending.{block_numbers, count_fits, room_fewer}
 
 -- what has no blocks has a form, and its frames are blocks of one
 pub some_form : (codec : Codec) → is_adpcm codec ≡ false → (form : Fixed) × (fixed_of codec ≡ Some form)
@@ -120,7 +120,7 @@ same_places p b n fixed whole size =
     omega (arith, count_numbers p.codec p.channels (n / p.channels) b fixed size, all, whole)
 
 -- a frame has a byte for each channel at least
-align_least : (codec : Codec) (channels : ℕ) → is_adpcm codec ≡ false → channels ≤ block_align channels codec
+pub align_least : (codec : Codec) (channels : ℕ) → is_adpcm codec ≡ false → channels ≤ block_align channels codec
 align_least codec channels fixed =
     let form = (some_form codec fixed).0 in
     let times : 1 * channels ≤ byte_count form * channels = mul-le-mul_right channels (let e : 1 ≤ byte_count form = omega (arith, byte_count_pos form) in e) in
@@ -144,18 +144,19 @@ places_fit to m most fixed few =
     let all : 4 * m ≤ 4 * most = mul-le-mul_left 4 few in
     omega (arith, size_of to form.0 m form.1, each, all)
 
--- fewer places are for no more bytes
-pub fewer_held : (p m q align : ℕ) → p ≤ m → m / q * align ≤ 65536 → p / q * align ≤ 65536
-fewer_held p m q align fewer fits =
-    let rest : p + (m - p) ≡ m = omega (arith, fewer) in
-    let frames : p / q ≤ m / q = omega (arith, div_sum q p (m - p), ap (λ (i : ℕ). i / q) rest) in
-    let times : p / q * align ≤ m / q * align = mul-le-mul_right align frames in
-    omega (arith, times, fits)
+-- a frame has no more than four bytes for each channel
+pub align_most : (codec : Codec) (channels : ℕ) → is_adpcm codec ≡ false → block_align channels codec ≤ 4 * channels
+align_most codec channels fixed =
+    let form = some_form codec fixed in
+    omega (arith, mul-le-mul_right channels (few_bytes form.0), linear_align codec form.0 channels form.1)
 
--- samples in blocks do not pass
-pub no_pass : (pass : Bool) (from to : Codec) → (IsTrue pass → Pass from to) → is_adpcm from ≡ true → pass ≡ false
-no_pass true from to may blocks = absurd (let e : true ≡ false = sym blocks ∙ (may refl).0 in cc)
-no_pass false from to may blocks = refl
+-- fewer frames have no more
+pub within : (k n size all : ℕ) → k ≤ n → n * size ≤ all → k * size ≤ all
+within k n size all fewer fits = omega (arith, mul-le-mul_right size fewer, fits)
+
+-- as many frames as fit
+pub many_fit : (n size k : ℕ) → k ≤ n / size → k * size ≤ n
+many_fit n size k few = omega (arith, mul-le-mul_right size few, div-add-mod' n size)
 
 -- ---- samples of another codec
 

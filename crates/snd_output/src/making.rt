@@ -7,7 +7,7 @@ ghost use Rattle.snd_layout.specs.Fit.{fit_refusal};
 ghost use Rattle.snd_file.specs.Bytes.{sources_of};
 ghost use Rattle.snd_edits.specs.Known.{IsFresh};
 ghost use Rattle.snd_file.specs.Handle.{channels_of, disk_of, known_of, loan_of};
-ghost use Rattle.snd_file.specs.Loans.{answer_of, disk_after, loan_after};
+ghost use Rattle.snd_opening.specs.Opening.{answer_of, disk_after, loan_after};
 ghost use Rattle.snd_file.specs.Outcomes.{AsksNothing, TellsOn};
 ghost use Rattle.snd_edits.specs.Relaid.{shape_with};
 ghost use Rattle.snd_patch.specs.Steps.{StillTells};
@@ -17,8 +17,9 @@ ghost use Rattle.snd_output.specs.Ends.{BeginsFile, CountsStop, IsUnchanged, sto
 use crate::stop::Stop;
 use snd_disk::Disk;
 use snd_edits::{CanMake, Encode, Write, WriteError};
-use snd_file::{File, create, create_blocks};
+use snd_file::File;
 use snd_layout::{Kind, OpenError, Params};
+use snd_opening::{create, create_blocks};
 use std::alloc::Global;
 
 // What stops a tool whose file is not made.

@@ -16,13 +16,6 @@ use snd_file::File;
 use snd_layout::Codec;
 use snd_recode::recode;
 
-/// Whether samples of one codec pass as those of another by their bytes alone: each has bytes of its own in both.
-pub(crate) fn pass(from: Codec, to: Codec) -> bool
-    ensures { IsTrue result → Pass from to }
-{
-    !from.is_adpcm() && !to.is_adpcm()
-}
-
 // Whether samples of one codec stay as they are in another: it is the same one, and no two samples stand for one
 // number, as two of the mu-law do for zero.
 fn stay(from: Codec, to: Codec) -> bool

@@ -1,4 +1,6 @@
+pub mod Block
 pub mod Composed
+pub mod Cut
 pub mod Each
 pub mod Listed
 pub mod Passed

@@ -1,12 +1,11 @@
 -- Frames that pass stages.
-use Rattle.std.proofs.Common.{inl, inr, ◌≡◌, ℕ, zero, suc, ◌+◌, ◌-◌, ◌*◌, ◌/◌, ◌<◌, ◌≤◌, ◌^◌, ℤ, pos, ◌≤ℤ◌, false, List, [], ◌∷◌, ◌++◌, length, map, drop, take, min, get_or, nat_lt, slice_index_or, refl, sym, subst, ap, ◌∙◌, arith}
+use Rattle.std.proofs.Common.{inl, inr, ◌≡◌, ℕ, zero, suc, ◌+◌, ◌-◌, ◌*◌, ◌<◌, ◌≤◌, ◌^◌, ℤ, pos, ◌≤ℤ◌, false, List, [], ◌∷◌, ◌++◌, length, map, drop, take, min, nat_lt, slice_index_or, refl, sym, subst, ap, ◌∙◌, arith}
 use Rattle.std.proofs.lemmas.Bool.{cases_Bool, or_parts}
-use Rattle.std.proofs.Math.Seq.{drop-cons, take-add}
+use Rattle.std.proofs.Math.Seq.{take-add}
 use Rattle.std.proofs.lemmas.Grind.{flat_map-append}
-use Rattle.std.proofs.Math.Nat.{div-eq_of_lt, mul-add-div}
-use Rattle.std.proofs.lemmas.List.{append-nil, append_assoc, drop_at, get_or-append-add, get_or_append_left, length-append, length-drop, length-map, length-take, length-take-le, take-append-drop, take_at}
+use Rattle.std.proofs.lemmas.List.{get_or-append-add, get_or_append_left, length-append, length-drop, length-map, length-take, length-take-le, take-append-drop}
 use Rattle.std.proofs.lemmas.List.Elements.{All-append}
-use Rattle.snd_pcm.specs.Groups.{first_groups, groups}
+use Rattle.snd_pcm.specs.Groups.{first_groups}
 use Rattle.snd_rack.specs.Held.{Held, InRange, MayPass, next, passed}
 use Rattle.snd_rack.specs.Passing.{AllSettled, ArePassable, EachMayPass, IsPassable, MayPassAll, all_held, channels_through, each_passed, held_as, joined, later, passed_all}
 use Rattle.snd_rack.specs.Rack.{bad_place, channels_after, channels_behind, frame_through, is_bad, racked_from}
@@ -51,28 +50,6 @@ module _ (low high : ℤ) (below : low ≤ℤ pos 0) (above : pos 0 ≤ℤ high)
       let rest = all_in_range hs (passed h frame) (passable_on h hs frame (passed h frame) refl p) (range_on h frame p.0 all) in
       (rest.0, rest.1 ∙ ap (channels_through hs) (length_mapped h.stated h.low h.high h.seen frame))
 
--- stages from a place on, where one stands there
-pub opened : {B : Type 0} (held : B → Held) (old : List B) (i : ℕ) (x : B) → i < length old → x ≡ get_or old i x → map held (drop i old) ≡ held x ∷ map held (drop (i + 1) old)
-opened held old i x lt is =
-    let more : suc i ≡ i + 1 = omega arith in
-    ap (map held) (drop-cons old i x lt ∙ ap (λ y. y ∷ drop (suc i) old) (sym is) ∙ ap (λ n. x ∷ drop n old) more)
-
--- one stage of a list, where a frame passes those from there on
-module _ {B : Type 0} (held : B → Held) (old : List B) (i : ℕ) (x : B) (lt : i < length old) (is : x ≡ get_or old i x) (frame : List ℤ)
-    (may : MayPassAll (map held (drop i old)) frame) where
-  first : MayPassAll (held x ∷ map held (drop (i + 1) old)) frame
-  first = subst (λ hs. MayPassAll hs frame) (opened held old i x lt is) may
-
-  pub passes_here : MayPass (held x) frame
-  passes_here = first.0
-
-  module _ (new : List ℤ) (made : new ≡ passed (held x) frame) where
-    pub frame_then : passed_all (map held (drop (i + 1) old)) new ≡ passed_all (map held (drop i old)) frame
-    frame_then = ap (passed_all (map held (drop (i + 1) old))) made ∙ sym (ap (λ hs. passed_all hs frame) (opened held old i x lt is))
-
-    pub may_then : MayPassAll (map held (drop (i + 1) old)) new
-    may_then = subst (MayPassAll (map held (drop (i + 1) old))) (sym made) first.1
-
 -- ---- frame after frame
 
 -- a stage that passes frames stays one
@@ -104,65 +81,6 @@ later_twice (suc m) n hs =
 pub passed_joined : (hs : List Held) (xs ys : List (List ℤ)) → each_passed hs (xs ++ ys) ≡ each_passed hs xs ++ each_passed (later (length xs) hs) ys
 passed_joined hs [] ys = refl
 passed_joined hs (x ∷ xs) ys = ap (λ l. passed_all hs x ∷ l) (passed_joined (map next hs) xs ys)
-
--- ---- the frames of a slice
-
-groups-cons : {X : Type 0} (k : ℕ) (piece rest : List X) → 0 < k → length piece ≡ k → groups k (piece ++ rest) ≡ piece ∷ groups k rest
-groups-cons k piece rest some len =
-    ap (λ n. first_groups k n (piece ++ rest)) (one_group k piece rest some len) ∙ ap (λ l. l ∷ first_groups k (length rest / k) (drop k (piece ++ rest))) (take_at piece rest k len)
-    ∙ ap (λ l. piece ∷ first_groups k (length rest / k) l) (drop_at piece rest k len)
-  where
-    one_group : {X : Type 0} (k : ℕ) (piece rest : List X) → 0 < k → length piece ≡ k → length (piece ++ rest) / k ≡ suc (length rest / k)
-    one_group k piece rest some len =
-        let more : (k * 1 + length rest) / k ≡ 1 + length rest / k = mul-add-div some 1 (length rest) in
-        let size : length (piece ++ rest) ≡ k * 1 + length rest = omega (arith, length-append piece rest, len) in
-        let last : 1 + length rest / k ≡ suc (length rest / k) = omega arith in
-        ap (λ n. n / k) size ∙ more ∙ last
-
-length_first : {X : Type 0} (k n : ℕ) (xs : List X) → length (first_groups k n xs) ≡ n
-length_first k zero xs = refl
-length_first k (suc n) xs = ap suc (length_first k n (drop k xs))
-
-pub length_groups : {X : Type 0} (k : ℕ) (xs : List X) → length (groups k xs) ≡ length xs / k
-length_groups k xs = length_first k (length xs / k) xs
-
--- one more frame has passed
-module _ (hs : List Held) (k : ℕ) (frame rest whole : List ℤ) (some : 0 < k) (len : length frame ≡ k) (is : whole ≡ frame ++ rest) where
-  frames_are : groups k whole ≡ frame ∷ groups k rest
-  frames_are = ap (groups k) is ∙ groups-cons k frame rest some len
-
-  pub count_one : length whole / k ≡ suc (length rest / k)
-  count_one = sym (length_groups k whole) ∙ ap length frames_are ∙ ap suc (length_groups k rest)
-
-  pub frames_on : (into made new : List ℤ) (then : List Held) → new ≡ into ++ made → made ≡ passed_all hs frame → then ≡ map next hs
-      → new ++ joined (each_passed then (groups k rest)) ≡ into ++ joined (each_passed hs (groups k whole))
-  frames_on into made new then new_is made_is then_is =
-      ap (λ l. l ++ joined (each_passed then (groups k rest))) new_is ∙ ap (λ l. (into ++ l) ++ joined (each_passed then (groups k rest))) made_is
-      ∙ ap (λ l. (into ++ passed_all hs frame) ++ joined (each_passed l (groups k rest))) then_is
-      ∙ append_assoc into (passed_all hs frame) (joined (each_passed (map next hs) (groups k rest)))
-      ∙ sym (ap (λ l. into ++ joined (each_passed hs l)) frames_are)
-
-  pub room_on : (into made all : List ℤ) → made ≡ passed_all hs frame → into ++ joined (each_passed hs (groups k whole)) ≡ all → length into + length made ≤ length all
-  room_on into made all made_is is =
-      let opened_is : joined (each_passed hs (groups k whole)) ≡ passed_all hs frame ++ joined (each_passed (map next hs) (groups k rest)) = ap (λ l. joined (each_passed hs l)) frames_are in
-      let one = length-append into (joined (each_passed hs (groups k whole))) in
-      let two = length-append (passed_all hs frame) (joined (each_passed (map next hs) (groups k rest))) in
-      omega (arith, one, two, ap length opened_is, ap length is, ap length made_is)
-
-  pub may_on : (then : List Held) → then ≡ map next hs → EachMayPass hs (groups k whole) → MayPassAll hs frame × EachMayPass then (groups k rest)
-  may_on then then_is may =
-      let both = subst (EachMayPass hs) frames_are may in
-      (both.0, subst (λ l. EachMayPass l (groups k rest)) (sym then_is) both.1)
-
-  pub states_on : (then : List Held) → then ≡ map next hs → later (length rest / k) then ≡ later (length whole / k) hs
-  states_on then then_is = ap (later (length rest / k)) then_is ∙ sym (ap (λ n. later n hs) count_one)
-
--- where no whole frame is left
-pub none_left : (hs : List Held) (k : ℕ) (rest into : List ℤ) → length rest < k → into ≡ into ++ joined (each_passed hs (groups k rest))
-none_left hs k rest into lt = sym (append-nil into) ∙ sym (ap (λ n. into ++ joined (each_passed hs (first_groups k n rest))) (div-eq_of_lt lt))
-
-pub states_left : (hs : List Held) (k : ℕ) (rest : List ℤ) → length rest < k → hs ≡ later (length rest / k) hs
-states_left hs k rest lt = sym (ap (λ n. later n hs) (div-eq_of_lt lt))
 
 -- ---- the stages of a rack
 

@@ -1,6 +1,7 @@
 -- Frames that pass several stages, by what these hold.
-use Rattle.std.specs.Prelude.{◌≡◌, ℕ, zero, suc, ℤ, false, List, [], ◌∷◌, fold, map}
+use Rattle.std.specs.Prelude.{◌≡◌, ℕ, zero, suc, ◌%◌, ◌≤◌, ℤ, false, List, [], ◌∷◌, fold, length, map}
 use Rattle.std.specs.List.{flat_map}
+use Rattle.snd_pcm.specs.Groups.{groups}
 use Rattle.snd_rack.specs.Held.{Held, MayPass, next, passed}
 use Rattle.snd_rack.specs.Rack.{channels_after, channels_behind, is_bad}
 use Rattle.snd_rack.specs.Stage.{IsSettled, Stated, kind_of}
@@ -31,6 +32,34 @@ joined frames = flat_map (λ frame. frame) frames
 abbrev pub later : ℕ → List Held → List Held
 later zero hs = hs
 later (suc n) hs = later n (map next hs)
+
+-- what becomes of frames behind one stage, one after the other
+abbrev pub each_by : Held → List (List ℤ) → List (List ℤ)
+each_by h [] = []
+each_by h (frame ∷ frames) = passed h frame ∷ each_by (next h) frames
+
+-- each may pass it as it comes
+abbrev pub EachMay : Held → List (List ℤ) → Type 0
+EachMay h [] = Unit {0}
+EachMay h (frame ∷ frames) = MayPass h frame × EachMay (next h) frames
+
+-- .. and the stage when so many have passed
+abbrev pub next_by : ℕ → Held → Held
+next_by zero h = h
+next_by (suc n) h = next_by n (next h)
+
+-- the samples of whole frames of so many each, behind one stage
+abbrev pub passed_block : Held → ℕ → List ℤ → List ℤ
+passed_block h channels xs = joined (each_by h (groups channels xs))
+
+-- they may pass it, and what becomes of them is no more than passes at a time
+pub record MayPassBlock (h : Held) (channels : ℕ) (xs : List ℤ) : Type 0 where
+  pub some : 1 ≤ channels
+  pub most : channels ≤ 256
+  pub whole : length xs % channels ≡ 0
+  pub settled : IsSettled h.stated
+  pub may : EachMay h (groups channels xs)
+  pub room : length (passed_block h channels xs) ≤ 16384
 
 -- how many samples a frame has behind all of them
 abbrev pub channels_through : List Held → ℕ → ℕ

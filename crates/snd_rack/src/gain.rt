@@ -60,4 +60,15 @@ impl Stage for Gain {
         scale(frame.as_mut_slice(), self.a, self.b, self.low, self.high);
         self.seen = self.seen.saturating_add(1);
     }
+
+    fn apply_all(
+        &mut self,
+        channels: usize,
+        block: &mut ArrayVec<i32, 16384>,
+        _spare: &mut ArrayVec<i32, 16384>,
+    ) {
+        let frames = block.len() / channels;
+        scale(block.as_mut_slice(), self.a, self.b, self.low, self.high);
+        self.seen = self.seen.saturating_add(frames as u64);
+    }
 }

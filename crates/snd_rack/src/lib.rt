@@ -3,6 +3,7 @@
 #![tactic(auto)]
 
 mod boxes;
+mod copies;
 mod fade;
 mod gain;
 mod invert;

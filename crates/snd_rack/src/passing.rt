@@ -1,47 +1,58 @@
 //! Frames that pass boxed stages.
 
-ghost use Rattle.std.specs.Prelude.{◌≡◌, ◌+◌, ◌++◌, ◌/◌, ◌≤◌, length, map};
+ghost use Rattle.std.specs.Prelude.{◌≡◌, ◌/◌, ◌%◌, ◌≤◌, length, map};
 ghost use Rattle.snd_pcm.specs.Groups.{groups};
-ghost use Rattle.snd_rack.specs.Held.{MayPass, next, passed};
-ghost use Rattle.snd_rack.specs.Passing.{EachMayPass, MayPassAll, each_passed, joined, later, passed_all};
+ghost use Rattle.snd_rack.specs.Passing.{
+  EachMayPass,
+  MayPassBlock,
+  each_passed,
+  joined,
+  later,
+  next_by,
+  passed_block,
+};
 
+use crate::copies::{add_samples, copy_block};
 use crate::stage::Stage;
 use arrayvec::ArrayVec;
 
-fn apply(each: &mut Box<dyn Stage>, frame: &mut ArrayVec<i32, 256>)
-    requires { MayPass (stage each.old) frame.old.items }
-    ensures frame { frame.new.items ≡ passed (stage each.old) frame.old.items }
-    ensures state { stage each.new ≡ next (stage each.old) }
+// Between two maps a frame may have 256 samples: so many frames have places then.
+const MOST_FRAMES: usize = 64;
+
+fn apply_all(
+    each: &mut Box<dyn Stage>,
+    channels: usize,
+    block: &mut ArrayVec<i32, 16384>,
+    spare: &mut ArrayVec<i32, 16384>,
+)
+    requires { MayPassBlock (stage each.old) channels block.old.items }
+    ensures block { block.new.items ≡ passed_block (stage each.old) channels block.old.items }
+    ensures state { stage each.new ≡ next_by (length block.old.items / channels) (stage each.old) }
 {
-    each.apply(frame);
+    each.apply_all(channels, block, spare);
 }
 
-// Passes one frame through all stages.
-fn pass_frame(stages: &mut [Box<dyn Stage>], frame: &mut ArrayVec<i32, 256>)
-    requires { MayPassAll (map (λ b. stage b) stages.old) frame.old.items }
-    ensures frame { frame.new.items ≡ passed_all (map (λ b. stage b) stages.old) frame.old.items }
-    ensures states { map (λ b. stage b) stages.new ≡ map next (map (λ b. stage b) stages.old) }
+// Passes a few frames through all stages, 64 at most.
+fn pass_block(
+    stages: &mut [Box<dyn Stage>],
+    channels: usize,
+    block: &mut ArrayVec<i32, 16384>,
+    spare: &mut ArrayVec<i32, 16384>,
+)
+    requires some { 1 ≤ channels }
+    requires most { channels ≤ 256 }
+    requires one { 1 ≤ length block.old.items / channels }
+    requires few { length block.old.items / channels ≤ 64 }
+    requires whole { length block.old.items % channels ≡ 0 }
+    requires may { EachMayPass (map (λ b. stage b) stages.old) (groups channels block.old.items) }
+    ensures block { block.new.items ≡ joined (each_passed (map (λ b. stage b) stages.old) (groups channels block.old.items)) }
+    ensures states { map (λ b. stage b) stages.new ≡ later (length block.old.items / channels) (map (λ b. stage b) stages.old) }
 {
+    let frames = block.len() / channels;
     for each in stages.iter_mut() {
-        apply(each, frame);
+        let width = block.len() / frames;
+        apply_all(each, width, block, spare);
     }
-}
-
-// Makes a frame of samples.
-fn copy_samples(samples: &[i32], frame: &mut ArrayVec<i32, 256>)
-    requires { length samples.now ≤ 256 }
-    ensures { frame.new.items ≡ samples.now }
-{
-    frame.clear();
-    let _ = frame.try_extend_from_slice(samples);
-}
-
-// Puts samples behind others.
-fn add_samples(samples: &[i32], into: &mut ArrayVec<i32, 16384>)
-    requires { length into.old.items + length samples.now ≤ 16384 }
-    ensures { into.new.items ≡ into.old.items ++ samples.now }
-{
-    let _ = into.try_extend_from_slice(samples);
 }
 
 /// Passes whole frames of `channels` samples through all stages, one after the other, and puts what becomes of them into
@@ -60,10 +71,12 @@ pub fn pass_frames(
     ensures states { map (λ b. stage b) stages.new ≡ later (length numbers.now / channels) (map (λ b. stage b) stages.old) }
 {
     into.clear();
-    let mut frame = ArrayVec::new();
-    for samples in numbers.chunks_exact(channels) {
-        copy_samples(samples, &mut frame);
-        pass_frame(stages, &mut frame);
-        add_samples(frame.as_slice(), into);
+    let mut block = ArrayVec::new();
+    let mut spare = ArrayVec::new();
+    let whole = numbers.len() - numbers.len() % channels;
+    for samples in numbers[..whole].chunks(MOST_FRAMES * channels) {
+        copy_block(samples, &mut block);
+        pass_block(stages, channels, &mut block, &mut spare);
+        add_samples(block.as_slice(), into);
     }
 }

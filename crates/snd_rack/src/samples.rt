@@ -1,8 +1,26 @@
 //! What becomes of the samples of one frame, each in one tight loop.
 
-ghost use Rattle.std.specs.Prelude.{◌≡◌, ◌<◌, ◌≤◌, ◌*ℤ◌, pos, neg_ℤ, true, [], length, map, nat_lt, slice_index_or};
+ghost use Rattle.std.specs.Prelude.{
+  ◌≡◌,
+  ◌<◌,
+  ◌≤◌,
+  ◌^◌,
+  ◌*ℤ◌,
+  ◌≤ℤ◌,
+  negsuc,
+  pos,
+  neg_ℤ,
+  true,
+  [],
+  IfSome,
+  length,
+  map,
+  nat_lt,
+  slice_index_or,
+};
 ghost use Rattle.std.specs.List.{list_all};
 ghost use Rattle.snd_pcm.specs.Width.{floor_div};
+ghost use Rattle.snd_rack.specs.Held.{InRange};
 ghost use Rattle.snd_rack.specs.Stage.{clamped};
 
 use arrayvec::ArrayVec;
@@ -29,6 +47,51 @@ fn scaled(x: i32, a: u16, b: u16, low: i32, high: i32) -> i32
     clamp(product.div_euclid(i64::from(b)), low, high)
 }
 
+// Samples of 16 bits, whose products have 32: loops over these become vector code.
+
+#[inline]
+fn clamp_short(x: i32, low: i32, high: i32) -> i32
+    ensures { result ≡ clamped low high x }
+{
+    if x < low {
+        low
+    } else if high < x {
+        high
+    } else {
+        x
+    }
+}
+
+#[inline]
+fn halved(value: i32, times: u32) -> i32
+    requires { times < 32 }
+    ensures { result ≡ floor_div value (2 ^ times) }
+{
+    value >> times
+}
+
+#[inline]
+fn shifted(x: i32, a: u16, shift: u32, low: i32, high: i32) -> i32
+    requires least { negsuc 32767 ≤ℤ x }
+    requires most { x ≤ℤ pos 32767 }
+    requires few { shift < 16 }
+    ensures { result ≡ clamped low high (floor_div (x *ℤ pos a) (2 ^ shift)) }
+{
+    let product = x * i32::from(a);
+    clamp_short(halved(product, shift), low, high)
+}
+
+#[inline]
+fn divided(x: i32, a: u16, b: u16, low: i32, high: i32) -> i32
+    requires least { negsuc 32767 ≤ℤ x }
+    requires most { x ≤ℤ pos 32767 }
+    requires some { 1 ≤ b }
+    ensures { result ≡ clamped low high (floor_div (x *ℤ pos a) b) }
+{
+    let product = x * i32::from(a);
+    clamp_short(product.div_euclid(i32::from(b)), low, high)
+}
+
 #[inline]
 fn negated(x: i32, low: i32, high: i32) -> i32
     ensures { result ≡ clamped low high (neg_ℤ x) }
@@ -46,13 +109,69 @@ fn risen(x: i32, i: u32, count: u32) -> i32
     product.div_euclid(i64::from(count)) as i32
 }
 
-/// a / b of each sample, rounded down.
-pub(crate) fn scale(samples: &mut [i32], a: u16, b: u16, low: i32, high: i32)
+fn scale_long(samples: &mut [i32], a: u16, b: u16, low: i32, high: i32)
     requires { 1 ≤ b }
     ensures { samples.new ≡ map (λ x. clamped low high (floor_div (x *ℤ pos a) b)) samples.old }
 {
     for x in samples.iter_mut() {
         *x = scaled(*x, a, b, low, high);
+    }
+}
+
+fn shift_short(samples: &mut [i32], a: u16, shift: u32, low: i32, high: i32)
+    requires in_range { InRange (negsuc 32767) (pos 32767) samples.old }
+    requires few { shift < 16 }
+    ensures { samples.new ≡ map (λ x. clamped low high (floor_div (x *ℤ pos a) (2 ^ shift))) samples.old }
+{
+    for x in samples.iter_mut() {
+        *x = shifted(*x, a, shift, low, high);
+    }
+}
+
+fn divide_short(samples: &mut [i32], a: u16, b: u16, low: i32, high: i32)
+    requires in_range { InRange (negsuc 32767) (pos 32767) samples.old }
+    requires some { 1 ≤ b }
+    ensures { samples.new ≡ map (λ x. clamped low high (floor_div (x *ℤ pos a) b)) samples.old }
+{
+    for x in samples.iter_mut() {
+        *x = divided(*x, a, b, low, high);
+    }
+}
+
+// The power of two that a number is: at these a shift is a division.
+fn power_of(b: u16) -> Option<u32>
+    ensures few { IfSome result (λ n. n < 16) }
+    ensures same { IfSome result (λ n. 2 ^ n ≡ b) }
+{
+    let n = b.trailing_zeros();
+    if n < 16 && 1u32 << n == u32::from(b) {
+        Some(n)
+    } else {
+        None
+    }
+}
+
+fn scale_short(samples: &mut [i32], a: u16, b: u16, low: i32, high: i32)
+    requires in_range { InRange (negsuc 32767) (pos 32767) samples.old }
+    requires some { 1 ≤ b }
+    ensures { samples.new ≡ map (λ x. clamped low high (floor_div (x *ℤ pos a) b)) samples.old }
+{
+    match power_of(b) {
+        Some(shift) => shift_short(samples, a, shift, low, high),
+        None => divide_short(samples, a, b, low, high),
+    }
+}
+
+/// a / b of each sample, rounded down and kept within the range, in which the samples are.
+pub(crate) fn scale(samples: &mut [i32], a: u16, b: u16, low: i32, high: i32)
+    requires in_range { InRange low high samples.old }
+    requires some { 1 ≤ b }
+    ensures { samples.new ≡ map (λ x. clamped low high (floor_div (x *ℤ pos a) b)) samples.old }
+{
+    if -0x8000 <= low && high <= 0x7fff {
+        scale_short(samples, a, b, low, high);
+    } else {
+        scale_long(samples, a, b, low, high);
     }
 }
 

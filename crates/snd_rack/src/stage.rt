@@ -1,10 +1,12 @@
 //! What a stage is.
 
-ghost use Rattle.std.specs.Prelude.{◌≡◌};
+ghost use Rattle.std.specs.Prelude.{◌≡◌, ◌/◌, length};
 ghost use Rattle.snd_rack.specs.Held.{Held, MayPass, next, passed, started};
+ghost use Rattle.snd_rack.specs.Passing.{MayPassBlock, next_by, passed_block};
 ghost use Rattle.snd_rack.specs.Setting.{stated};
 ghost use Rattle.snd_rack.specs.Stage.{IsSettled, kind_of};
 
+use crate::copies::{add_samples, copy_block, copy_samples};
 use crate::setting::{Setting, StageKind};
 use arrayvec::ArrayVec;
 
@@ -30,4 +32,26 @@ pub trait Stage: Drop {
         requires { MayPass (stage self.old) frame.old.items }
         ensures frame { frame.new.items ≡ passed (stage self.old) frame.old.items }
         ensures state { stage self.new ≡ next (stage self.old) };
+
+    /// Changes whole frames of `channels` samples, 1 to 256, as `apply` changes one after the other. What becomes of them has
+    /// no more than 16384 samples. What `spare` held is lost.
+    fn apply_all(
+        &mut self,
+        channels: usize,
+        block: &mut ArrayVec<i32, 16384>,
+        spare: &mut ArrayVec<i32, 16384>,
+    )
+        requires { MayPassBlock (stage self.old) channels block.old.items }
+        ensures block { block.new.items ≡ passed_block (stage self.old) channels block.old.items }
+        ensures state { stage self.new ≡ next_by (length block.old.items / channels) (stage self.old) }
+    {
+        spare.clear();
+        let mut frame = ArrayVec::new();
+        for samples in block.as_slice().chunks_exact(channels) {
+            copy_samples(samples, &mut frame);
+            self.apply(&mut frame);
+            add_samples(frame.as_slice(), spare);
+        }
+        copy_block(spare.as_slice(), block);
+    }
 }

@@ -2,8 +2,8 @@
 
 use snd_disk::Step;
 use snd_edits::WriteError;
-use snd_file::open_update;
 use snd_memory::{FailingCall, MemoryDisk};
+use snd_opening::open_update;
 use std::alloc::{AllocError, Global};
 use std::test::Fail;
 

@@ -8,6 +8,8 @@ mod boxes;
 mod faults;
 mod memory;
 #[cfg(test)]
+mod promoting;
+#[cfg(test)]
 mod racks;
 
 pub use memory::{Printed, run_in_memory, words_of};

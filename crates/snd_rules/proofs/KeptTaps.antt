@@ -11,9 +11,9 @@ use Rattle.snd_meta.specs.declared.bext.BextKey.TheVariants.{Description, Origin
 use Rattle.snd_meters.specs.Gauge.{Gauge, waiting, on, is_on, is_waiting, same_kind, started_gauge}
 use Rattle.snd_meters.specs.Gauges.{after_start, after_stop, first_changed, start_answer, stop_answer, without_first}
 use Rattle.snd_pcm.specs.Pcm.{high, low}
-use Rattle.snd_rules.specs.Desk.{Mode, encodes, encoding, is_pinned, makes, pinned, reading, reads, updating, writes, writing}
+use Rattle.snd_rules.specs.Desk.{Mode, encodes, encoding, is_pinned, makes, pinned, reading, reads, updates, updating, writes, writing}
 use Rattle.snd_rules.specs.Laws.{RefusedLeavesTaps}
-use Rattle.snd_rules.specs.Rules.{Grounds, Rule, auto_rule, by_blocks, encode_rule, in_mode, is_held, plain_rule, read_rule, refused_rule, seek_read_rule, seek_rule, seek_write_rule, set_bext_rule, set_chunk_rule, set_cue_rule, set_string_rule, tap_range, trim_rule, truncate_rule, unless_pinned, update_rule, why_not, write_rule}
+use Rattle.snd_rules.specs.Rules.{Grounds, Rule, auto_rule, by_blocks, encode_rule, in_mode, is_held, plain_rule, promote_rule, read_rule, refused_rule, reserve_rule, seek_read_rule, seek_rule, seek_write_rule, set_bext_rule, set_chunk_rule, set_cue_rule, set_string_rule, tap_range, trim_rule, truncate_rule, unless_pinned, update_rule, why_not, write_rule}
 use Rattle.snd_taps.specs.declared.tap.TapKind.{TapKind}
 
 -- ---- a tap that does not begin, and one that does not end
@@ -96,6 +96,8 @@ stays_plain mode taps (Said.truncate n) = stays_in taps (writes mode) _ (stays_b
 stays_plain mode taps Said.trim = stays_in taps (writes mode) _ (stays_by taps (encodes mode) (refused_rule AdpcmUpdate) trim_rule (record { same = λ g codec frames refused. refl }) (record { same = λ g codec frames refused. refl }))
 stays_plain mode taps Said.update = stays_in taps (writes mode) update_rule (record { same = λ g codec frames refused. refl })
 stays_plain mode taps (Said.auto automatic) = stays_in taps (writes mode) (auto_rule automatic) (record { same = λ g codec frames refused. refl })
+stays_plain mode taps Said.promote = stays_in taps (updates mode) promote_rule (record { same = λ g codec frames refused. refl })
+stays_plain mode taps Said.reserve = stays_in taps (makes mode) reserve_rule (record { same = λ g codec frames refused. refl })
 stays_plain mode taps (Said.set_chunk id hex) = stays_in taps (makes mode) (set_chunk_rule id hex) (record { same = λ g codec frames refused. refl })
 stays_plain mode taps (Said.set_string key text) = stays_in taps (makes mode) (set_string_rule key text) (record { same = λ g codec frames refused. refl })
 stays_plain mode taps (Said.set_bext key text) = stays_in taps (makes mode) (set_bext_rule key text) (stays_bext taps key text)

@@ -8,9 +8,9 @@ use Rattle.snd_layout.specs.Params.{Parameters}
 use Rattle.snd_meta.specs.declared.bext.BextKey.{BextKey}
 use Rattle.snd_meta.specs.declared.bext.BextKey.TheVariants.{Description, Originator, OrigRef, OrigDate, OrigTime, TimeRef, CodingHist}
 use Rattle.snd_meters.specs.Gauge.{Gauge}
-use Rattle.snd_rules.specs.Desk.{Mode, encodes, encoding, is_pinned, makes, pinned, reading, reads, updating, writes, writing}
+use Rattle.snd_rules.specs.Desk.{Mode, encodes, encoding, is_pinned, makes, pinned, reading, reads, updates, updating, writes, writing}
 use Rattle.snd_rules.specs.SmallBlocks.{IsSmallIn}
-use Rattle.snd_rules.specs.Rules.{Rule, auto_rule, by_blocks, encode_rule, in_mode, is_held, is_set, most_on, plain_rule, read_rule, refused_rule, rule_of, seek_read_rule, seek_rule, seek_write_rule, set_bext_rule, set_chunk_rule, set_cue_rule, set_string_rule, trim_rule, truncate_rule, unless_pinned, update_rule, write_rule}
+use Rattle.snd_rules.specs.Rules.{Rule, auto_rule, by_blocks, encode_rule, in_mode, is_held, is_set, most_on, plain_rule, promote_rule, read_rule, refused_rule, reserve_rule, rule_of, seek_read_rule, seek_rule, seek_write_rule, set_bext_rule, set_chunk_rule, set_cue_rule, set_string_rule, trim_rule, truncate_rule, unless_pinned, update_rule, write_rule}
 use Rattle.snd_rules.specs.Script.{asked_by, most_block, most_in, written_in, written_on, written_with}
 use Rattle.snd_rules.proofs.WrittenBytes.{blocks_for_numbers}
 use Rattle.snd_lines.specs.declared.refusal.Refusal.{Refusal}
@@ -87,6 +87,8 @@ up_plain p mode taps (Said.truncate n) small = up_in p (writes mode) _ _ _ (up_b
 up_plain p mode taps Said.trim small = up_in p (writes mode) _ _ _ (up_by p (encodes mode) _ _ (refused_rule AdpcmUpdate) trim_rule (λ is. nothing_refused p _ _ AdpcmUpdate) (record { asks = omega arith; writes = omega arith }))
 up_plain p mode taps Said.update small = up_in p (writes mode) _ _ update_rule (record { asks = omega arith; writes = omega arith })
 up_plain p mode taps (Said.auto on) small = up_in p (writes mode) _ _ (auto_rule on) (record { asks = omega arith; writes = omega arith })
+up_plain p mode taps Said.promote small = up_in p (updates mode) _ _ promote_rule (record { asks = omega arith; writes = omega arith })
+up_plain p mode taps Said.reserve small = up_set p (makes mode) _ _ reserve_rule (record { asks = omega arith; writes = omega arith })
 up_plain p mode taps (Said.set_chunk id hex) small = up_set p (makes mode) _ _ (set_chunk_rule id hex) (record { asks = omega arith; writes = omega arith })
 up_plain p mode taps (Said.set_string key text) small = up_set p (makes mode) _ _ (set_string_rule key text) (record { asks = omega arith; writes = omega arith })
 up_plain p mode taps (Said.set_bext key text) small = up_set p (makes mode) _ _ (set_bext_rule key text) (up_bext p key text)
@@ -142,6 +144,8 @@ smaller_block block (Said.truncate n) few = omega arith
 smaller_block block Said.trim few = omega arith
 smaller_block block Said.update few = omega arith
 smaller_block block (Said.auto on) few = omega arith
+smaller_block block Said.promote few = omega arith
+smaller_block block Said.reserve few = omega arith
 smaller_block block (Said.set_chunk id hex) few = omega arith
 smaller_block block (Said.set_string key text) few = omega arith
 smaller_block block (Said.set_bext key text) few = omega arith

@@ -9,7 +9,7 @@ use Rattle.snd_layout.proofs.Public.{short_kind as short}
 use Rattle.snd_layout.specs.declared.kind.Kind.{Kind}
 use Rattle.snd_layout.specs.Names.{codec_name, kind_name, refusal_name as open_name}
 use Rattle.snd_lines.specs.declared.refusal.Refusal.{Refusal}
-use Rattle.snd_lines.specs.declared.refusal.Refusal.TheVariants.{Open, AdpcmUpdate, UnknownLength, PartFrame, SampleRange, SeekRange, TrailingData, ContainerFull, Straddle, FramesWritten, ReservedChunk, NoChunks, ChunkTooLarge, AutoOn, AdpcmSeek, NoSuchChunk, BadBlock, BadCommand, LineTooLong, NotOpen, AlreadyOpen, WrongMode, SameName, MixedParams, NotMono, UnknownSuffix, MissingFile, BadInfo, BadCue, BadBext, TextTooLong, Pinned, NoSuchTap, TapOn, NoSuchStage, BadPlace, WrongCount}
+use Rattle.snd_lines.specs.declared.refusal.Refusal.TheVariants.{Open, AdpcmUpdate, UnknownLength, PartFrame, SampleRange, SeekRange, TrailingData, ContainerFull, Straddle, FramesWritten, ReservedChunk, NoChunks, ChunkTooLarge, AutoOn, AdpcmSeek, NoSuchChunk, BadBlock, BadCommand, LineTooLong, NotOpen, AlreadyOpen, WrongMode, SameName, MixedParams, NotMono, UnknownSuffix, MissingFile, NoRoom, BadInfo, BadCue, BadBext, TextTooLong, Pinned, NoSuchTap, TapOn, NoSuchStage, BadPlace, WrongCount}
 use Rattle.snd_lines.specs.Refusals.{refusal_name}
 use Rattle.snd_taps.specs.Names.{tap_name}
 use Rattle.snd_taps.specs.declared.tap.TapKind.{TapKind}
@@ -72,6 +72,7 @@ short_refusal MixedParams = lit≤ tt
 short_refusal NotMono = lit≤ tt
 short_refusal UnknownSuffix = lit≤ tt
 short_refusal MissingFile = lit≤ tt
+short_refusal NoRoom = lit≤ tt
 short_refusal FramesWritten = lit≤ tt
 short_refusal ReservedChunk = lit≤ tt
 short_refusal NoChunks = lit≤ tt

@@ -113,7 +113,8 @@ fine_get (what ∷ id ∷ []) = fine_if _ _ None (fine_map Said.get_chunk (λ x.
 fine_get args = record { fine = tt }
 
 fine_bare : (verb : List ℕ) (args : List (List ℕ)) → Fine (bare_said verb args)
-fine_bare verb [] = fine_if _ (Some Said.info) _ (record { fine = tt }) (fine_if _ (Some Said.close) _ (record { fine = tt }) (fine_if _ (Some Said.trim) _ (record { fine = tt }) (fine_if _ (Some Said.update) None (record { fine = tt }) (record { fine = tt }))))
+fine_bare verb [] = fine_if _ (Some Said.info) _ (record { fine = tt }) (fine_if _ (Some Said.close) _ (record { fine = tt }) (fine_if _ (Some Said.trim) _ (record { fine = tt }) (fine_if _ (Some Said.update) _ (record { fine = tt })
+    (fine_if _ (Some Said.reserve) _ (record { fine = tt }) (fine_if _ (Some Said.promote) None (record { fine = tt }) (record { fine = tt }))))))
 fine_bare verb (arg ∷ args) = record { fine = tt }
 
 fine_said : (verb : List ℕ) (args : List (List ℕ)) (text : List ℕ) → Fine (said verb args text)

@@ -4,6 +4,7 @@ use Rattle.std.proofs.Common.{◌≡◌, ℕ, ℤ, List, Bool, true, false, Opti
 use Rattle.snd_command.specs.Said.{Said}
 use Rattle.snd_disk.specs.declared.disk.Step.{Step}
 use Rattle.snd_layout.specs.Shape.{Shape}
+use Rattle.snd_layout.specs.declared.kind.Kind.TheVariants.{Wave}
 use Rattle.snd_meta.specs.declared.bext.BextKey.{BextKey}
 use Rattle.snd_meta.specs.declared.bext.BextKey.TheVariants.{Description, Originator, OrigRef, OrigDate, OrigTime, TimeRef, CodingHist}
 use Rattle.snd_edits.specs.Edits.{written_shape}
@@ -11,8 +12,8 @@ use Rattle.snd_edits.specs.Encoding.{counting_whole}
 use Rattle.snd_edits.specs.Known.{Known}
 use Rattle.snd_edits.specs.WriteCalls.{end_written}
 use Rattle.snd_meters.specs.Gauge.{Gauge}
-use Rattle.snd_rules.specs.Desk.{Mode, encodes, encoding, is_pinned, makes, pinned, reading, reads, updating, writes, writing}
-use Rattle.snd_rules.specs.Rules.{Rule, auto_rule, by_blocks, encode_rule, in_mode, is_held, plain_rule, read_rule, refused_rule, rule_of, seek_read_rule, seek_rule, seek_write_rule, set_bext_rule, set_chunk_rule, set_cue_rule, set_string_rule, trim_rule, truncate_rule, unless_pinned, update_rule, write_rule}
+use Rattle.snd_rules.specs.Desk.{Mode, encodes, encoding, is_pinned, makes, pinned, reading, reads, updates, updating, writes, writing}
+use Rattle.snd_rules.specs.Rules.{Rule, auto_rule, by_blocks, encode_rule, in_mode, is_held, plain_rule, promote_rule, read_rule, refused_rule, reserve_rule, rule_of, seek_read_rule, seek_rule, seek_write_rule, set_bext_rule, set_chunk_rule, set_cue_rule, set_string_rule, trim_rule, truncate_rule, unless_pinned, update_rule, write_rule}
 use Rattle.snd_rules.specs.Stepped.{IsBrokenAt, IsKnown, Knows, RepliesBy, RepliesUnless}
 use Rattle.snd_rules.specs.declared.reply.Reply.{Reply}
 use Rattle.snd_rules.specs.declared.reply.StepFault.{StepFault}
@@ -75,6 +76,8 @@ keeps_plain mode taps (Said.truncate n) = keeps_in (writes mode) _ (keeps_by (en
 keeps_plain mode taps Said.trim = keeps_in (writes mode) _ (keeps_by (encodes mode) (refused_rule AdpcmUpdate) trim_rule (record { same = λ k. refl; params = λ k. refl }) (record { same = λ k. refl; params = λ k. refl }))
 keeps_plain mode taps Said.update = keeps_in (writes mode) update_rule (record { same = λ k. refl; params = λ k. refl })
 keeps_plain mode taps (Said.auto on) = keeps_in (writes mode) (auto_rule on) (record { same = λ k. refl; params = λ k. refl })
+keeps_plain mode taps Said.promote = keeps_in (updates mode) promote_rule (record { same = λ k. refl; params = λ k. refl })
+keeps_plain mode taps Said.reserve = keeps_in (makes mode) reserve_rule (record { same = λ k. refl; params = λ k. params_of_heads (Some 28) Wave k.shape.params _ })
 keeps_plain mode taps (Said.set_chunk id hex) = keeps_in (makes mode) (set_chunk_rule id hex) (record { same = λ k. refl; params = λ k. params_of_heads k.shape.reserve k.shape.kind k.shape.params _ })
 keeps_plain mode taps (Said.set_string key text) = keeps_in (makes mode) (set_string_rule key text) (record { same = λ k. refl; params = λ k. refl })
 keeps_plain mode taps (Said.set_bext key text) = keeps_in (makes mode) (set_bext_rule key text) (keeps_bext key text)

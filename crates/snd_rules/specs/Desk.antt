@@ -35,6 +35,12 @@ writes encoding = true
 writes updating = true
 writes pinned = true
 
+-- the file was opened to be updated
+abbrev pub updates : Mode → Bool
+updates updating = true
+updates pinned = true
+updates mode = false
+
 -- it stays open
 abbrev pub is_pinned : Mode → Bool
 is_pinned pinned = true

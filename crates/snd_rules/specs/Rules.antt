@@ -51,11 +51,12 @@ use Rattle.snd_edits.specs.declared.tag_error.TagError.TheVariants.{Get, BadBody
 use Rattle.snd_taps.specs.declared.tap.TapKind.{TapKind}
 use Rattle.snd_taps.specs.declared.tap.TapState.{TapState}
 use Rattle.snd_chunks.specs.Heads.{new_piece}
-use Rattle.snd_rules.specs.Desk.{Mode, encodes, encoding, frames_told, is_pinned, makes, pinned, reading, reads, updating, writes, writing}
+use Rattle.snd_reservations.specs.States.{has_place, known_promoted, known_reserved, promoted_to, reserved_to}
+use Rattle.snd_rules.specs.Desk.{Mode, encodes, encoding, frames_told, is_pinned, makes, pinned, reading, reads, updates, updating, writes, writing}
 use Rattle.snd_rules.specs.Hex.{bytes_of_hex}
 use Rattle.snd_rules.specs.Replies.{Answer, nothing, refuses, says, bext_text, body_text, chunks_text, described, done_line, frames_text, ok_line, points_text, texts_text}
 use Rattle.snd_lines.specs.declared.refusal.Refusal.{Refusal}
-use Rattle.snd_lines.specs.declared.refusal.Refusal.TheVariants.{AdpcmUpdate, PartFrame, SampleRange, SeekRange, TrailingData, ContainerFull, Straddle, FramesWritten, ReservedChunk, NoChunks, ChunkTooLarge, AutoOn, AdpcmSeek, NoSuchChunk, BadBlock, Open, BadCommand, AlreadyOpen, WrongMode, BadInfo, BadCue, BadBext, TextTooLong, Pinned}
+use Rattle.snd_lines.specs.declared.refusal.Refusal.TheVariants.{AdpcmUpdate, PartFrame, SampleRange, SeekRange, TrailingData, ContainerFull, Straddle, FramesWritten, ReservedChunk, NoChunks, ChunkTooLarge, AutoOn, AdpcmSeek, NoSuchChunk, BadBlock, Open, BadCommand, AlreadyOpen, WrongMode, NoRoom, BadInfo, BadCue, BadBext, TextTooLong, Pinned}
 
 -- ---- why a command is refused
 
@@ -124,6 +125,10 @@ is_voc kind = false
 
 abbrev pub trim_refusal : Shape → Option Refusal
 trim_refusal h = refused_if (h.trailing && not (is_voc h.kind)) TrailingData None
+
+-- the file has no reservation for 64-bit sizes, or goes on behind its data
+abbrev pub promote_refusal : Shape → Option Refusal
+promote_refusal h = refused_if (is_none h.reserve) NoRoom (refused_if h.trailing TrailingData None)
 
 -- updates become automatic, and the field that decides the count lies in two sectors
 abbrev pub auto_refusal : Bool → Shape → Option Refusal
@@ -299,6 +304,10 @@ update_rule = changing 64 (λ g. None) (λ e. says_of (ok_line e.shape.frames) (
 abbrev pub auto_rule : Bool → Rule
 auto_rule on = changing 64 (λ g. auto_refusal on g.shape) (λ e. says_of (ok_line e.shape.frames) (automatic_to on e)) (λ k. record (known_sealed k) { automatic = on })
 
+-- `promote`: a WAVE file is turned into RF64 in place
+abbrev pub promote_rule : Rule
+promote_rule = record (changing 116 (λ g. promote_refusal g.shape) (λ e. says_of (ok_line e.shape.frames) (promoted_to e)) known_promoted) { seals_first = true }
+
 -- ---- further chunks
 
 -- what chunks say is asked for
@@ -310,9 +319,9 @@ abbrev pub piece_refusal : Option Piece → Option Refusal
 piece_refusal None = Some NoSuchChunk
 piece_refusal (Some piece) = refused_if (nat_lt 65536 piece.len) ChunkTooLarge None
 
--- `get chunks`: all of them
+-- `get chunks`: all of them, which no content of the disk decides
 abbrev pub get_chunks_rule : Rule
-get_chunks_rule = asking (λ e. says_of (chunks_text e.shape.pieces) e)
+get_chunks_rule = record (asking (λ e. says_of (chunks_text e.shape.pieces) e)) { asked = 0 }
 
 -- the others: what a chunk says, or why it does not
 abbrev pub found_answer : {T : Type 0} → Refusal → (T → List ℕ) → Result T TagError → Answer
@@ -420,6 +429,13 @@ set_bext_rule key text = drafting (codes "bext") (text_refusal (field_size key) 
 abbrev pub set_cue_rule : List ℕ → Rule
 set_cue_rule places = drafting (codes "cue ") draft_refusal (λ e. cue_body (named 1 places))
 
+-- `reserve`: the head gets a chunk that is reserved for 64-bit sizes, before all others
+abbrev pub reserve_refusal : Grounds → Option Refusal
+reserve_refusal g = early_refusal g (refused_if (not (has_place g.shape)) NoRoom None)
+
+abbrev pub reserve_rule : Rule
+reserve_rule = changing 2048 reserve_refusal (λ e. says_of done_line (reserved_to e)) known_reserved
+
 -- ---- which commands there are
 
 -- the codec that a word names, in a file that is made with so many channels and frames a second
@@ -448,12 +464,13 @@ is_held Said.close = true
 is_held (Said.auto on) = true
 is_held said = false
 
--- commands that put a chunk: only a file that is made accepts them
+-- commands that put a chunk, or reserve one: only a file that is made accepts them
 abbrev pub is_set : Said → Bool
 is_set (Said.set_chunk id hex) = true
 is_set (Said.set_string key text) = true
 is_set (Said.set_bext key text) = true
 is_set (Said.set_cue places) = true
+is_set Said.reserve = true
 is_set said = false
 
 -- how much a command uses at most on a file in a mode: one that puts a chunk uses nothing where it is refused
@@ -493,6 +510,8 @@ plain_rule mode taps (Said.truncate n) = truncate_in mode n
 plain_rule mode taps Said.trim = trim_in mode
 plain_rule mode taps Said.update = in_mode (writes mode) update_rule
 plain_rule mode taps (Said.auto on) = in_mode (writes mode) (auto_rule on)
+plain_rule mode taps Said.promote = in_mode (updates mode) promote_rule
+plain_rule mode taps Said.reserve = in_mode (makes mode) reserve_rule
 plain_rule mode taps (Said.set_chunk id hex) = in_mode (makes mode) (set_chunk_rule id hex)
 plain_rule mode taps (Said.set_string key text) = in_mode (makes mode) (set_string_rule key text)
 plain_rule mode taps (Said.set_bext key text) = in_mode (makes mode) (set_bext_rule key text)

@@ -7,16 +7,16 @@ use Rattle.snd_command.specs.Said.{Said}
 use Rattle.snd_rules.specs.Script.{asked_by, written_by, writes_name}
 use Rattle.snd_layout.specs.Params.{params_of}
 use Rattle.snd_meters.specs.Gauge.{Gauge}
-use Rattle.snd_rules.specs.Desk.{Mode, Store, closed_desk, makes, reads, writes}
+use Rattle.snd_rules.specs.Desk.{Mode, Store, closed_desk, makes, reads, updates, writes}
 use Rattle.snd_rules.specs.Edit.{Edited, Opening, edit_closed, make_edit, open_edit, refused}
-use Rattle.snd_rules.specs.Rules.{Rule, auto_rule, get_bext_rule, get_chunk_rule, get_chunks_rule, get_cues_rule, get_strings_rule, in_mode, is_close, read_rule, refused_rule, rule_of, seek_read_rule, seek_rule, seek_write_in, set_bext_rule, set_chunk_rule, set_cue_rule, set_string_rule, tap_rule, tell_rule, trim_in, truncate_in, unless_pinned, untap_rule, update_rule, write_in}
+use Rattle.snd_rules.specs.Rules.{Rule, auto_rule, get_bext_rule, get_chunk_rule, get_chunks_rule, get_cues_rule, get_strings_rule, in_mode, is_close, promote_rule, read_rule, refused_rule, reserve_rule, rule_of, seek_read_rule, seek_rule, seek_write_in, set_bext_rule, set_chunk_rule, set_cue_rule, set_string_rule, tap_rule, tell_rule, trim_in, truncate_in, unless_pinned, untap_rule, update_rule, write_in}
 use Rattle.snd_rules.specs.SmallBlocks.{HasSmallBlocks}
 use Rattle.snd_lines.specs.declared.refusal.Refusal.TheVariants as refusal
 use Rattle.snd_rules.specs.declared.work.Asking.{Asking}
 use Rattle.snd_rules.specs.declared.work.Asking.TheVariants as asking
 use Rattle.snd_rules.specs.declared.work.Setting.{Setting}
 use Rattle.snd_rules.specs.declared.work.Setting.TheVariants as setting
-use Rattle.snd_rules.specs.declared.work.Work.TheVariants.{Open, Update, Make, Close, Tell, SeekRead, SeekWrite, SeekBoth, Read, Write, Truncate, Trim, BringUp, Auto, Set, Ask, Tap, Untap}
+use Rattle.snd_rules.specs.declared.work.Work.TheVariants.{Open, Update, Make, Close, Tell, SeekRead, SeekWrite, SeekBoth, Read, Write, Truncate, Trim, BringUp, Auto, Promote, Set, Ask, Tap, Untap}
 
 -- the rule of what is set, and of what is asked
 abbrev pub setting_rule : Setting → Rule
@@ -24,6 +24,7 @@ setting_rule (setting.Chunk id hex) = set_chunk_rule id.0 hex.now
 setting_rule (setting.Text key text) = set_string_rule key text.now
 setting_rule (setting.Field key text) = set_bext_rule key text.now
 setting_rule (setting.Points places) = set_cue_rule places.now.items
+setting_rule setting.Reservation = reserve_rule
 
 abbrev pub asking_rule : Asking → Rule
 asking_rule (asking.Chunk id) = get_chunk_rule id.0
@@ -44,6 +45,7 @@ work_rule mode taps (Truncate n) = truncate_in mode n
 work_rule mode taps Trim = trim_in mode
 work_rule mode taps BringUp = in_mode (writes mode) update_rule
 work_rule mode taps (Auto on) = unless_pinned true mode (in_mode (writes mode) (auto_rule on))
+work_rule mode taps Promote = in_mode (updates mode) promote_rule
 work_rule mode taps (Set setting) = in_mode (makes mode) (setting_rule setting)
 work_rule mode taps (Ask asking) = asking_rule asking
 work_rule mode taps (Tap kind) = tap_rule taps kind
@@ -110,6 +112,11 @@ pub record WorksFor (said : Said) (work : Work) : Type 0 where
 abbrev pub work_sets : Work → Bool
 work_sets (Set setting) = true
 work_sets work = false
+
+-- the file is turned into RF64, which a file that was made refuses
+abbrev pub work_promotes : Work → Bool
+work_promotes Promote = true
+work_promotes work = false
 
 -- these cue points are set
 abbrev pub SetsFor : Work → List ℕ → Type 0

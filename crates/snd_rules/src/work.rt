@@ -24,6 +24,8 @@ pub enum Setting<'a> {
     Field(BextKey, &'a [u8]),
     /// The cue points, a frame each.
     Points(&'a ArrayVec<u32, MOST_CUES>),
+    /// A chunk that is reserved for 64-bit sizes.
+    Reservation,
 }
 
 /// What is asked of the chunks of a file.
@@ -72,6 +74,8 @@ pub enum Work<'a> {
     BringUp,
     /// Each write does that from now on, or none.
     Auto(bool),
+    /// A WAVE file is turned into RF64 in place.
+    Promote,
     /// Something is set in the head.
     Set(Setting<'a>),
     /// What chunks say is put.
@@ -151,6 +155,8 @@ pub fn work_of<'a>(said: Command<'a>) -> Work<'a>
         Command::Trim => Work::Trim,
         Command::Update => Work::BringUp,
         Command::Auto(on) => Work::Auto(on),
+        Command::Promote => Work::Promote,
+        Command::Reserve => Work::Set(Setting::Reservation),
         Command::SetChunk { id, hex } => Work::Set(Setting::Chunk(id, hex)),
         Command::SetString { key, text } => Work::Set(Setting::Text(key, text)),
         Command::SetBext { key, text } => Work::Set(Setting::Field(key, text)),

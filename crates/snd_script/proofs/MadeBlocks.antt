@@ -34,7 +34,7 @@ pub updated_finish : {D : Type 0} {ghosts : Ghosts D} (handle : Handle D ghosts)
 updated_finish handle updated = ap (λ (m : Mode). most_closed (encodes m) (handle_params handle)) updated
 
 -- .. and leaves: a file that is updated keeps its frames
-pub safe_updated : {D : Type 0} (d : Ghosts D) (opened : List ℕ) (handle : Handle D d) (disk : D) → mode_of handle ≡ updating → FinishesSafely d handle disk → (e : Editing) → HandleAtRest d opened handle e
+pub safe_updated : {D : Type 0} (d : Ghosts D) (handle : Handle D d) (disk : D) → mode_of handle ≡ updating → FinishesSafely d handle disk → (e : Editing) → HandleAtRest d handle e
     → LeavesEach d (handle_disk handle) disk (IsSafe e e)
-safe_updated d opened handle disk updated safe e rest =
-    subst (λ (m : Mode). LeavesEach d (handle_disk handle) disk (IsSafe e (all_put (encodes m) e))) updated (safe opened e rest)
+safe_updated d handle disk updated safe e rest =
+    subst (λ (m : Mode). LeavesEach d (handle_disk handle) disk (IsSafe e (all_put (encodes m) e))) updated (safe e rest)

@@ -67,16 +67,16 @@ module _ (store : Store) (name : List ℕ) (taps : List Gauge) (e : Editing) whe
   lines_behind lines free = sym (ap (λ b. cond b (ending pin.desk) (steps pin.desk lines)) free)
 
 -- it is carried out from rest
-pub pin_moves : {D T : Type 0} (d : Ghosts D) (opened : List ℕ) (store : Store) (name : List ℕ) (taps : List Gauge) (e : Editing) (r : Result T Stop) (old new : Handle D d) → mode_of old ≡ updating
-    → StepMoves d taps (Said.auto true) r old new → HandleAtRest d opened old e → MovesSafely d opened r e (state_behind e (pin_edit store (pinned_file name taps e))) old new
-pin_moves d opened store name taps e r old new is moves rest =
-    subst (λ (m : Mode). MovesSafely d opened r e (edit_file m taps (Said.auto true) e).editing old new) is
-    (moves (inr (subst (λ (m : Mode). ((rule_of m taps (Said.auto true)).known (handle_known old)).automatic ≡ true) (sym is) refl)) opened e rest)
+pub pin_moves : {D T : Type 0} (d : Ghosts D) (store : Store) (name : List ℕ) (taps : List Gauge) (e : Editing) (r : Result T Stop) (old new : Handle D d) → mode_of old ≡ updating
+    → StepMoves d taps (Said.auto true) r old new → HandleAtRest d old e → MovesSafely d r e (state_behind e (pin_edit store (pinned_file name taps e))) old new
+pin_moves d store name taps e r old new is moves rest =
+    subst (λ (m : Mode). MovesSafely d r e (edit_file m taps (Said.auto true) e).editing old new) is
+    (moves (inr (subst (λ (m : Mode). ((rule_of m taps (Said.auto true)).known (handle_known old)).automatic ≡ true) (sym is) refl)) e rest)
 
 -- ---- trails
 
-module _ {D : Type 0} (d : Ghosts D) (only_now : (disk : D) (s t : ℕ) (x : List ℕ) → (d.state disk).clock ≤ s → d.left_between disk s t x → d.may_leave disk x) (opened : List ℕ)
-    (store : Store) (name : List ℕ) (taps : List Gauge) (e : Editing) (lines : List (List ℕ)) (handle : Handle D d) (rest : HandleAtRest d opened handle e) where
+module _ {D : Type 0} (d : Ghosts D) (only_now : (disk : D) (s t : ℕ) (x : List ℕ) → (d.state disk).clock ≤ s → d.left_between disk s t x → d.may_leave disk x)
+    (store : Store) (name : List ℕ) (taps : List Gauge) (e : Editing) (lines : List (List ℕ)) (handle : Handle D d) (rest : HandleAtRest d handle e) where
   abbrev whole_run : List Edited
   whole_run = pinned_steps (opened_pinned store name taps e) lines
 
@@ -84,29 +84,29 @@ module _ {D : Type 0} (d : Ghosts D) (only_now : (disk : D) (s t : ℕ) (x : Lis
   begun_at = (d.state (handle_disk handle)).clock
 
   -- before anything was said
-  pub trail_at_opening : TrailSoFar d opened begun_at [] e whole_run e whole_run 0 handle
-  trail_at_opening = trail_begins d only_now opened begun_at [] e whole_run handle rest (trail_alone d only_now opened e handle rest)
+  pub trail_at_opening : TrailSoFar d begun_at [] e whole_run e whole_run 0 handle
+  trail_at_opening = trail_begins d only_now begun_at [] e whole_run handle rest (trail_alone d only_now e handle rest)
 
   -- the opening was answered
-  pub trail_opened : TrailSoFar d opened begun_at [] e whole_run e (pinned_lines (pin_edit store (pinned_file name taps e)) lines) (0 + length (file_line e.shape)) handle
+  pub trail_opened : TrailSoFar d begun_at [] e whole_run e (pinned_lines (pin_edit store (pinned_file name taps e)) lines) (0 + length (file_line e.shape)) handle
   trail_opened =
-      trail_goes_on d only_now opened begun_at [] e whole_run e 0 handle handle (opened_pinned store name taps e) (pinned_lines (pin_edit store (pinned_file name taps e)) lines) trail_at_opening (opening_speaks store name taps e)
-      (leaves_still {T = Unit {0}} d only_now opened (Ok tt) e handle rest) rest
+      trail_goes_on d only_now begun_at [] e whole_run e 0 handle handle (opened_pinned store name taps e) (pinned_lines (pin_edit store (pinned_file name taps e)) lines) trail_at_opening (opening_speaks store name taps e)
+      (leaves_still {T = Unit {0}} d only_now (Ok tt) e handle rest) rest
 
   -- and `auto on`
-  pub trail_pinned : (new : Handle D d) → MovesSafely {T = Unit {0}} d opened (Ok tt) e (state_behind e (pin_edit store (pinned_file name taps e))) handle new
-      → TrailSoFar d opened begun_at [] e whole_run (state_behind e (pin_edit store (pinned_file name taps e))) (behind_pin store name taps e lines) (0 + length (file_line e.shape) + length (text_of (pin_edit store (pinned_file name taps e)).answer)) new
+  pub trail_pinned : (new : Handle D d) → MovesSafely {T = Unit {0}} d (Ok tt) e (state_behind e (pin_edit store (pinned_file name taps e))) handle new
+      → TrailSoFar d begun_at [] e whole_run (state_behind e (pin_edit store (pinned_file name taps e))) (behind_pin store name taps e lines) (0 + length (file_line e.shape) + length (text_of (pin_edit store (pinned_file name taps e)).answer)) new
   trail_pinned new moves =
-      trail_goes_on d only_now opened begun_at [] e whole_run e (0 + length (file_line e.shape)) handle new (pin_edit store (pinned_file name taps e)) (behind_pin store name taps e lines) trail_opened (pin_speaks store name taps e) moves.leaves moves.rests
+      trail_goes_on d only_now begun_at [] e whole_run e (0 + length (file_line e.shape)) handle new (pin_edit store (pinned_file name taps e)) (behind_pin store name taps e lines) trail_opened (pin_speaks store name taps e) moves.leaves moves.rests
 
   -- and the lines behind it, where it was not refused
-  pub trail_of_lines : (taps' : List Gauge) → taps' ≡ taps → (new last : Handle D d) (after : Reading) (s t : List ℕ) (told told' : Option (List ℕ)) (so_far : TrailSoFar d opened begun_at [] e whole_run (state_behind e (pin_edit store (pinned_file name taps e))) (behind_pin store name taps e lines)
+  pub trail_of_lines : (taps' : List Gauge) → taps' ≡ taps → (new last : Handle D d) (after : Reading) (s t : List ℕ) (told told' : Option (List ℕ)) (so_far : TrailSoFar d begun_at [] e whole_run (state_behind e (pin_edit store (pinned_file name taps e))) (behind_pin store name taps e lines)
       (0 + length (file_line e.shape) + length (text_of (pin_edit store (pinned_file name taps e)).answer)) new)
       → is_refusal (pin_edit store (pinned_file name taps e)).answer ≡ false → lines_within after.room (after.rest ++ s) ≡ lines
       → ((sent : List ℕ) × (told' ≡ Some (((t ++ file_line e.shape) ++ text_of (pin_edit store (pinned_file name taps e)).answer) ++ sent))
-      × TrailsOn d opened begun_at last (reverse so_far.past ++ reached (length sent) (state_behind e (pin_edit store (pinned_file name taps e)))
+      × TrailsOn d begun_at last (reverse so_far.past ++ reached (length sent) (state_behind e (pin_edit store (pinned_file name taps e)))
       (steps (open_desk store (pinned_file name taps' (state_behind e (pin_edit store (pinned_file name taps e))))) (lines_within after.room (after.rest ++ s)))))
-      → (sent : List ℕ) × (told' ≡ Some (t ++ sent)) × TrailsOn d opened begun_at last (reached (length sent) e whole_run)
+      → (sent : List ℕ) × (told' ≡ Some (t ++ sent)) × TrailsOn d begun_at last (reached (length sent) e whole_run)
   trail_of_lines taps' are new last after s t told told' so_far free same (sent, is, trail) =
       let a : List ℕ = file_line e.shape in
       let b : List ℕ = text_of (pin_edit store (pinned_file name taps e)).answer in
@@ -116,7 +116,7 @@ module _ {D : Type 0} (d : Ghosts D) (only_now : (disk : D) (s t : ℕ) (x : Lis
       let count : 0 + length a + length b + length sent ≡ length (a ++ (b ++ sent)) = omega (arith, length-append a (b ++ sent), length-append b sent) in (
         a ++ (b ++ sent),
         is ∙ ap (λ (l : List ℕ). Some l) (append_assoc (t ++ a) b sent ∙ append_assoc t a (b ++ sent)),
-        subst (λ (m : ℕ). TrailsOn d opened begun_at last (reached m e whole_run)) count
-            (subst (λ (l : List Editing). TrailsOn d opened begun_at last l) (so_far.whole (length sent))
-            (subst (λ (l : List Edited). TrailsOn d opened begun_at last (reverse so_far.past ++ reached (length sent) e' l)) all_same trail)),
+        subst (λ (m : ℕ). TrailsOn d begun_at last (reached m e whole_run)) count
+            (subst (λ (l : List Editing). TrailsOn d begun_at last l) (so_far.whole (length sent))
+            (subst (λ (l : List Edited). TrailsOn d begun_at last (reverse so_far.past ++ reached (length sent) e' l)) all_same trail)),
       )

@@ -27,7 +27,7 @@ use Rattle.snd_rules.specs.Edit.{Edited, close_edit, edit_by, edit_file, edit_op
 use Rattle.snd_session.specs.Handled.{HandleAtRest, HandleStands, handle_disk, handle_known}
 use Rattle.snd_rules.specs.Replies.{bext_text, body_text, done_line, error_line, ok_line, frame_line, frames_text, points_text, refuses, says, text_of, texts_text}
 use Rattle.snd_lines.specs.Refusals.{refusal_name, refusal_number}
-use Rattle.snd_rules.specs.Rules.{FileEdited, Rule, answered, chunk_of, found_answer, frames_wanted, get_bext_rule, get_chunk_rule, get_chunks_rule, get_cues_rule, get_strings_rule, grounds_of, is_close, is_held, read_rule, refused_rule, report_of, rule_of, says_of, seek_both_rule, seek_read_rule, seek_write_rule, tap_rule, tell_rule, trim_rule, truncate_rule, untap_rule, update_rule, write_rule}
+use Rattle.snd_rules.specs.Rules.{FileEdited, Rule, answered, chunk_of, found_answer, frames_wanted, get_bext_rule, get_chunk_rule, get_chunks_rule, get_cues_rule, get_strings_rule, grounds_of, is_close, is_held, promote_rule, read_rule, refused_rule, report_of, rule_of, says_of, seek_both_rule, seek_read_rule, seek_write_rule, tap_rule, tell_rule, trim_rule, truncate_rule, untap_rule, update_rule, write_rule}
 use Rattle.snd_script.specs.Trail.{MovesSafely, RestsAt, pinned_file, state_behind}
 use Rattle.snd_script.proofs.StaysOpen.{carried}
 use Rattle.snd_session.specs.declared.handle.Handle.{Handle}
@@ -127,6 +127,8 @@ answers taps (Said.truncate n) = answering (truncate_rule n) (λ e. ok_speaks _)
 answers taps Said.trim = answering trim_rule (λ e. ok_speaks _) (λ e. refl)
 answers taps Said.update = answering update_rule (λ e. ok_speaks _) (λ e. refl)
 answers taps (Said.auto on) = refusing Pinned
+answers taps Said.promote = answering promote_rule (λ e. ok_speaks _) (λ e. refl)
+answers taps Said.reserve = refusing WrongMode
 answers taps (Said.set_chunk id hex) = refusing WrongMode
 answers taps (Said.set_string key text) = refusing WrongMode
 answers taps (Said.set_bext key text) = refusing WrongMode
@@ -191,42 +193,42 @@ carried_behind mode taps said e is other = ap (λ (rule : Rule). (edit_by rule e
 
 -- ---- a handle at rest
 
-pub automatic_of : {D : Type 0} (d : Ghosts D) (opened : List ℕ) (handle : Handle D d) (e : Editing) → HandleAtRest d opened handle e → (handle_known handle).automatic ≡ e.automatic
-automatic_of d opened (R held) e rest = rest.stands.automatic
-automatic_of d opened (W held) e rest = rest.stands.automatic
-automatic_of d opened (B held) e rest = rest.stands.automatic
-automatic_of d opened (U held) e rest = rest.stands.automatic
+pub automatic_of : {D : Type 0} (d : Ghosts D) (handle : Handle D d) (e : Editing) → HandleAtRest d handle e → (handle_known handle).automatic ≡ e.automatic
+automatic_of d (R held) e rest = rest.1.stands.automatic
+automatic_of d (W held) e rest = rest.1.stands.automatic
+automatic_of d (B held) e rest = rest.1.stands.automatic
+automatic_of d (U held) e rest = rest.1.stands.automatic
 
-pub stands_of : {D : Type 0} (d : Ghosts D) (opened : List ℕ) (handle : Handle D d) (e : Editing) → HandleAtRest d opened handle e → HandleStands d.state handle e
-stands_of d opened (R held) e rest = rest.stands
-stands_of d opened (W held) e rest = rest.stands
-stands_of d opened (B held) e rest = rest.stands
-stands_of d opened (U held) e rest = rest.stands
+pub stands_of : {D : Type 0} (d : Ghosts D) (handle : Handle D d) (e : Editing) → HandleAtRest d handle e → HandleStands d.state handle e
+stands_of d (R held) e rest = rest.1.stands
+stands_of d (W held) e rest = rest.1.stands
+stands_of d (B held) e rest = rest.1.stands
+stands_of d (U held) e rest = rest.1.stands
 
-rests_still : {D T : Type 0} (d : Ghosts D) (opened : List ℕ) (r : Result T Stop) (e : Editing) (handle : Handle D d) → HandleAtRest d opened handle e → RestsAt d opened r e e handle
-rests_still d opened (Ok x) e handle rest = rest
-rests_still d opened (Err stop.Sink) e handle rest = rest
-rests_still d opened (Err stop.Memory) e handle rest = rest
-rests_still d opened (Err stop.Ended) e handle rest = tt
-rests_still d opened (Err stop.TooLong) e handle rest = tt
-rests_still d opened (Err stop.Script) e handle rest = tt
-rests_still d opened (Err stop.File) e handle rest = tt
+rests_still : {D T : Type 0} (d : Ghosts D) (r : Result T Stop) (e : Editing) (handle : Handle D d) → HandleAtRest d handle e → RestsAt d r e e handle
+rests_still d (Ok x) e handle rest = rest
+rests_still d (Err stop.Sink) e handle rest = rest
+rests_still d (Err stop.Memory) e handle rest = rest
+rests_still d (Err stop.Ended) e handle rest = tt
+rests_still d (Err stop.TooLong) e handle rest = tt
+rests_still d (Err stop.Script) e handle rest = tt
+rests_still d (Err stop.File) e handle rest = tt
 
-module _ {D T : Type 0} (d : Ghosts D) (only_now : (disk : D) (s t : ℕ) (x : List ℕ) → (d.state disk).clock ≤ s → d.left_between disk s t x → d.may_leave disk x) (opened : List ℕ) (r : Result T Stop) (e : Editing) where
-  pub leaves_still : (handle : Handle D d) → HandleAtRest d opened handle e → LeavesEach d (handle_disk handle) (handle_disk handle) (IsSafe e e)
-  leaves_still (R held) rest = unchanged d opened held e rest only_now e
-  leaves_still (W held) rest = unchanged d opened held e rest only_now e
-  leaves_still (B held) rest = unchanged d opened held e rest only_now e
-  leaves_still (U held) rest = unchanged d opened held e rest only_now e
+module _ {D T : Type 0} (d : Ghosts D) (only_now : (disk : D) (s t : ℕ) (x : List ℕ) → (d.state disk).clock ≤ s → d.left_between disk s t x → d.may_leave disk x) (r : Result T Stop) (e : Editing) where
+  pub leaves_still : (handle : Handle D d) → HandleAtRest d handle e → LeavesEach d (handle_disk handle) (handle_disk handle) (IsSafe e e)
+  leaves_still (R held) rest = unchanged d rest.0 held e rest.1 only_now e
+  leaves_still (W held) rest = unchanged d rest.0 held e rest.1 only_now e
+  leaves_still (B held) rest = unchanged d rest.0 held e rest.1 only_now e
+  leaves_still (U held) rest = unchanged d rest.0 held e rest.1 only_now e
 
   -- nothing is done
-  pub moves_none : (handle : Handle D d) → HandleAtRest d opened handle e → MovesSafely d opened r e e handle handle
-  moves_none handle rest = record { leaves = leaves_still handle rest; rests = rests_still d opened r e handle rest }
+  pub moves_none : (handle : Handle D d) → HandleAtRest d handle e → MovesSafely d r e e handle handle
+  moves_none handle rest = record { leaves = leaves_still handle rest; rests = rests_still d r e handle rest; params = refl }
 
   -- .. as what is said is refused
-  pub moves_refused : (taps : List Gauge) (said : Said) (refusal : Refusal) (handle : Handle D d) → rule_of pinned taps said ≡ refused_rule refusal → HandleAtRest d opened handle e → MovesSafely d opened r e (edit_file pinned taps said e).editing handle handle
-  moves_refused taps said refusal handle is rest = subst (λ (rule : Rule). MovesSafely d opened r e (edit_by rule e).editing handle handle) (sym is) (moves_none handle rest)
+  pub moves_refused : (taps : List Gauge) (said : Said) (refusal : Refusal) (handle : Handle D d) → rule_of pinned taps said ≡ refused_rule refusal → HandleAtRest d handle e → MovesSafely d r e (edit_file pinned taps said e).editing handle handle
+  moves_refused taps said refusal handle is rest = subst (λ (rule : Rule). MovesSafely d r e (edit_by rule e).editing handle handle) (sym is) (moves_none handle rest)
 
 -- it moves to the same state, by other words
-pub moves_as : {D T : Type 0} (d : Ghosts D) (opened : List ℕ) (r : Result T Stop) (e e' e'' : Editing) (old new : Handle D d) → e' ≡ e'' → MovesSafely d opened r e e' old new → MovesSafely d opened r e e'' old new
-moves_as d opened r e e' e'' old new is moves = subst (λ (g : Editing). MovesSafely d opened r e g old new) is moves
+pub moves_as : {D T : Type 0} (d : Ghosts D) (r : Result T Stop) (e e' e'' : Editing) (old new : Handle D d) → e' ≡ e'' → MovesSafely d r e e' old new → MovesSafely d r e e'' old new
+moves_as d r e e' e'' old new is moves = subst (λ (g : Editing). MovesSafely d r e g old new) is moves

@@ -33,6 +33,8 @@ carried (Said.truncate n) other = record { rule = λ taps. refl; stays = refl }
 carried Said.trim other = record { rule = λ taps. refl; stays = refl }
 carried Said.update other = record { rule = λ taps. refl; stays = refl }
 carried (Said.auto on) other = absurd cc
+carried Said.promote other = record { rule = λ taps. refl; stays = refl }
+carried Said.reserve other = record { rule = λ taps. refl; stays = refl }
 carried (Said.set_chunk id hex) other = record { rule = λ taps. refl; stays = refl }
 carried (Said.set_string key text) other = record { rule = λ taps. refl; stays = refl }
 carried (Said.set_bext key text) other = record { rule = λ taps. refl; stays = refl }

@@ -5,15 +5,15 @@ use Rattle.std.proofs.lemmas.Bool.Decides.{nat_tests}
 use Rattle.std.proofs.lemmas.List.{reverse-append, reverse-reverse}
 use Rattle.snd_disk.specs.declared.disk.Disk.{Ghosts}
 use Rattle.snd_disk.specs.declared.disk.Step.{Step}
+use Rattle.snd_layout.specs.Shape.{Shape}
 use Rattle.snd_edits.specs.Editing.{Editing}
-use Rattle.snd_edits.specs.Laws.{KeepsFile}
 use Rattle.snd_edits.specs.Safe.{IsSafe}
 use Rattle.snd_file.proofs.Public.{left_at_rest}
-use Rattle.snd_edits.proofs.Public.{from_after, same_file, wider}
+use Rattle.snd_edits.proofs.Public.{from_after, wider}
 use Rattle.snd_patch.proofs.Public.{leaves_weaker}
 use Rattle.snd_patch.specs.Images.{LeavesEach}
 use Rattle.snd_rules.specs.Edit.{Edited}
-use Rattle.snd_session.specs.Handled.{HandleAtRest, handle_disk, handle_known}
+use Rattle.snd_session.specs.Handled.{HandleAtRest, handle_disk, handle_known, handle_params}
 use Rattle.snd_rules.specs.Replies.{text_of}
 use Rattle.snd_script.specs.Trail.{Going, Trail, TrailTo, TrailsOn, reached, state_behind}
 use Rattle.snd_session.specs.declared.handle.Handle.{Handle}
@@ -70,29 +70,30 @@ two_back past e next = reverse-append (reverse past) (e ∷ next ∷ []) ∙ ap 
 
 -- ---- a handle at rest
 
-pub kept_by : {D : Type 0} (d : Ghosts D) (opened : List ℕ) (handle : Handle D d) (e : Editing) → HandleAtRest d opened handle e → KeepsFile opened e
-kept_by d opened (R file) e rest = rest.state.keeps
-kept_by d opened (W file) e rest = rest.state.keeps
-kept_by d opened (B file) e rest = rest.state.keeps
-kept_by d opened (U file) e rest = rest.state.keeps
+pub handle_left : {D : Type 0} (d : Ghosts D) (handle : Handle D d) (e : Editing) → HandleAtRest d handle e → (e' : Editing) (x : List ℕ) → d.may_leave (handle_disk handle) x → IsSafe e e' x
+handle_left d (R file) e rest = left_at_rest d rest.0 file e rest.1
+handle_left d (W file) e rest = left_at_rest d rest.0 file e rest.1
+handle_left d (B file) e rest = left_at_rest d rest.0 file e rest.1
+handle_left d (U file) e rest = left_at_rest d rest.0 file e rest.1
 
-pub handle_left : {D : Type 0} (d : Ghosts D) (opened : List ℕ) (handle : Handle D d) (e : Editing) → HandleAtRest d opened handle e → (e' : Editing) (x : List ℕ) → d.may_leave (handle_disk handle) x → IsSafe e e' x
-handle_left d opened (R file) e rest = left_at_rest d opened file e rest
-handle_left d opened (W file) e rest = left_at_rest d opened file e rest
-handle_left d opened (B file) e rest = left_at_rest d opened file e rest
-handle_left d opened (U file) e rest = left_at_rest d opened file e rest
+-- its parameters are those of the state
+params_at : {D : Type 0} (d : Ghosts D) (handle : Handle D d) (e : Editing) → HandleAtRest d handle e → handle_params handle ≡ e.shape.params
+params_at d (R file) e rest = ap (λ (s : Shape). s.params) rest.1.stands.shape
+params_at d (W file) e rest = ap (λ (s : Shape). s.params) rest.1.stands.shape
+params_at d (B file) e rest = ap (λ (s : Shape). s.params) rest.1.stands.shape
+params_at d (U file) e rest = ap (λ (s : Shape). s.params) rest.1.stands.shape
 
 -- ---- a run so far, which began behind some states, with n bytes of answers: these steps are left, from the state e on
 
-pub record TrailSoFar {D : Type 0} (d : Ghosts D) (opened : List ℕ) (t0 : ℕ) (begun : List Editing) (first : Editing) (all : List Edited) (e : Editing) (left : List Edited) (n : ℕ) (handle : Handle D d) : Type 0 where
+pub record TrailSoFar {D : Type 0} (d : Ghosts D) (t0 : ℕ) (begun : List Editing) (first : Editing) (all : List Edited) (e : Editing) (left : List Edited) (n : ℕ) (handle : Handle D d) : Type 0 where
   pub past : List Editing
   pub whole : (m : ℕ) → reverse past ++ reached m e left ≡ begun ++ reached (n + m) first all
-  pub rests : HandleAtRest d opened handle e
+  pub rests : HandleAtRest d handle e
   pub trail : TrailTo IsSafe (d.left_between (handle_disk handle)) t0 (d.state (handle_disk handle)).clock e past
 
-module _ {D : Type 0} (d : Ghosts D) (only_now : (disk : D) (s t : ℕ) (x : List ℕ) → (d.state disk).clock ≤ s → d.left_between disk s t x → d.may_leave disk x) (opened : List ℕ) where
-  pub trail_begins : (t0 : ℕ) (past : List Editing) (e : Editing) (all : List Edited) (handle : Handle D d) → HandleAtRest d opened handle e
-      → TrailTo IsSafe (d.left_between (handle_disk handle)) t0 (d.state (handle_disk handle)).clock e past → TrailSoFar d opened t0 (reverse past) e all e all 0 handle
+module _ {D : Type 0} (d : Ghosts D) (only_now : (disk : D) (s t : ℕ) (x : List ℕ) → (d.state disk).clock ≤ s → d.left_between disk s t x → d.may_leave disk x) where
+  pub trail_begins : (t0 : ℕ) (past : List Editing) (e : Editing) (all : List Edited) (handle : Handle D d) → HandleAtRest d handle e
+      → TrailTo IsSafe (d.left_between (handle_disk handle)) t0 (d.state (handle_disk handle)).clock e past → TrailSoFar d t0 (reverse past) e all e all 0 handle
   trail_begins t0 past e all handle rest trail = record {
     past = past;
     whole = λ m. ap (λ k. reverse past ++ reached k e all) (let h : m ≡ 0 + m = omega arith in h);
@@ -101,16 +102,16 @@ module _ {D : Type 0} (d : Ghosts D) (only_now : (disk : D) (s t : ℕ) (x : Lis
   }
 
   -- nothing was done yet
-  pub trail_alone : (e : Editing) (handle : Handle D d) → HandleAtRest d opened handle e → TrailTo IsSafe (d.left_between (handle_disk handle)) (d.state (handle_disk handle)).clock (d.state (handle_disk handle)).clock e []
+  pub trail_alone : (e : Editing) (handle : Handle D d) → HandleAtRest d handle e → TrailTo IsSafe (d.left_between (handle_disk handle)) (d.state (handle_disk handle)).clock (d.state (handle_disk handle)).clock e []
   trail_alone e handle rest =
-      trail_starts IsSafe (d.state (handle_disk handle)).clock (d.left_between (handle_disk handle)) (d.may_leave (handle_disk handle)) e (only_now (handle_disk handle)) (handle_left d opened handle e rest e)
+      trail_starts IsSafe (d.state (handle_disk handle)).clock (d.left_between (handle_disk handle)) (d.may_leave (handle_disk handle)) e (only_now (handle_disk handle)) (handle_left d handle e rest e)
 
   module _ (t0 : ℕ) (begun : List Editing) (first : Editing) (all : List Edited) (e : Editing) (n : ℕ) (handle : Handle D d) where
     abbrev disk : D
     disk = handle_disk handle
 
     -- a line that says nothing
-    pub trail_passes : (step : Edited) (left : List Edited) → size_of step ≡ 0 → TrailSoFar d opened t0 begun first all e (step ∷ left) n handle → TrailSoFar d opened t0 begun first all e left n handle
+    pub trail_passes : (step : Edited) (left : List Edited) → size_of step ≡ 0 → TrailSoFar d t0 begun first all e (step ∷ left) n handle → TrailSoFar d t0 begun first all e left n handle
     trail_passes step left silent so_far = record {
       past = so_far.past;
       whole = λ m. ap (λ l. reverse so_far.past ++ l) (sym (reached_silent m e step left silent)) ∙ so_far.whole m;
@@ -119,9 +120,9 @@ module _ {D : Type 0} (d : Ghosts D) (only_now : (disk : D) (s t : ℕ) (x : Lis
     }
 
     -- a command was carried out, and its answer has come
-    pub trail_goes_on : (new : Handle D d) (step : Edited) (left : List Edited) → TrailSoFar d opened t0 begun first all e (step ∷ left) n handle → 0 < size_of step
-        → LeavesEach d disk (handle_disk new) (IsSafe e (state_behind e step)) → HandleAtRest d opened new (state_behind e step)
-        → TrailSoFar d opened t0 begun first all (state_behind e step) left (n + size_of step) new
+    pub trail_goes_on : (new : Handle D d) (step : Edited) (left : List Edited) → TrailSoFar d t0 begun first all e (step ∷ left) n handle → 0 < size_of step
+        → LeavesEach d disk (handle_disk new) (IsSafe e (state_behind e step)) → HandleAtRest d new (state_behind e step)
+        → TrailSoFar d t0 begun first all (state_behind e step) left (n + size_of step) new
     trail_goes_on new step left so_far some leaves rests = record {
       past = e ∷ so_far.past;
       whole = λ m.
@@ -134,7 +135,7 @@ module _ {D : Type 0} (d : Ghosts D) (only_now : (disk : D) (s t : ℕ) (x : Lis
     }
 
     -- the run stops between two commands
-    module _ (left : List Edited) (so_far : TrailSoFar d opened t0 begun first all e left n handle) where
+    module _ (left : List Edited) (so_far : TrailSoFar d t0 begun first all e left n handle) where
       abbrev next : Editing
       next = (reached_none e left).0
 
@@ -148,16 +149,16 @@ module _ {D : Type 0} (d : Ghosts D) (only_now : (disk : D) (s t : ℕ) (x : Lis
         begun = (d.state disk).clock;
         later = omega arith;
         before = so_far.trail;
-        each = λ t x left. handle_left d opened handle e so_far.rests next x (only_now disk (d.state disk).clock t x (omega arith) left);
-        left = λ x left. handle_left d opened handle e so_far.rests next x left;
+        each = λ t x left. handle_left d handle e so_far.rests next x (only_now disk (d.state disk).clock t x (omega arith) left);
+        left = λ x left. handle_left d handle e so_far.rests next x left;
       }
 
-      pub trail_rests : TrailsOn d opened t0 handle (begun ++ reached n first all)
+      pub trail_rests : TrailsOn d t0 handle (begun ++ reached n first all)
       unfolding resting
       trail_rests = record { going = resting; rests = λ whole. (e, so_far.rests, λ x safe. wider e next x safe) }
 
     -- .. or in a command, with a part of its answer or nothing
-    module _ (new : Handle D d) (k : ℕ) (step : Edited) (left : List Edited) (so_far : TrailSoFar d opened t0 begun first all e (step ∷ left) n handle)
+    module _ (new : Handle D d) (k : ℕ) (step : Edited) (left : List Edited) (so_far : TrailSoFar d t0 begun first all e (step ∷ left) n handle)
         (leaves : LeavesEach d disk (handle_disk new) (IsSafe e (state_behind e step))) (part : k < size_of step) where
       abbrev after : Editing
       after = state_behind e step
@@ -176,36 +177,36 @@ module _ {D : Type 0} (d : Ghosts D) (only_now : (disk : D) (s t : ℕ) (x : Lis
       }
 
       -- as its disk failed
-      pub trail_breaks : ((handle_known new).broken ≡ None → ⊥) → TrailsOn d opened t0 new (begun ++ reached (n + k) first all)
+      pub trail_breaks : ((handle_known new).broken ≡ None → ⊥) → TrailsOn d t0 new (begun ++ reached (n + k) first all)
       trail_breaks broken = record { going = broken_off; rests = λ whole. absurd (broken whole) }
 
       -- as there was no memory, or as the sink failed
-      pub trail_lacks : HandleAtRest d opened new e → TrailsOn d opened t0 new (begun ++ reached (n + k) first all)
+      pub trail_lacks : HandleAtRest d new e → TrailsOn d t0 new (begun ++ reached (n + k) first all)
       unfolding broken_off
       trail_lacks rests = record { going = broken_off; rests = λ whole. (e, rests, λ x safe. wider e after x safe) }
 
-      pub trail_stops_within : HandleAtRest d opened new after → TrailsOn d opened t0 new (begun ++ reached (n + k) first all)
+      pub trail_stops_within : HandleAtRest d new after → handle_params new ≡ handle_params handle → TrailsOn d t0 new (begun ++ reached (n + k) first all)
       unfolding broken_off
-      trail_stops_within rests = record {
+      trail_stops_within rests params = record {
         going = broken_off;
-        rests = λ whole. (after, rests, λ x safe. from_after e after x (same_file opened e after (kept_by d opened handle e so_far.rests) (kept_by d opened new after rests)).0 safe);
+        rests = λ whole. (after, rests, λ x safe. from_after e after x (sym (params_at d new after rests) ∙ params ∙ params_at d handle e so_far.rests) safe);
       }
 
   -- .. the sink maybe behind all of the answer
-  pub trail_stops : (t0 : ℕ) (begun : List Editing) (first : Editing) (all : List Edited) (e : Editing) (n : ℕ) (handle new : Handle D d) (k : ℕ) (step : Edited) (left : List Edited) → TrailSoFar d opened t0 begun first all e (step ∷ left) n handle
-      → LeavesEach d (handle_disk handle) (handle_disk new) (IsSafe e (state_behind e step)) → HandleAtRest d opened new (state_behind e step) → k ≤ size_of step → 0 < size_of step
-      → TrailsOn d opened t0 new (begun ++ reached (n + k) first all)
-  trail_stops t0 begun first all e n handle new k step left so_far leaves rests within some = elim (cases_lt k (size_of step)) [
-    | inl part ↦ trail_stops_within t0 begun first all e n handle new k step left so_far leaves part rests
+  pub trail_stops : (t0 : ℕ) (begun : List Editing) (first : Editing) (all : List Edited) (e : Editing) (n : ℕ) (handle new : Handle D d) (k : ℕ) (step : Edited) (left : List Edited) → TrailSoFar d t0 begun first all e (step ∷ left) n handle
+      → LeavesEach d (handle_disk handle) (handle_disk new) (IsSafe e (state_behind e step)) → HandleAtRest d new (state_behind e step) → handle_params new ≡ handle_params handle → k ≤ size_of step → 0 < size_of step
+      → TrailsOn d t0 new (begun ++ reached (n + k) first all)
+  trail_stops t0 begun first all e n handle new k step left so_far leaves rests params within some = elim (cases_lt k (size_of step)) [
+    | inl part ↦ trail_stops_within t0 begun first all e n handle new k step left so_far leaves part rests params
     | inr all_of_it ↦
         let same : k ≡ size_of step = omega (arith, within, all_of_it) in
-        subst (λ (m : ℕ). TrailsOn d opened t0 new (begun ++ reached (n + m) first all)) (sym same)
+        subst (λ (m : ℕ). TrailsOn d t0 new (begun ++ reached (n + m) first all)) (sym same)
         (trail_rests t0 begun first all (state_behind e step) (n + size_of step) new left (trail_goes_on t0 begun first all e n handle new step left so_far some leaves rests))
   ]
 
   -- the handle is closed, in the end
-  pub trail_closed : (t0 : ℕ) (handle : Handle D d) (last : D) (states : List Editing) → TrailsOn d opened t0 handle states
-      → ((e : Editing) → HandleAtRest d opened handle e → LeavesEach d (handle_disk handle) last (IsSafe e e)) → (((handle_known handle).broken ≡ None → ⊥) → last ≡ handle_disk handle)
+  pub trail_closed : (t0 : ℕ) (handle : Handle D d) (last : D) (states : List Editing) → TrailsOn d t0 handle states
+      → ((e : Editing) → HandleAtRest d handle e → LeavesEach d (handle_disk handle) last (IsSafe e e)) → (((handle_known handle).broken ≡ None → ⊥) → last ≡ handle_disk handle)
       → Trail IsSafe (d.left_between last) t0 (d.state last).clock states
   trail_closed t0 handle last states on closes same = closed (handle_known handle).broken refl
     where

@@ -73,7 +73,7 @@ OnlyOpens d how old new = OnlyReadsOn d.state d.may_leave d.left_between old new
 
 -- A file that is opened to be updated is at rest where a crash leaves its bytes alone and these are fit.
 abbrev pub OpensToRest : {D : Type 0} (d : Ghosts D) → OpenAs → D → Handle D d → Type 0
-OpensToRest d Update disk handle = (b : List ℕ) (e : Editing) → Tells d.state disk b → IsStable d.state d.may_leave disk → updating_of b ≡ Ok e → IsFit e → HandleAtRest d b handle e
+OpensToRest d Update disk handle = (b : List ℕ) (e : Editing) → Tells d.state disk b → IsStable d.state d.may_leave disk → updating_of b ≡ Ok e → IsFit e → HandleAtRest d handle e
 OpensToRest d how disk handle = Unit {0}
 
 -- .. and served: one that is read is only read

@@ -17,7 +17,7 @@ use Rattle.snd_edits.specs.Updating.{updating_of}
 use Rattle.snd_patch.specs.Images.{LeavesEach}
 use Rattle.snd_rules.specs.Desk.{OpenFile, Store, open_desk, pinned, stored}
 use Rattle.snd_rules.specs.Edit.{Edited, edit_file}
-use Rattle.snd_session.specs.Handled.{HandleAtRest, handle_disk, handle_known, mode_of, rule_for}
+use Rattle.snd_session.specs.Handled.{HandleAtRest, handle_disk, handle_known, handle_params, mode_of, rule_for}
 use Rattle.snd_rules.specs.Pinned.{auto_steps, pinned_steps}
 use Rattle.snd_script.specs.PinnedRun.{opened_pinned}
 use Rattle.snd_rules.specs.Replies.{text_of}
@@ -88,33 +88,34 @@ reached n e (step ∷ left) =
 
 -- The trail of a run from t0 on, which goes on. Unless a fault of the disk broke the handle, this is at rest in a state in which
 -- nothing is safe but what is so from the last state but one to the last.
-pub record TrailsOn {D : Type 0} (d : Ghosts D) (opened : List ℕ) (t0 : ℕ) (handle : Handle D d) (states : List Editing) : Type 0 where
+pub record TrailsOn {D : Type 0} (d : Ghosts D) (t0 : ℕ) (handle : Handle D d) (states : List Editing) : Type 0 where
   pub going : Going IsSafe (d.left_between (handle_disk handle)) (d.may_leave (handle_disk handle)) t0 (d.state (handle_disk handle)).clock states
-  pub rests : (handle_known handle).broken ≡ None → (e : Editing) × HandleAtRest d opened handle e × ((x : List ℕ) → IsSafe e e x → IsSafe going.e going.next x)
+  pub rests : (handle_known handle).broken ≡ None → (e : Editing) × HandleAtRest d handle e × ((x : List ℕ) → IsSafe e e x → IsSafe going.e going.next x)
 
 -- ---- one command, and a run of them
 
 -- Unless its disk fails, the handle is at rest behind a command; and as before it where there is no memory.
-abbrev pub RestsAt : {D T : Type 0} (d : Ghosts D) → List ℕ → Result T Stop → Editing → Editing → Handle D d → Type 0
-RestsAt d opened (Ok x) e e' handle = HandleAtRest d opened handle e'
-RestsAt d opened (Err stop.Sink) e e' handle = HandleAtRest d opened handle e'
-RestsAt d opened (Err stop.Memory) e e' handle = HandleAtRest d opened handle e
-RestsAt d opened (Err stopped) e e' handle = Unit {0}
+abbrev pub RestsAt : {D T : Type 0} (d : Ghosts D) → Result T Stop → Editing → Editing → Handle D d → Type 0
+RestsAt d (Ok x) e e' handle = HandleAtRest d handle e'
+RestsAt d (Err stop.Sink) e e' handle = HandleAtRest d handle e'
+RestsAt d (Err stop.Memory) e e' handle = HandleAtRest d handle e
+RestsAt d (Err stopped) e e' handle = Unit {0}
 
--- from e to e'
-pub record MovesSafely {D T : Type 0} (d : Ghosts D) (opened : List ℕ) (result : Result T Stop) (e e' : Editing) (old new : Handle D d) : Type 0 where
+-- from e to e', which has the parameters of e
+pub record MovesSafely {D T : Type 0} (d : Ghosts D) (result : Result T Stop) (e e' : Editing) (old new : Handle D d) : Type 0 where
   pub leaves : LeavesEach d (handle_disk old) (handle_disk new) (IsSafe e e')
-  pub rests : RestsAt d opened result e e' new
+  pub rests : RestsAt d result e e' new
+  pub params : handle_params new ≡ handle_params old
 
 -- a command on an open file at rest, where updates are automatic before it or once it is carried out
 abbrev pub StepMoves : {D T : Type 0} (d : Ghosts D) → List Gauge → Said → Result T Stop → Handle D d → Handle D d → Type 0
-StepMoves d taps said result old new = IsAutomatic (rule_for taps old said) (handle_known old) → (opened : List ℕ) (e : Editing) → HandleAtRest d opened old e
-    → MovesSafely d opened result e (edit_file (mode_of old) taps said e).editing old new
+StepMoves d taps said result old new = IsAutomatic (rule_for taps old said) (handle_known old) → (e : Editing) → HandleAtRest d old e
+    → MovesSafely d result e (edit_file (mode_of old) taps said e).editing old new
 
 -- .. on one that is to stay open, where they are
 abbrev pub CommandMoves : {D T : Type 0} (d : Ghosts D) → List Gauge → Bool → Said → Result T Stop → Handle D d → Handle D d → Type 0
-CommandMoves d taps stays said result old new = stays ≡ true → (opened : List ℕ) (e : Editing) → e.automatic ≡ true → HandleAtRest d opened old e
-    → MovesSafely d opened result e (edit_file pinned taps said e).editing old new
+CommandMoves d taps stays said result old new = stays ≡ true → (e : Editing) → e.automatic ≡ true → HandleAtRest d old e
+    → MovesSafely d result e (edit_file pinned taps said e).editing old new
 
 -- a file that stays open, by its name
 abbrev pub pinned_file : List ℕ → List Gauge → Editing → OpenFile
@@ -122,8 +123,8 @@ pinned_file name taps e = record { name = name; mode = pinned; editing = e; taps
 
 -- a whole line
 abbrev pub LineMoves : {D T : Type 0} (d : Ghosts D) → List Gauge → Bool → List ℕ → Result T Stop → Handle D d → Handle D d → Type 0
-LineMoves d taps stays line result old new = stays ≡ true → (opened : List ℕ) (store : Store) (name : List ℕ) (e : Editing) → e.automatic ≡ true → HandleAtRest d opened old e
-    → MovesSafely d opened result e (state_behind e (edit_open_line line store (pinned_file name taps e))) old new
+LineMoves d taps stays line result old new = stays ≡ true → (store : Store) (name : List ℕ) (e : Editing) → e.automatic ≡ true → HandleAtRest d old e
+    → MovesSafely d result e (state_behind e (edit_open_line line store (pinned_file name taps e))) old new
 
 -- .. that says nothing leaves all as it was
 abbrev pub IsIdle : {D : Type 0} {ghosts : Ghosts D} → List ℕ → Result Next Stop → Handle D ghosts → Handle D ghosts → Type 0
@@ -132,22 +133,22 @@ IsIdle line result old new = command_of line ≡ Ok None → (result ≡ Ok next
 -- lines up to where the run stops, behind a trail so far
 abbrev pub TrailsOpen : {V : Type 0} {Z : V → Type 0} {D R O : Type 0} → TapMeter V Z → (d : Ghosts D) → SourceMeaning R → SinkMeaning O → Bool → Handle D d → Run V Z → R → O → Handle D d → O → Type 0
 TrailsOpen meter d r o stays handle run script out handle' out' =
-    stays ≡ true → (opened : List ℕ) (store : Store) (name : List ℕ) (e : Editing) (t0 : ℕ) (past : List Editing) (s t : List ℕ) → HandleAtRest d opened handle e → e.automatic ≡ true →
+    stays ≡ true → (store : Store) (name : List ℕ) (e : Editing) (t0 : ℕ) (past : List Editing) (s t : List ℕ) → HandleAtRest d handle e → e.automatic ≡ true →
     TrailTo IsSafe (d.left_between (handle_disk handle)) t0 (d.state (handle_disk handle)).clock e past → r.left script ≡ Some s → o.told out ≡ Some t →
     let all = steps_left (open_desk store (pinned_file name (taps_of meter run) e)) (moment_of r.left o.told run script out) s in
-    (sent : List ℕ) × (o.told out' ≡ Some (t ++ sent)) × TrailsOn d opened t0 handle' (reverse past ++ reached (length sent) e all)
+    (sent : List ℕ) × (o.told out' ≡ Some (t ++ sent)) × TrailsOn d t0 handle' (reverse past ++ reached (length sent) e all)
 
 -- .. behind the answer that a file was opened, and behind `auto on`
 abbrev pub TrailsPinned : {V : Type 0} {Z : V → Type 0} {D R O : Type 0} → TapMeter V Z → (d : Ghosts D) → SourceMeaning R → SinkMeaning O → Handle D d → Run V Z → R → O → Handle D d → O → Type 0
 TrailsPinned meter d r o handle run script out handle' out' =
-    (opened : List ℕ) (store : Store) (name : List ℕ) (e : Editing) (s t : List ℕ) → HandleAtRest d opened handle e → r.left script ≡ Some s → o.told out ≡ Some t →
+    (store : Store) (name : List ℕ) (e : Editing) (s t : List ℕ) → HandleAtRest d handle e → r.left script ≡ Some s → o.told out ≡ Some t →
     let all = pinned_steps (opened_pinned store name (taps_of meter run) e) (lines_left (moment_of r.left o.told run script out) s) in
-    (sent : List ℕ) × (o.told out' ≡ Some (t ++ sent)) × TrailsOn d opened (d.state (handle_disk handle)).clock handle' (reached (length sent) e all)
+    (sent : List ℕ) × (o.told out' ≡ Some (t ++ sent)) × TrailsOn d (d.state (handle_disk handle)).clock handle' (reached (length sent) e all)
 
 -- .. and the file is closed
 abbrev pub TrailsClosed : {V : Type 0} {Z : V → Type 0} {D R O : Type 0} → TapMeter V Z → (d : Ghosts D) → SourceMeaning R → SinkMeaning O → Handle D d → Run V Z → R → O → D → O → Type 0
 TrailsClosed meter d r o handle run script out disk out' =
-    (opened : List ℕ) (store : Store) (name : List ℕ) (e : Editing) (s t : List ℕ) → HandleAtRest d opened handle e → r.left script ≡ Some s → o.told out ≡ Some t →
+    (store : Store) (name : List ℕ) (e : Editing) (s t : List ℕ) → HandleAtRest d handle e → r.left script ≡ Some s → o.told out ≡ Some t →
     let all = pinned_steps (opened_pinned store name (taps_of meter run) e) (lines_left (moment_of r.left o.told run script out) s) in
     (sent : List ℕ) × (o.told out' ≡ Some (t ++ sent)) × Trail IsSafe (d.left_between disk) (d.state (handle_disk handle)).clock (d.state disk).clock (reached (length sent) e all)
 

@@ -140,7 +140,8 @@ fn closed_command<S: Shelf, R: Source, O: Sink>(
         | Work::Set(_)
         | Work::Ask(_)
         | Work::Tap(_)
-        | Work::Untap(_) => run.refuse(Refusal::NotOpen, out),
+        | Work::Untap(_)
+        | Work::Promote => run.refuse(Refusal::NotOpen, out),
     }
 }
 

@@ -3,7 +3,7 @@
 ghost use Rattle.std.specs.Prelude.{◌≡◌, IfOk, None};
 ghost use Rattle.snd_disk.specs.Device.{AsksAtMost, GoesOnFrom, WritesAtMost};
 ghost use Rattle.snd_layout.specs.Blocks.{is_adpcm};
-ghost use Rattle.snd_file.specs.Loans.{answer_of};
+ghost use Rattle.snd_opening.specs.Opening.{answer_of};
 ghost use Rattle.snd_patch.specs.Steps.{StillTells};
 ghost use Rattle.snd_rules.specs.Edit.{Opening, mode_for, mode_made};
 ghost use Rattle.snd_session.specs.Handled.{IsSmall, handle_known, mode_of};
@@ -12,8 +12,8 @@ ghost use Rattle.snd_script.specs.Used.{most_asked};
 
 use snd_block_writer::are_blocks;
 use snd_disk::Disk;
-use snd_file::{create, create_blocks, open_read, open_update};
 use snd_layout::{Codec, Kind, OpenError, Params};
+use snd_opening::{create, create_blocks, open_read, open_update};
 use snd_session::Handle;
 use std::alloc::Global;
 

@@ -14,8 +14,8 @@ use Rattle.snd_file.specs.Handle.{Stands, known_of}
 use Rattle.snd_file.specs.declared.handle.File.{File}
 use Rattle.snd_edits.specs.declared.mode.Mode.{Ghosts as ModeGhosts}
 use Rattle.snd_pcm.specs.Groups.{first_groups, groups}
-use Rattle.snd_rules.specs.Desk.{Mode, encodes, encoding, makes, pinned, reading, reads, updating, writes, writing}
-use Rattle.snd_rules.specs.Rules.{Rule, auto_rule, by_blocks, encode_rule, in_mode, read_rule, refused_rule, seek_read_rule, seek_rule, seek_write_rule, set_bext_rule, trim_rule, truncate_rule, unless_pinned, update_rule, write_rule}
+use Rattle.snd_rules.specs.Desk.{Mode, encodes, encoding, makes, pinned, reading, reads, updates, updating, writes, writing}
+use Rattle.snd_rules.specs.Rules.{Rule, auto_rule, by_blocks, encode_rule, in_mode, promote_rule, read_rule, refused_rule, seek_read_rule, seek_rule, seek_write_rule, set_bext_rule, trim_rule, truncate_rule, unless_pinned, update_rule, write_rule}
 use Rattle.snd_rules.specs.Stepped.{LeavesTaps, IsSent}
 use Rattle.snd_session.specs.Follows.{FeedsFile, FeedsWork, IsReadFault}
 use Rattle.snd_rules.specs.Work.{asking_rule, setting_rule, work_rule}
@@ -27,7 +27,7 @@ use Rattle.snd_rules.specs.declared.work.Asking.TheVariants as asking
 use Rattle.snd_rules.specs.declared.work.Setting.{Setting}
 use Rattle.snd_rules.specs.declared.work.Setting.TheVariants as setting
 use Rattle.snd_rules.specs.declared.work.Work.{Work}
-use Rattle.snd_rules.specs.declared.work.Work.TheVariants.{Open, Update, Make, Close, Tell, SeekRead, SeekWrite, SeekBoth, Read, Write, Truncate, Trim, BringUp, Auto, Set, Ask, Tap, Untap}
+use Rattle.snd_rules.specs.declared.work.Work.TheVariants.{Open, Update, Make, Close, Tell, SeekRead, SeekWrite, SeekBoth, Read, Write, Truncate, Trim, BringUp, Auto, Promote, Set, Ask, Tap, Untap}
 use Rattle.snd_lines.specs.declared.refusal.Refusal.TheVariants.{AdpcmSeek, AdpcmUpdate, AlreadyOpen}
 
 -- a rule that feeds nothing, and leaves the taps
@@ -85,6 +85,7 @@ setting_stays (setting.Chunk id hex) = record { feeds = λ e. refl; taps = λ co
 setting_stays (setting.Text key text) = record { feeds = λ e. refl; taps = λ codec frames taps. refl }
 setting_stays (setting.Field key text) = field_stays key text.now
 setting_stays (setting.Points places) = record { feeds = λ e. refl; taps = λ codec frames taps. refl }
+setting_stays setting.Reservation = record { feeds = λ e. refl; taps = λ codec frames taps. refl }
 
 -- a rule that leaves them is followed
 pub rule_stays : {D M : Type 0} {ghosts : Ghosts D} {mode : ModeGhosts M} (state : D → State) (rule : Rule) (r : Result Reply StepFault) (file : File D M ghosts mode) (taps : List Gauge) → StaysFed rule
@@ -139,6 +140,7 @@ work_stays mode taps (Truncate n) quiet = stays_in (writes mode) _ (stays_by (en
 work_stays mode taps Trim quiet = stays_in (writes mode) _ (stays_by (encodes mode) (refused_rule AdpcmUpdate) trim_rule (record { feeds = λ e. refl; taps = λ codec frames taps. refl }) (record { feeds = λ e. refl; taps = λ codec frames taps. refl }))
 work_stays mode taps BringUp quiet = stays_in (writes mode) update_rule (record { feeds = λ e. refl; taps = λ codec frames taps. refl })
 work_stays mode taps (Auto on) quiet = stays_held mode (in_mode (writes mode) (auto_rule on)) (stays_in (writes mode) (auto_rule on) (record { feeds = λ e. refl; taps = λ codec frames taps. refl }))
+work_stays mode taps Promote quiet = stays_in (updates mode) promote_rule (record { feeds = λ e. refl; taps = λ codec frames taps. refl })
 work_stays mode taps (Set setting) quiet = stays_in (makes mode) (setting_rule setting) (setting_stays setting)
 work_stays mode taps (Ask asking) quiet = asking_stays asking
 work_stays mode taps (Tap kind) quiet = absurd (cc)
@@ -154,7 +156,7 @@ pub work_fed : {D M : Type 0} {ghosts : Ghosts D} {mode : ModeGhosts M} (state :
 work_fed state how work r file taps quiet = rule_stays state (work_rule how taps work) r file taps (work_stays how taps work quiet)
 
 -- several kinds of work that are refused alike
-pub changing_is_quiet : (w : Work) → ((s : Setting) × (w ≡ Set s)) ⊎ (((n : ℕ) × (w ≡ SeekWrite n)) ⊎ (((xs : Bor (List ℤ)) × (w ≡ Write xs)) ⊎ (((n : ℕ) × (w ≡ Truncate n)) ⊎ ((w ≡ Trim) ⊎ ((w ≡ BringUp) ⊎ ((on : Bool) × (w ≡ Auto on)))))))
+pub changing_is_quiet : (w : Work) → ((s : Setting) × (w ≡ Set s)) ⊎ (((n : ℕ) × (w ≡ SeekWrite n)) ⊎ (((xs : Bor (List ℤ)) × (w ≡ Write xs)) ⊎ (((n : ℕ) × (w ≡ Truncate n)) ⊎ ((w ≡ Trim) ⊎ ((w ≡ BringUp) ⊎ (((on : Bool) × (w ≡ Auto on)) ⊎ (w ≡ Promote)))))))
     → is_quiet reading w ≡ true
 changing_is_quiet w (inl is) = ap (is_quiet reading) is.1
 changing_is_quiet w (inr (inl is)) = ap (is_quiet reading) is.1
@@ -162,4 +164,5 @@ changing_is_quiet w (inr (inr (inl is))) = ap (is_quiet reading) is.1
 changing_is_quiet w (inr (inr (inr (inl is)))) = ap (is_quiet reading) is.1
 changing_is_quiet w (inr (inr (inr (inr (inl is))))) = ap (is_quiet reading) is
 changing_is_quiet w (inr (inr (inr (inr (inr (inl is)))))) = ap (is_quiet reading) is
-changing_is_quiet w (inr (inr (inr (inr (inr (inr is)))))) = ap (is_quiet reading) is.1
+changing_is_quiet w (inr (inr (inr (inr (inr (inr (inl is))))))) = ap (is_quiet reading) is.1
+changing_is_quiet w (inr (inr (inr (inr (inr (inr (inr is))))))) = ap (is_quiet reading) is

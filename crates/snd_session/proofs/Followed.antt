@@ -24,6 +24,7 @@ use Rattle.snd_rules.specs.Rules.{FileEdited, Grounds, Rule, grounds_of, known_g
 use Rattle.snd_rules.specs.Replies.{Answer, says, refuses}
 use Rattle.snd_rules.specs.Stepped.{IsAutomatic, IsBrokenAt, IsKnown, IsSaid, IsSilent, IsStepCause, Knows, LeavesFile, RepliesBy, RepliesUnless, Rose, changes_by, refusal_by, reply_of, IsSent}
 use Rattle.snd_session.specs.Follows.{Follows, switches_on}
+use Rattle.snd_session.specs.Handled.{IsResting}
 use Rattle.snd_session.specs.Replied.{SaysKnown, known_editing}
 use Rattle.snd_rules.specs.declared.reply.Reply.{Reply}
 use Rattle.snd_rules.specs.declared.reply.Reply.TheVariants as reply
@@ -107,7 +108,7 @@ module _ {D M O : Type 0} {mode : ModeGhosts M} (d : Ghosts D) (o : SinkMeaning 
   LeavesDone = IsAutomatic rule (known_of old) → (opened : List ℕ) (e : Editing) → IsAtRest d opened old e → LeavesEach d (disk_of old) (disk_of new) (IsSafe e (rule.done e).editing)
 
   abbrev pub RestsDone : Type 0
-  RestsDone = IsAutomatic rule (known_of old) → (opened : List ℕ) (e : Editing) → IsAtRest d opened old e → IsAtRest d opened new (rule.done e).editing
+  RestsDone = IsAutomatic rule (known_of old) → (opened : List ℕ) (e : Editing) → IsAtRest d opened old e → IsResting d new (rule.done e).editing
 
   -- where updates become automatic, the file is at rest then, whatever a crash could leave before
   abbrev pub BeginsDone : Type 0
@@ -150,7 +151,7 @@ module _ {D M O : Type 0} {mode : ModeGhosts M} (d : Ghosts D) (o : SinkMeaning 
     reads = λ same. reads (unchanging rule.changes (sym (ap (λ x. rule.changes && is_none x) free) ∙ same));
     leaves = λ changes on opened e rest. subst (λ (x : FileEdited). LeavesEach d (disk_of old) (disk_of new) (IsSafe e x.editing)) (edited_on None free e rest.stands)
         (leaves (and_parts rule.changes _ changes).0 on opened e rest);
-    rests = λ changes on opened e rest. subst (λ (x : FileEdited). LeavesFile r x e (IsAtRest d opened new)) (edited_on None free e rest.stands)
+    rests = λ changes on opened e rest. subst (λ (x : FileEdited). LeavesFile r x e (IsResting d new)) (edited_on None free e rest.stands)
         (sent_stands r _ _ (rule.done e) e _ sent (rests (and_parts rule.changes _ changes).0 on opened e rest));
     begins = λ changes on opened e of bytes here. subst (λ (x : FileEdited). LeavesFile r x e (IsAtRest d opened new)) (edited_on None free e here)
         (sent_stands r _ _ (rule.done e) e _ sent (begins (and_parts rule.changes _ changes).0 on opened e of bytes here));

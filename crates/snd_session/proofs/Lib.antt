@@ -5,5 +5,6 @@ pub mod FieldBytes
 pub mod Followed
 pub mod Puts
 pub mod Refused
+pub mod Reserving
 pub mod Resting
 pub mod Tells

@@ -186,16 +186,16 @@ changing_free : (why : Option Refusal) → is_none why ≡ true → why ≡ None
 changing_free None is = refl
 changing_free (Some refusal) is = absurd (cc)
 
-off : (automatic : Bool) → automatic ≡ false → (automatic ≡ true) ⊎ (automatic ≡ true) → ⊥
+pub off : (automatic : Bool) → automatic ≡ false → (automatic ≡ true) ⊎ (automatic ≡ true) → ⊥
 off automatic is on = ⊎_elim (λ e. absurd (cc)) (λ e. absurd (cc)) on
 
-untouched : (k : Known) (rest : Option Refusal) → IsUntouched k → refused_if k.written FramesWritten (refused_if k.automatic AutoOn rest) ≡ rest
+pub untouched : (k : Known) (rest : Option Refusal) → IsUntouched k → refused_if k.written FramesWritten (refused_if k.automatic AutoOn rest) ≡ rest
 untouched k rest un = not_refused k.written FramesWritten _ un.empty ∙ not_refused k.automatic AutoOn rest un.by_hand
 
-late : (k : Known) (rest : Option Refusal) → k.written ≡ true → refused_if k.written FramesWritten (refused_if k.automatic AutoOn rest) ≡ Some FramesWritten
+pub late : (k : Known) (rest : Option Refusal) → k.written ≡ true → refused_if k.written FramesWritten (refused_if k.automatic AutoOn rest) ≡ Some FramesWritten
 late k rest is = is_refused k.written FramesWritten _ is
 
-auto : (k : Known) (rest : Option Refusal) → k.written ≡ false → k.automatic ≡ true → refused_if k.written FramesWritten (refused_if k.automatic AutoOn rest) ≡ Some AutoOn
+pub auto : (k : Known) (rest : Option Refusal) → k.written ≡ false → k.automatic ≡ true → refused_if k.written FramesWritten (refused_if k.automatic AutoOn rest) ≡ Some AutoOn
 auto k rest empty is = not_refused k.written FramesWritten _ empty ∙ is_refused k.automatic AutoOn rest is
 
 -- ---- a draft that is put

@@ -24,11 +24,12 @@ use Rattle.snd_file.proofs.Public.{keeps_of, left_at_rest}
 use Rattle.snd_patch.proofs.Public.{leaves_weaker}
 use Rattle.snd_patch.specs.Images.{LeavesEach}
 use Rattle.snd_meters.specs.Gauge.{Gauge}
-use Rattle.snd_rules.specs.Desk.{Mode, encodes, encoding, all_put, is_pinned, makes, pinned, reading, reads, updating, writes, writing}
+use Rattle.snd_rules.specs.Desk.{Mode, encodes, encoding, all_put, is_pinned, makes, pinned, reading, reads, updates, updating, writes, writing}
 use Rattle.snd_rules.specs.Edit.{edit_by, edit_unless}
-use Rattle.snd_rules.specs.Rules.{FileEdited, Grounds, Rule, answered, auto_rule, by_blocks, encode_rule, frames_wanted, grounds_of, in_mode, read_rule, refused_if, refused_rule, seek_both_rule, seek_read_rule, seek_rule, seek_write_rule, set_bext_rule, set_chunk_rule, set_cue_rule, set_string_rule, trim_rule, truncate_rule, unless_pinned, update_rule, write_rule}
+use Rattle.snd_rules.specs.Rules.{FileEdited, Grounds, Rule, answered, auto_rule, by_blocks, encode_rule, frames_wanted, grounds_of, in_mode, promote_rule, read_rule, refused_if, refused_rule, reserve_rule, seek_both_rule, seek_read_rule, seek_rule, seek_write_rule, set_bext_rule, set_chunk_rule, set_cue_rule, set_string_rule, trim_rule, truncate_rule, unless_pinned, update_rule, write_rule}
 use Rattle.snd_rules.specs.Stepped.{IsAutomatic, LeavesFile, changes_by}
 use Rattle.snd_session.specs.Follows.{Follows}
+use Rattle.snd_session.specs.Handled.{IsResting}
 use Rattle.snd_rules.specs.Work.{asking_rule, setting_rule, work_rule}
 use Rattle.snd_rules.specs.declared.reply.Reply.{Reply}
 use Rattle.snd_rules.specs.declared.reply.StepFault.{StepFault}
@@ -43,7 +44,7 @@ use Rattle.snd_rules.specs.declared.work.Work.{Work}
 use Rattle.snd_rules.specs.Replies.{Answer, done_line, says}
 use Rattle.snd_rules.proofs.Public.{bad_read, good_read}
 use Rattle.snd_session.proofs.Followed.{same_grounds}
-use Rattle.snd_rules.specs.declared.work.Work.TheVariants.{Open, Update, Make, Close, Tell, SeekRead, SeekWrite, SeekBoth, Read, Write, Truncate, Trim, BringUp, Auto, Set, Ask, Tap, Untap}
+use Rattle.snd_rules.specs.declared.work.Work.TheVariants.{Open, Update, Make, Close, Tell, SeekRead, SeekWrite, SeekBoth, Read, Write, Truncate, Trim, BringUp, Auto, Promote, Set, Ask, Tap, Untap}
 
 -- ---- commands that change no file move at most its places
 
@@ -168,6 +169,7 @@ module _ (e : Editing) (holds : HoldsFrames e) where
   set_moves mode (setting.Text key text) is = by_refusal (makes mode) (set_string_rule key text.now) refl is
   set_moves mode (setting.Field key text) is = by_refusal (makes mode) (set_bext_rule key text.now) (bext_changes key text.now) is
   set_moves mode (setting.Points places) is = by_refusal (makes mode) (set_cue_rule places.now.items) refl is
+  set_moves mode setting.Reservation is = by_refusal (makes mode) reserve_rule refl is
 
   -- whatever is done
   moves : (mode : Mode) (taps : List Gauge) (work : Work) → ((work_rule mode taps work).changes && is_none ((work_rule mode taps work).refusal (grounds_of e))) ≡ false → IsMoved e (edit_by (work_rule mode taps work) e).editing
@@ -181,6 +183,7 @@ module _ (e : Editing) (holds : HoldsFrames e) where
   moves mode taps Trim is = keeps_in (writes mode) _ (keeps_by (encodes mode) (refused_rule AdpcmUpdate) trim_rule (λ is. stays) (keeps_changing trim_rule refl)) is
   moves mode taps BringUp is = by_refusal (writes mode) update_rule refl is
   moves mode taps (Auto on) is = by_held (is_pinned mode) (in_mode (writes mode) (auto_rule on)) (λ is. by_refusal (writes mode) (auto_rule on) refl is) is
+  moves mode taps Promote is = by_refusal (updates mode) promote_rule refl is
   moves mode taps (Set setting) is = set_moves mode setting is
   moves mode taps (Ask asking) is = asked_stays asking
   moves mode taps (Tap kind) is = told_stays _ (says done_line)
@@ -232,7 +235,7 @@ abbrev pub Safely : {D M : Type 0} {mode : ModeGhosts M} (d : Ghosts D) → Rule
 Safely d rule old new = IsAutomatic rule (known_of old) → (opened : List ℕ) (e : Editing) → IsAtRest d opened old e → LeavesEach d (disk_of old) (disk_of new) (IsSafe e (edit_by rule e).editing)
 
 abbrev pub ToRest : {D M : Type 0} {mode : ModeGhosts M} (d : Ghosts D) → Rule → Result Reply StepFault → File D M d mode → File D M d mode → Type 0
-ToRest d rule result old new = IsAutomatic rule (known_of old) → (opened : List ℕ) (e : Editing) → IsAtRest d opened old e → LeavesFile result (edit_by rule e) e (IsAtRest d opened new)
+ToRest d rule result old new = IsAutomatic rule (known_of old) → (opened : List ℕ) (e : Editing) → IsAtRest d opened old e → LeavesFile result (edit_by rule e) e (IsResting d new)
 
 module _ {D M O : Type 0} {mode : ModeGhosts M} (d : Ghosts D) (o : SinkMeaning O) (how : Mode) (taps : List Gauge) (work : Work) (r : Result Reply StepFault) (old : File D M d mode) (out : O) (new : File D M d mode) (out' : O)
     (only_now : (disk : D) (s t : ℕ) (x : List ℕ) → (d.state disk).clock ≤ s → d.left_between disk s t x → d.may_leave disk x)
@@ -250,10 +253,10 @@ module _ {D M O : Type 0} {mode : ModeGhosts M} (d : Ghosts D) (o : SinkMeaning 
     same_refusal : (rule.changes && is_none (rule.refusal (grounds_of e))) ≡ false
     same_refusal = ap (λ (g : Grounds). rule.changes && is_none (rule.refusal g)) (sym (same_grounds d.state old e rest.stands)) ∙ none
 
-    pub still_rests : (r : Result Reply StepFault) → LeavesFile r (edit_by rule e) e (Stands d.state new) → LeavesFile r (edit_by rule e) e (IsAtRest d opened new)
-    still_rests (Ok reply) stands = reading_rests d opened old e rest new (follows.reads none) _ (moves e (keeps_of mode.ENCODES opened e rest.state).holds how taps work same_refusal) stands
-    still_rests (Err Out) stands = reading_rests d opened old e rest new (follows.reads none) _ (moves e (keeps_of mode.ENCODES opened e rest.state).holds how taps work same_refusal) stands
-    still_rests (Err Memory) stands = reading_rests d opened old e rest new (follows.reads none) e (stays e (keeps_of mode.ENCODES opened e rest.state).holds) stands
+    pub still_rests : (r : Result Reply StepFault) → LeavesFile r (edit_by rule e) e (Stands d.state new) → LeavesFile r (edit_by rule e) e (IsResting d new)
+    still_rests (Ok reply) stands = (opened, reading_rests d opened old e rest new (follows.reads none) _ (moves e (keeps_of mode.ENCODES opened e rest.state).holds how taps work same_refusal) stands)
+    still_rests (Err Out) stands = (opened, reading_rests d opened old e rest new (follows.reads none) _ (moves e (keeps_of mode.ENCODES opened e rest.state).holds how taps work same_refusal) stands)
+    still_rests (Err Memory) stands = (opened, reading_rests d opened old e rest new (follows.reads none) e (stays e (keeps_of mode.ENCODES opened e rest.state).holds) stands)
     still_rests (Err Disk) stands = tt
 
   pub works_to_rest : ToRest d rule r old new
@@ -261,6 +264,14 @@ module _ {D M O : Type 0} {mode : ModeGhosts M} (d : Ghosts D) (o : SinkMeaning 
     | inl changes ↦ follows.rests changes on opened e rest
     | inr none ↦ still_rests opened e rest none r (follows.stands e rest.stands)
   ]
+
+-- what begins at rest in some file is at rest
+pub also_resting : {D M : Type 0} {mode : ModeGhosts M} (d : Ghosts D) (opened : List ℕ) (r : Result Reply StepFault) (edited : FileEdited) (e : Editing) (new : File D M d mode)
+    → LeavesFile r edited e (IsAtRest d opened new) → LeavesFile r edited e (IsResting d new)
+also_resting d opened (Ok reply) edited e new rest = (opened, rest)
+also_resting d opened (Err Out) edited e new rest = (opened, rest)
+also_resting d opened (Err Memory) edited e new rest = (opened, rest)
+also_resting d opened (Err Disk) edited e new rest = tt
 
 -- ---- a file is closed
 

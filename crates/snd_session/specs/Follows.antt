@@ -25,7 +25,7 @@ use Rattle.snd_patch.specs.Steps.{StillTells}
 use Rattle.snd_rules.specs.Desk.{Mode, all_put}
 use Rattle.snd_rules.specs.Edit.{edit_by}
 use Rattle.snd_rules.specs.Rules.{Rule, frames_wanted, read_known}
-use Rattle.snd_session.specs.Handled.{back_of}
+use Rattle.snd_session.specs.Handled.{IsResting, back_of}
 use Rattle.snd_session.specs.Replied.{SaysKnown}
 use Rattle.snd_rules.specs.Stepped.{IsAutomatic, IsSaid, IsSilent, IsStepCause, Knows, LeavesFile, LeavesTaps, Rose, changes_by}
 use Rattle.snd_rules.specs.declared.reply.Reply.{Reply}
@@ -46,7 +46,7 @@ ChangesSafely d rule old new =
 abbrev pub ChangesToRest : {D M : Type 0} {mode : ModeGhosts M} (d : Ghosts D) → Rule → Result Reply StepFault → File D M d mode → File D M d mode → Type 0
 ChangesToRest d rule result old new =
     changes_by rule (known_of old) ≡ true → IsAutomatic rule (known_of old) → (opened : List ℕ) (e : Editing) → IsAtRest d opened old e
-    → LeavesFile result (edit_by rule e) e (IsAtRest d opened new)
+    → LeavesFile result (edit_by rule e) e (IsResting d new)
 
 -- whether updates are automatic once a command is carried out, though they were not so before
 abbrev pub switches_on : Rule → Known → Bool

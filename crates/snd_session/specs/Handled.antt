@@ -16,6 +16,8 @@ use Rattle.snd_edits.specs.Known.{Known}
 use Rattle.snd_edits.specs.Laws.{IsStateOf}
 use Rattle.snd_file.specs.Handle.{Stands, disk_of, known_of, loan_of}
 use Rattle.snd_file.specs.Rest.{IsAtRest}
+use Rattle.snd_file.specs.declared.handle.File.{File}
+use Rattle.snd_edits.specs.declared.mode.Mode.{Ghosts as ModeGhosts}
 use Rattle.snd_edits.specs.Safe.{IsSafe}
 use Rattle.snd_patch.specs.Images.{LeavesEach}
 use Rattle.snd_patch.specs.Steps.{StillTells}
@@ -68,12 +70,16 @@ HandleStands state (W file) e = Stands state file e
 HandleStands state (B file) e = Stands state file e
 HandleStands state (U file) e = Stands state file e
 
--- .. and is at rest in it
-abbrev pub HandleAtRest : {D : Type 0} (d : Ghosts D) → List ℕ → Handle D d → Editing → Type 0
-HandleAtRest d opened (R file) e = IsAtRest d opened file e
-HandleAtRest d opened (W file) e = IsAtRest d opened file e
-HandleAtRest d opened (B file) e = IsAtRest d opened file e
-HandleAtRest d opened (U file) e = IsAtRest d opened file e
+-- A file is at rest in a state to which commands led from some bytes: those that were opened or made, or those that it had once it
+-- was promoted
+abbrev pub IsResting : {D M : Type 0} {mode : ModeGhosts M} (d : Ghosts D) → File D M d mode → Editing → Type 0
+IsResting d file e = (opened : List ℕ) × IsAtRest d opened file e
+
+abbrev pub HandleAtRest : {D : Type 0} (d : Ghosts D) → Handle D d → Editing → Type 0
+HandleAtRest d (R file) e = IsResting d file e
+HandleAtRest d (W file) e = IsResting d file e
+HandleAtRest d (B file) e = IsResting d file e
+HandleAtRest d (U file) e = IsResting d file e
 
 -- its parameters
 abbrev pub handle_params : {D : Type 0} {ghosts : Ghosts D} → Handle D ghosts → Parameters
@@ -140,17 +146,17 @@ CountsStep state faults result old out new out' =
 -- .. and from rest, where updates are automatic before the command or once it is carried out: what it leaves at any moment is safe
 -- between the state before the command and the one to which that leads; and unless the disk fails, it is at rest then
 abbrev pub StepsSafely : {D : Type 0} (d : Ghosts D) → List Gauge → Said → Handle D d → Handle D d → Type 0
-StepsSafely d taps said old new = IsAutomatic (rule_for taps old said) (handle_known old) → (opened : List ℕ) (e : Editing) → HandleAtRest d opened old e
+StepsSafely d taps said old new = IsAutomatic (rule_for taps old said) (handle_known old) → (e : Editing) → HandleAtRest d old e
     → LeavesEach d (handle_disk old) (handle_disk new) (IsSafe e (edit_file (mode_of old) taps said e).editing)
 
 abbrev pub StepsToRest : {D : Type 0} (d : Ghosts D) → List Gauge → Result Reply StepFault → Said → Handle D d → Handle D d → Type 0
-StepsToRest d taps result said old new = IsAutomatic (rule_for taps old said) (handle_known old) → (opened : List ℕ) (e : Editing) → HandleAtRest d opened old e
-    → LeavesFile result (edit_file (mode_of old) taps said e) e (HandleAtRest d opened new)
+StepsToRest d taps result said old new = IsAutomatic (rule_for taps old said) (handle_known old) → (e : Editing) → HandleAtRest d old e
+    → LeavesFile result (edit_file (mode_of old) taps said e) e (HandleAtRest d new)
 
 -- .. and an accepted `auto on` brings it to rest, whatever a crash could leave of it before, unless the disk fails
 abbrev pub BeginsAtRest : {D : Type 0} (d : Ghosts D) → List Gauge → Result Reply StepFault → Said → Handle D d → Handle D d → Type 0
 BeginsAtRest d taps result said old new = said ≡ Said.auto true → changes_by (rule_for taps old said) (handle_known old) ≡ true → (opened : List ℕ) (e : Editing)
-    → IsStateOf (encodes (mode_of old)) opened e → All IsByte e.bytes → HandleStands d.state old e → LeavesFile result (edit_file (mode_of old) taps said e) e (HandleAtRest d opened new)
+    → IsStateOf (encodes (mode_of old)) opened e → All IsByte e.bytes → HandleStands d.state old e → LeavesFile result (edit_file (mode_of old) taps said e) e (HandleAtRest d new)
 
 -- .. and the taps, over every disk: the frames that are fed to those that are on are the ones that are said, where it tells them
 abbrev pub FeedsTaps : {D : Type 0} {ghosts : Ghosts D} → (D → State) → Result Reply StepFault → Said → Handle D ghosts → List Gauge → List Gauge → Type 0
@@ -213,4 +219,4 @@ pub record LeavesDisk {D : Type 0} {ghosts : Ghosts D} (state : D → State) (ma
 
 -- .. and from rest, what closing it leaves at any moment is safe in its state; in ADPCM between that and the one with all frames
 abbrev pub FinishesSafely : {D : Type 0} (d : Ghosts D) → Handle D d → D → Type 0
-FinishesSafely d handle disk = (opened : List ℕ) (e : Editing) → HandleAtRest d opened handle e → LeavesEach d (handle_disk handle) disk (IsSafe e (all_put (encodes (mode_of handle)) e))
+FinishesSafely d handle disk = (e : Editing) → HandleAtRest d handle e → LeavesEach d (handle_disk handle) disk (IsSafe e (all_put (encodes (mode_of handle)) e))

@@ -2,15 +2,16 @@
 
 ghost use Rattle.std.specs.Prelude.{◌≡◌, None};
 ghost use Rattle.snd_file.specs.Handle.{known_of};
-ghost use Rattle.snd_rules.specs.Rules.{auto_rule, encode_rule, trim_rule, truncate_rule, update_rule, write_rule};
+ghost use Rattle.snd_rules.specs.Rules.{auto_rule, encode_rule, promote_rule, trim_rule, truncate_rule, update_rule, write_rule};
 ghost use Rattle.snd_session.specs.Follows.{Follows};
 
 use snd_disk::{Disk, Sink};
 use snd_edits::{
-    AutoError, CanSeal, CanShrink, CanWrite, Encode, ShrinkError, UpdateError, WriteError,
+    AutoError, CanSeal, CanShrink, CanWrite, Encode, ShrinkError, Update, UpdateError, WriteError,
 };
 use snd_file::File;
 use snd_lines::Refusal;
+use snd_reservations::PromoteError;
 use snd_rules::{Reply, StepFault, refuse, say_ok};
 
 /// Writes the frames of these numbers.
@@ -129,5 +130,22 @@ pub fn set_auto<'d, D: Disk, M: CanSeal, O: Sink>(
         Err(AutoError::Straddle) => refuse(out, Refusal::Straddle),
         Err(AutoError::DiskFault(_)) => Err(StepFault::Disk),
         Err(AutoError::Broken(_)) => unreachable!(),
+    }
+}
+
+/// Turns a WAVE file into RF64 in place.
+pub fn promote<'d, D: Disk, O: Sink>(
+    file: &mut File<'d, D, Update>,
+    out: &mut O,
+) -> Result<Reply, StepFault>
+    requires { (known_of file.old).broken ≡ None }
+    ensures { Follows D.Disk O.Sink promote_rule result file.old out.old file.new out.new }
+{
+    match file.promote() {
+        Ok(frames) => say_ok(out, frames),
+        Err(PromoteError::NoRoom) => refuse(out, Refusal::NoRoom),
+        Err(PromoteError::TrailingData) => refuse(out, Refusal::TrailingData),
+        Err(PromoteError::DiskFault(_)) => Err(StepFault::Disk),
+        Err(PromoteError::Broken(_)) => unreachable!(),
     }
 }

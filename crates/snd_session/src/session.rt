@@ -74,9 +74,9 @@ impl Session {
     ///
     /// A read asks at most 1024 bytes of the disk for each frame that is wanted, and 16384 more. A write of
     /// v numbers writes at most `4 v + 72` bytes, or in ADPCM the blocks that their frames fill, one more and 64
-    /// bytes; `trim` writes 80, `truncate` 72, and `update` and `auto` 64. A `get`
-    /// asks at most 81920; a `set` writes at most 16777216 and asks at most so many. Other commands ask and
-    /// write nothing.
+    /// bytes; `trim` writes 80, `truncate` 72, `update` and `auto` 64, `reserve` 2048, and `promote` 116. A
+    /// `get` asks at most 81920, but for `get chunks`; a `set` writes at most 16777216 and asks at most so many.
+    /// Other commands ask and write nothing.
     pub fn step<'d, D: Disk, O: Sink>(
         &mut self,
         handle: &mut Handle<'d, D>,

@@ -3,7 +3,7 @@
 ghost use Rattle.std.specs.Prelude.{◌≡◌, ◌≢◌, IfErr, None, true};
 ghost use Rattle.snd_file.specs.Handle.{known_of};
 ghost use Rattle.snd_session.specs.Answered.{IsPutWhole, Puts, put_refused};
-ghost use Rattle.snd_rules.specs.Rules.{set_bext_rule, set_chunk_rule, set_cue_rule, set_string_rule, set_time_rule};
+ghost use Rattle.snd_rules.specs.Rules.{reserve_rule, set_bext_rule, set_chunk_rule, set_cue_rule, set_string_rule, set_time_rule};
 ghost use Rattle.snd_session.specs.Follows.{Follows};
 ghost use Rattle.snd_rules.specs.Work.{setting_rule};
 
@@ -16,6 +16,7 @@ use snd_file::File;
 use snd_layout::{OpenRefusal, PieceError};
 use snd_lines::Refusal;
 use snd_meta::{BextKey, InfoKey};
+use snd_reservations::ReserveError;
 use snd_rules::{Reply, Setting, StepFault, bytes_of_hex, refuse, say_text};
 use snd_tags::{SetError, set_field, set_points, set_text, set_time};
 use std::alloc::Global;
@@ -36,6 +37,7 @@ pub fn set<'d, D: Disk, M: CanMake, O: Sink>(
         Setting::Field(BextKey::TimeRef, text) => put_time(file, alloc, decimal(text), out),
         Setting::Field(key, text) => put_field(file, alloc, key, text, out),
         Setting::Points(places) => put_points(file, alloc, places, out),
+        Setting::Reservation => reserve(file, out),
     }
 }
 
@@ -154,4 +156,22 @@ fn put_points<'d, D: Disk, M: CanMake, O: Sink>(
     ensures { Follows D.Disk O.Sink (set_cue_rule places.now.items) result file.old out.old file.new out.new }
 {
     say_put(set_points(file, alloc, places), out)
+}
+
+// Reserves a chunk for 64-bit sizes.
+fn reserve<'d, D: Disk, M: CanMake, O: Sink>(
+    file: &mut File<'d, D, M>,
+    out: &mut O,
+) -> Result<Reply, StepFault>
+    requires { (known_of file.old).broken ≡ None }
+    ensures { Follows D.Disk O.Sink reserve_rule result file.old out.old file.new out.new }
+{
+    match file.reserve() {
+        Ok(()) => say_text(out, b"ok\n"),
+        Err(ReserveError::FramesWritten) => refuse(out, Refusal::FramesWritten),
+        Err(ReserveError::AutoOn) => refuse(out, Refusal::AutoOn),
+        Err(ReserveError::NoRoom) => refuse(out, Refusal::NoRoom),
+        Err(ReserveError::DiskFault(_)) => Err(StepFault::Disk),
+        Err(ReserveError::Broken(_)) => unreachable!(),
+    }
 }

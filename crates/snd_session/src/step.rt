@@ -9,7 +9,7 @@ ghost use Rattle.snd_rules.specs.Work.{work_closes, work_sets};
 
 use crate::asking::ask;
 use crate::carry::{read, refuse_on, seek_both, seek_read, seek_write, tell, tell_given};
-use crate::change::{bring_up, encode, set_auto, trim, truncate, write};
+use crate::change::{bring_up, encode, promote, set_auto, trim, truncate, write};
 use crate::room::Room;
 use crate::setting::set;
 use crate::tapping::{tap, untap};
@@ -46,7 +46,8 @@ pub fn step_read<'d, D: Disk, O: Sink>(
         | Work::Truncate(_)
         | Work::Trim
         | Work::BringUp
-        | Work::Auto(_) => refuse_on(file, Refusal::WrongMode, out),
+        | Work::Auto(_)
+        | Work::Promote => refuse_on(file, Refusal::WrongMode, out),
         Work::Open(_) | Work::Update(_) | Work::Make(..) => {
             refuse_on(file, Refusal::AlreadyOpen, out)
         }
@@ -98,7 +99,9 @@ pub fn step_blocks<'d, D: Disk, O: Sink>(
         Work::Ask(asking) => ask(file, alloc, asking, out),
         Work::SeekWrite(_) | Work::SeekBoth(_) => refuse_on(file, Refusal::AdpcmSeek, out),
         Work::Truncate(_) | Work::Trim => refuse_on(file, Refusal::AdpcmUpdate, out),
-        Work::SeekRead(_) | Work::Read(_) => refuse_on(file, Refusal::WrongMode, out),
+        Work::SeekRead(_) | Work::Read(_) | Work::Promote => {
+            refuse_on(file, Refusal::WrongMode, out)
+        }
         Work::Open(_) | Work::Update(_) | Work::Make(..) => {
             refuse_on(file, Refusal::AlreadyOpen, out)
         }
@@ -131,7 +134,9 @@ fn step_write<'d, D: Disk, M: CanShrink, O: Sink>(
         Work::BringUp => bring_up(file, out),
         Work::Auto(on) => set_auto(file, on, out),
         Work::Ask(asking) => ask(file, alloc, asking, out),
-        Work::SeekRead(_) | Work::Read(_) => refuse_on(file, Refusal::WrongMode, out),
+        Work::SeekRead(_) | Work::Read(_) | Work::Promote => {
+            refuse_on(file, Refusal::WrongMode, out)
+        }
         Work::Open(_) | Work::Update(_) | Work::Make(..) => {
             refuse_on(file, Refusal::AlreadyOpen, out)
         }
@@ -159,6 +164,7 @@ pub fn step_update<'d, D: Disk, O: Sink>(
         Work::SeekRead(to) => seek_read(file, to, out),
         Work::SeekBoth(to) => seek_both(file, to, out),
         Work::Read(count) => read(file, room, meters, count, out),
+        Work::Promote => promote(file, out),
         Work::Set(_) => refuse_on(file, Refusal::WrongMode, out),
         other => step_write(file, other, room.alloc, meters, out),
     }

@@ -7,6 +7,7 @@ pub mod Metadata
 pub mod Names
 pub mod Options
 pub mod Plain
+pub mod Raw
 pub mod Repeats
 pub mod Request
 pub mod Setting

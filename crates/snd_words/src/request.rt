@@ -12,6 +12,7 @@ use crate::interleave::{Interleaving, interleave_request};
 use crate::metadata::{MetadataChange, metadata_request};
 use crate::names::Names;
 use crate::plain::{help_request, info_request, script_request, version_request};
+use crate::raw::{Exportation, Importation, export_request, import_request};
 use crate::topic::{Topic, asks_help, topic_of};
 use snd_fields::Words;
 
@@ -46,6 +47,11 @@ pub enum Tool<'a> {
     Generate(Generation<'a>),
     /// `metadata-set OPTION TEXT .. IN OUT`: to make a file of another one's sound, with texts of its own.
     SetMetadata(MetadataChange<'a>),
+    /// `import raw CODEC N N IN OUT`, `import vox N IN OUT`, `import pvf IN OUT`: to make a sound file of a file of
+    /// another form.
+    Import(Importation<'a>),
+    /// `export raw IN OUT`, `export vox IN OUT`, `export pvf IN OUT`: to make a file of another form of a sound file.
+    Export(Exportation<'a>),
 }
 
 /// What the words ask for, of which the first one is the command.
@@ -72,6 +78,10 @@ fn request_with<'a>(command: &str, words: &'a Words) -> Option<Request<'a>>
         return gen_request(words);
     } else if command == "metadata-set" {
         return metadata_request(words);
+    } else if command == "import" {
+        return import_request(words);
+    } else if command == "export" {
+        return export_request(words);
     }
     None
 }

@@ -20,6 +20,10 @@ pub enum Topic {
     SetMetadata,
     /// `gen`
     Generate,
+    /// `import`
+    Import,
+    /// `export`
+    Export,
     /// `script`
     Script,
 }
@@ -41,6 +45,10 @@ pub(crate) fn topic_of(command: &str) -> Option<Topic>
         Some(Topic::SetMetadata)
     } else if command == "gen" {
         Some(Topic::Generate)
+    } else if command == "import" {
+        Some(Topic::Import)
+    } else if command == "export" {
+        Some(Topic::Export)
     } else if command == "script" {
         Some(Topic::Script)
     } else {

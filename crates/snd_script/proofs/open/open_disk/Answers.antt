@@ -12,4 +12,5 @@ returns-in-Err-clause-opened g c =
 
 pub returns-in-Ok-open_update-clause-rests : goal.returns-in-Ok-open_update-clause-rests
 returns-in-Ok-open_update-clause-rests g c =
-    subst (λ (how : OpenAs). OpensToRest g.D.Disk how c.args.disk.now (U c.in-Ok-open_update.file)) (sym c.in-Update.is) c.in-Ok-open_update.ensures.rests
+    subst (λ (how : OpenAs). OpensToRest g.D.Disk how c.args.disk.now (U c.in-Ok-open_update.file)) (sym c.in-Update.is)
+    (λ b e tells stable is fit. (b, c.in-Ok-open_update.ensures.rests b e tells stable is fit))

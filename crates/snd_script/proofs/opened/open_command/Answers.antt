@@ -70,23 +70,23 @@ returns-clause-written g c = record {
 }
 
 pub returns-in_err-refuse-clause-moves : goal.returns-in_err-refuse-clause-moves
-returns-in_err-refuse-clause-moves g c = λ pins opened e on rest.
-    moves_refused g.D.Disk g.met.D.Disk.only_now opened _ e (taps_of (λ b. (goal.Tap-dyn g b).meter b.1) c.args.run.now) (said_of c.args.said) c.in-Some.refusal c.args.handle.now (c.in-Some.ensures.1 (taps_of (λ b. (goal.Tap-dyn g b).meter b.1) c.args.run.now)) rest
+returns-in_err-refuse-clause-moves g c = λ pins e on rest.
+    moves_refused g.D.Disk g.met.D.Disk.only_now _ e (taps_of (λ b. (goal.Tap-dyn g b).meter b.1) c.args.run.now) (said_of c.args.said) c.in-Some.refusal c.args.handle.now (c.in-Some.ensures.1 (taps_of (λ b. (goal.Tap-dyn g b).meter b.1) c.args.run.now)) rest
 
 pub returns-in-Some-clause-moves : goal.returns-in-Some-clause-moves
-returns-in-Some-clause-moves g c = λ pins opened e on rest.
-    moves_refused g.D.Disk g.met.D.Disk.only_now opened _ e (taps_of (λ b. (goal.Tap-dyn g b).meter b.1) c.args.run.now) (said_of c.args.said) c.in-Some.refusal c.args.handle.now (c.in-Some.ensures.1 (taps_of (λ b. (goal.Tap-dyn g b).meter b.1) c.args.run.now)) rest
+returns-in-Some-clause-moves g c = λ pins e on rest.
+    moves_refused g.D.Disk g.met.D.Disk.only_now _ e (taps_of (λ b. (goal.Tap-dyn g b).meter b.1) c.args.run.now) (said_of c.args.said) c.in-Some.refusal c.args.handle.now (c.in-Some.ensures.1 (taps_of (λ b. (goal.Tap-dyn g b).meter b.1) c.args.run.now)) rest
 
 pub returns-in_err-step-clause-moves : goal.returns-in_err-step-clause-moves
 returns-in_err-step-clause-moves g c =
     let p = err_from_is_err_and c.from_residual-in_err-step.result c.from_residual-in_err-step.ensures.1 in
-    rw (p.1, p.2) (λ pins opened e on rest.
-    let moves = c.in_err-step.ensures.moves (inl (automatic_of g.D.Disk opened c.args.handle.now e rest ∙ on)) opened e rest in
-    moves_as g.D.Disk opened _ e _ _ c.args.handle.now c.step.new.handle (carried_behind (mode_of c.args.handle.now) (taps_of (λ b. (goal.Tap-dyn g b).meter b.1) c.args.run.now) (said_of c.args.said) e (c.requires.updated pins) (c.in_default.ensures pins))
-    (record { leaves = moves.leaves; rests = moves.rests }))
+    rw (p.1, p.2) (λ pins e on rest.
+    let moves = c.in_err-step.ensures.moves (inl (automatic_of g.D.Disk c.args.handle.now e rest ∙ on)) e rest in
+    moves_as g.D.Disk _ e _ _ c.args.handle.now c.step.new.handle (carried_behind (mode_of c.args.handle.now) (taps_of (λ b. (goal.Tap-dyn g b).meter b.1) c.args.run.now) (said_of c.args.said) e (c.requires.updated pins) (c.in_default.ensures pins))
+    (record { leaves = moves.leaves; rests = moves.rests; params = moves.params }))
 
 pub returns-clause-moves : goal.returns-clause-moves
-returns-clause-moves g c = λ pins opened e on rest.
-    let moves = c.in_ok-step.ensures.moves (inl (automatic_of g.D.Disk opened c.args.handle.now e rest ∙ on)) opened e rest in
-    moves_as g.D.Disk opened _ e _ _ c.args.handle.now c.step.new.handle (carried_behind (mode_of c.args.handle.now) (taps_of (λ b. (goal.Tap-dyn g b).meter b.1) c.args.run.now) (said_of c.args.said) e (c.requires.updated pins) (c.in_default.ensures pins))
-    (record { leaves = moves.leaves; rests = moves.rests })
+returns-clause-moves g c = λ pins e on rest.
+    let moves = c.in_ok-step.ensures.moves (inl (automatic_of g.D.Disk c.args.handle.now e rest ∙ on)) e rest in
+    moves_as g.D.Disk _ e _ _ c.args.handle.now c.step.new.handle (carried_behind (mode_of c.args.handle.now) (taps_of (λ b. (goal.Tap-dyn g b).meter b.1) c.args.run.now) (said_of c.args.said) e (c.requires.updated pins) (c.in_default.ensures pins))
+    (record { leaves = moves.leaves; rests = moves.rests; params = moves.params })

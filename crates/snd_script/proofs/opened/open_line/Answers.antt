@@ -22,31 +22,31 @@ returns-in_err-refuse-in-Err-clause-answered g c =
     (stands_open g.D.Disk.state store name c.args.stays _ _ c.args.handle.now c.args.handle.now e _ refl c.refuse.ensures.taps stands))
 
 pub returns-in-Ok-None-clause-moves : goal.returns-in-Ok-None-clause-moves
-returns-in-Ok-None-clause-moves g c = λ pins opened store name e on rest.
+returns-in-Ok-None-clause-moves g c = λ pins store name e on rest.
     let command = command_of c.args.line.now in
     let none : command ≡ Ok None = search rules in
-    moves_as g.D.Disk opened _ e e _ c.args.handle.now c.args.handle.now (sym (ap (λ x. state_behind e (line_edit (open_desk store (pinned_file name (taps_of (λ b. (goal.Tap-dyn g b).meter b.1) c.args.run.now) e)) x)) none))
-    (moves_none g.D.Disk g.met.D.Disk.only_now opened _ e c.args.handle.now rest)
+    moves_as g.D.Disk _ e e _ c.args.handle.now c.args.handle.now (sym (ap (λ x. state_behind e (line_edit (open_desk store (pinned_file name (taps_of (λ b. (goal.Tap-dyn g b).meter b.1) c.args.run.now) e)) x)) none))
+    (moves_none g.D.Disk g.met.D.Disk.only_now _ e c.args.handle.now rest)
 
 pub returns-in-Ok-Some-clause-moves : goal.returns-in-Ok-Some-clause-moves
-returns-in-Ok-Some-clause-moves g c = λ pins opened store name e on rest.
+returns-in-Ok-Some-clause-moves g c = λ pins store name e on rest.
     let command = command_of c.args.line.now in
     let said : command ≡ Ok (Some (said_of c.in-Ok-Some.said)) = search rules in
-    moves_as g.D.Disk opened _ e _ _ c.args.handle.now c.open_command.new.handle
+    moves_as g.D.Disk _ e _ _ c.args.handle.now c.open_command.new.handle
     (sym (ap (λ x. state_behind e (line_edit (open_desk store (pinned_file name (taps_of (λ b. (goal.Tap-dyn g b).meter b.1) c.args.run.now) e)) x)) said ∙ said_behind store name (taps_of (λ b. (goal.Tap-dyn g b).meter b.1) c.args.run.now) e (said_of c.in-Ok-Some.said)))
-    (c.open_command.ensures.moves pins opened e on rest)
+    (c.open_command.ensures.moves pins e on rest)
 
 pub returns-in_err-refuse-in-Err-clause-moves : goal.returns-in_err-refuse-in-Err-clause-moves
-returns-in_err-refuse-in-Err-clause-moves g c = λ pins opened store name e on rest.
+returns-in_err-refuse-in-Err-clause-moves g c = λ pins store name e on rest.
     let desk = open_desk store (pinned_file name (taps_of (λ b. (goal.Tap-dyn g b).meter b.1) c.args.run.now) e) in
-    moves_as g.D.Disk opened _ e e _ c.args.handle.now c.args.handle.now (sym (ap (state_behind e) (ap (line_edit desk) (sym c.in-Err.ensures) ∙ c.line_refusal.ensures desk)))
-    (moves_none g.D.Disk g.met.D.Disk.only_now opened _ e c.args.handle.now rest)
+    moves_as g.D.Disk _ e e _ c.args.handle.now c.args.handle.now (sym (ap (state_behind e) (ap (line_edit desk) (sym c.in-Err.ensures) ∙ c.line_refusal.ensures desk)))
+    (moves_none g.D.Disk g.met.D.Disk.only_now _ e c.args.handle.now rest)
 
 pub returns-in_ok-refuse-in-Err-clause-moves : goal.returns-in_ok-refuse-in-Err-clause-moves
-returns-in_ok-refuse-in-Err-clause-moves g c = λ pins opened store name e on rest.
+returns-in_ok-refuse-in-Err-clause-moves g c = λ pins store name e on rest.
     let desk = open_desk store (pinned_file name (taps_of (λ b. (goal.Tap-dyn g b).meter b.1) c.args.run.now) e) in
-    moves_as g.D.Disk opened _ e e _ c.args.handle.now c.args.handle.now (sym (ap (state_behind e) (ap (line_edit desk) (sym c.in-Err.ensures) ∙ c.line_refusal.ensures desk)))
-    (moves_none g.D.Disk g.met.D.Disk.only_now opened _ e c.args.handle.now rest)
+    moves_as g.D.Disk _ e e _ c.args.handle.now c.args.handle.now (sym (ap (state_behind e) (ap (line_edit desk) (sym c.in-Err.ensures) ∙ c.line_refusal.ensures desk)))
+    (moves_none g.D.Disk g.met.D.Disk.only_now _ e c.args.handle.now rest)
 
 pub returns-in-Ok-Some-clause-answered : goal.returns-in-Ok-Some-clause-answered
 returns-in-Ok-Some-clause-answered g c = λ name store e stands.

@@ -31,14 +31,14 @@ loop-line-init g c = record {
   given = omega arith;
   counted = record { shelf = refl; script = refl; out = refl };
   leaves = leaves_handle_none _ _ _ c.args.handle.now;
-  trail = λ pins opened store name e t0 past s t rest on before left told. (
+  trail = λ pins store name e t0 past s t rest on before left told. (
     e,
     s,
     [],
     on,
     left,
     told ∙ ap (λ (l : List ℕ). Some l) (sym (append-nil t)),
-    trail_begins g.D.Disk g.met.D.Disk.only_now opened t0 past e (steps_left (open_desk store (pinned_file name _ e)) (moment_of g.R.Source.left g.O.Sink.told c.args.run.now c.args.script.now c.args.out.now) s) c.args.handle.now rest before,
+    trail_begins g.D.Disk g.met.D.Disk.only_now t0 past e (steps_left (open_desk store (pinned_file name _ e)) (moment_of g.R.Source.left g.O.Sink.told c.args.run.now c.args.script.now c.args.out.now) s) c.args.handle.now rest before,
   );
   tail = λ s left. tail_none _ s _ left;
   asked = λ s left. uses_so_far_none _ _ s _ _ left;
@@ -88,24 +88,24 @@ loop-line-preserved g c = record {
     out = (c.in_ok-open_line.ensures.counted 0).out ∙ c.loop-line.invariant.counted.out;
   };
   leaves = leaves_handle_then _ _ _ _ _ _ c.loop-line.invariant.leaves c.in_ok-open_line.ensures.leaves;
-  trail = λ pins opened store name e t0 past s t rest on before left told.
-      let so_far = c.loop-line.invariant.trail pins opened store name e t0 past s t rest on before left told in
+  trail = λ pins store name e t0 past s t rest on before left told.
+      let so_far = c.loop-line.invariant.trail pins store name e t0 past s t rest on before left told in
       let comes = c.in_ok-next.ensures.brought so_far.1 so_far.4 in
       let e' = so_far.0 in
-      let trail = trail_with g.D.Disk opened t0 _ e _ store name _ _ e' _ _ c.loop-line.handle c.next.ensures.taps so_far.6 in
+      let trail = trail_with g.D.Disk t0 _ e _ store name _ _ e' _ _ c.loop-line.handle c.next.ensures.taps so_far.6 in
       let kept = c.next.new.line in
       let step = edit_line (open_desk store (pinned_file name (taps_of (λ b. (goal.Tap-dyn g b).meter b.1) c.next.new.self) e')) kept in
       let sent = so_far.2 ++ text_of step.answer in
-      let answered = rw (pins, c.in-Open.is) at (c.in_ok-open_line.ensures.answered name store e' (stands_of g.D.Disk opened c.loop-line.handle e' so_far.6.rests)) in
-      let moves = rw c.in-Open.is at (c.in_ok-open_line.ensures.moves pins opened store name e' so_far.3 so_far.6.rests) in (
+      let answered = rw (pins, c.in-Open.is) at (c.in_ok-open_line.ensures.answered name store e' (stands_of g.D.Disk c.loop-line.handle e' so_far.6.rests)) in
+      let moves = rw c.in-Open.is at (c.in_ok-open_line.ensures.moves pins store name e' so_far.3 so_far.6.rests) in (
         state_behind e' step,
         comes.0,
         sent,
         command_automatic store name (taps_of (λ b. (goal.Tap-dyn g b).meter b.1) c.next.new.self) e' (command_of kept) ∙ so_far.3,
         comes.1,
         answered.1 (t ++ so_far.2) so_far.5 ∙ ap (λ (l : List ℕ). Some l) (append_assoc t so_far.2 (text_of step.answer)),
-        trail_on g.D.Disk g.met.D.Disk.only_now opened t0 _ e _ store name (taps_of (λ b. (goal.Tap-dyn g b).meter b.1) c.next.new.self) e' kept c.loop-line.run.lines c.next.new.self.lines so_far.1 comes.0 (length so_far.2) c.loop-line.handle c.open_line.new.handle trail comes.2
-            (taps_of (λ b. (goal.Tap-dyn g b).meter b.1) c.open_line.new.run) (ap (λ (d : Desk). taps_in (taps_of (λ b. (goal.Tap-dyn g b).meter b.1) c.next.new.self) d.open_file) answered.2.is) c.open_line.new.run.lines (length sent) c.in_ok-open_line.ensures.lines (record { leaves = moves.leaves; rests = moves.rests }) (λ none. (c.in_ok-open_line.ensures.idle none).1) (length-append so_far.2 (text_of step.answer)),
+        trail_on g.D.Disk g.met.D.Disk.only_now t0 _ e _ store name (taps_of (λ b. (goal.Tap-dyn g b).meter b.1) c.next.new.self) e' kept c.loop-line.run.lines c.next.new.self.lines so_far.1 comes.0 (length so_far.2) c.loop-line.handle c.open_line.new.handle trail comes.2
+            (taps_of (λ b. (goal.Tap-dyn g b).meter b.1) c.open_line.new.run) (ap (λ (d : Desk). taps_in (taps_of (λ b. (goal.Tap-dyn g b).meter b.1) c.next.new.self) d.open_file) answered.2.is) c.open_line.new.run.lines (length sent) c.in_ok-open_line.ensures.lines (record { leaves = moves.leaves; rests = moves.rests; params = moves.params }) (λ none. (c.in_ok-open_line.ensures.idle none).1) (length-append so_far.2 (text_of step.answer)),
       );
   tail = λ s left.
       let so_far = c.loop-line.invariant.tail s left in
@@ -192,18 +192,18 @@ returns-in-Close-clause-tail g c = λ s left.
     tail_of_line _ c.loop-line.run.lines c.next.new.self.lines _ c.next.new.line comes.0 _ _ so_far comes.2 c.in_ok-open_line.ensures.lines comes.1
 
 pub returns-in_err-next-clause-trail : goal.returns-in_err-next-clause-trail
-returns-in_err-next-clause-trail g c = λ pins opened store name e t0 past s t rest on before left told.
-    let so_far = c.loop-line.invariant.trail pins opened store name e t0 past s t rest on before left told in
-    (so_far.2, so_far.5, trail_rests g.D.Disk g.met.D.Disk.only_now opened t0 _ e _ so_far.0 (length so_far.2) c.loop-line.handle _ so_far.6)
+returns-in_err-next-clause-trail g c = λ pins store name e t0 past s t rest on before left told.
+    let so_far = c.loop-line.invariant.trail pins store name e t0 past s t rest on before left told in
+    (so_far.2, so_far.5, trail_rests g.D.Disk g.met.D.Disk.only_now t0 _ e _ so_far.0 (length so_far.2) c.loop-line.handle _ so_far.6)
 
 pub returns-in_err-open_line-clause-trail : goal.returns-in_err-open_line-clause-trail
-returns-in_err-open_line-clause-trail g c = λ pins opened store name e t0 past s t rest on before left told.
-    let so_far = c.loop-line.invariant.trail pins opened store name e t0 past s t rest on before left told in
+returns-in_err-open_line-clause-trail g c = λ pins store name e t0 past s t rest on before left told.
+    let so_far = c.loop-line.invariant.trail pins store name e t0 past s t rest on before left told in
     let comes = c.in_ok-next.ensures.brought so_far.1 so_far.4 in
-    let trail = trail_with g.D.Disk opened t0 _ e _ store name _ _ so_far.0 _ _ c.loop-line.handle c.next.ensures.taps so_far.6 in
-    let answered = rw pins at (c.in_err-open_line.ensures.answered name store so_far.0 (stands_of g.D.Disk opened c.loop-line.handle so_far.0 so_far.6.rests)) in
-    trail_ends g.D.Disk g.met.D.Disk.only_now opened t0 _ e _ store name _ so_far.0 c.next.new.line c.loop-line.run.lines c.next.new.self.lines so_far.1 comes.0 (length so_far.2) c.loop-line.handle c.open_line.new.handle trail comes.2
-    t so_far.2 _ _ refl so_far.5 _ Next _ _ (c.in_err-open_line.ensures.moves pins opened store name so_far.0 so_far.3 so_far.6.rests) answered c.in_err-open_line.ensures.whole
+    let trail = trail_with g.D.Disk t0 _ e _ store name _ _ so_far.0 _ _ c.loop-line.handle c.next.ensures.taps so_far.6 in
+    let answered = rw pins at (c.in_err-open_line.ensures.answered name store so_far.0 (stands_of g.D.Disk c.loop-line.handle so_far.0 so_far.6.rests)) in
+    trail_ends g.D.Disk g.met.D.Disk.only_now t0 _ e _ store name _ so_far.0 c.next.new.line c.loop-line.run.lines c.next.new.self.lines so_far.1 comes.0 (length so_far.2) c.loop-line.handle c.open_line.new.handle trail comes.2
+    t so_far.2 _ _ refl so_far.5 _ Next _ _ (c.in_err-open_line.ensures.moves pins store name so_far.0 so_far.3 so_far.6.rests) answered c.in_err-open_line.ensures.whole
     (λ none. let is = (c.in_err-open_line.ensures.idle none).0 in absurd (cc))
 
 pub returns-in-Close-clause-trail : goal.returns-in-Close-clause-trail

@@ -33,11 +33,11 @@ invariant-loop-line g l = record {
   given : g.R.Source.given l.script + to_take l.run.lines ≤ g.R.Source.given l.fn.script + to_take l.fn.run.lines;
   counted : SameCounts (disk_faults_of g.D.Disk.state g.R.Source.faults g.O.Sink.faults (handle_disk l.fn.handle) l.fn.script l.fn.out) (disk_faults_of g.D.Disk.state g.R.Source.faults g.O.Sink.faults (handle_disk l.handle) l.script l.out);
   leaves : LeavesHandle g.D.Disk.state g.D.Disk.may_leave g.D.Disk.left_between l.fn.handle l.handle;
-  trail : l.fn.stays ≡ true → (opened : List ℕ) (store : Store) (name : List ℕ) (e : Editing) (t0 : ℕ) (past : List Editing) (s t : List ℕ) → HandleAtRest g.D.Disk opened l.fn.handle e → e.automatic ≡ true
+  trail : l.fn.stays ≡ true → (store : Store) (name : List ℕ) (e : Editing) (t0 : ℕ) (past : List Editing) (s t : List ℕ) → HandleAtRest g.D.Disk l.fn.handle e → e.automatic ≡ true
       → TrailTo IsSafe (g.D.Disk.left_between (handle_disk l.fn.handle)) t0 (g.D.Disk.state (handle_disk l.fn.handle)).clock e past
       → g.R.Source.left l.fn.script ≡ Some s → g.O.Sink.told l.fn.out ≡ Some t →
       (e' : Editing) × (s' : List ℕ) × (sent : List ℕ) × (e'.automatic ≡ true) × (g.R.Source.left l.script ≡ Some s') × (g.O.Sink.told l.out ≡ Some (t ++ sent))
-      × TrailSoFar g.D.Disk opened t0 (reverse past) e
+      × TrailSoFar g.D.Disk t0 (reverse past) e
       (steps_left (open_desk store (pinned_file name (taps_of (λ b. (goal.Tap-dyn g b).meter b.1) l.fn.run) e)) (moment_of g.R.Source.left g.O.Sink.told l.fn.run l.fn.script l.fn.out) s)
       e'
       (steps_left (open_desk store (pinned_file name (taps_of (λ b. (goal.Tap-dyn g b).meter b.1) l.run) e')) (moment_of g.R.Source.left g.O.Sink.told l.run l.script l.out) s')

@@ -49,7 +49,7 @@ returns-in-Err-not_opened-clause-served g c = λ name store b s told there are l
 
 pub returns-in-Ok-clause-trail : goal.returns-in-Ok-clause-trail
 returns-in-Ok-clause-trail g c = λ store name b e s t told stable is fit left said.
-    let run = c.serve_pinned_handle-stop.ensures.trail b store name e s t (c.in-Ok.ensures.rests b e told stable is fit) left said in
+    let run = c.serve_pinned_handle-stop.ensures.trail store name e s t (c.in-Ok.ensures.rests b e told stable is fit) left said in
     (run.0, run.1, trail_came_back g.D.Disk _ _ _ c.serve_pinned_handle-stop.result.1.now _ c.in-Ok.ensures.reads.images.same_time (search rules) run.2)
 
 pub returns-in-Ok-not_opened-clause-trail : goal.returns-in-Ok-not_opened-clause-trail

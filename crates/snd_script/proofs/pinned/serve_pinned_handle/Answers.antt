@@ -47,19 +47,19 @@ returns-in-Err-clause-written g c = λ s left.
     record { later = omega (arith, uses.later, c.in-Err.ensures.written.later); most = omega (arith, uses.most, c.in-Err.ensures.written.most, closing) }
 
 pub returns-in-Ok-clause-trail : goal.returns-in-Ok-clause-trail
-returns-in-Ok-clause-trail g c = λ opened store name e s t rest left told.
-    let run = c.serve_pinned_open-stop.ensures.trail opened store name e s t rest left told in (
+returns-in-Ok-clause-trail g c = λ store name e s t rest left told.
+    let run = c.serve_pinned_open-stop.ensures.trail store name e s t rest left told in (
       run.0,
       run.1,
-      trail_closed g.D.Disk g.met.D.Disk.only_now opened (g.D.Disk.state (handle_disk c.args.handle)).clock c.serve_pinned_open-stop.new.handle c.in-Ok.disk.now _ run.2
-          (λ e' rest'. safe_updated g.D.Disk opened c.serve_pinned_open-stop.new.handle _ (c.serve_pinned_open-stop.ensures.leaves.mode ∙ c.requires.updated) c.in-Ok.ensures.safe e' rest') (λ broken. absurd (broken c.in-Ok.ensures.cause.0)),
+      trail_closed g.D.Disk g.met.D.Disk.only_now (g.D.Disk.state (handle_disk c.args.handle)).clock c.serve_pinned_open-stop.new.handle c.in-Ok.disk.now _ run.2
+          (λ e' rest'. safe_updated g.D.Disk c.serve_pinned_open-stop.new.handle _ (c.serve_pinned_open-stop.ensures.leaves.mode ∙ c.requires.updated) c.in-Ok.ensures.safe e' rest') (λ broken. absurd (broken c.in-Ok.ensures.cause.0)),
     )
 
 pub returns-in-Err-clause-trail : goal.returns-in-Err-clause-trail
-returns-in-Err-clause-trail g c = λ opened store name e s t rest left told.
-    let run = c.serve_pinned_open-stop.ensures.trail opened store name e s t rest left told in (
+returns-in-Err-clause-trail g c = λ store name e s t rest left told.
+    let run = c.serve_pinned_open-stop.ensures.trail store name e s t rest left told in (
       run.0,
       run.1,
-      trail_closed g.D.Disk g.met.D.Disk.only_now opened (g.D.Disk.state (handle_disk c.args.handle)).clock c.serve_pinned_open-stop.new.handle c.in-Err.disk.now _ run.2
-          (λ e' rest'. safe_updated g.D.Disk opened c.serve_pinned_open-stop.new.handle _ (c.serve_pinned_open-stop.ensures.leaves.mode ∙ c.requires.updated) c.in-Err.ensures.safe e' rest') (λ broken. ⊎_elim (λ was. was.1) (λ now. absurd (broken now.0)) c.in-Err.ensures.cause),
+      trail_closed g.D.Disk g.met.D.Disk.only_now (g.D.Disk.state (handle_disk c.args.handle)).clock c.serve_pinned_open-stop.new.handle c.in-Err.disk.now _ run.2
+          (λ e' rest'. safe_updated g.D.Disk c.serve_pinned_open-stop.new.handle _ (c.serve_pinned_open-stop.ensures.leaves.mode ∙ c.requires.updated) c.in-Err.ensures.safe e' rest') (λ broken. ⊎_elim (λ was. was.1) (λ now. absurd (broken now.0)) c.in-Err.ensures.cause),
     )

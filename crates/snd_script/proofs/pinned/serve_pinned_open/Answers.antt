@@ -99,35 +99,35 @@ returns-clause-written g c = λ s left.
     record { later = omega (arith, c.step.ensures.written.later, uses.later); most = omega (arith, first, uses.within, same) }
 
 pub returns-in-Err-clause-trail : goal.returns-in-Err-clause-trail
-returns-in-Err-clause-trail g c = λ opened store name e s t rest left told.
+returns-in-Err-clause-trail g c = λ store name e s t rest left told.
     let lines = lines_left (moment_of g.R.Source.left g.O.Sink.told c.args.run.now c.args.script.now c.args.out.now) s in
     let opening = opened_pinned store name (taps_of (λ b. (goal.Tap-dyn g b).meter b.1) c.args.run.now) e in
     let sink = at_sink c.in-Err.stop _ _ _ _ _ c.in-Err.ensures.answered in
-    step_ends g.D.Disk g.met.D.Disk.only_now opened (g.D.Disk.state (handle_disk c.args.handle.now)).clock [] e (pinned_steps opening lines) e opening (pinned_lines (pin_edit store (pinned_file name (taps_of (λ b. (goal.Tap-dyn g b).meter b.1) c.args.run.now) e)) lines) 0 c.args.handle.now c.args.handle.now
-    (trail_at_opening g.D.Disk g.met.D.Disk.only_now opened store name (taps_of (λ b. (goal.Tap-dyn g b).meter b.1) c.args.run.now) e lines c.args.handle.now rest) t [] _ _ refl (told ∙ ap (λ (l : List ℕ). Some l) (sym (append-nil t))) (opening_speaks store name (taps_of (λ b. (goal.Tap-dyn g b).meter b.1) c.args.run.now) e)
-    c.in-Err.stop (Unit {0}) (closed_desk store) (λ lost desk. Unit {0}) (moves_none g.D.Disk g.met.D.Disk.only_now opened (stopped c.in-Err.stop) e c.args.handle.now rest)
-    (answer_stops c.in-Err.stop opening (says (file_line (handle_known c.args.handle.now).shape)) (closed_desk store) false false _ _ _ (said_of_shape _ _ (shape_stands g.D.Disk.state c.args.handle.now e (stands_of g.D.Disk opened c.args.handle.now e rest))) c.in-Err.ensures.answered tt)
+    step_ends g.D.Disk g.met.D.Disk.only_now (g.D.Disk.state (handle_disk c.args.handle.now)).clock [] e (pinned_steps opening lines) e opening (pinned_lines (pin_edit store (pinned_file name (taps_of (λ b. (goal.Tap-dyn g b).meter b.1) c.args.run.now) e)) lines) 0 c.args.handle.now c.args.handle.now
+    (trail_at_opening g.D.Disk g.met.D.Disk.only_now store name (taps_of (λ b. (goal.Tap-dyn g b).meter b.1) c.args.run.now) e lines c.args.handle.now rest) t [] _ _ refl (told ∙ ap (λ (l : List ℕ). Some l) (sym (append-nil t))) (opening_speaks store name (taps_of (λ b. (goal.Tap-dyn g b).meter b.1) c.args.run.now) e)
+    c.in-Err.stop (Unit {0}) (closed_desk store) (λ lost desk. Unit {0}) (moves_none g.D.Disk g.met.D.Disk.only_now (stopped c.in-Err.stop) e c.args.handle.now rest)
+    (answer_stops c.in-Err.stop opening (says (file_line (handle_known c.args.handle.now).shape)) (closed_desk store) false false _ _ _ (said_of_shape _ _ (shape_stands g.D.Disk.state c.args.handle.now e (stands_of g.D.Disk c.args.handle.now e rest))) c.in-Err.ensures.answered tt)
     (λ is. absurd (let no : stop.Sink ≡ stop.File = sym sink ∙ is in cc))
 
 pub returns-in-Err-step-clause-trail : goal.returns-in-Err-step-clause-trail
-returns-in-Err-step-clause-trail g c = λ opened store name e s t rest left told.
+returns-in-Err-step-clause-trail g c = λ store name e s t rest left told.
     let lines = lines_left (moment_of g.R.Source.left g.O.Sink.told c.args.run.now c.args.script.now c.args.out.now) s in
     let file = pinned_file name (taps_of (λ b. (goal.Tap-dyn g b).meter b.1) c.args.run.now) e in
-    let stands = stands_of g.D.Disk opened c.args.handle.now e rest in
+    let stands = stands_of g.D.Disk c.args.handle.now e rest in
     let said : Appends (g.O.Sink.told c.args.out.now) (g.O.Sink.told c.reply_opened.new.out) (file_line e.shape) =
     subst (λ (h : Shape). Appends (g.O.Sink.told c.args.out.now) (g.O.Sink.told c.reply_opened.new.out) (file_line h)) (shape_stands g.D.Disk.state c.args.handle.now e stands) c.in_default.ensures.answered.1 in
-    step_ends g.D.Disk g.met.D.Disk.only_now opened (g.D.Disk.state (handle_disk c.args.handle.now)).clock [] e (pinned_steps (opened_pinned store name (taps_of (λ b. (goal.Tap-dyn g b).meter b.1) c.args.run.now) e) lines) e (pin_edit store file) (behind_pin store name (taps_of (λ b. (goal.Tap-dyn g b).meter b.1) c.args.run.now) e lines) (0 + length (file_line e.shape)) c.args.handle.now c.step.new.handle
-    (trail_opened g.D.Disk g.met.D.Disk.only_now opened store name (taps_of (λ b. (goal.Tap-dyn g b).meter b.1) c.args.run.now) e lines c.args.handle.now rest) t (file_line e.shape) _ _ (omega arith) (said t told) (pin_speaks store name (taps_of (λ b. (goal.Tap-dyn g b).meter b.1) c.args.run.now) e)
-    c.in-Err-step.stop (Unit {0}) (open_desk store file) (OpenStands g.D.Disk.state store name true (taps_of (λ b. (goal.Tap-dyn g b).meter b.1) c.step.new.self) c.step.new.handle) (pin_moves g.D.Disk opened store name (taps_of (λ b. (goal.Tap-dyn g b).meter b.1) c.args.run.now) e _ c.args.handle.now c.step.new.handle c.requires.updated c.in-Err-step.ensures.moves rest)
+    step_ends g.D.Disk g.met.D.Disk.only_now (g.D.Disk.state (handle_disk c.args.handle.now)).clock [] e (pinned_steps (opened_pinned store name (taps_of (λ b. (goal.Tap-dyn g b).meter b.1) c.args.run.now) e) lines) e (pin_edit store file) (behind_pin store name (taps_of (λ b. (goal.Tap-dyn g b).meter b.1) c.args.run.now) e lines) (0 + length (file_line e.shape)) c.args.handle.now c.step.new.handle
+    (trail_opened g.D.Disk g.met.D.Disk.only_now store name (taps_of (λ b. (goal.Tap-dyn g b).meter b.1) c.args.run.now) e lines c.args.handle.now rest) t (file_line e.shape) _ _ (omega arith) (said t told) (pin_speaks store name (taps_of (λ b. (goal.Tap-dyn g b).meter b.1) c.args.run.now) e)
+    c.in-Err-step.stop (Unit {0}) (open_desk store file) (OpenStands g.D.Disk.state store name true (taps_of (λ b. (goal.Tap-dyn g b).meter b.1) c.step.new.self) c.step.new.handle) (pin_moves g.D.Disk store name (taps_of (λ b. (goal.Tap-dyn g b).meter b.1) c.args.run.now) e _ c.args.handle.now c.step.new.handle c.requires.updated c.in-Err-step.ensures.moves rest)
     (subst (λ (x : Edited). StopsLine c.in-Err-step.stop x (open_desk store file) (g.O.Sink.told c.reply_opened.new.out) (g.O.Sink.told c.step.new.out) (OpenStands g.D.Disk.state store name true (taps_of (λ b. (goal.Tap-dyn g b).meter b.1) c.step.new.self) c.step.new.handle))
     (pin_is store file (mode_of c.args.handle.now) c.requires.updated) (c.in-Err-step.ensures.answered name true store e stands))
     (not_whole (handle_known c.step.new.handle).broken c.in-Err-step.stop (Unit {0}) c.in-Err-step.ensures.whole)
 
 pub returns-then-run-clause-trail : goal.returns-then-run-clause-trail
-returns-then-run-clause-trail g c = λ opened store name e s t rest left told.
+returns-then-run-clause-trail g c = λ store name e s t rest left told.
     let lines = lines_left (moment_of g.R.Source.left g.O.Sink.told c.args.run.now c.args.script.now c.args.out.now) s in
     let file = pinned_file name (taps_of (λ b. (goal.Tap-dyn g b).meter b.1) c.args.run.now) e in
-    let stands = stands_of g.D.Disk opened c.args.handle.now e rest in
+    let stands = stands_of g.D.Disk c.args.handle.now e rest in
     let said : Appends (g.O.Sink.told c.args.out.now) (g.O.Sink.told c.reply_opened.new.out) (file_line e.shape) =
     subst (λ (h : Shape). Appends (g.O.Sink.told c.args.out.now) (g.O.Sink.told c.reply_opened.new.out) (file_line h)) (shape_stands g.D.Disk.state c.args.handle.now e stands) c.in_default.ensures.answered.1 in
     let answered =
@@ -135,32 +135,32 @@ returns-then-run-clause-trail g c = λ opened store name e s t rest left told.
     (pin_is store file (mode_of c.args.handle.now) c.requires.updated) (c.in_default-step.ensures.answered name true store e stands) in
     let a = file_line e.shape in
     let b = text_of (pin_edit store file).answer in
-    let so_far = trail_pinned g.D.Disk g.met.D.Disk.only_now opened store name (taps_of (λ b. (goal.Tap-dyn g b).meter b.1) c.args.run.now) e lines c.args.handle.now rest c.step.new.handle
-    (pin_moves g.D.Disk opened store name (taps_of (λ b. (goal.Tap-dyn g b).meter b.1) c.args.run.now) e _ c.args.handle.now c.step.new.handle c.requires.updated c.in_default-step.ensures.moves rest) in
+    let so_far = trail_pinned g.D.Disk g.met.D.Disk.only_now store name (taps_of (λ b. (goal.Tap-dyn g b).meter b.1) c.args.run.now) e lines c.args.handle.now rest c.step.new.handle
+    (pin_moves g.D.Disk store name (taps_of (λ b. (goal.Tap-dyn g b).meter b.1) c.args.run.now) e _ c.args.handle.now c.step.new.handle c.requires.updated c.in_default-step.ensures.moves rest) in
     let count : 0 + length a + length b ≡ length (a ++ b) = omega (arith, length-append a b) in (
       a ++ b,
       answered.1 (t ++ a) (said t told) ∙ ap (λ (l : List ℕ). Some l) (append_assoc t a b),
-      subst (λ (m : ℕ). TrailsOn g.D.Disk opened (g.D.Disk.state (handle_disk c.args.handle.now)).clock c.step.new.handle (reached m e (pinned_steps (opened_pinned store name (taps_of (λ b. (goal.Tap-dyn g b).meter b.1) c.args.run.now) e) lines))) count
-          (trail_rests g.D.Disk g.met.D.Disk.only_now opened _ [] e _ (state_behind e (pin_edit store file)) _ c.step.new.handle (behind_pin store name (taps_of (λ b. (goal.Tap-dyn g b).meter b.1) c.args.run.now) e lines) so_far),
+      subst (λ (m : ℕ). TrailsOn g.D.Disk (g.D.Disk.state (handle_disk c.args.handle.now)).clock c.step.new.handle (reached m e (pinned_steps (opened_pinned store name (taps_of (λ b. (goal.Tap-dyn g b).meter b.1) c.args.run.now) e) lines))) count
+          (trail_rests g.D.Disk g.met.D.Disk.only_now _ [] e _ (state_behind e (pin_edit store file)) _ c.step.new.handle (behind_pin store name (taps_of (λ b. (goal.Tap-dyn g b).meter b.1) c.args.run.now) e lines) so_far),
     )
 
 pub returns-clause-trail : goal.returns-clause-trail
-returns-clause-trail g c = λ opened store name e s t rest left told.
+returns-clause-trail g c = λ store name e s t rest left told.
     let lines = lines_left (moment_of g.R.Source.left g.O.Sink.told c.args.run.now c.args.script.now c.args.out.now) s in
     let file = pinned_file name (taps_of (λ b. (goal.Tap-dyn g b).meter b.1) c.args.run.now) e in
-    let stands = stands_of g.D.Disk opened c.args.handle.now e rest in
+    let stands = stands_of g.D.Disk c.args.handle.now e rest in
     let said : Appends (g.O.Sink.told c.args.out.now) (g.O.Sink.told c.reply_opened.new.out) (file_line e.shape) =
     subst (λ (h : Shape). Appends (g.O.Sink.told c.args.out.now) (g.O.Sink.told c.reply_opened.new.out) (file_line h)) (shape_stands g.D.Disk.state c.args.handle.now e stands) c.in_default.ensures.answered.1 in
     let answered =
     subst (λ (x : Edited). IsStepAnswered {T = Unit {0}} (Ok tt) x (open_desk store file) c.args.run.now.refused c.step.new.self.refused (g.O.Sink.told c.reply_opened.new.out) (g.O.Sink.told c.step.new.out) (OpenStands g.D.Disk.state store name true (taps_of (λ b. (goal.Tap-dyn g b).meter b.1) c.step.new.self) c.step.new.handle))
     (pin_is store file (mode_of c.args.handle.now) c.requires.updated) (c.in_default-step.ensures.answered name true store e stands) in
     let free = as_noted _ _ _ false c.requires.fresh answered.0 c.if-run.false in
-    let so_far = trail_pinned g.D.Disk g.met.D.Disk.only_now opened store name (taps_of (λ b. (goal.Tap-dyn g b).meter b.1) c.args.run.now) e lines c.args.handle.now rest c.step.new.handle
-    (pin_moves g.D.Disk opened store name (taps_of (λ b. (goal.Tap-dyn g b).meter b.1) c.args.run.now) e _ c.args.handle.now c.step.new.handle c.requires.updated c.in_default-step.ensures.moves rest) in
-    trail_of_lines g.D.Disk g.met.D.Disk.only_now opened store name (taps_of (λ b. (goal.Tap-dyn g b).meter b.1) c.args.run.now) e lines c.args.handle.now rest (taps_of (λ b. (goal.Tap-dyn g b).meter b.1) c.step.new.self)
+    let so_far = trail_pinned g.D.Disk g.met.D.Disk.only_now store name (taps_of (λ b. (goal.Tap-dyn g b).meter b.1) c.args.run.now) e lines c.args.handle.now rest c.step.new.handle
+    (pin_moves g.D.Disk store name (taps_of (λ b. (goal.Tap-dyn g b).meter b.1) c.args.run.now) e _ c.args.handle.now c.step.new.handle c.requires.updated c.in_default-step.ensures.moves rest) in
+    trail_of_lines g.D.Disk g.met.D.Disk.only_now store name (taps_of (λ b. (goal.Tap-dyn g b).meter b.1) c.args.run.now) e lines c.args.handle.now rest (taps_of (λ b. (goal.Tap-dyn g b).meter b.1) c.step.new.self)
     (sym (ap (λ (d : Desk). taps_in (taps_of (λ b. (goal.Tap-dyn g b).meter b.1) c.args.run.now) d.open_file) answered.2.is)) c.step.new.handle c.serve_open.new.handle c.step.new.self.lines s t (g.O.Sink.told c.step.new.out) _ so_far free
     (ap (λ (r : Reading). lines_within r.room (r.rest ++ s)) c.in_default-step.ensures.lines)
-    (c.in-Err-serve_open.ensures.trail refl opened store name (state_behind e (pin_edit store file)) (g.D.Disk.state (handle_disk c.args.handle.now)).clock so_far.past s _ so_far.rests (pin_automatic store name (taps_of (λ b. (goal.Tap-dyn g b).meter b.1) c.args.run.now) e free) so_far.trail left
+    (c.in-Err-serve_open.ensures.trail refl store name (state_behind e (pin_edit store file)) (g.D.Disk.state (handle_disk c.args.handle.now)).clock so_far.past s _ so_far.rests (pin_automatic store name (taps_of (λ b. (goal.Tap-dyn g b).meter b.1) c.args.run.now) e free) so_far.trail left
     (answered.1 (t ++ file_line e.shape) (said t told)))
 
 pub step-requires-clause-small : goal.step-requires-clause-small

@@ -10,7 +10,7 @@ returns-in-Ok g c =
     carried_out g.D.Disk g.O.Sink update_rule c.say_ok.result c.args.file.now c.args.out.now c.update_now.new.self c.say_ok.new.out (ok_line c.in-Ok.frames)
     c.update_now.ensures.loan refl c.say_ok.ensures.sent c.say_ok.ensures.said
     (λ e here. ap (λ n. says (ok_line n)) (sym (c.in-Ok.ensures.left.1 ∙ ap (λ (s : Shape). s.frames) here.shape))) (λ none. ap (λ n. says (ok_line n)) (sym c.in-Ok.ensures.left.1)) c.in-Ok.ensures.stands
-    (search rules) (search rules) (search rules) (search rules) (search rules) (λ changes on. c.in-Ok.ensures.leaves) (λ changes on. c.in-Ok.ensures.rests) (λ changes on. absurd (cc)) (search rules) (search rules)
+    (search rules) (search rules) (search rules) (search rules) (search rules) (λ changes on. c.in-Ok.ensures.leaves) (λ changes on opened e rest. (opened, c.in-Ok.ensures.rests opened e rest)) (λ changes on. absurd (cc)) (search rules) (search rules)
 
 pub returns-in-Err-DiskFault : goal.returns-in-Err-DiskFault
 returns-in-Err-DiskFault g c =

@@ -17,7 +17,7 @@ returns-in-Ok g c =
     c.encode_frames.ensures.loan (encode_free xs h.shape h.write_place c.in-Ok.ensures.left.1) c.say_ok.ensures.sent (search rules)
     (λ e here. ap (λ (s : Shape). says (ok_line (length xs / s.params.channels))) (sym here.shape)) (λ none. refl) c.in-Ok.ensures.stands
     c.in-Ok.ensures.left.2 (search rules) (search rules) (search rules) (search rules)
-    (λ changes on. c.in-Ok.ensures.leaves (⊎_elim (λ is. is) (λ is. is) on)) (λ changes on. c.in-Ok.ensures.rests (⊎_elim (λ is. is) (λ is. is) on)) (λ changes on. absurd (cc)) (search rules)
+    (λ changes on. c.in-Ok.ensures.leaves (⊎_elim (λ is. is) (λ is. is) on)) (λ changes on opened e rest. (opened, c.in-Ok.ensures.rests (⊎_elim (λ is. is) (λ is. is) on) opened e rest)) (λ changes on. absurd (cc)) (search rules)
     (blocks_within _ _ _ h.automatic c.encode_frames.ensures.written)
 
 pub returns-in-Err-DiskFault : goal.returns-in-Err-DiskFault

@@ -14,7 +14,7 @@ returns-in-Ok g c =
     carried_out g.D.Disk g.O.Sink (auto_rule c.args.on) c.say_ok.result c.args.file.now c.args.out.now c.set_auto.new.self c.say_ok.new.out (ok_line c.in-Ok.frames)
     c.set_auto.ensures.loan (auto_free c.args.on h.shape c.in-Ok.ensures.left.1) c.say_ok.ensures.sent c.say_ok.ensures.said
     (λ e here. ap (λ n. says (ok_line n)) (sym (c.in-Ok.ensures.left.2 ∙ ap (λ (s : Shape). s.frames) here.shape))) (λ none. ap (λ n. says (ok_line n)) (sym c.in-Ok.ensures.left.2)) c.in-Ok.ensures.stands
-    c.in-Ok.ensures.left.3 (search rules) (search rules) (search rules) (search rules) (λ changes on. c.in-Ok.ensures.leaves) (λ changes on. c.in-Ok.ensures.rests) (λ changes on. c.in-Ok.ensures.begins on) (search rules) (search rules)
+    c.in-Ok.ensures.left.3 (search rules) (search rules) (search rules) (search rules) (λ changes on. c.in-Ok.ensures.leaves) (λ changes on opened e rest. (opened, c.in-Ok.ensures.rests opened e rest)) (λ changes on. c.in-Ok.ensures.begins on) (search rules) (search rules)
 
 pub returns-in-Err-DiskFault : goal.returns-in-Err-DiskFault
 returns-in-Err-DiskFault g c =

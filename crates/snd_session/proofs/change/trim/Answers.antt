@@ -15,7 +15,7 @@ returns-in-Ok g c =
     carried_out g.D.Disk g.O.Sink trim_rule c.say_ok.result c.args.file.now c.args.out.now c.trim.new.self c.say_ok.new.out (ok_line frames)
     c.trim.ensures.loan (trim_free h c.in-Ok.ensures.left.0) c.say_ok.ensures.sent c.say_ok.ensures.said
     (λ e here. ap (λ n. says (ok_line n)) (sym (c.frames-frames.ensures ∙ ap (λ (s : Shape). s.frames) here.shape))) (λ none. ap (λ n. says (ok_line n)) (sym c.frames-frames.ensures)) c.in-Ok.ensures.stands
-    c.in-Ok.ensures.left.1 (search rules) (search rules) (search rules) (search rules) (λ changes on. c.in-Ok.ensures.leaves) (λ changes on. c.in-Ok.ensures.rests) (λ changes on. absurd (cc)) (search rules) (search rules)
+    c.in-Ok.ensures.left.1 (search rules) (search rules) (search rules) (search rules) (λ changes on. c.in-Ok.ensures.leaves) (λ changes on opened e rest. (opened, c.in-Ok.ensures.rests opened e rest)) (λ changes on. absurd (cc)) (search rules) (search rules)
 
 pub returns-in-Err-DiskFault : goal.returns-in-Err-DiskFault
 returns-in-Err-DiskFault g c =

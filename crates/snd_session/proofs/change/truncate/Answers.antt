@@ -11,7 +11,7 @@ pub returns-in-Ok : goal.returns-in-Ok
 returns-in-Ok g c =
     carried_out g.D.Disk g.O.Sink (truncate_rule c.args.to) c.say_ok.result c.args.file.now c.args.out.now c.truncate.new.self c.say_ok.new.out (ok_line c.args.to)
     c.truncate.ensures.loan (truncate_free c.args.to (known_of c.args.file.now) c.in-Ok.ensures.left.0) c.say_ok.ensures.sent c.say_ok.ensures.said (λ e here. refl) (λ none. refl) c.in-Ok.ensures.stands
-    c.in-Ok.ensures.left.1 (search rules) (search rules) (search rules) (search rules) (λ changes on. c.in-Ok.ensures.leaves) (λ changes on. c.in-Ok.ensures.rests) (λ changes on. absurd (cc)) (search rules) (search rules)
+    c.in-Ok.ensures.left.1 (search rules) (search rules) (search rules) (search rules) (λ changes on. c.in-Ok.ensures.leaves) (λ changes on opened e rest. (opened, c.in-Ok.ensures.rests opened e rest)) (λ changes on. absurd (cc)) (search rules) (search rules)
 
 pub returns-in-Err-DiskFault : goal.returns-in-Err-DiskFault
 returns-in-Err-DiskFault g c =

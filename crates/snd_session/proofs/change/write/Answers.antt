@@ -16,7 +16,7 @@ returns-in-Ok g c =
     carried_out g.D.Disk g.O.Sink (write_rule xs) c.say_ok.result c.args.file.now c.args.out.now c.write_frames.new.self c.say_ok.new.out (ok_line (length xs / h.shape.params.channels))
     c.write_frames.ensures.loan (write_free xs h.shape h.write_place c.in-Ok.ensures.left.1) c.say_ok.ensures.sent (search rules)
     (λ e here. ap (λ (s : Shape). says (ok_line (length xs / s.params.channels))) (sym here.shape)) (λ none. refl) c.in-Ok.ensures.stands
-    c.in-Ok.ensures.left.2 (search rules) (search rules) (search rules) (search rules) (λ changes on. c.in-Ok.ensures.leaves (⊎_elim (λ is. is) (λ is. is) on)) (λ changes on. c.in-Ok.ensures.rests (⊎_elim (λ is. is) (λ is. is) on)) (λ changes on. absurd (cc)) (search rules)
+    c.in-Ok.ensures.left.2 (search rules) (search rules) (search rules) (search rules) (λ changes on. c.in-Ok.ensures.leaves (⊎_elim (λ is. is) (λ is. is) on)) (λ changes on opened e rest. (opened, c.in-Ok.ensures.rests (⊎_elim (λ is. is) (λ is. is) on) opened e rest)) (λ changes on. absurd (cc)) (search rules)
     (written_for_numbers _ _ (length xs) h.shape.params.channels h.shape.params.codec h.automatic (c.args.file.now.linear g.met.M.CanWrite.places) c.in-Ok.ensures.written)
 
 pub returns-in-Err-DiskFault : goal.returns-in-Err-DiskFault

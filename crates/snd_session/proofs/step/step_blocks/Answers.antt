@@ -29,7 +29,7 @@ pub returns-in-Truncate-clause-taps : goal.returns-in-Truncate-clause-taps
 returns-in-Truncate-clause-taps g c = work_fed g.D.Disk.state encoding c.args.work c.refuse_on-in-Truncate.result c.args.file.now (meter_taps (λ b. (goal.Tap-dyn g b).meter b.1) c.args.meters.now) (⊎_elim (λ is. ap (is_quiet encoding) is.1) (λ is. ap (is_quiet encoding) is) c.in-Truncate.is)
 
 pub returns-in-SeekRead-clause-taps : goal.returns-in-SeekRead-clause-taps
-returns-in-SeekRead-clause-taps g c = work_fed g.D.Disk.state encoding c.args.work c.refuse_on-in-SeekRead.result c.args.file.now (meter_taps (λ b. (goal.Tap-dyn g b).meter b.1) c.args.meters.now) (⊎_elim (λ is. ap (is_quiet encoding) is.1) (λ is. ap (is_quiet encoding) is.1) c.in-SeekRead.is)
+returns-in-SeekRead-clause-taps g c = work_fed g.D.Disk.state encoding c.args.work c.refuse_on-in-SeekRead.result c.args.file.now (meter_taps (λ b. (goal.Tap-dyn g b).meter b.1) c.args.meters.now) (⊎_elim (λ is. ap (is_quiet encoding) is.1) (λ more. ⊎_elim (λ is. ap (is_quiet encoding) is.1) (λ is. ap (is_quiet encoding) is) more) c.in-SeekRead.is)
 
 pub returns-in-Open-clause-taps : goal.returns-in-Open-clause-taps
 returns-in-Open-clause-taps g c = work_fed g.D.Disk.state encoding c.args.work c.refuse_on-in-Open.result c.args.file.now (meter_taps (λ b. (goal.Tap-dyn g b).meter b.1) c.args.meters.now)

@@ -26,7 +26,7 @@ pub returns-in-Ask-clause-taps : goal.returns-in-Ask-clause-taps
 returns-in-Ask-clause-taps g c = work_fed g.D.Disk.state writing c.args.work c.ask.result c.args.file.now (meter_taps (λ b. (goal.Tap-dyn g b).meter b.1) c.args.meters.now) (ap (is_quiet writing) c.in-Ask.is)
 
 pub returns-in-SeekRead-clause-taps : goal.returns-in-SeekRead-clause-taps
-returns-in-SeekRead-clause-taps g c = work_fed g.D.Disk.state writing c.args.work c.refuse_on.result c.args.file.now (meter_taps (λ b. (goal.Tap-dyn g b).meter b.1) c.args.meters.now) (⊎_elim (λ is. ap (is_quiet writing) is.1) (λ is. ap (is_quiet writing) is.1) c.in-SeekRead.is)
+returns-in-SeekRead-clause-taps g c = work_fed g.D.Disk.state writing c.args.work c.refuse_on.result c.args.file.now (meter_taps (λ b. (goal.Tap-dyn g b).meter b.1) c.args.meters.now) (⊎_elim (λ is. ap (is_quiet writing) is.1) (λ more. ⊎_elim (λ is. ap (is_quiet writing) is.1) (λ is. ap (is_quiet writing) is) more) c.in-SeekRead.is)
 
 pub returns-in-SeekWrite-clause-taps : goal.returns-in-SeekWrite-clause-taps
 returns-in-SeekWrite-clause-taps g c =

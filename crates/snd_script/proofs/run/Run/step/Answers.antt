@@ -66,23 +66,23 @@ returns-in-Err-Disk-clause-whole g c =
     broken_after _ knows.0 (handle_known c.args.handle.now) _ knows.1
 
 pub returns-in-Ok-Ok-clause-moves : goal.returns-in-Ok-Ok-clause-moves
-returns-in-Ok-Ok-clause-moves g c = λ on opened e rest. record { leaves = c.carry_out.ensures.steps.safe on opened e rest; rests = c.in-Ok-Ok.ensures.steps.rests on opened e rest }
+returns-in-Ok-Ok-clause-moves g c = λ on e rest. record { leaves = c.carry_out.ensures.steps.safe on e rest; rests = c.in-Ok-Ok.ensures.steps.rests on e rest; params = c.carry_out.ensures.steps.leaves.params }
 
 pub returns-in-Ok-Refused-clause-moves : goal.returns-in-Ok-Refused-clause-moves
-returns-in-Ok-Refused-clause-moves g c = λ on opened e rest. record { leaves = c.carry_out.ensures.steps.safe on opened e rest; rests = c.in-Ok-Refused.ensures.steps.rests on opened e rest }
+returns-in-Ok-Refused-clause-moves g c = λ on e rest. record { leaves = c.carry_out.ensures.steps.safe on e rest; rests = c.in-Ok-Refused.ensures.steps.rests on e rest; params = c.carry_out.ensures.steps.leaves.params }
 
 pub returns-in-Err-Out-clause-moves : goal.returns-in-Err-Out-clause-moves
-returns-in-Err-Out-clause-moves g c = λ on opened e rest.
+returns-in-Err-Out-clause-moves g c = λ on e rest.
     let rests = rw c.in-Err-Out.field-0-is at c.in-Err-Out.ensures.steps.rests in
-    record { leaves = c.carry_out.ensures.steps.safe on opened e rest; rests = rests on opened e rest }
+    record { leaves = c.carry_out.ensures.steps.safe on e rest; rests = rests on e rest; params = c.carry_out.ensures.steps.leaves.params }
 
 pub returns-in-Err-Disk-clause-moves : goal.returns-in-Err-Disk-clause-moves
-returns-in-Err-Disk-clause-moves g c = λ on opened e rest. record { leaves = c.carry_out.ensures.steps.safe on opened e rest; rests = tt }
+returns-in-Err-Disk-clause-moves g c = λ on e rest. record { leaves = c.carry_out.ensures.steps.safe on e rest; rests = tt; params = c.carry_out.ensures.steps.leaves.params }
 
 pub returns-in-Err-Memory-clause-moves : goal.returns-in-Err-Memory-clause-moves
-returns-in-Err-Memory-clause-moves g c = λ on opened e rest.
+returns-in-Err-Memory-clause-moves g c = λ on e rest.
     let rests = rw c.in-Err-Memory.field-0-is at c.in-Err-Memory.ensures.steps.rests in
-    record { leaves = c.carry_out.ensures.steps.safe on opened e rest; rests = rests on opened e rest }
+    record { leaves = c.carry_out.ensures.steps.safe on e rest; rests = rests on e rest; params = c.carry_out.ensures.steps.leaves.params }
 
 pub returns-in-Ok-Ok-clause-asked : goal.returns-in-Ok-Ok-clause-asked
 returns-in-Ok-Ok-clause-asked g c = more _ _ _ _ (uses_most (mode_of c.args.handle.now) (taps_of (λ b. (goal.Tap-dyn g b).meter b.1) c.args.self.now) (said_of c.args.said) (handle_params c.args.handle.now) c.requires.small).asks c.carry_out.ensures.steps.asked

@@ -10,9 +10,9 @@ use Rattle.snd_session.specs.Tapped.{meter_taps, session_taps}
 use Rattle.snd_session.specs.Follows.{FeedsFile, Follows, switches_on}
 use Rattle.snd_rules.specs.Work.{work_rule}
 use Rattle.snd_rules.specs.declared.work.Work.{Work}
-use Rattle.snd_rules.specs.declared.work.Work.TheVariants.{Open, Update, Make, Close, Tell, SeekRead, SeekWrite, SeekBoth, Read, Write, Truncate, Trim, BringUp, Auto, Set, Ask, Tap, Untap}
+use Rattle.snd_rules.specs.declared.work.Work.TheVariants.{Open, Update, Make, Close, Tell, SeekRead, SeekWrite, SeekBoth, Read, Write, Truncate, Trim, BringUp, Auto, Promote, Set, Ask, Tap, Untap}
 use Rattle.snd_rules.specs.declared.work.Asking.TheVariants as asking
-use Rattle.snd_session.proofs.Resting.{Safely, ToRest, works_safely, works_to_rest}
+use Rattle.snd_session.proofs.Resting.{Safely, ToRest, also_resting, works_safely, works_to_rest}
 use Rattle.snd_rules.proofs.Public.{params_after}
 use Rattle.snd_session.proofs.session.Session.carry_out.Goals as goal
 
@@ -32,6 +32,7 @@ only_read taps (Truncate n) h = refl
 only_read taps Trim h = refl
 only_read taps BringUp h = refl
 only_read taps (Auto on) h = refl
+only_read taps Promote h = refl
 only_read taps (Set setting) h = refl
 only_read taps (Ask (asking.Chunk id)) h = refl
 only_read taps (Ask asking.Chunks) h = refl
@@ -68,8 +69,8 @@ returns-in-R-clause-steps g c =
         reads = λ plain. c.step_read.ensures.follows.reads (only_read taps c.work_of-work.result (known_of c.in-R.file));
       };
       reads = follows.reads;
-      safe = safe;
-      rests = rests;
+      safe = λ on e rest. safe on rest.0 e rest.1;
+      rests = λ on e rest. rests on rest.0 e rest.1;
       begins = λ auto changes. absurd (let none : changes_by (rule_of reading taps (said_of c.args.said)) (known_of c.in-R.file) ≡ false = ap (λ (said : Said). changes_by (rule_of reading taps said) (known_of c.in-R.file)) auto in cc);
       asked = follows.asked;
       written = follows.written;
@@ -108,9 +109,10 @@ returns-in-W-clause-steps g c =
         reads = λ plain. absurd (cc);
       };
       reads = follows.reads;
-      safe = safe;
-      rests = rests;
-      begins = λ auto changes. follows.begins changes (ap (λ (said : Said). switches_on (rule_of writing taps said) (known_of c.in-W.file)) auto);
+      safe = λ on e rest. safe on rest.0 e rest.1;
+      rests = λ on e rest. rests on rest.0 e rest.1;
+      begins = λ auto changes opened e of bytes here. also_resting g.D.Disk opened c.step_made.result _ e new
+          (follows.begins changes (ap (λ (said : Said). switches_on (rule_of writing taps said) (known_of c.in-W.file)) auto) opened e of bytes here);
       asked = follows.asked;
       written = follows.written;
     })
@@ -148,9 +150,10 @@ returns-in-B-clause-steps g c =
         reads = λ plain. absurd (cc);
       };
       reads = follows.reads;
-      safe = safe;
-      rests = rests;
-      begins = λ auto changes. follows.begins changes (ap (λ (said : Said). switches_on (rule_of encoding taps said) (known_of c.in-B.file)) auto);
+      safe = λ on e rest. safe on rest.0 e rest.1;
+      rests = λ on e rest. rests on rest.0 e rest.1;
+      begins = λ auto changes opened e of bytes here. also_resting g.D.Disk opened c.step_blocks.result _ e new
+          (follows.begins changes (ap (λ (said : Said). switches_on (rule_of encoding taps said) (known_of c.in-B.file)) auto) opened e of bytes here);
       asked = follows.asked;
       written = follows.written;
     })
@@ -188,9 +191,10 @@ returns-in-U-clause-steps g c =
         reads = λ plain. absurd (cc);
       };
       reads = follows.reads;
-      safe = safe;
-      rests = rests;
-      begins = λ auto changes. follows.begins changes (ap (λ (said : Said). switches_on (rule_of updating taps said) (known_of c.in-U.file)) auto);
+      safe = λ on e rest. safe on rest.0 e rest.1;
+      rests = λ on e rest. rests on rest.0 e rest.1;
+      begins = λ auto changes opened e of bytes here. also_resting g.D.Disk opened c.step_update.result _ e new
+          (follows.begins changes (ap (λ (said : Said). switches_on (rule_of updating taps said) (known_of c.in-U.file)) auto) opened e of bytes here);
       asked = follows.asked;
       written = follows.written;
     })

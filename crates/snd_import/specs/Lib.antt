@@ -1,0 +1,4 @@
+pub mod Filling
+pub mod Import
+pub mod Making
+pub mod Source
