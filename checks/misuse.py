@@ -14,7 +14,7 @@ from lib.head import TOP, Cases, has
 if not has("misuse", "rt"):
     sys.exit(0)
 cases = Cases("misuse")
-USED = "snd_file"
+USED = "snd_opening"
 
 
 def lines_of(path):
