@@ -1,17 +1,18 @@
 -- Frames that pass one stage after the other.
-use Rattle.std.proofs.Common.{inl, inr, ◌≡◌, ℕ, zero, suc, ◌+◌, ◌-◌, ◌*◌, ◌/◌, ◌%◌, ◌<◌, ◌≤◌, ◌^◌, ℤ, pos, neg_ℤ, ◌*ℤ◌, ◌≤ℤ◌, List, [], ◌∷◌, ◌++◌, drop, get_or, length, map, min, take, refl, sym, subst, ap, ◌∙◌, arith}
+use Rattle.std.proofs.Common.{inl, inr, ◌≡◌, ℕ, zero, suc, ◌+◌, ◌-◌, ◌*◌, ◌/◌, ◌%◌, ◌<◌, ◌≤◌, ◌^◌, Bool, false, true, not, nat_lt, slice_index_or, ℤ, pos, neg_ℤ, ◌*ℤ◌, ◌≤ℤ◌, List, [], ◌∷◌, ◌++◌, drop, get_or, length, map, min, take, refl, sym, subst, ap, ◌∙◌, arith}
 use Rattle.std.proofs.Math.Nat.{div-eq_of_lt, mul_comm, mul-add-mod_self_right, mul-div_cancel, mul-le-mul_left, mul-le-mul_right, mul-mod_left, zero-div}
-use Rattle.std.proofs.lemmas.Bool.{cases_lt}
+use Rattle.std.proofs.lemmas.Bool.{cases_Bool, cases_lt, ltb-true}
 use Rattle.std.proofs.Math.Seq.{drop-cons}
 use Rattle.std.proofs.lemmas.Grind.{flat_map-append}
 use Rattle.std.proofs.lemmas.List.{append-nil, append_assoc, length-append, length-drop, length-map, length-take-le, map-append, take-append-drop, take_at}
-use Rattle.std.specs.List.{refill}
+use Rattle.std.specs.List.{flat_map, list_all, refill}
+use Rattle.snd_rack.specs.Rises.{fade_from}
 use Rattle.snd_pcm.specs.Width.{floor_div}
 use Rattle.std.proofs.lemmas.List.Elements.{All-append}
 use Rattle.snd_pcm.specs.Groups.{groups}
 use Rattle.snd_rack.specs.Held.{Held, InRange, MayPass, next, passed}
 use Rattle.snd_rack.specs.Passing.{EachMay, EachMayPass, MayPassBlock, each_by, each_passed, joined, later, next_by, passed_all, passed_block}
-use Rattle.snd_rack.specs.Rack.{channels_behind}
+use Rattle.snd_rack.specs.Rack.{channels_behind, is_bad}
 use Rattle.snd_rack.specs.Stage.{IsSettled, Stated, clamped, mapped}
 use Rattle.snd_rack.proofs.Cut.{Sized, count_is, groups-cons, groups_joined, groups_sized, groups_split, joined_groups, length_groups, no_group, size_joined}
 use Rattle.snd_rack.proofs.Passed.{later_twice, length_mapped, passed_joined}
@@ -136,6 +137,10 @@ first_settled : (h : Held) (frames : List (List ℤ)) → 1 ≤ length frames �
 first_settled h [] some may = absurd (omega (arith, some))
 first_settled h (frame ∷ frames) some may = may.0.settled
 
+first_there : (h : Held) (c : ℕ) (frames : List (List ℤ)) → 1 ≤ length frames → Sized c frames → EachMay h frames → is_bad c h.stated ≡ false
+first_there h c [] some all may = absurd (omega (arith, some))
+first_there h c (frame ∷ frames) some all may = sym (ap (λ m. is_bad m h.stated) all.0) ∙ may.0.there
+
 -- a block of n frames comes to the first of several stages
 module _ (h : Held) (hs : List Held) (c n : ℕ) (xs : List ℤ) (some : 1 ≤ c) (most : c ≤ 256) (one : 1 ≤ n) (few : n ≤ 64) (len : length xs ≡ n * c)
     (may : EachMayPass (h ∷ hs) (groups c xs)) where
@@ -168,6 +173,7 @@ module _ (h : Held) (hs : List Held) (c n : ℕ) (xs : List ℤ) (some : 1 ≤ c
         most = most;
         whole = ap (λ m. m % c) len ∙ mul-mod_left n c;
         settled = settled;
+        there = first_there h c (groups c xs) (omega (arith, count, one)) (groups_sized c n xs some len) both.0;
         may = both.0;
         room = omega (arith, size_then, most_of, bounds.1);
       }
@@ -382,3 +388,80 @@ module _ (h : Held) (c : ℕ) (xs now : List ℤ) (low high : ℤ) (low_is : low
 
 pub counted_as : (h : Held) (n seen : ℕ) → h.seen ≤ 2 ^ 64 - 1 → seen ≡ min (h.seen + n) (2 ^ 64 - 1) → record h { seen = seen } ≡ next_by n h
 counted_as h n seen le is = ap (λ (m : ℕ). record h { seen = m }) is ∙ sym (next_by_is n h le)
+
+-- ---- a choice of samples
+
+-- one more frame behind a function of frames
+module _ (F : List ℤ → List ℤ) (k : ℕ) (frame rest whole : List ℤ) (some : 0 < k) (len : length frame ≡ k) (is : whole ≡ frame ++ rest) where
+  flat_is : flat_map F (groups k whole) ≡ F frame ++ flat_map F (groups k rest)
+  flat_is = ap (flat_map F) (ap (groups k) is ∙ groups-cons k frame rest some len)
+
+  pub flat_on : (into new : List ℤ) → new ≡ into ++ F frame → new ++ flat_map F (groups k rest) ≡ into ++ flat_map F (groups k whole)
+  flat_on into new new_is =
+      ap (λ l. l ++ flat_map F (groups k rest)) new_is ∙ append_assoc into (F frame) (flat_map F (groups k rest)) ∙ sym (ap (λ l. into ++ l) flat_is)
+
+  pub flat_room : (into all : List ℤ) → into ++ flat_map F (groups k whole) ≡ all → length into + length (F frame) ≤ length all
+  flat_room into all all_is =
+      let one = length-append into (flat_map F (groups k whole)) in
+      let two = length-append (F frame) (flat_map F (groups k rest)) in
+      omega (arith, one, two, ap length flat_is, ap length all_is)
+
+pub flat_left : (F : List ℤ → List ℤ) (k : ℕ) (rest into : List ℤ) → length rest < k → into ≡ into ++ flat_map F (groups k rest)
+flat_left F k rest into lt = sym (append-nil into) ∙ sym (ap (λ l. into ++ flat_map F l) (no_group k rest lt))
+
+each_flat : (F : List ℤ → List ℤ) (h : Held) (frames : List (List ℤ)) → ((i : ℕ) (frame : List ℤ) → mapped h.stated h.low h.high i frame ≡ F frame)
+    → joined (each_by h frames) ≡ flat_map F frames
+each_flat F h [] e = refl
+each_flat F h (frame ∷ frames) e = ap (λ l. l ++ joined (each_by (next h) frames)) (e h.seen frame) ∙ ap (λ l. F frame ++ l) (each_flat F (next h) frames e)
+
+module _ (h : Held) (places : List ℕ) (c : ℕ) (xs : List ℤ) (stated : h.stated ≡ Stated.pick places) (may : MayPassBlock h c xs) where
+  abbrev picked : List ℤ → List ℤ
+  picked frame = map (λ place. slice_index_or frame place (pos 0)) places
+
+  pub picked_as : flat_map picked (groups c xs) ≡ passed_block h c xs
+  picked_as = sym (each_flat picked h (groups c xs) (λ i frame. ap (λ s. mapped s h.low h.high i frame) stated))
+
+  pub picked_room : length (flat_map picked (groups c xs)) ≤ 16384
+  picked_room = omega (arith, ap length picked_as, may.room)
+
+  pub picked_there : list_all (λ place. nat_lt place c) places ≡ true
+  picked_there = not_false (list_all (λ place. nat_lt place c) places) (sym (ap (is_bad c) stated) ∙ may.there)
+    where
+      not_false : (b : Bool) → not b ≡ false → b ≡ true
+      not_false true e = refl
+      not_false false e = sym e
+
+-- ---- a rise
+
+abbrev pub fade_at : ℤ → ℤ → ℕ → ℕ → Held
+fade_at low high n i = record (fade_from n i) { low = low; high = high }
+
+each_fade : (low high : ℤ) (n i : ℕ) (frames : List (List ℤ)) → each_by (fade_from n i) frames ≡ each_by (fade_at low high n i) frames
+each_fade low high n i [] = refl
+each_fade low high n i (frame ∷ frames) = ap (λ l. mapped (Stated.fade n) low high i frame ∷ l) (each_fade low high n (min (i + 1) (2 ^ 64 - 1)) frames)
+
+pub risen_as : (low high : ℤ) (n i c : ℕ) (xs : List ℤ) → passed_block (fade_from n i) c xs ≡ passed_block (fade_at low high n i) c xs
+risen_as low high n i c xs = ap joined (each_fade low high n i (groups c xs))
+
+not_below : (i n : ℕ) → n ≤ i → nat_lt i n ≡ false
+not_below i n le = elim (cases_Bool (nat_lt i n)) [ inl lt ↦ absurd (omega (arith, ltb-true i n lt, le)) | inr past ↦ past ]
+
+each_full : (n i : ℕ) (frames : List (List ℤ)) → n ≤ i → n < 2 ^ 32 → each_by (fade_from n i) frames ≡ frames
+each_full n i [] le few = refl
+each_full n i (frame ∷ frames) le few =
+    let past = not_below i n le in
+    let full : mapped (Stated.fade n) (pos 0) (pos 0) i frame ≡ frame = rw past refl in
+    ap (λ l. l ∷ each_by (fade_from n (min (i + 1) (2 ^ 64 - 1))) frames) full
+    ∙ ap (λ l. frame ∷ l) (each_full n (min (i + 1) (2 ^ 64 - 1)) frames (omega (arith, le, few)) few)
+
+pub full_as : (n i c : ℕ) (xs : List ℤ) → n ≤ i → n < 2 ^ 32 → 1 ≤ c → length xs % c ≡ 0 → xs ≡ passed_block (fade_from n i) c xs
+full_as n i c xs le few some whole =
+    sym (ap joined (each_full n i (groups c xs) le few) ∙ joined_groups c (length xs / c) xs some (whole_is c xs some whole))
+
+-- a frame of a rise has places where what becomes of all has
+pub rise_room : (n i k : ℕ) (frame rest whole : List ℤ) → 0 < k → length frame ≡ k → whole ≡ frame ++ rest → (into all : List ℤ) (most : ℕ)
+    → into ++ joined (each_by (fade_from n i) (groups k whole)) ≡ all → length all ≤ most → length into + length frame ≤ most
+rise_room n i k frame rest whole some len is into all most all_is le =
+    let room = room_on (fade_from n i) k frame rest whole some len is into (passed (fade_from n i) frame) all refl all_is in
+    let size : length (passed (fade_from n i) frame) ≡ length frame = length_mapped (Stated.fade n) (pos 0) (pos 0) i frame in
+    omega (arith, room, size, le)

@@ -4,6 +4,7 @@ pub mod Laws
 pub mod Passing
 pub mod Rack
 pub mod Reading
+pub mod Rises
 pub mod Setting
 pub mod Spec
 pub mod Stage

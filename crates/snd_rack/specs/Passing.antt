@@ -58,6 +58,7 @@ pub record MayPassBlock (h : Held) (channels : ℕ) (xs : List ℤ) : Type 0 whe
   pub most : channels ≤ 256
   pub whole : length xs % channels ≡ 0
   pub settled : IsSettled h.stated
+  pub there : is_bad channels h.stated ≡ false
   pub may : EachMay h (groups channels xs)
   pub room : length (passed_block h channels xs) ≤ 16384
 

@@ -4,7 +4,7 @@ ghost use Rattle.std.specs.Prelude.{◌≡◌};
 ghost use Rattle.snd_rack.specs.Held.{idle};
 ghost use Rattle.snd_rack.specs.Stage.{Stated};
 
-use crate::samples::rise;
+use crate::samples::{rise, rise_block};
 use crate::setting::{Setting, StageKind};
 use crate::stage::Stage;
 use arrayvec::ArrayVec;
@@ -58,5 +58,16 @@ impl Stage for Fade {
             rise(frame.as_mut_slice(), self.seen as u32, self.count);
         }
         self.seen = self.seen.saturating_add(1);
+    }
+
+    fn apply_all(
+        &mut self,
+        channels: usize,
+        block: &mut ArrayVec<i32, 16384>,
+        spare: &mut ArrayVec<i32, 16384>,
+    ) {
+        let frames = block.len() / channels;
+        rise_block(channels, self.seen, self.count, block, spare);
+        self.seen = self.seen.saturating_add(frames as u64);
     }
 }

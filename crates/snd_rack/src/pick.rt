@@ -4,7 +4,8 @@ ghost use Rattle.std.specs.Prelude.{◌≡◌, []};
 ghost use Rattle.snd_rack.specs.Held.{idle};
 ghost use Rattle.snd_rack.specs.Stage.{Stated};
 
-use crate::samples::pick;
+use crate::copies::copy_block;
+use crate::samples::{pick, pick_all};
 use crate::setting::{Setting, StageKind};
 use crate::stage::Stage;
 use arrayvec::ArrayVec;
@@ -61,6 +62,18 @@ impl Stage for Pick {
         frame.clear();
         pick(self.places.as_slice(), self.whole.as_slice(), frame);
         self.seen = self.seen.saturating_add(1);
+    }
+
+    fn apply_all(
+        &mut self,
+        channels: usize,
+        block: &mut ArrayVec<i32, 16384>,
+        spare: &mut ArrayVec<i32, 16384>,
+    ) {
+        let frames = block.len() / channels;
+        pick_all(self.places.as_slice(), channels, block.as_slice(), spare);
+        copy_block(spare.as_slice(), block);
+        self.seen = self.seen.saturating_add(frames as u64);
     }
 }
 

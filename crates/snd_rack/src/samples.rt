@@ -1,28 +1,15 @@
 //! What becomes of the samples of one frame, each in one tight loop.
 
-ghost use Rattle.std.specs.Prelude.{
-  ◌≡◌,
-  ◌<◌,
-  ◌≤◌,
-  ◌^◌,
-  ◌*ℤ◌,
-  ◌≤ℤ◌,
-  negsuc,
-  pos,
-  neg_ℤ,
-  true,
-  [],
-  IfSome,
-  length,
-  map,
-  nat_lt,
-  slice_index_or,
-};
-ghost use Rattle.std.specs.List.{list_all};
+ghost use Rattle.std.specs.Prelude.{◌≡◌, ◌+◌, ◌%◌, ◌++◌, ◌<◌, ◌≤◌, ◌^◌, ◌*ℤ◌, ◌≤ℤ◌, negsuc, pos, neg_ℤ, true, [], IfSome, length, map, nat_lt, slice_index_or};
+ghost use Rattle.std.specs.List.{flat_map, list_all};
+ghost use Rattle.snd_pcm.specs.Groups.{groups};
 ghost use Rattle.snd_pcm.specs.Width.{floor_div};
-ghost use Rattle.snd_rack.specs.Held.{InRange};
+ghost use Rattle.snd_rack.specs.Held.{InRange, passed};
+ghost use Rattle.snd_rack.specs.Passing.{passed_block};
+ghost use Rattle.snd_rack.specs.Rises.{fade_from};
 ghost use Rattle.snd_rack.specs.Stage.{clamped};
 
+use crate::copies::{add_samples, copy_block};
 use arrayvec::ArrayVec;
 
 #[inline]
@@ -203,5 +190,90 @@ pub(crate) fn pick(places: &[u8], from: &[i32], into: &mut ArrayVec<i32, 256>)
 {
     for place in places {
         into.push(from[usize::from(*place)]);
+    }
+}
+
+// Puts the samples at some places behind others.
+fn pick_more(places: &[u8], frame: &[i32], into: &mut ArrayVec<i32, 16384>)
+    requires room { length into.old.items + length places.now ≤ 16384 }
+    requires there { list_all (λ place. nat_lt place (length frame.now)) places.now ≡ true }
+    ensures { into.new.items ≡ into.old.items ++ map (λ place. slice_index_or frame.now place (pos 0)) places.now }
+{
+    for place in places {
+        into.push(frame[usize::from(*place)]);
+    }
+}
+
+/// The samples at some places of each frame.
+pub(crate) fn pick_all(
+    places: &[u8],
+    channels: usize,
+    from: &[i32],
+    into: &mut ArrayVec<i32, 16384>,
+)
+    requires some { 1 ≤ channels }
+    requires there { list_all (λ place. nat_lt place channels) places.now ≡ true }
+    requires room { length (flat_map (λ frame. map (λ place. slice_index_or frame place (pos 0)) places.now) (groups channels from.now)) ≤ 16384 }
+    ensures { into.new.items ≡ flat_map (λ frame. map (λ place. slice_index_or frame place (pos 0)) places.now) (groups channels from.now) }
+{
+    into.clear();
+    for frame in from.chunks_exact(channels) {
+        pick_more(places, frame, into);
+    }
+}
+
+// Puts i / count of each sample of a frame behind others.
+fn push_risen(frame: &[i32], i: u32, count: u32, into: &mut ArrayVec<i32, 16384>)
+    requires below { i < count }
+    requires room { length into.old.items + length frame.now ≤ 16384 }
+    ensures { into.new.items ≡ into.old.items ++ map (λ x. floor_div (x *ℤ pos i) count) frame.now }
+{
+    for x in frame {
+        into.push(risen(*x, i, count));
+    }
+}
+
+// Puts the frame with the number i of a rise behind others.
+fn rise_more(frame: &[i32], i: u64, count: u32, into: &mut ArrayVec<i32, 16384>)
+    requires { length into.old.items + length frame.now ≤ 16384 }
+    ensures { into.new.items ≡ into.old.items ++ passed (fade_from count i) frame.now }
+{
+    if i < u64::from(count) {
+        push_risen(frame, i as u32, count, into);
+    } else {
+        add_samples(frame, into);
+    }
+}
+
+// The frames of a rise over `count` frames, of which the first has the number `first`.
+fn rise_all(channels: usize, first: u64, count: u32, from: &[i32], into: &mut ArrayVec<i32, 16384>)
+    requires some { 1 ≤ channels }
+    requires room { length (passed_block (fade_from count first) channels from.now) ≤ 16384 }
+    ensures { into.new.items ≡ passed_block (fade_from count first) channels from.now }
+{
+    into.clear();
+    let mut i = first;
+    for frame in from.chunks_exact(channels) {
+        rise_more(frame, i, count, into);
+        i = i.saturating_add(1);
+    }
+}
+
+/// A block of whole frames of a rise over `count` frames, of which the first has the number `first`.
+pub(crate) fn rise_block(
+    channels: usize,
+    first: u64,
+    count: u32,
+    block: &mut ArrayVec<i32, 16384>,
+    spare: &mut ArrayVec<i32, 16384>,
+)
+    requires some { 1 ≤ channels }
+    requires whole { length block.old.items % channels ≡ 0 }
+    requires room { length (passed_block (fade_from count first) channels block.old.items) ≤ 16384 }
+    ensures { block.new.items ≡ passed_block (fade_from count first) channels block.old.items }
+{
+    if first < u64::from(count) {
+        rise_all(channels, first, count, block.as_slice(), spare);
+        copy_block(spare.as_slice(), block);
     }
 }
