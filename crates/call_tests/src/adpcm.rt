@@ -1,5 +1,5 @@
 //! VOX, which no file holds here.
-use snd_ima_adpcm::*;
+use snd_vox::*;
 
 // What sox 14.4.2 reads from the bytes 7f 08, and writes of these samples. Later it can differ, since it rounds the whole
 // distance of a code and not its parts.

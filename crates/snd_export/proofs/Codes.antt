@@ -3,7 +3,7 @@ use Rattle.std.proofs.Common.{◌≡◌, ◌∙◌, ap, sym, refl, subst, inl, i
 use Rattle.std.specs.Prelude.{◌==◌}
 use Rattle.std.proofs.lemmas.List.{append-nil, drop_all, length-append, nil_from_length, take_all, take_more_set}
 use Rattle.snd_ima_adpcm.specs.Frames.{bytes_high_half_first}
-use Rattle.snd_ima_adpcm.specs.Vox.{VoxState, made_even, vox_code, vox_codes, vox_next, vox_state_written}
+use Rattle.snd_vox.specs.Vox.{VoxState, made_even, vox_code, vox_codes, vox_next, vox_state_written}
 use Rattle.snd_ima_adpcm.proofs.Public.{drop_two}
 
 -- ---- codes of more numbers

@@ -13,7 +13,7 @@ use Rattle.snd_edits.specs.Reading.{HasFrames, bytes_of_frames, bytes_to_read}
 use Rattle.snd_fields.specs.Laws.{IsByte}
 use Rattle.snd_fields.specs.declared.field.Order.TheVariants.{Little}
 use Rattle.snd_ima_adpcm.specs.Frames.{bytes_high_half_first}
-use Rattle.snd_ima_adpcm.specs.Vox.{VoxState, made_even, vox_codes, vox_state_written}
+use Rattle.snd_vox.specs.Vox.{VoxState, made_even, vox_codes, vox_state_written}
 use Rattle.snd_layout.specs.Blocks.{block_align, block_frames, is_adpcm}
 use Rattle.snd_layout.specs.Params.{Parameters}
 use Rattle.snd_layout.specs.Shape.{Shape}

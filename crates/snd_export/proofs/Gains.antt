@@ -8,7 +8,7 @@ use Rattle.std.proofs.lemmas.Bool.{eqb-true, leb-false, not-false}
 use Rattle.snd_blocks.specs.Sound.{frames_in}
 use Rattle.snd_disk.specs.Bytes.{over}
 use Rattle.snd_edits.specs.Editing.{first_editing}
-use Rattle.snd_ima_adpcm.specs.Vox.{VoxState, vox_start}
+use Rattle.snd_vox.specs.Vox.{VoxState, vox_start}
 use Rattle.snd_layout.specs.Shape.{Shape}
 use Rattle.snd_output.specs.Widths.{joined}
 use Rattle.snd_words.specs.declared.raw.ExportForm.{ExportForm}

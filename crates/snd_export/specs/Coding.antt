@@ -6,7 +6,7 @@ use Rattle.snd_disk.specs.Device.{Tells}
 use Rattle.snd_disk.specs.State.{State}
 use Rattle.snd_fields.specs.declared.field.Order.TheVariants.{Little}
 use Rattle.snd_ima_adpcm.specs.Frames.{bytes_high_half_first}
-use Rattle.snd_ima_adpcm.specs.Vox.{VoxState, made_even, vox_codes, vox_state_written}
+use Rattle.snd_vox.specs.Vox.{VoxState, made_even, vox_codes, vox_state_written}
 use Rattle.snd_layout.specs.Blocks.{block_align, is_adpcm}
 use Rattle.snd_layout.specs.Params.{Parameters}
 use Rattle.snd_layout.specs.Shape.{Shape}

@@ -5,7 +5,7 @@ use Rattle.std.specs.Prelude.{ℕ, ℤ, ◌+◌, ◌*◌, ◌/◌, ◌^◌, ◌=
 use Rattle.std.specs.Str.{bytes_eq}
 use Rattle.snd_disk.specs.Shelf.{Files}
 use Rattle.snd_fields.specs.declared.field.Order.TheVariants.{Little, Big}
-use Rattle.snd_ima_adpcm.specs.Vox.{vox_file}
+use Rattle.snd_vox.specs.Vox.{vox_file}
 use Rattle.snd_inputs.specs.Inputs.{input_in, is_bad}
 use Rattle.snd_layout.specs.Blocks.{block_align}
 use Rattle.snd_layout.specs.Params.{Parameters}

@@ -4,7 +4,7 @@ use Rattle.snd_disk.specs.Device.{AsksAtMost, Tells}
 use Rattle.snd_disk.specs.Shelf.{Files, ShelfState, put}
 use Rattle.snd_disk.specs.Shelves.{TellsFiles}
 use Rattle.snd_disk.specs.State.{State}
-use Rattle.snd_ima_adpcm.specs.Vox.{vox_start}
+use Rattle.snd_vox.specs.Vox.{vox_start}
 use Rattle.snd_inputs.specs.Copying.{bytes_checked, bytes_to_copy}
 use Rattle.snd_layout.specs.Shape.{Shape}
 use Rattle.snd_edits.specs.Editing.{first_editing}

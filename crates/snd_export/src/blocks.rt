@@ -15,9 +15,9 @@ use crate::target::{Target, frames_of};
 use snd_blocks::BlockCache;
 use snd_disk::{Disk, Failed};
 use snd_frames::{BLOCK_BYTES, channels_of, frames_ahead, is_adpcm, keeps_rules};
-use snd_ima_adpcm::VoxWriter;
 use snd_layout::{Codec, Layout};
 use snd_output::Stop;
+use snd_vox::VoxWriter;
 use std::alloc::Global;
 
 /// The most numbers that are held at once, and the most bytes that these are, or become.

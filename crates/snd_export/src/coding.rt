@@ -5,7 +5,7 @@ ghost use Rattle.snd_disk.specs.Device.{AsksAtMost, OnlyReadsOn};
 ghost use Rattle.snd_edits.specs.Reading.{FitCodec, bytes_to_read};
 ghost use Rattle.snd_fields.specs.Laws.{IsByte};
 ghost use Rattle.snd_frames.specs.Caching.{CachesIn};
-ghost use Rattle.snd_ima_adpcm.specs.Vox.{VoxState};
+ghost use Rattle.snd_vox.specs.Vox.{VoxState};
 ghost use Rattle.snd_layout.specs.Blocks.{is_adpcm};
 ghost use Rattle.snd_layout.specs.Shape.{end};
 ghost use Rattle.snd_output.specs.Appended.{has_two_zeros};
@@ -20,9 +20,9 @@ use snd_container::{fixed_form, put_samples};
 use snd_disk::Disk;
 use snd_fields::Order;
 use snd_frames::{BLOCK_BYTES, align_of, channels_of, read_any, read_raw};
-use snd_ima_adpcm::VoxWriter;
 use snd_layout::{Codec, Layout};
 use snd_output::{Stop, change_numbers, recode_into};
+use snd_vox::VoxWriter;
 
 // Reads frames that the layout counts, from a place on, as numbers of a codec.
 fn read_numbers<D: Disk>(

@@ -2,10 +2,10 @@
 
 ghost use Rattle.std.specs.Prelude.{◌≡◌, ◌+◌, ◌*◌, ◌%◌, ◌≤◌, All, length, take};
 ghost use Rattle.snd_ima_adpcm.specs.Frames.{bytes_high_half_first};
-ghost use Rattle.snd_ima_adpcm.specs.Vox.{made_even, vox_codes, vox_state_written};
+ghost use Rattle.snd_vox.specs.Vox.{made_even, vox_codes, vox_state_written};
 ghost use Rattle.snd_pcm.specs.Width.{HasWidth};
 
-use snd_ima_adpcm::VoxWriter;
+use snd_vox::VoxWriter;
 
 // A number of 16 bits, as one of a type of as many.
 #[inline(always)]

@@ -5,10 +5,7 @@ use Rattle.std.proofs.Math.Nat.{mul-mod_left, mul-div_cancel, mod_self}
 use Rattle.std.proofs.lemmas.List.{take_at, drop_at, length-append, append-nil}
 use Rattle.std.proofs.lemmas.List.Elements.{All-head, All-tail}
 use Rattle.snd_ima_adpcm.specs.Blocks.{Rule, filled, bytes_of_blocks, bytes_of_list, bytes_of_calls, joined}
-use Rattle.snd_ima_adpcm.specs.Frames.{high_half_first, bytes_high_half_first}
 use Rattle.snd_ima_adpcm.specs.Ima.{ima_numbers}
-use Rattle.snd_ima_adpcm.specs.Laws.{vox_reads, vox_puts, joined_pairs, VoxReadsGiveSound, VoxPutsGiveFile}
-use Rattle.snd_ima_adpcm.specs.Vox.{VoxState, vox_start, vox_samples, vox_state_read, vox_codes, vox_state_written}
 
 length-joined : (n : ℕ) (calls : List (List ℤ)) → All (λ call. length call ≡ n) calls → length (joined calls) ≡ length calls * n
 length-joined n [] all = omega arith
@@ -43,18 +40,3 @@ filled-whole n calls positive all =
 pub ima_numbers-positive : (channels align : ℕ) → (channels ≡ 1) ⊎ (channels ≡ 2) → 0 < ima_numbers channels align
 ima_numbers-positive channels align (inl one) = rw one (omega arith)
 ima_numbers-positive channels align (inr two) = rw two (omega arith)
-
--- VOX bytes and pairs of samples, one after another
-vox_reads-from : (state : VoxState) (bytes : List ℕ) → vox_reads state bytes ≡ vox_samples state (high_half_first bytes)
-vox_reads-from state [] = refl
-vox_reads-from state (byte ∷ bytes) = rw (vox_reads-from (vox_state_read state (high_half_first (byte ∷ []))) bytes) refl
-
-vox_puts-from : (state : VoxState) (pairs : List (ℤ × ℤ)) → vox_puts state pairs ≡ bytes_high_half_first (vox_codes state (joined_pairs pairs))
-vox_puts-from state [] = refl
-vox_puts-from state (pair ∷ pairs) = rw (vox_puts-from (vox_state_written state (pair.0 ∷ pair.1 ∷ [])) pairs) refl
-
-pub vox_reads_give_sound : VoxReadsGiveSound
-vox_reads_give_sound bytes = vox_reads-from vox_start bytes
-
-pub vox_puts_give_file : VoxPutsGiveFile
-vox_puts_give_file samples pairs e = vox_puts-from vox_start pairs ∙ ap (λ xs. bytes_high_half_first (vox_codes vox_start xs)) e

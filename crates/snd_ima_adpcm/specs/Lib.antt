@@ -4,4 +4,3 @@ pub mod Ima
 pub mod Laws
 pub mod States
 pub mod Step
-pub mod Vox

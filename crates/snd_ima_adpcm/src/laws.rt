@@ -1,6 +1,6 @@
 //! Laws: what calls give one after another. Each function does nothing; its contract is the law.
 
-ghost use Rattle.snd_ima_adpcm.specs.Laws.{ImaCallsGiveData, ImaCallsAreWhole, ImaDataAreBytes, VoxReadsGiveSound, VoxPutsGiveFile};
+ghost use Rattle.snd_ima_adpcm.specs.Laws.{ImaCallsGiveData, ImaCallsAreWhole, ImaDataAreBytes};
 
 /// Calls of `encode` on one new [`ImaWriter`](crate::ImaWriter), all with the same channels and the same number of samples,
 /// give the blocks of the joined samples: each channel's step index starts at 0 and goes on from block to block.
@@ -13,11 +13,4 @@ pub fn ima_calls_give_blocks()
 #[tactic(auto, using(crate::proofs::CodedBytes::ima_data_bytes))]
 pub fn ima_blocks_are_bytes()
     ensures { ImaDataAreBytes }
-{}
-
-/// Calls of `next` on one new [`VoxReader`](crate::VoxReader) give the samples of the joined bytes, and calls of `put` on one new
-/// [`VoxWriter`](crate::VoxWriter) the bytes of the joined samples.
-pub fn vox_calls_give_files()
-    ensures reads { VoxReadsGiveSound }
-    ensures puts { VoxPutsGiveFile }
 {}

@@ -9,7 +9,7 @@ use Rattle.snd_output.specs.Appended.{Gains}
 use Rattle.snd_output.specs.Made.{IsMaking}
 use Rattle.snd_output.specs.Widths.{change_numbers}
 use Rattle.snd_file.specs.Handle.{codec_of}
-use Rattle.snd_ima_adpcm.specs.Vox.{VoxState, vox_start}
+use Rattle.snd_vox.specs.Vox.{VoxState, vox_start}
 use Rattle.snd_layout.specs.declared.codec.Codec.{Codec}
 use Rattle.snd_import.proofs.Pieces.{change_joined, front_none, front_sound, front_state, sound_first, sound_none, state_none}
 use Rattle.snd_import.specs.Filling.{HasGiven, sound_behind, state_behind}

@@ -3,7 +3,7 @@ use Rattle.std.proofs.Common.{◌≡◌, ◌∙◌, ap, sym, subst, refl, ℕ, �
 use Rattle.std.proofs.lemmas.List.{append_assoc, length-set, take_more_set}
 use Rattle.std.proofs.lemmas.List.Elements.{All-append, All-cons, All-nil}
 use Rattle.snd_ima_adpcm.specs.Frames.{high_half_first}
-use Rattle.snd_ima_adpcm.specs.Vox.{VoxState, vox_next, vox_predictor, vox_samples, vox_state_read}
+use Rattle.snd_vox.specs.Vox.{VoxState, vox_next, vox_predictor, vox_samples, vox_state_read}
 use Rattle.snd_pcm.specs.Width.{HasWidth}
 
 pub halves_joined : (xs ys : List ℕ) → high_half_first (xs ++ ys) ≡ high_half_first xs ++ high_half_first ys

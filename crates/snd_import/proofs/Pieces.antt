@@ -6,7 +6,7 @@ use Rattle.std.proofs.lemmas.Nat.{div-add-mod'}
 use Rattle.snd_container.proofs.Public.{samples_of_joined}
 use Rattle.snd_container.specs.declared.fixed.Fixed.{Fixed}
 use Rattle.snd_ima_adpcm.specs.Frames.{high_half_first}
-use Rattle.snd_ima_adpcm.specs.Vox.{VoxState, vox_samples, vox_start, vox_state_read}
+use Rattle.snd_vox.specs.Vox.{VoxState, vox_samples, vox_start, vox_state_read}
 use Rattle.snd_layout.specs.Blocks.{block_align, block_frames, is_adpcm}
 use Rattle.snd_layout.specs.Params.{Parameters}
 use Rattle.snd_layout.specs.Shape.{Shape}

@@ -4,7 +4,7 @@ use Rattle.snd_disk.specs.declared.disk.Disk.{Ghosts}
 use Rattle.snd_disk.specs.Device.{AsksAtMost, GoesOnFrom, OnlyReadsOn, Tells}
 use Rattle.snd_disk.specs.State.{State}
 use Rattle.snd_ima_adpcm.specs.Frames.{high_half_first}
-use Rattle.snd_ima_adpcm.specs.Vox.{VoxState, vox_samples, vox_start, vox_state_read}
+use Rattle.snd_vox.specs.Vox.{VoxState, vox_samples, vox_start, vox_state_read}
 use Rattle.snd_layout.specs.declared.codec.Codec.{Codec}
 use Rattle.snd_edits.specs.Bytes.{numbers_in}
 use Rattle.snd_edits.specs.Known.{Known}

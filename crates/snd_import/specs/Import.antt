@@ -5,7 +5,7 @@ use Rattle.std.specs.Prelude.{ℕ, ◌+◌, ◌-◌, ◌*◌, ◌/◌, ℤ, List
 use Rattle.std.specs.Str.{bytes_eq}
 use Rattle.snd_disk.specs.Shelf.{Files}
 use Rattle.snd_fields.specs.declared.field.Order.TheVariants.{Little}
-use Rattle.snd_ima_adpcm.specs.Vox.{vox_sound}
+use Rattle.snd_vox.specs.Vox.{vox_sound}
 use Rattle.snd_layout.specs.Blocks.{block_align}
 use Rattle.snd_layout.specs.Kinds.{eight_bits, own_order}
 use Rattle.snd_layout.specs.Params.{Parameters, params_of}

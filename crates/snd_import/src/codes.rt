@@ -2,10 +2,10 @@
 
 ghost use Rattle.std.specs.Prelude.{◌≡◌, ◌+◌, ◌*◌, ◌<◌, All, length, set};
 ghost use Rattle.snd_ima_adpcm.specs.Frames.{high_half_first};
-ghost use Rattle.snd_ima_adpcm.specs.Vox.{vox_samples, vox_state_read};
+ghost use Rattle.snd_vox.specs.Vox.{vox_samples, vox_state_read};
 ghost use Rattle.snd_pcm.specs.Width.{HasWidth};
 
-use snd_ima_adpcm::VoxReader;
+use snd_vox::VoxReader;
 
 // Puts two numbers of 16 bits, one behind the other, at a place.
 #[inline]

@@ -6,7 +6,7 @@ ghost use Rattle.snd_fields.specs.declared.field.Order.TheVariants.{Little};
 ghost use Rattle.snd_file.specs.Handle.{channels_of, codec_of, disk_of, known_of, loan_of};
 ghost use Rattle.snd_file.specs.Outcomes.{AsksNothing, TellsOn};
 ghost use Rattle.snd_ima_adpcm.specs.Frames.{high_half_first};
-ghost use Rattle.snd_ima_adpcm.specs.Vox.{vox_samples, vox_state_read};
+ghost use Rattle.snd_vox.specs.Vox.{vox_samples, vox_state_read};
 ghost use Rattle.snd_layout.specs.Blocks.{block_align, is_adpcm};
 ghost use Rattle.snd_layout.specs.declared.codec.Codec.TheVariants.{S16};
 ghost use Rattle.snd_output.specs.Appended.{CountsFile, Gains, HasRoom, IsAtEnd, IsLonger, LeavesFile};
@@ -23,9 +23,9 @@ use snd_disk::{Disk, fill};
 use snd_edits::Write;
 use snd_fields::Order;
 use snd_file::File;
-use snd_ima_adpcm::VoxReader;
 use snd_layout::{Codec, Params};
 use snd_output::{Making, Stop, change_numbers, give_passed};
+use snd_vox::VoxReader;
 
 /// The most bytes of samples that are read at a time, the most samples, and the most bytes that these become, four
 /// of each.

@@ -4,7 +4,7 @@ use Rattle.std.proofs.lemmas.List.{length-append, length-take-le, take_at}
 use Rattle.std.proofs.Math.Nat.{mul-le-mul_right}
 use Rattle.snd_disk.proofs.Public.{goes_on_then, only_reads_then}
 use Rattle.snd_disk.specs.Device.{Tells}
-use Rattle.snd_ima_adpcm.specs.Vox.{vox_start}
+use Rattle.snd_vox.specs.Vox.{vox_start}
 use Rattle.snd_layout.specs.Shape.{Shape}
 use Rattle.snd_output.proofs.Public.{changed_as, unchanged_as}
 use Rattle.snd_export.specs.Coding.{bytes_by, count_by, numbers_at, state_by}

@@ -2,7 +2,7 @@ use Rattle.std.proofs.Common.{◌≡◌, ℕ, ◌+◌, ◌-◌, ◌*◌, ◌/◌
 use Rattle.std.specs.Prelude.{is_some}
 use Rattle.snd_disk.specs.Device.{AsksAtMost, GoesOnFrom, OnlyReadsOn, Tells}
 use Rattle.snd_frames.specs.Caching.{CachesIn}
-use Rattle.snd_ima_adpcm.specs.Vox.{vox_start}
+use Rattle.snd_vox.specs.Vox.{vox_start}
 use Rattle.snd_layout.specs.Blocks.{is_adpcm}
 use Rattle.snd_output.proofs.Public.{asked_by}
 use Rattle.snd_patch.specs.Steps.{StillTells}

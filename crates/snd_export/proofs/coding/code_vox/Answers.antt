@@ -1,6 +1,6 @@
 use Rattle.std.proofs.Common.{rules, ◌≡◌, ◌∙◌, ◌*◌, ◌/◌, ℤ, List, All, ap, sym, subst, refl, length, drop, take, arith}
 use Rattle.std.proofs.lemmas.List.{take_at}
-use Rattle.snd_ima_adpcm.specs.Vox.{made_even}
+use Rattle.snd_vox.specs.Vox.{made_even}
 use Rattle.snd_fields.specs.declared.field.Order.TheVariants.{Little}
 use Rattle.snd_layout.specs.declared.codec.Codec.TheVariants.{S16}
 use Rattle.snd_output.proofs.Public.{changed_as, fits_width}

@@ -5,7 +5,7 @@ use Rattle.snd_disk.proofs.Public.{goes_on_then}
 use Rattle.snd_disk.specs.Device.{Tells}
 use Rattle.snd_edits.proofs.Public.{count_any}
 use Rattle.snd_edits.specs.Editing.{first_editing}
-use Rattle.snd_ima_adpcm.specs.Vox.{vox_start}
+use Rattle.snd_vox.specs.Vox.{vox_start}
 use Rattle.snd_output.proofs.Public.{changed_as, if_unchanged, unchanged_as}
 use Rattle.snd_export.specs.Coding.{HasChannels, bytes_by, head_made, numbers_at, size_by, target_of}
 use Rattle.snd_export.specs.Export.{bytes_made}

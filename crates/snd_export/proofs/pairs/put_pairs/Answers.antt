@@ -1,7 +1,7 @@
 use Rattle.std.proofs.Common.{rules, ◌≡◌, ◌∙◌, ◌+◌, ◌*◌, ◌<◌, ℕ, ℤ, pos, [], ◌∷◌, ap, get_or, length, of_z, to_z, arith}
 use Rattle.std.specs.Int.{w16}
 use Rattle.snd_ima_adpcm.specs.Frames.{bytes_high_half_first}
-use Rattle.snd_ima_adpcm.specs.Vox.{vox_codes, vox_state_written}
+use Rattle.snd_vox.specs.Vox.{vox_codes, vox_state_written}
 use Rattle.snd_export.proofs.Codes.{pair_is, put_more}
 use Rattle.snd_export.proofs.pairs.put_pairs.Goals as goal
 

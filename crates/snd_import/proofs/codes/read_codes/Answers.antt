@@ -1,7 +1,7 @@
 use Rattle.std.proofs.Common.{◌≡◌, ◌∙◌, ap, sym, subst, ℕ, ◌+◌, ◌*◌, ◌<◌, ℤ, List, [], ◌∷◌, ◌++◌, All, drop, get_or, length, take, set, to_z, of_z, w16, arith, rules}
 use Rattle.std.proofs.lemmas.List.{drop_more, length-set}
 use Rattle.snd_ima_adpcm.specs.Frames.{high_half_first}
-use Rattle.snd_ima_adpcm.specs.Vox.{vox_samples, vox_state_read}
+use Rattle.snd_vox.specs.Vox.{vox_samples, vox_state_read}
 use Rattle.snd_pcm.specs.Width.{HasWidth}
 use Rattle.snd_import.proofs.Halves.{one_read, one_stepped, two_fit}
 use Rattle.snd_import.proofs.codes.read_codes.Goals as goal

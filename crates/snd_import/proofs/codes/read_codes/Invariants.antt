@@ -1,6 +1,6 @@
 use Rattle.std.proofs.Common.{◌≡◌, ◌*◌, ◌++◌, All, drop, length, take}
 use Rattle.snd_ima_adpcm.specs.Frames.{high_half_first}
-use Rattle.snd_ima_adpcm.specs.Vox.{vox_samples, vox_state_read}
+use Rattle.snd_vox.specs.Vox.{vox_samples, vox_state_read}
 use Rattle.snd_pcm.specs.Width.{HasWidth}
 use Rattle.snd_import.proofs.codes.read_codes.Given as goal
 

@@ -1,5 +1,5 @@
-use Rattle.snd_ima_adpcm.proofs.BlockLaws.{vox_reads_give_sound, vox_puts_give_file}
-use Rattle.snd_ima_adpcm.proofs.laws.vox_calls_give_files.Goals as goal
+use Rattle.snd_vox.proofs.Calls.{vox_reads_give_sound, vox_puts_give_file}
+use Rattle.snd_vox.proofs.laws.vox_calls_give_files.Goals as goal
 
 pub returns-clause-reads : goal.returns-clause-reads
 returns-clause-reads c = vox_reads_give_sound

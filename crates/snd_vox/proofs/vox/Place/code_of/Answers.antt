@@ -1,7 +1,7 @@
 use Rattle.std.proofs.Common.{◌-ℤ◌, arith, rules, FitsSigned, w32}
 use Rattle.std.proofs.lemmas.Int.{to_z-of_z}
-use Rattle.snd_ima_adpcm.specs.Vox.{vox_code}
-use Rattle.snd_ima_adpcm.proofs.vox.Place.code_of.Goals as goal
+use Rattle.snd_vox.specs.Vox.{vox_code}
+use Rattle.snd_vox.proofs.vox.Place.code_of.Goals as goal
 
 pub returns-clause-value : goal.returns-clause-value
 unfolding vox_code

@@ -2,10 +2,10 @@
 
 ghost use Rattle.std.specs.Prelude.{◌≡◌, ◌+◌, ◌*◌, ◌<◌, ◌≤◌, ◌≤ℤ◌, ◌*ℤ◌, pos, negsuc, [], ◌∷◌};
 ghost use Rattle.snd_ima_adpcm.specs.Frames.{floor_div, high_half_first, bytes_high_half_first};
-ghost use Rattle.snd_ima_adpcm.specs.Vox.{VoxState, vox_start, vox_predictor, vox_index, vox_samples, vox_state_read, vox_code, vox_codes, vox_state_written};
+ghost use Rattle.snd_vox.specs.Vox.{VoxState, vox_start, vox_predictor, vox_index, vox_samples, vox_state_read, vox_code, vox_codes, vox_state_written};
 
-use crate::number::{high_code, low_code};
-use crate::step::{code_of, index_after, moved_by, step_at};
+use snd_ima_adpcm::number::{high_code, low_code};
+use snd_ima_adpcm::step::{code_of, index_after, moved_by, step_at};
 use std::marker::Model;
 
 /// A sample in 12 bits, rounded toward minus infinity.
