@@ -21,7 +21,7 @@ pub use fade::Fade;
 pub use gain::Gain;
 pub use invert::Invert;
 pub use laws::stages_compose;
-pub use passing::pass_frames;
+pub use passing::{Room, pass_frames};
 pub use pick::Pick;
 pub use setting::{Setting, StageKind};
 pub use spec::RackSpec;

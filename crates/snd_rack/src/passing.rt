@@ -19,6 +19,23 @@ use arrayvec::ArrayVec;
 // Between two maps a frame may have 256 samples: so many frames have places then.
 const MOST_FRAMES: usize = 64;
 
+/// Room for frames between stages, which is kept from block to block.
+#[derive(Drop)]
+pub struct Room {
+    block: ArrayVec<i32, 16384>,
+    spare: ArrayVec<i32, 16384>,
+}
+
+impl Room {
+    /// Room that is used by `pass_frames`.
+    pub fn new() -> Room {
+        Room {
+            block: ArrayVec::new(),
+            spare: ArrayVec::new(),
+        }
+    }
+}
+
 fn apply_all(
     each: &mut Box<dyn Stage>,
     channels: usize,
@@ -56,11 +73,12 @@ fn pass_block(
 }
 
 /// Passes whole frames of `channels` samples through all stages, one after the other, and puts what becomes of them into
-/// a list, which has places for it. Samples behind the last whole frame are left out.
+/// a list, which has places for it. Samples behind the last whole frame are left out. What the room held is lost.
 pub fn pass_frames(
     stages: &mut [Box<dyn Stage>],
     channels: usize,
     numbers: &[i32],
+    room: &mut Room,
     into: &mut ArrayVec<i32, 16384>,
 )
     requires some { 1 ≤ channels }
@@ -71,12 +89,10 @@ pub fn pass_frames(
     ensures states { map (λ b. stage b) stages.new ≡ later (length numbers.now / channels) (map (λ b. stage b) stages.old) }
 {
     into.clear();
-    let mut block = ArrayVec::new();
-    let mut spare = ArrayVec::new();
     let whole = numbers.len() - numbers.len() % channels;
     for samples in numbers[..whole].chunks(MOST_FRAMES * channels) {
-        copy_block(samples, &mut block);
-        pass_block(stages, channels, &mut block, &mut spare);
-        add_samples(block.as_slice(), into);
+        copy_block(samples, &mut room.block);
+        pass_block(stages, channels, &mut room.block, &mut room.spare);
+        add_samples(room.block.as_slice(), into);
     }
 }
