@@ -12,9 +12,8 @@ ghost use Rattle.snd_rack.specs.Stage.{kind_of};
 ghost use Rattle.snd_racking.specs.Appending.{IsPiece, MayAppendRacked, MayRack, next_passed, rack_at};
 ghost use Rattle.snd_racking.specs.Racked.{racked_left};
 
-use crate::pieces::{give_racked, piece_size};
+use crate::pieces::{PieceRoom, give_racked, piece_size};
 use crate::range::range_of;
-use arrayvec::ArrayVec;
 use snd_disk::Disk;
 use snd_edits::Read;
 use snd_file::File;
@@ -28,7 +27,7 @@ fn append_block<D: Disk, E: Disk, M: Making>(
     to: &mut File<'_, E, M>,
     stages: &mut [Box<dyn Stage>],
     block: &mut [i32],
-    passed: &mut ArrayVec<i32, 16384>,
+    room: &mut PieceRoom,
     most: usize,
 ) -> Result<usize, Stop>
     requires may { MayAppendRacked (map (λ b. stage b) stages.old) (known_of from.old) (known_of to.old) }
@@ -52,7 +51,7 @@ fn append_block<D: Disk, E: Disk, M: Making>(
     let (channels, codec) = numbers_of(from);
     let count = read_some(from, block)?;
     let numbers = &block[..count * channels];
-    give_racked(to, codec, channels, stages, numbers, passed, most)?;
+    give_racked(to, codec, channels, stages, numbers, room, most)?;
     Ok(count)
 }
 
@@ -87,10 +86,10 @@ fn append_started<D: Disk, E: Disk, M: Making>(
     // there are no more frames than a stage counts
     let _ = from.frames();
     let places = block.len() - block.len() % channels;
-    let mut passed = ArrayVec::new();
+    let mut room = PieceRoom::new();
     let mut count = 1;
     while count > 0 {
-        count = append_block(from, to, stages, &mut block[..places], &mut passed, most)?;
+        count = append_block(from, to, stages, &mut block[..places], &mut room, most)?;
     }
     Ok(())
 }

@@ -14,10 +14,26 @@ use snd_disk::Disk;
 use snd_file::File;
 use snd_layout::Codec;
 use snd_output::{Making, Stop, change_numbers, numbers_of};
-use snd_rack::{Stage, pass_frames};
+use snd_rack::{Room, Stage, pass_frames};
 
 // The most numbers that are given at a time.
 const MOST_NUMBERS: usize = 16384;
+
+/// Room for what becomes of a piece, which is kept from piece to piece.
+#[derive(Drop)]
+pub(crate) struct PieceRoom {
+    between: Room,
+    passed: ArrayVec<i32, 16384>,
+}
+
+impl PieceRoom {
+    pub(crate) fn new() -> PieceRoom {
+        PieceRoom {
+            between: Room::new(),
+            passed: ArrayVec::new(),
+        }
+    }
+}
 
 /// How many numbers are passed at a time: whole frames, of so many numbers before the stages and so many behind them.
 pub(crate) fn piece_size(channels: usize, after: usize) -> usize
@@ -37,7 +53,7 @@ fn give_piece<E: Disk, M: Making>(
     channels: usize,
     stages: &mut [Box<dyn Stage>],
     numbers: &[i32],
-    passed: &mut ArrayVec<i32, 16384>,
+    room: &mut PieceRoom,
 ) -> Result<(), Stop>
     requires may { MayGiveRacked codec channels (map (λ b. stage b) stages.old) numbers.now (known_of to.old) }
     requires fits { length numbers.now / channels * channels_of to.old ≤ 16384 }
@@ -51,20 +67,26 @@ fn give_piece<E: Disk, M: Making>(
     ensures asked { AsksNothing E.state to.old to.new }
 {
     let (_, wanted) = numbers_of(to);
-    pass_frames(stages, channels, numbers, passed);
-    change_numbers(codec, wanted, passed.as_mut_slice());
-    M::give(to, passed.as_slice())
+    pass_frames(
+        stages,
+        channels,
+        numbers,
+        &mut room.between,
+        &mut room.passed,
+    );
+    change_numbers(codec, wanted, room.passed.as_mut_slice());
+    M::give(to, room.passed.as_slice())
 }
 
 /// Passes whole frames of numbers of a codec through stages, and gives a file what becomes of them, in its own codec, `most`
-/// numbers at a time. What the buffer held is lost. `Fault` where a call of the disk failed.
+/// numbers at a time. What the room held is lost. `Fault` where a call of the disk failed.
 pub(crate) fn give_racked<E: Disk, M: Making>(
     to: &mut File<'_, E, M>,
     codec: Codec,
     channels: usize,
     stages: &mut [Box<dyn Stage>],
     numbers: &[i32],
-    passed: &mut ArrayVec<i32, 16384>,
+    room: &mut PieceRoom,
     most: usize,
 ) -> Result<(), Stop>
     requires may { MayGiveRacked codec channels (map (λ b. stage b) stages.old) numbers.now (known_of to.old) }
@@ -81,7 +103,7 @@ pub(crate) fn give_racked<E: Disk, M: Making>(
     let mut at = 0;
     while at < numbers.len() {
         let end = at + most.min(numbers.len() - at);
-        give_piece(to, codec, channels, stages, &numbers[at..end], passed)?;
+        give_piece(to, codec, channels, stages, &numbers[at..end], room)?;
         at = end;
     }
     Ok(())
