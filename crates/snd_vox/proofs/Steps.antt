@@ -1,5 +1,5 @@
 -- What holds at every entry of the table of indices, and where a code leads.
-use Rattle.std.proofs.Common.{◌≡◌, ℕ, ℤ, pos, negsuc, ◌+◌, ◌*◌, ◌/◌, ◌%◌, ◌<◌, ◌≤◌, ◌≤ℤ◌, ◌+ℤ◌, ◌-ℤ◌, map, get_or, Bool, true, false, refl, sym, ap, ◌∙◌, arith}
+use Rattle.std.proofs.Common.{◌≡◌, ℕ, ℤ, pos, negsuc, ◌+◌, ◌*◌, ◌/◌, ◌%◌, ◌<◌, ◌≤◌, ◌+ℤ◌, ◌-ℤ◌, map, get_or, Bool, true, false, refl, sym, ap, ◌∙◌, arith}
 use Rattle.std.specs.Prelude.{◌==◌, bit_and, if◌then◌else◌}
 use Rattle.std.specs.List.{range_with_len}
 use Rattle.std.proofs.lemmas.Int.{ints}
@@ -22,7 +22,7 @@ pub index_entry : (index code n : ℕ) → index ≤ 56 → code < 16 → n ≡ 
     get_or (map (λ k. next_index 8 56 (k / 16) (k % 16)) (range_with_len 0 912)) (16 * index + n) 0 ≡ next_index 8 56 index code
 index_entry index code n le lt same =
     rw same (get_or-map-range_with_len (λ k. next_index 8 56 (k / 16) (k % 16)) 0 912 (16 * index + code) (16 * index + code) 0 (omega arith) (omega arith)
-        ∙ of_both (λ i b. next_index 8 56 i b) index code lt)
+    ∙ of_both (λ i b. next_index 8 56 i b) index code lt)
 
 pub index_least : (index code result : ℕ) → result ≡ vox_index index code → 8 ≤ result
 unfolding vox_index

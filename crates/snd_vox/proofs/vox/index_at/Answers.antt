@@ -1,4 +1,4 @@
-use Rattle.std.proofs.Common.{◌≡◌, ◌∙◌}
+use Rattle.std.proofs.Common.{◌∙◌}
 use Rattle.snd_vox.specs.Vox.{vox_index}
 use Rattle.snd_vox.proofs.Steps.{index_entry, index_least, index_most}
 use Rattle.snd_vox.proofs.vox.index_at.Goals as goal
