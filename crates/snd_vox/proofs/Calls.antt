@@ -1,5 +1,5 @@
 -- VOX bytes and pairs of samples, one after another.
-use Rattle.std.proofs.Common.{◌≡◌, ℕ, ℤ, List, [], ◌∷◌, ◌++◌, refl, ap, ◌∙◌}
+use Rattle.std.proofs.Common.{◌≡◌, ℕ, ℤ, List, [], ◌∷◌, refl, ap, ◌∙◌}
 use Rattle.snd_ima_adpcm.specs.Frames.{high_half_first, bytes_high_half_first}
 use Rattle.snd_vox.specs.Laws.{vox_reads, vox_puts, joined_pairs, VoxReadsGiveSound, VoxPutsGiveFile}
 use Rattle.snd_vox.specs.Vox.{VoxState, vox_start, vox_samples, vox_state_read, vox_codes, vox_state_written}
