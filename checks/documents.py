@@ -4,7 +4,10 @@ and the manual page is run as written, page by page, each in an empty folder, an
 what its commands name of the repository. Of the pages, there is no block that is neither run nor a piece of a named file; README.md
 has at most 150 lines; each file, and each line with a clause, that they name is there; the refusals are those of the crates, and
 those of the manual page word for word; --help and COMMAND --help name the same forms and options, and those of the manual page; and
-examples/make.py makes examples/. Needs Python 3 and bash."""
+examples/make.py makes examples/. How many checks and wrong bodies there are is as docs/architecture.md says, and how long the first
+build takes is said in one way; the wrong bodies that docs/DECISIONS.md names are there, and each says in its first line which clauses
+of which public function refuse it, and that function has these. Needs Python 3 and bash."""
+import glob
 import os
 import re
 import subprocess
@@ -117,6 +120,57 @@ def missing(name, page):
     return faults
 
 
+def other_counts():
+    """The counts in docs/architecture.md that are not those of the repository, and the time of the first build that README.md has not."""
+    edits = glob.glob(f"{TOP}/crates/*/must-fail/*.edit")
+    folders = {os.path.dirname(it) for it in edits}
+    page, plain = text("docs/architecture.md"), " ".join(text("README.md").split())
+    wanted = [f"its {len(glob.glob(f'{TOP}/checks/*.py'))} checks", f"wrong bodies that `rt ci` tries | {len(edits)}, in {len(folders)} crates"]
+    takes = re.search(r'(?m)^FROM_NOTHING = "(.*)"$', text("tools/build"))
+    return [f"it does not say: {it}" for it in wanted if it not in page] + ["README.md says another time than tools/build"] * (not takes or takes[1] not in plain)
+
+
+def clauses_of(crate):
+    """The clauses of each function of a crate by its name, the empty word for one without a name; and the functions that others call."""
+    clauses, public = {}, set()
+    for path in glob.glob(f"{TOP}/crates/{crate}/src/**/*.rt", recursive=True):
+        name, of_trait = "", False
+        with open(path, encoding="utf-8") as file:
+            for line in file:
+                of_trait = bool(re.match(r"(pub )?trait |impl\b.*\bfor\b", line)) if re.match(r"\S", line) and not line.startswith(("}", ")", "#", "/")) else of_trait
+                head = re.match(r"(\s*)(pub(?:\(\w+\))? )?(?:const |unsafe )*fn (\w+)", line)
+                clause = re.match(r"\s*ensures (\w*) ?\{", line)
+                if head:
+                    name = head[3]
+                    public |= {name} if head[2] == "pub " or of_trait and head[1] else set()
+                elif clause:
+                    clauses.setdefault(name, set()).add(clause[1])
+    return clauses, public
+
+
+def unnamed(path):
+    """What the first line of a wrong body names that is no clause of a public function of its crate, or of one that it calls."""
+    with open(path, encoding="utf-8") as file:
+        line = file.readline().rstrip("\n")
+    named = re.fullmatch(r"# refused by ([\w:]+): ([\w, ]+)((?:; in [\w:]+: [\w, ]+)*)(?: \(.*\))?", line)
+    if not named:
+        return [f"{path}: {line}"]
+    clauses, public = clauses_of(path.split("/")[-3])
+    pairs = [named.group(1, 2), *re.findall(r"; in ([\w:]+): ([\w, ]+)", named[3])]
+    wrong = [f"{path}: {pairs[0][0]} is no public function"] * (pairs[0][0].split("::")[-1] not in public)
+    for function, words in pairs:
+        wanted = {"" if it == "its clause" else it for it in words.strip().split(", ")}
+        wrong += [f"{path}: {function} has no clause {it}" for it in sorted(wanted - clauses.get(function.split("::")[-1], set()))]
+    return wrong
+
+
+def missing_edits():
+    """The wrong bodies that docs/DECISIONS.md names and that are not there."""
+    page = text("docs/DECISIONS.md").partition("\n## Wrong bodies\n")[2].partition("\n## ")[0]
+    named = [(crate, it) for crate, words in re.findall(r"`(snd_\w+)`: ((?:`\w+`(?:, )?)+)", page) for it in re.findall(r"`(\w+)`", words)]
+    return [f"{crate}: {it}" for crate, it in named if not os.path.exists(f"{TOP}/crates/{crate}/must-fail/{it}.edit")] + ["none is named"] * (len(named) < 15)
+
+
 tried = try_page("README.md", [block for word, block, _ in fences(text("README.md")) if word == "console"], ("snd", "examples"))
 for name in PAGES[1:]:
     tried += try_page(name, [block for word, block, _ in fences(text(name)) if word == "console"])
@@ -126,6 +180,10 @@ for name in PAGES:
     cases.case(f"{name}: what it names", [f"missing: {it}" for it in missing(name, text(name))])
 lines = text("README.md").count("\n")
 cases.case("README.md: its length", [f"{lines} lines"] * (lines > MOST_LINES))
+
+cases.case("docs/architecture.md: its counts", other_counts())
+cases.case("must-fail: the clauses that they name", [it for path in sorted(glob.glob(f"{TOP}/crates/*/must-fail/*.edit")) for it in unnamed(path)])
+cases.case("docs/DECISIONS.md: wrong bodies", missing_edits())
 
 rows = re.findall(r"(?m)^\| (\d+) \| (\w+) \| (.*?) \| (.*?) \|", text("docs/refusals.md"))
 told = {number: word for number, word, _, _ in rows}
@@ -153,4 +211,4 @@ subprocess.run([sys.executable, f"{TOP}/examples/make.py", "made"], check=True)
 made = sorted(os.listdir("made"))
 other = [it for it in made if open(f"made/{it}", "rb").read() != open(f"{TOP}/examples/{it}", "rb").read()]
 cases.case("examples/make.py", [f"makes another {it}" for it in other] + ["makes nothing"] * (not made))
-cases.end(tried + 2 * len(PAGES) + 6 + len(helped))
+cases.end(tried + 2 * len(PAGES) + 9 + len(helped))
