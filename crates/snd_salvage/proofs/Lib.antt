@@ -1,0 +1,4 @@
+pub mod Doing
+pub mod Frames
+pub mod Making
+pub mod Numbers

@@ -1,0 +1,5 @@
+pub mod Marks
+pub mod Sought
+pub mod Formats
+pub mod Fixed
+pub mod Blocks
