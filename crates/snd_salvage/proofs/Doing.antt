@@ -12,7 +12,7 @@ use Rattle.snd_layout.specs.Params.{Parameters}
 use Rattle.snd_layout.specs.Shape.{Shape, end}
 use Rattle.snd_output.specs.Widths.{joined}
 use Rattle.snd_salvage.proofs.Frames.{frames_are, numbers_found}
-use Rattle.snd_search.proofs.Sought.{plain_bytes}
+use Rattle.snd_search.proofs.Public.{plain_bytes}
 use Rattle.snd_search.specs.Sought.{IsSought, counted, sought_in}
 use Rattle.snd_layout.specs.declared.kind.Kind.TheVariants.{Wave}
 use Rattle.snd_layout.specs.declared.refusal.OpenRefusal.{OpenRefusal}

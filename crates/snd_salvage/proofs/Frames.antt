@@ -8,7 +8,7 @@ use Rattle.snd_layout.specs.Blocks.{block_align, is_adpcm}
 use Rattle.snd_layout.specs.Params.{data_bytes}
 use Rattle.snd_layout.specs.Shape.{Shape}
 use Rattle.snd_output.specs.Widths.{joined}
-use Rattle.snd_search.proofs.Sought.{plain_bytes, whole_fits}
+use Rattle.snd_search.proofs.Public.{plain_bytes, whole_fits}
 use Rattle.snd_search.specs.Sought.{counted, shape_at}
 use Rattle.snd_salvage.proofs.Numbers.{numbers_are}
 use Rattle.snd_salvage.specs.Salvage.{frame_count, numbers_of, whole_frames}

@@ -1,5 +1,6 @@
-pub mod Marks
-pub mod Sought
-pub mod Formats
-pub mod Fixed
 pub mod Blocks
+pub mod Fixed
+pub mod Formats
+pub mod Marks
+pub mod Public
+pub mod Sought

@@ -1,13 +1,12 @@
 -- What is found on a disk is what its bytes hold, and may be opened there.
-use Rattle.std.proofs.Common.{◌≡◌, ◌∙◌, ℕ, ◌+◌, ◌-◌, ◌*◌, ◌/◌, ◌^◌, ◌≤◌, true, false, List, Option, None, Some, Ok, Err, Result, length, min, take, drop, refl, sym, ap, subst, arith}
+use Rattle.std.proofs.Common.{◌≡◌, ◌∙◌, ℕ, ◌+◌, ◌-◌, ◌*◌, ◌/◌, ◌^◌, ◌≤◌, false, List, Option, None, Some, Ok, Err, length, min, take, drop, refl, sym, ap, subst, arith}
 use Rattle.std.proofs.Math.Nat.{div-add-mod}
-use Rattle.std.proofs.lemmas.List.{length-drop, length-take, places, same_lists}
+use Rattle.std.proofs.lemmas.List.{places, same_lists}
 use Rattle.snd_layout.specs.Blocks.{block_align, block_frames, is_adpcm}
 use Rattle.snd_layout.specs.Params.{Parameters, data_bytes}
 use Rattle.snd_layout.specs.Shape.{Shape, end}
 use Rattle.snd_layout.specs.declared.codec.Codec.{Codec}
 use Rattle.snd_layout.specs.declared.codec.Codec.TheVariants.{Ima, Ms}
-use Rattle.snd_layout.specs.declared.refusal.OpenRefusal.{OpenRefusal}
 use Rattle.snd_layout.specs.declared.refusal.OpenRefusal.TheVariants.{NoData, NoFormat}
 use Rattle.snd_search.specs.Search.{Found, behind_data, format_in, found_in}
 use Rattle.snd_search.specs.Sought.{IsSought, counted, shape_at, sought_in, with_data, with_format}

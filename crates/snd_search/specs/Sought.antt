@@ -1,6 +1,6 @@
 -- What is left of a sound: the first good format among bytes, and all bytes behind the first data behind it. On a disk it is the
 -- layout of a WAVE file whose head leaves the length open.
-use Rattle.std.specs.Prelude.{◌≡◌, ℕ, ◌+◌, ◌-◌, ◌*◌, ◌/◌, ◌^◌, ◌≤◌, true, false, List, [], Option, None, Some, Result, Ok, Err, drop, length, take}
+use Rattle.std.specs.Prelude.{◌≡◌, ℕ, ◌-◌, ◌/◌, ◌^◌, ◌≤◌, true, false, List, [], Option, None, Some, Result, Ok, Err, drop, length, take}
 use Rattle.snd_disk.specs.Device.{Tells}
 use Rattle.snd_disk.specs.State.{State}
 use Rattle.snd_layout.specs.Blocks.{block_align}
