@@ -32,15 +32,15 @@ module _ {S : Type 0} (state : S → ShelfState) (new : S) (files : Files) (outp
   pub full_refused : is_full Wave p n ≡ true → HasFiles state new files
       → (Said.refused output ContainerFull ≡ said_of (made_with output p n xs)) × HasFiles state new (files_after (made_with output p n xs) files)
   full_refused full has =
-      let P : Bool → Type 0 = λ t. (Said.refused output ContainerFull ≡ said_of (cond t (Done.refuses output ContainerFull) (Done.makes output (made_file Wave p [] xs) n)))
-      × HasFiles state new (files_after (cond t (Done.refuses output ContainerFull) (Done.makes output (made_file Wave p [] xs) n)) files) in
+      let todo : Bool → Done = λ t. cond t (Done.refuses output ContainerFull) (Done.makes output (made_file Wave p [] xs) n) in
+      let P : Bool → Type 0 = λ t. (Said.refused output ContainerFull ≡ said_of (todo t)) × HasFiles state new (files_after (todo t) files) in
       subst P (sym full) (refl, has)
 
   pub room_made : (frames : ℕ) → frames ≡ n → is_full Wave p n ≡ false → HasFiles state new (put files output (Some (made_file Wave p [] xs)))
       → (Said.made frames ≡ said_of (made_with output p n xs)) × HasFiles state new (files_after (made_with output p n xs) files)
   room_made frames same room has =
-      let P : Bool → Type 0 = λ t. (Said.made frames ≡ said_of (cond t (Done.refuses output ContainerFull) (Done.makes output (made_file Wave p [] xs) n)))
-      × HasFiles state new (files_after (cond t (Done.refuses output ContainerFull) (Done.makes output (made_file Wave p [] xs) n)) files) in
+      let todo : Bool → Done = λ t. cond t (Done.refuses output ContainerFull) (Done.makes output (made_file Wave p [] xs) n) in
+      let P : Bool → Type 0 = λ t. (Said.made frames ≡ said_of (todo t)) × HasFiles state new (files_after (todo t) files) in
       subst P (sym room) (ap Said.made same, has)
 
 -- the output alone is made
@@ -57,7 +57,8 @@ makes_from input output (Err why) = tt
 makes_from input output (Ok sound) = makes_with output sound.params _ _
 
 -- where the names differ
-pub salvaged_is : (input output : List ℕ) (files : Files) (file : Option (List ℕ)) → bytes_eq input output ≡ false → files input ≡ file → salvaged input output files ≡ done_with input output file
+pub salvaged_is : (input output : List ℕ) (files : Files) (file : Option (List ℕ)) → bytes_eq input output ≡ false → files input ≡ file
+    → salvaged input output files ≡ done_with input output file
 salvaged_is input output files file apart there =
     ap (λ (t : Bool). cond t (Done.refuses output SameName) (done_with input output (files input))) apart ∙ ap (done_with input output) there
 
@@ -70,8 +71,8 @@ made_found input output b h plain some found =
     ∙ ap (λ (xs : List ℤ). made_with output h.params h.frames xs) (sym (numbers_found b h plain some found.within found.is))
 
 -- what is asked of the disk where that was sought, and to copy it
-pub asked_found : (h : Shape) (size a b c : ℕ) → is_adpcm h.params.codec ≡ false → end h h.frames ≤ size → AtMost a (18 * h.start + 2 * size + 16384) b → AtMost b (0 + bytes_to_copy h.params h.frames) c
-    → AtMost a (20 * size + 16384) c
+pub asked_found : (h : Shape) (size a b c : ℕ) → is_adpcm h.params.codec ≡ false → end h h.frames ≤ size → AtMost a (18 * h.start + 2 * size + 16384) b
+    → AtMost b (0 + bytes_to_copy h.params h.frames) c → AtMost a (20 * size + 16384) c
 asked_found h size a b c plain held sought copies =
     let align = block_align h.params.channels h.params.codec in
     let each = 16384 / h.params.channels in
@@ -81,11 +82,18 @@ asked_found h size a b c plain held sought copies =
     sums h.start (bytes_to_copy h.params h.frames) (let e : h.start ≤ size = omega (arith, held) in e) most sought copies
   where
     sums : (start n : ℕ) → start ≤ size → n ≤ size - start → AtMost a (18 * start + 2 * size + 16384) b → AtMost b (0 + n) c → AtMost a (20 * size + 16384) c
-    sums start n le most sought copies = record { later = omega (arith, sought.later, copies.later); most = omega (arith, le, most, sought.most, copies.most) }
+    sums start n le most sought copies = record {
+      later = omega (arith, sought.later, copies.later);
+      most = omega (arith, le, most, sought.most, copies.most);
+    }
 
 -- what is asked of a disk is counted by the shelf that has it back
-pub asked_back : (size long old mid new from to : ℕ) → size ≡ long → from ≡ 0 → mid ≡ old → AtMost from (20 * size + 16384) to → Adds mid to new → AtMost old (20 * long + 16384) new
-asked_back size long old mid new from to same fresh was asks adds = record { later = omega (arith, was, adds.later); most = omega (arith, same, fresh, was, asks.most, adds.most) }
+pub asked_back : (size long old mid new from to : ℕ) → size ≡ long → from ≡ 0 → mid ≡ old → AtMost from (20 * size + 16384) to → Adds mid to new
+    → AtMost old (20 * long + 16384) new
+asked_back size long old mid new from to same fresh was asks adds = record {
+  later = omega (arith, was, adds.later);
+  most = omega (arith, same, fresh, was, asks.most, adds.most);
+}
 
 -- a count of one disk and one of a shelf, in the words of those that have it back
 pub counts_same : {T : Type 0} (r : Result T Stop) (a b c d : ℕ) → CountsOneOf a b c d r → CountsOne a b c d r

@@ -17,7 +17,8 @@ use Rattle.snd_salvage.specs.Salvage.{frame_count, numbers_of, whole_frames}
 in_front : (n m start : ℕ) (b : List ℕ) → n ≤ length (drop start (take m b)) → take n (drop start b) ≡ take n (drop start (take m b))
 in_front n m start b le = same_lists _ _ (grind (arith, places, le)) (λ i e lt. grind (arith, places, le))
 
-module _ (b : List ℕ) (h : Shape) (plain : is_adpcm h.params.codec ≡ false) (some : 1 ≤ h.params.channels) (within : h.start ≤ length (counted b)) (is : h ≡ shape_at h.params h.start (length (counted b))) where
+module _ (b : List ℕ) (h : Shape) (plain : is_adpcm h.params.codec ≡ false) (some : 1 ≤ h.params.channels) (within : h.start ≤ length (counted b))
+    (is : h ≡ shape_at h.params h.start (length (counted b))) where
   pub frames_are : h.frames ≡ frame_count h.params (drop h.start (counted b))
   frames_are = ap (λ (s : Shape). s.frames) is ∙ ap (λ (n : ℕ). n / block_align h.params.channels h.params.codec) (sym (length-drop h.start (counted b)))
 

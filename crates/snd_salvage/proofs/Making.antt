@@ -19,7 +19,8 @@ use Rattle.snd_output.specs.declared.stop.Stop.{Stop}
 use Rattle.snd_output.specs.declared.stop.Stop.TheVariants.{Changed, Fault, Memory}
 use Rattle.snd_recode.proofs.Numbers.{all_same_width}
 
-module _ (p : Parameters) (from to : Known) (params : from.shape.params ≡ p) (good : AreParams p) (fits : fit_refusal Wave p ≡ None) (fresh : IsFresh to) (shape : to.shape ≡ shape_with Wave p []) where
+module _ (p : Parameters) (from to : Known) (params : from.shape.params ≡ p) (good : AreParams p) (fits : fit_refusal Wave p ≡ None) (fresh : IsFresh to)
+    (shape : to.shape ≡ shape_with Wave p []) where
   begun : IsBegun Wave p (shape_with Wave p [])
   begun = begun_as Wave p good fits
 
@@ -45,7 +46,8 @@ numbers_same e from to same first =
     ∙ ap (λ (n : ℕ). joined (drop n e.frames)) first
 
 -- samples of a fixed number of bytes have not changed
-pub never_changed : {T : Type 0} (r : Result T Stop) (n : ℕ) (from from' to to' : Known) → is_adpcm from.shape.params.codec ≡ false → AppendLeaves n from from' to to' r → IsUnchanged r
+pub never_changed : {T : Type 0} (r : Result T Stop) (n : ℕ) (from from' to to' : Known) → is_adpcm from.shape.params.codec ≡ false
+    → AppendLeaves n from from' to to' r → IsUnchanged r
 never_changed (Ok done) n from from' to to' plain left = tt
 never_changed (Err Fault) n from from' to to' plain left = tt
 never_changed (Err Memory) n from from' to to' plain left = tt

@@ -32,20 +32,21 @@ joined_groups k n xs some long =
     ∙ ap (λ (m : ℕ). take (k * m) xs) (ap (λ (m : ℕ). m / k) long ∙ mul-div_cancel_left n (let e : 0 < k = omega (arith, some) in e))
     ∙ take_all (k * n) xs (let e : length xs ≤ k * n = omega (arith, long) in e)
 
-by_form : (form : Fixed) (channels n : ℕ) (bytes : List ℕ) → 1 ≤ channels → length bytes ≡ byte_count form * (channels * n) → joined (groups channels (samples form bytes)) ≡ samples form bytes
+by_form : (form : Fixed) (channels n : ℕ) (bytes : List ℕ) → 1 ≤ channels → length bytes ≡ byte_count form * (channels * n)
+    → joined (groups channels (samples form bytes)) ≡ samples form bytes
 by_form form channels n bytes some long =
     joined_groups channels n (samples form bytes) some
     (length-samples form bytes ∙ ap (λ (m : ℕ). m / byte_count form) long ∙ mul-div_cancel_left (channels * n) (byte_count_pos form))
 
-some_form : (o : Option Fixed) (channels n : ℕ) (bytes : List ℕ) (p : Parameters) → fixed_of p.codec ≡ o → p.channels ≡ channels → is_none o ≡ false → 1 ≤ channels → length bytes ≡ data_bytes p n
-    → joined (decoded_as o channels bytes) ≡ numbers_as o bytes
+some_form : (o : Option Fixed) (channels n : ℕ) (bytes : List ℕ) (p : Parameters) → fixed_of p.codec ≡ o → p.channels ≡ channels → is_none o ≡ false
+    → 1 ≤ channels → length bytes ≡ data_bytes p n → joined (decoded_as o channels bytes) ≡ numbers_as o bytes
 some_form None channels n bytes p is same linear some long = absurd (cc)
 some_form (Some form) channels n bytes p is same linear some long =
     by_form form channels n bytes some (long ∙ linear_bytes p form n is ∙ ap (λ (m : ℕ). byte_count form * (m * n)) same)
 
 -- the numbers of the frames that a layout counts
-pub numbers_are : (b : List ℕ) (h : Shape) → is_adpcm h.params.codec ≡ false → 1 ≤ h.params.channels → length (sound_bytes b h) ≡ data_bytes h.params h.frames
-    → joined (frames_in b h) ≡ numbers_in h.params.codec (sound_bytes b h)
+pub numbers_are : (b : List ℕ) (h : Shape) → is_adpcm h.params.codec ≡ false → 1 ≤ h.params.channels
+    → length (sound_bytes b h) ≡ data_bytes h.params h.frames → joined (frames_in b h) ≡ numbers_in h.params.codec (sound_bytes b h)
 numbers_are b h plain some long =
     let linear = is_fixed h.params.codec plain in
     ap (λ (frames : List (List ℤ)). joined frames) (frames_fixed b h linear)

@@ -26,20 +26,25 @@ abbrev pub file_made : Editing → List ℕ
 file_made e = made_file Wave e.shape.params [] (joined e.frames)
 
 -- Where both disks tell what they hold, a file that was begun then holds all numbers of the other.
-abbrev pub Fills : {D E M N : Type 0} {d : Ghosts D} {t : Ghosts E} {m : ModeGhosts M} {n : ModeGhosts N} → (D → State) → (E → State) → File D M d m → File E N t n → File E N t n → Type 0
+abbrev pub Fills : {D E M N : Type 0} {d : Ghosts D} {t : Ghosts E} {m : ModeGhosts M} {n : ModeGhosts N}
+    → (D → State) → (E → State) → File D M d m → File E N t n → File E N t n → Type 0
 Fills state state' from old new =
-    (p : Parameters) (r e : Editing) → Stands state from r → Stands state' old e → IsMaking Wave p [] [] e → (e' : Editing) × Stands state' new e' × IsMaking Wave p [] (joined r.frames) e'
+    (p : Parameters) (r e : Editing) → Stands state from r → Stands state' old e → IsMaking Wave p [] [] e
+    → (e' : Editing) × Stands state' new e' × IsMaking Wave p [] (joined r.frames) e'
 
 -- Where both disks tell what they hold, one becomes that; or the file of a name does.
 abbrev pub Makes : {D M E : Type 0} {d : Ghosts D} {m : ModeGhosts M} → (D → State) → (E → State) → File D M d m → E → E → Type 0
 Makes state state' file old new = (b : List ℕ) (e : Editing) → Tells state' old b → Stands state file e → Tells state' new (file_made e)
 
-abbrev pub MakesUnder : {D M S T E : Type 0} {d : Ghosts D} {m : ModeGhosts M} → (D → State) → (S → ShelfState) → List ℕ → File D M d m → S → S → Result T E → Type 0
+abbrev pub MakesUnder : {D M S T E : Type 0} {d : Ghosts D} {m : ModeGhosts M}
+    → (D → State) → (S → ShelfState) → List ℕ → File D M d m → S → S → Result T E → Type 0
 MakesUnder state shelf_state output file old new result =
-    OnOk result ((files : Files) (e : Editing) → TellsFiles shelf_state old files → Stands state file e → HasFiles shelf_state new (put files output (Some (file_made e))))
+    OnOk result ((files : Files) (e : Editing) → TellsFiles shelf_state old files → Stands state file e
+    → HasFiles shelf_state new (put files output (Some (file_made e))))
 
 -- What is answered is what is to be done with an open file, or with the file on a disk by its layout, and that is done.
-abbrev pub DoesFile : {D M S E : Type 0} {d : Ghosts D} {m : ModeGhosts M} → (D → State) → (S → ShelfState) → List ℕ → File D M d m → S → S → Result Answer E → Type 0
+abbrev pub DoesFile : {D M S E : Type 0} {d : Ghosts D} {m : ModeGhosts M}
+    → (D → State) → (S → ShelfState) → List ℕ → File D M d m → S → S → Result Answer E → Type 0
 DoesFile state shelf_state output file old new result =
     IfOk result (λ answer. (files : Files) (e : Editing) → TellsFiles shelf_state old files → Stands state file e
     → IsDone shelf_state new answer (made_with output e.shape.params e.shape.frames (joined e.frames)) files)
@@ -62,4 +67,5 @@ size_there (Some b) = length b
 
 -- Where the shelf tells its files, no more bytes are asked than twenty times those of the file of a name, and 16384.
 abbrev pub AsksToSalvage : {S : Type 0} → (S → ShelfState) → List ℕ → S → S → Type 0
-AsksToSalvage state name old new = (files : Files) → TellsFiles state old files → AtMost (state old).asked (20 * size_there (files name) + 16384) (state new).asked
+AsksToSalvage state name old new =
+    (files : Files) → TellsFiles state old files → AtMost (state old).asked (20 * size_there (files name) + 16384) (state new).asked
