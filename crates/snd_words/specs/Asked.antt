@@ -28,6 +28,7 @@ pub data Work : Type 0 where
   set_metadata : List Stated → List ℕ → List ℕ → Work
   import_as : ImportForm → List ℕ → List ℕ → Work
   export_as : ExportForm → List ℕ → List ℕ → Work
+  salvage : List ℕ → List ℕ → Work
 
 pub data Asked : Type 0 where
   info_of : List (List ℕ) → Asked

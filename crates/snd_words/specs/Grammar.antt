@@ -8,6 +8,7 @@ use Rattle.snd_words.specs.Generate.{gen_asked}
 use Rattle.snd_words.specs.Metadata.{metadata_asked}
 use Rattle.snd_words.specs.Plain.{alone_asked, info_asked, script_asked}
 use Rattle.snd_words.specs.Raw.{export_asked, import_asked}
+use Rattle.snd_words.specs.Salvage.{salvage_asked}
 use Rattle.snd_words.specs.Topics.{asks_help, help_asked, topic_of}
 
 -- the first word is the command, which the words behind it have to fit
@@ -24,7 +25,8 @@ asked_with command words =
     else (if bytes_eq command (codes "metadata-set") then metadata_asked words
     else (if bytes_eq command (codes "import") then import_asked words
     else (if bytes_eq command (codes "export") then export_asked words
-    else Asked.nothing))))))))))
+    else (if bytes_eq command (codes "salvage") then salvage_asked words
+    else Asked.nothing)))))))))))
 
 -- .. but two words, the second one `--help`, ask for the text of the command
 abbrev pub asked : List (List ℕ) → Asked

@@ -10,6 +10,7 @@ pub mod Plain
 pub mod Raw
 pub mod Repeats
 pub mod Request
+pub mod Salvage
 pub mod Setting
 pub mod Stated
 pub mod Suffix

@@ -13,6 +13,7 @@ use crate::metadata::{MetadataChange, metadata_request};
 use crate::names::Names;
 use crate::plain::{help_request, info_request, script_request, version_request};
 use crate::raw::{Exportation, Importation, export_request, import_request};
+use crate::salvage::{Salvaging, salvage_request};
 use crate::topic::{Topic, asks_help, topic_of};
 use snd_fields::Words;
 
@@ -52,6 +53,8 @@ pub enum Tool<'a> {
     Import(Importation<'a>),
     /// `export raw IN OUT`, `export vox IN OUT`, `export pvf IN OUT`: to make a file of another form of a sound file.
     Export(Exportation<'a>),
+    /// `salvage IN OUT`: to make a WAVE file of what is left in a file whose head was never filled in, or is damaged.
+    Salvage(Salvaging<'a>),
 }
 
 /// What the words ask for, of which the first one is the command.
@@ -82,6 +85,8 @@ fn request_with<'a>(command: &str, words: &'a Words) -> Option<Request<'a>>
         return import_request(words);
     } else if command == "export" {
         return export_request(words);
+    } else if command == "salvage" {
+        return salvage_request(words);
     }
     None
 }

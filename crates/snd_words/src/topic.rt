@@ -24,6 +24,8 @@ pub enum Topic {
     Import,
     /// `export`
     Export,
+    /// `salvage`
+    Salvage,
     /// `script`
     Script,
 }
@@ -49,6 +51,8 @@ pub(crate) fn topic_of(command: &str) -> Option<Topic>
         Some(Topic::Import)
     } else if command == "export" {
         Some(Topic::Export)
+    } else if command == "salvage" {
+        Some(Topic::Salvage)
     } else if command == "script" {
         Some(Topic::Script)
     } else {
