@@ -1,7 +1,7 @@
 -- The texts of `--help`, of `COMMAND --help` and of `--version`, made of the same parts.
 use Rattle.std.specs.Prelude.{ℕ, ◌-◌, List, [], ◌∷◌, ◌++◌, length, replicate, codes, map}
 use Rattle.snd_words.specs.declared.topic.Topic.{Topic}
-use Rattle.snd_words.specs.declared.topic.Topic.TheVariants.{Info, Convert, Concat, Interleave, SetMetadata, Generate, Import, Export, Script}
+use Rattle.snd_words.specs.declared.topic.Topic.TheVariants.{Info, Convert, Concat, Interleave, SetMetadata, Generate, Import, Export, Salvage, Script}
 
 -- a form of the words, or an option, and what it does
 pub record Entry : Type 0 where
@@ -41,6 +41,7 @@ forms SetMetadata = entry (codes "snd metadata-set OPTION TEXT.. IN OUT") (codes
 forms Generate = entry (codes "snd gen SEED N NAME") (codes "make a file of N frames, and edit it") ∷ []
 forms Import = entry (codes "snd import raw CODEC N N IN OUT") (codes "make a file of samples without a head") ∷ entry (codes "snd import vox N IN OUT") (codes "make a file of Dialogic VOX") ∷ entry (codes "snd import pvf IN OUT") (codes "make a file of PVF") ∷ []
 forms Export = entry (codes "snd export raw IN OUT") (codes "write the samples without a head") ∷ entry (codes "snd export vox IN OUT") (codes "write Dialogic VOX") ∷ entry (codes "snd export pvf IN OUT") (codes "write PVF") ∷ []
+forms Salvage = entry (codes "snd salvage IN OUT") (codes "rescue the sound of a damaged file") ∷ []
 forms Script = entry (codes "snd script") (codes "carry out commands on standard input") ∷ entry (codes "snd script --auto NAME") (codes "the same, with a file kept up to date") ∷ []
 
 -- what there is to say of it
@@ -53,6 +54,8 @@ notes SetMetadata = codes "Each option takes the word after it as its text." ∷
 notes Generate = codes "The same SEED (0 to 4294967295) and N (1 to 10000000) make the same WAVE file." ∷ []
 notes Import = codes "Makes OUT, or replaces it whole; its suffix names the kind." ∷ []
 notes Export = codes "Makes OUT, or replaces it whole, under any name." ∷ []
+notes Salvage =
+    codes "OUT is a WAVE file of all frames behind the first format and the first data" ∷ codes "behind it in IN, whatever the sizes in its head say." ∷ []
 notes Script = codes "One command stands on each line, and each is answered before the next is read." ∷ []
 
 -- its options, as they stand on the lines of `--help`; or the forms of the files that it reads or makes
@@ -75,6 +78,7 @@ option_rows Import =
     (entry (codes "raw CODEC N N") (codes "samples without a head: their codec, channels, rate") ∷ entry (codes "vox N") (codes "Dialogic VOX, one channel of 16 bits: its rate") ∷ entry (codes "pvf") (codes "PVF, whose head says all") ∷ []) ∷ []
 option_rows Export =
     (entry (codes "raw") (codes "samples in the codec of IN; of ADPCM pcm_16_le") ∷ entry (codes "vox") (codes "Dialogic VOX, of one channel") ∷ entry (codes "pvf") (codes "PVF of 8, 16 or 32 bits") ∷ []) ∷ []
+option_rows Salvage = []
 option_rows Script =
     (entry (codes "--auto NAME") (codes "keep this file open, and up to date after each line") ∷ []) ∷ []
 
@@ -100,6 +104,7 @@ example SetMetadata = codes "snd metadata-set --str-title Dawn take1.wav dawn.wa
 example Generate = codes "snd gen 0 44100 noise.wav"
 example Import = codes "snd import raw pcm_16_le 2 48000 take1.raw take1.wav"
 example Export = codes "snd export raw take1.wav take1.raw"
+example Salvage = codes "snd salvage broken.wav saved.wav"
 example Script = codes "printf 'open r take1.wav\\nread 2\\n' | snd script"
 
 -- `COMMAND --help`: the forms of the command, a line for each option and for what its text is made of, and an example
@@ -129,7 +134,7 @@ export_usage = usage_of Export
 -- `--help`: the forms of all commands, the options of two by their names, and what names and files can be
 abbrev pub all_forms : List Entry
 all_forms =
-    forms Info ++ forms Convert ++ forms Concat ++ forms Interleave ++ forms SetMetadata ++ forms Generate ++ forms Import ++ forms Export ++ forms Script
+    forms Info ++ forms Convert ++ forms Concat ++ forms Interleave ++ forms SetMetadata ++ forms Generate ++ forms Import ++ forms Export ++ forms Salvage ++ forms Script
     ++ entry (codes "snd COMMAND --help") (codes "print what one command takes") ∷ entry (codes "snd --help") (codes "print this text") ∷ entry (codes "snd --version") (codes "print the version") ∷ []
 
 abbrev pub names_in : List Entry → List ℕ

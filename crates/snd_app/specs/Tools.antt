@@ -16,6 +16,8 @@ use Rattle.snd_metadata.specs.Retagged.{retagged}
 use Rattle.snd_output.specs.declared.stop.Stop.{Stop}
 use Rattle.snd_output.specs.declared.stop.Stop.TheVariants.{Memory}
 use Rattle.snd_rack.specs.declared.setting.StageKind.{StageKind}
+use Rattle.snd_salvage.specs.Making.{AsksToSalvage}
+use Rattle.snd_salvage.specs.Salvage.{salvaged}
 use Rattle.snd_tools.specs.Done.{files_after, said_by}
 use Rattle.snd_tools.specs.Shelves.{HasFiles}
 use Rattle.snd_tools.specs.declared.answer.Answer.{Answer}
@@ -38,6 +40,7 @@ outcome_of_work (Work.gen seed frames name) stages files = says (summary_text (s
 outcome_of_work (Work.set_metadata settings input output) stages files = outcome_of_tool (retagged settings input output files)
 outcome_of_work (Work.import_as form input output) stages files = outcome_of_tool (imported form input output files)
 outcome_of_work (Work.export_as form input output) stages files = outcome_of_tool (exported form input output files)
+outcome_of_work (Work.salvage input output) stages files = outcome_of_tool (salvaged input output files)
 
 -- the files then
 abbrev pub after_work : Work → List StageKind → Files → Files
@@ -48,6 +51,7 @@ after_work (Work.gen seed frames name) stages files = put files name (Some (file
 after_work (Work.set_metadata settings input output) stages files = files_after (retagged settings input output files) files
 after_work (Work.import_as form input output) stages files = files_after (imported form input output files) files
 after_work (Work.export_as form input output) stages files = files_after (exported form input output files) files
+after_work (Work.salvage input output) stages files = files_after (salvaged input output files) files
 
 -- the name of the file that it makes
 abbrev pub made_by : Work → List ℕ
@@ -58,6 +62,7 @@ made_by (Work.gen seed frames name) = name
 made_by (Work.set_metadata settings input output) = output
 made_by (Work.import_as form input output) = output
 made_by (Work.export_as form input output) = output
+made_by (Work.salvage input output) = output
 
 -- how many bytes it may ask of its inputs; of `gen`, which has none and reads the file that it made,
 -- nothing is said
@@ -69,6 +74,7 @@ AsksForWork state (Work.gen seed frames name) old new = Unit {0}
 AsksForWork state (Work.set_metadata settings input output) old new = AsksForEach 2 164864 state (input ∷ []) old new
 AsksForWork state (Work.import_as form input output) old new = AsksOnce state input old new
 AsksForWork state (Work.export_as form input output) old new = AsksForEach 1 16384 state (input ∷ []) old new
+AsksForWork state (Work.salvage input output) old new = AsksToSalvage state input old new
 
 -- ---- as the code says it
 

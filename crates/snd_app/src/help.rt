@@ -114,6 +114,14 @@ Makes OUT, or replaces it whole, under any name.
 Example: snd export raw take1.wav take1.raw
 ";
 
+const SALVAGE: &str = "\
+Usage: snd salvage IN OUT
+OUT is a WAVE file of all frames behind the first format and the first data
+behind it in IN, whatever the sizes in its head say.
+
+Example: snd salvage broken.wav saved.wav
+";
+
 const SCRIPT: &str = "\
 Usage: snd script
        snd script --auto NAME
@@ -139,6 +147,7 @@ Usage: snd COMMAND
   snd export raw IN OUT                  write the samples without a head
   snd export vox IN OUT                  write Dialogic VOX
   snd export pvf IN OUT                  write PVF
+  snd salvage IN OUT                     rescue the sound of a damaged file
   snd script                             carry out commands on standard input
   snd script --auto NAME                 the same, with a file kept up to date
   snd COMMAND --help                     print what one command takes
@@ -219,6 +228,7 @@ pub fn usage_of(topic: Topic) -> &'static str
         Topic::Generate => GENERATE,
         Topic::Import => import_usage(),
         Topic::Export => export_usage(),
+        Topic::Salvage => SALVAGE,
         Topic::Script => SCRIPT,
     }
 }

@@ -150,9 +150,9 @@ fn run_script<S: Shelf, R: Source, O: Sink, E: Sink>(
 /// automatically. The boxes of `taps` wait in their order for a script's `tap`. `convert OPTION.. IN OUT` copies
 /// a file into another container or codec; with `-rack=SPEC` its frames pass boxes of `stages` on the way, of which
 /// the first unused one of its kind serves each item. Every other box is dropped as it came. `import` and `export`
-/// take samples without a head, PVF and VOX in and out. `--help`, `COMMAND --help` and `--version` print a text on
-/// `out`. Any other words are refused. Beside the statuses 0, 1 and 2 that the outcome has, 3 says that the shelf, the
-/// script or a sink failed, and 4 that memory ran out.
+/// take samples without a head, PVF and VOX in and out. `salvage` makes a WAVE file of what is left in a file.
+/// `--help`, `COMMAND --help` and `--version` print a text on `out`. Any other words are refused. Beside the statuses 0,
+/// 1 and 2 that the outcome has, 3 says that the shelf, the script or a sink failed, and 4 that memory ran out.
 pub fn run<S: Shelf, R: Source, O: Sink, E: Sink>(
     alloc: Global,
     words: &Words,
@@ -206,7 +206,7 @@ pub fn run<S: Shelf, R: Source, O: Sink, E: Sink>(
 
     // With a tool, so does each file but the one that it makes; where a stream failed and no file did, that
     // is made, or was refused, as the outcome says; and where it has inputs, no more bytes are asked than it
-    // takes to read them twice, and a fixed number for each.
+    // takes to read them twice, of a file that is salvaged twenty times, and a fixed number for each.
     ensures others { (name : List ℕ) → output_for words.now ≡ Some name → ChangesOne S.Shelf name shelf.old shelf.new }
     ensures done { (name : List ℕ) → output_for words.now ≡ Some name →
         DoneAtStream S.state (λ files. files_after words.now (map (λ b. (meter b).kind) taps.items) (map (λ b. (stage b).kind) stages.items) files [])

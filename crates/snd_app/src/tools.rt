@@ -24,6 +24,7 @@ use snd_lines::{push_line, push_number_line};
 use snd_metadata::set_metadata;
 use snd_output::Stop;
 use snd_rack::Stage;
+use snd_salvage::{Salvaging, salvage};
 use snd_tools::Answer;
 use snd_words::Tool;
 use std::alloc::{AllocError, Global};
@@ -121,6 +122,13 @@ fn carry_out<S: Shelf>(
         Tool::SetMetadata(it) => reply_to(alloc, set_metadata(alloc, it, shelf)),
         Tool::Import(it) => reply_to(alloc, import(alloc, it, shelf)),
         Tool::Export(it) => reply_to(alloc, export(alloc, it, shelf)),
+        Tool::Salvage(it) => {
+            let salvaging = Salvaging {
+                input: it.input,
+                output: it.output,
+            };
+            reply_to(alloc, salvage(alloc, &salvaging, shelf))
+        }
     }
 }
 
