@@ -1,5 +1,5 @@
 -- From what was found to what is done.
-use Rattle.std.proofs.Common.{◌≡◌, ◌∙◌, ℕ, ◌+◌, ◌*◌, ◌-◌, ◌/◌, ◌≤◌, ℤ, List, [], Bool, cond, true, false, inl, inr, Option, None, Some, Ok, Err, Result, length, drop, refl, sym, ap, subst, arith}
+use Rattle.std.proofs.Common.{◌≡◌, ◌∙◌, ℕ, ◌+◌, ◌*◌, ◌-◌, ◌/◌, ◌≤◌, ℤ, List, [], Bool, cond, true, false, inl, inr, Option, Some, Ok, Err, Result, drop, refl, sym, ap, subst, arith}
 use Rattle.std.proofs.lemmas.Bool.{cases_Bool}
 use Rattle.std.specs.Str.{bytes_eq}
 use Rattle.snd_disk.specs.Shelf.{Files, ShelfState, put}
@@ -21,7 +21,7 @@ use Rattle.snd_output.specs.Made.{made_file}
 use Rattle.snd_search.specs.Search.{Found}
 use Rattle.snd_tools.proofs.Public.{MakesOnly}
 use Rattle.snd_tools.specs.Done.{Done, Said, files_after, said_of}
-use Rattle.snd_output.specs.Ends.{CountsOneOf, IsUnchanged}
+use Rattle.snd_output.specs.Ends.{CountsOneOf}
 use Rattle.snd_output.specs.declared.stop.Stop.{Stop}
 use Rattle.snd_output.specs.declared.stop.Stop.TheVariants.{Changed, Fault, Memory}
 use Rattle.snd_tools.specs.Shelves.{CountsOneOf as CountsOne, HasFiles}
@@ -101,7 +101,3 @@ counts_same (Ok x) a b c d counts = counts
 counts_same (Err Fault) a b c d counts = counts
 counts_same (Err Memory) a b c d counts = counts
 counts_same (Err Changed) a b c d counts = counts
-
--- a fault is no change
-pub fault_unchanged : {T : Type 0} (stop : Stop) → stop ≡ Fault → IsUnchanged {T = T} (Err stop)
-fault_unchanged {T = T} stop is = subst (λ (x : Stop). IsUnchanged {T = T} (Err x)) (sym is) tt

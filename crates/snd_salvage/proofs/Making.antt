@@ -1,5 +1,5 @@
 -- A WAVE file that is made of an open file.
-use Rattle.std.proofs.Common.{◌≡◌, ◌∙◌, ℕ, ◌+◌, ◌≤◌, ℤ, List, [], ◌++◌, drop, None, true, false, Result, Ok, Err, refl, sym, ap, subst, arith}
+use Rattle.std.proofs.Common.{◌≡◌, ◌∙◌, ℕ, [], ◌++◌, drop, None, true, false, Result, Ok, Err, sym, ap, subst, arith}
 use Rattle.snd_edits.specs.Editing.{Editing}
 use Rattle.snd_edits.specs.Known.{IsFresh, Known}
 use Rattle.snd_edits.specs.Relaid.{shape_with}

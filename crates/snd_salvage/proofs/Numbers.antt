@@ -1,18 +1,18 @@
 -- The numbers of whole frames are those of their bytes.
-use Rattle.std.proofs.Common.{◌≡◌, ◌∙◌, ℕ, zero, suc, ℤ, ◌+◌, ◌-◌, ◌*◌, ◌/◌, ◌≤◌, ◌<◌, Bool, false, List, [], ◌∷◌, ◌++◌, Option, None, Some, length, take, drop, refl, sym, ap, arith}
+use Rattle.std.proofs.Common.{◌≡◌, ◌∙◌, ℕ, zero, suc, ℤ, ◌+◌, ◌*◌, ◌/◌, ◌≤◌, ◌<◌, false, List, ◌++◌, Option, None, Some, length, take, drop, refl, ap, arith}
 use Rattle.std.proofs.Math.Nat.{mul-div_cancel_left}
-use Rattle.std.proofs.lemmas.List.{length-drop, length-take, places, same_lists, take_all}
+use Rattle.std.proofs.lemmas.List.{places, same_lists, take_all}
 use Rattle.std.specs.Prelude.{is_none}
 use Rattle.snd_blocks.specs.Sound.{frames_in}
 use Rattle.snd_container.proofs.Public.{byte_count_pos, length-samples}
 use Rattle.snd_container.specs.Fixed.{byte_count, samples}
-use Rattle.snd_container.specs.Sound.{decoded, decoded_as, fixed_of, sound_bytes}
+use Rattle.snd_container.specs.Sound.{decoded_as, fixed_of, sound_bytes}
 use Rattle.snd_container.specs.declared.fixed.Fixed.{Fixed}
 use Rattle.snd_edits.proofs.Public.{frames_fixed, is_fixed, linear_bytes}
 use Rattle.snd_edits.specs.Bytes.{numbers_as, numbers_in}
-use Rattle.snd_layout.specs.Blocks.{block_align, is_adpcm}
+use Rattle.snd_layout.specs.Blocks.{is_adpcm}
 use Rattle.snd_layout.specs.Params.{Parameters, data_bytes}
-use Rattle.snd_layout.specs.Shape.{Shape, end}
+use Rattle.snd_layout.specs.Shape.{Shape}
 use Rattle.snd_pcm.specs.Groups.{first_groups, groups}
 use Rattle.snd_output.specs.Widths.{joined}
 

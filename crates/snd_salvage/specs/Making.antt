@@ -1,6 +1,6 @@
 -- How the output is made of an open file, or of what lies on a disk, and how that is judged. It is said for the proofs alone. The
 -- first arguments are what is known of disks, or of a shelf.
-use Rattle.std.specs.Prelude.{◌≡◌, ℕ, ℤ, ◌+◌, ◌*◌, List, [], Option, None, Some, Result, IfOk, OnOk, length}
+use Rattle.std.specs.Prelude.{ℕ, ◌+◌, ◌*◌, List, [], Option, None, Some, Result, IfOk, OnOk, length}
 use Rattle.snd_disk.specs.declared.disk.Disk.{Ghosts}
 use Rattle.snd_disk.specs.Device.{Tells}
 use Rattle.snd_disk.specs.Shelf.{Files, ShelfState, put}

@@ -11,7 +11,6 @@ use Rattle.snd_layout.specs.declared.kind.Kind.TheVariants.{Wave}
 use Rattle.snd_layout.specs.declared.refusal.OpenRefusal.{OpenRefusal}
 use Rattle.snd_edits.specs.Bytes.{numbers_in}
 use Rattle.snd_inputs.specs.Rooms.{is_full}
-use Rattle.snd_lines.specs.declared.refusal.Refusal.{Refusal}
 use Rattle.snd_lines.specs.declared.refusal.Refusal.TheVariants.{ContainerFull, MissingFile, Open, SameName}
 use Rattle.snd_output.specs.Made.{made_file}
 use Rattle.snd_search.specs.Search.{Found}

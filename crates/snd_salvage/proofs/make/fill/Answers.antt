@@ -1,4 +1,4 @@
-use Rattle.std.proofs.Common.{◌≡◌, ◌∙◌, ℤ, List, [], sym, refl, subst}
+use Rattle.std.proofs.Common.{◌∙◌, ℤ, List, [], sym, refl, subst}
 use Rattle.std.proofs.lemmas.Result.{on_ok_weaker}
 use Rattle.snd_file.specs.Handle.{codec_of, known_of}
 use Rattle.snd_inputs.proofs.Public.{asks_to_copy, counts_appended, still_works}

@@ -1,8 +1,7 @@
-use Rattle.std.proofs.Common.{◌≡◌, ◌∙◌, ℕ, List, [], None, false, ap, sym, subst, rules}
+use Rattle.std.proofs.Common.{◌≡◌, ◌∙◌, [], None, false, ap, sym, subst, rules}
 use Rattle.std.proofs.lemmas.Result.{on_ok_weaker}
 use Rattle.snd_disk.specs.Device.{Tells}
-use Rattle.snd_edits.specs.Relaid.{shape_with}
-use Rattle.snd_file.specs.Handle.{codec_of, known_of}
+use Rattle.snd_file.specs.Handle.{known_of}
 use Rattle.snd_inputs.proofs.Public.{told_as}
 use Rattle.snd_inputs.specs.Rooms.{is_full}
 use Rattle.snd_layout.specs.Fit.{fit_refusal}
@@ -11,7 +10,6 @@ use Rattle.snd_layout.specs.Shape.{Shape}
 use Rattle.snd_layout.specs.declared.kind.Kind.TheVariants.{Wave}
 use Rattle.snd_output.specs.Made.{made_file}
 use Rattle.snd_output.specs.Widths.{joined}
-use Rattle.snd_salvage.proofs.Doing.{fault_unchanged}
 use Rattle.snd_salvage.proofs.Making.{codec_is, may_append}
 use Rattle.snd_salvage.specs.Making.{file_made}
 use Rattle.snd_salvage.proofs.make.make.Goals as goal
@@ -42,6 +40,3 @@ returns-in-Ok-finish-clause-made g c =
     told_as g.E.Disk.state c.in-Ok-finish.back.now _ (file_made e) (search rules)
     (subst (λ (q : Parameters). Tells g.E.Disk.state c.in-Ok-finish.back.now (made_file Wave q [] (joined e.frames))) same (c.in-Ok-finish.ensures.made Wave p [] (joined e.frames) full.0 full.1 full.2)))
     c.fill-filled.ensures.fills
-
-pub returns-in-Err-finish-clause-unchanged : goal.returns-in-Err-finish-clause-unchanged
-returns-in-Err-finish-clause-unchanged g c = fault_unchanged c.in-Err-finish.stop c.in-Err-finish.ensures.cause.0

@@ -1,4 +1,4 @@
-use Rattle.std.proofs.Common.{true, rules}
+use Rattle.std.proofs.Common.{true}
 use Rattle.std.proofs.lemmas.Result.{on_ok_weaker}
 use Rattle.snd_inputs.proofs.Public.{still_told}
 use Rattle.snd_tools.proofs.Public.{given_changes, given_files}

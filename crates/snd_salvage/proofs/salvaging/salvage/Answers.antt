@@ -1,4 +1,4 @@
-use Rattle.std.proofs.Common.{◌≡◌, ◌∙◌, ℕ, Bool, List, [], Option, None, Some, Ok, true, false, ap, cond, sym, refl, rules, arith}
+use Rattle.std.proofs.Common.{◌≡◌, ◌∙◌, ℕ, Bool, List, [], Option, None, Some, true, false, ap, cond, sym, refl, rules}
 use Rattle.std.proofs.lemmas.Result.{IfOk-weaker}
 use Rattle.std.specs.Prelude.{unwrap_or}
 use Rattle.std.specs.Str.{bytes_eq}
@@ -18,7 +18,7 @@ returns-in-Err-Missing-clause-done g c = λ files told.
     let output = c.args.salvaging.now.output.now in
     let apart : bytes_eq input output ≡ false = search rules in
     let reads = not_handed g.S.Shelf input _ _ c.in-Err-Missing.ensures.stays c.in-Err-Missing.ensures.same_images c.take.ensures.others c.take.ensures.bytes in
-    let missing : files input ≡ None = (c.in-Err-Missing.ensures.missing refl).missing files told in
+    let missing : files input ≡ None = (c.in-Err-Missing.ensures.missing (search rules)).missing files told in
     refused_as g.S.Shelf.state c.take.new.self files input MissingFile (salvaged input output files) (reads.files files told) (salvaged_is input output files None apart missing)
 
 pub returns-in-Err-Missing-clause-changes : goal.returns-in-Err-Missing-clause-changes
@@ -41,7 +41,8 @@ salvage_disk-answer-requires g c =
     let input = c.args.salvaging.now.input.now in
     let output = c.args.salvaging.now.output.now in
     let apart : bytes_eq input output ≡ false = search rules in
-    c.in-Ok.ensures.taken.out output ∙ ap (λ (t : Bool). cond t true ((g.S.Shelf.state c.args.shelf.now).out output)) (apart_back input output apart) ∙ c.requires output
+    let held = ap (λ (t : Bool). cond t true ((g.S.Shelf.state c.args.shelf.now).out output)) (apart_back input output apart) in
+    record { is_in = c.in-Ok.ensures.taken.out output ∙ held ∙ c.requires.back output }
 
 pub returns-clause-done : goal.returns-clause-done
 returns-clause-done g c =
@@ -71,7 +72,7 @@ returns-clause-changes g c =
     let apart : bytes_eq input output ≡ false = search rules in
     held_changes g.S.Shelf g.S.Disk.Disk c.args.shelf.now c.take.new.self c.salvage_disk-answer.new.shelf c.give.new.self c.in-Ok.disk c.salvage_disk-answer.new.disk input output c.in-Ok.ensures.taken
     c.salvage_disk-answer.ensures.reads.keeps.contents c.give.ensures.given apart c.in-Ok.ensures.images c.give.ensures.images c.take.ensures.others c.give.ensures.others c.salvage_disk-answer.ensures.reads.images
-    c.salvage_disk-answer.ensures.changes (c.requires input)
+    c.salvage_disk-answer.ensures.changes (c.requires.back input)
 
 pub returns-clause-faults : goal.returns-clause-faults
 returns-clause-faults g c =

@@ -1,5 +1,4 @@
 use Rattle.std.proofs.Common.{◌≡◌, ◌∙◌, ℕ, true, false, ap, sym, refl, rules}
-use Rattle.snd_file.specs.Handle.{known_of}
 use Rattle.snd_inputs.specs.Rooms.{is_full}
 use Rattle.snd_layout.specs.Params.{Parameters}
 use Rattle.snd_layout.specs.Shape.{Shape}
