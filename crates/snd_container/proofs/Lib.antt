@@ -1,6 +1,7 @@
 pub mod Blocks
 pub mod EveryKind
 pub mod FixedSamples
+mod Closings
 mod Fronts
 mod Heads
 mod KindHeads

@@ -13,6 +13,7 @@ use Rattle.snd_container.specs.HeadLaws.{plain_wave}
 use Rattle.snd_container.specs.Put.{MayBePieceOf, heads_for, heads_of}
 use Rattle.snd_container.specs.Values.{any}
 pub use Rattle.snd_container.proofs.Blocks.{rounded_up}
+pub use Rattle.snd_container.proofs.Closings.{closes_with_pad}
 pub use Rattle.snd_container.proofs.EveryKind.{apart, bytes, closes, declares, fill, free, lies, made, new, old, order, outside, pieces, reaches, stops, voice, within}
 pub use Rattle.snd_container.proofs.FixedSamples.{byte_count_pos, bytes_of_joined, count_of_bytes, length-samples, numbers_are_kept, samples_of_joined, samples_of_mixed, samples_of_parts}
 pub use Rattle.snd_container.proofs.Sources.{length-sources, samples_fit, sources_fit, sources_written}

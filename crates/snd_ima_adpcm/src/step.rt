@@ -3,7 +3,7 @@
 ghost use Rattle.std.specs.Prelude.{◌≡◌, ◌+◌, ◌*◌, ◌-◌, ◌/◌, ◌<◌, ◌≤◌, ◌≤ℤ◌, ◌<ℤ◌, ◌+ℤ◌, ◌-ℤ◌, pos, negsuc, unsigned_abs};
 ghost use Rattle.std.specs.Int.{int_min};
 ghost use Rattle.snd_ima_adpcm.specs.Frames.{clamp_16};
-ghost use Rattle.snd_ima_adpcm.specs.Step.{step_size, change, distance, moved, next_index, part_if, code_for, distance_bits, bit_if_fits, rest_after, distance_rest};
+ghost use Rattle.snd_ima_adpcm.specs.Step.{step_size, change, distance, moved, next_index, code_for, distance_bits, bit_if_fits, rest_after, distance_rest};
 
 static STEP_SIZES: [u32; 89] = [
     7, 8, 9, 10, 11, 12, 13, 14, 16, 17, 19, 21, 23, 25, 28, 31, 34, 37, 41, 45, 50, 55, 60, 66,
@@ -258,58 +258,6 @@ pub fn step_at(index: usize) -> u32
     ensures most { result ≤ 32767 }
 {
     STEP_SIZES[index]
-}
-
-/// A part of a step, where a bit of a code is set.
-#[inline]
-fn part_if_set(code: u8, bit: u8, part: u32) -> u32
-    ensures { result ≡ part_if code bit part }
-{
-    if code & bit == 0 { 0 } else { part }
-}
-
-/// The distance that the low three bits of a code stand for.
-#[inline]
-fn distance_of(step: u32, code: u8) -> u32
-    requires { step ≤ 32767 }
-    ensures value { result ≡ distance step code }
-    ensures most { result ≤ 65535 }
-{
-    (step >> 3)
-        + part_if_set(code, 4, step)
-        + part_if_set(code, 2, step >> 1)
-        + part_if_set(code, 1, step >> 2)
-}
-
-/// The predictor moved by a code at a step, before it is clamped.
-#[inline]
-pub fn moved_by(predictor: i32, step: u32, code: u8) -> i32
-    requires step { step ≤ 32767 }
-    requires low { negsuc 32767 ≤ℤ predictor }
-    requires high { predictor ≤ℤ pos 32767 }
-    ensures { result ≡ moved predictor step code }
-{
-    let distance = distance_of(step, code) as i32;
-    if code & 8 == 0 {
-        predictor + distance
-    } else {
-        predictor - distance
-    }
-}
-
-/// The index moved by a code, kept from `first` to `last`.
-#[inline]
-pub fn index_after(first: usize, last: usize, index: usize, code: u8) -> usize
-    requires { index ≤ 88 }
-    ensures { result ≡ next_index first last index code }
-{
-    let low_bits = (code & 7) as usize;
-    let moved = if low_bits < 4 {
-        index.saturating_sub(1)
-    } else {
-        index + 2 * (low_bits - 3)
-    };
-    moved.min(last).max(first)
 }
 
 /// A bit of a code, where its part of the step is within what is left of the distance.
