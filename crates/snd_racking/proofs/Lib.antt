@@ -1,6 +1,10 @@
 pub mod Appended
+pub mod Coded
 pub mod Passed
 pub mod Public
 pub mod Racks
 pub mod Rounds
+pub mod SameBytes
+pub mod Samples
+pub mod Taken
 pub mod Turns

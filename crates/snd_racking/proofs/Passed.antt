@@ -16,7 +16,7 @@ use Rattle.snd_pcm.specs.Groups.{groups}
 use Rattle.snd_pcm.specs.Width.{changed}
 use Rattle.std.proofs.lemmas.List.{length-map, take_at}
 use Rattle.snd_rack.specs.Held.{Held, InRange}
-use Rattle.snd_rack.specs.Passing.{EachMayPass, channels_through, each_passed, joined}
+use Rattle.snd_rack.specs.Passing.{ArePassable, EachMayPass, channels_through, each_passed, joined}
 use Rattle.snd_rack.proofs.Public.{FramesIn, each_may, groups_in, length_groups, passed_in}
 use Rattle.snd_racking.specs.Appending.{MayGiveRacked, passed_groups}
 use Rattle.snd_racking.specs.Racked.{high_of, low_of}
@@ -39,26 +39,37 @@ refilled n xs ws size = take_at ws (drop (length ws) xs) n size
 
 -- ---- frames that pass
 
+module _ (codec : Codec) (channels : ℕ) (hs : List Held) (xs : List ℤ) (passable : ArePassable (low_of codec) (high_of codec) channels hs) (fit : FitCodec codec xs) where
+  frames_in : FramesIn (low_of codec) (high_of codec) channels (groups channels xs)
+  frames_in = groups_in (low_of codec) (high_of codec) channels (length xs / channels) xs (div-mul-le_self (length xs) channels) (fits_width codec xs fit)
+
+  pub stages_may : EachMayPass hs (groups channels xs)
+  stages_may = each_may (low_of codec) (high_of codec) (below codec) (above codec) channels hs (groups channels xs) passable frames_in
+
+  made : InRange (low_of codec) (high_of codec) (joined (each_passed hs (groups channels xs)))
+      × (length (joined (each_passed hs (groups channels xs))) ≡ length (groups channels xs) * channels_through hs channels)
+  made = passed_in (low_of codec) (high_of codec) (below codec) (above codec) channels hs (groups channels xs) passable frames_in
+
+  -- as many frames as came
+  pub stages_count : length (passed_groups channels hs xs) ≡ length xs / channels * channels_through hs channels
+  stages_count = made.1 ∙ ap (λ n. n * channels_through hs channels) (length_groups channels xs)
+
+  pub stages_fit : FitCodec codec (passed_groups channels hs xs)
+  stages_fit = width_fits codec (passed_groups channels hs xs) made.0
+
+-- .. and are given to a file
 module _ (codec : Codec) (channels : ℕ) (hs : List Held) (xs : List ℤ) (to : Known) (may : MayGiveRacked codec channels hs xs to) where
   abbrev c : ℕ
   c = to.shape.params.channels
 
-  frames_in : FramesIn (low_of codec) (high_of codec) channels (groups channels xs)
-  frames_in = groups_in (low_of codec) (high_of codec) channels (length xs / channels) xs (div-mul-le_self (length xs) channels) (fits_width codec xs may.in_range)
-
   pub each_may_pass : EachMayPass hs (groups channels xs)
-  each_may_pass = each_may (low_of codec) (high_of codec) (below codec) (above codec) channels hs (groups channels xs) may.placed.passable frames_in
+  each_may_pass = stages_may codec channels hs xs may.placed.passable may.in_range
 
-  made : InRange (low_of codec) (high_of codec) (joined (each_passed hs (groups channels xs)))
-      × (length (joined (each_passed hs (groups channels xs))) ≡ length (groups channels xs) * channels_through hs channels)
-  made = passed_in (low_of codec) (high_of codec) (below codec) (above codec) channels hs (groups channels xs) may.placed.passable frames_in
-
-  -- as many frames as came
   pub passed_count : length (passed_groups channels hs xs) ≡ length xs / channels * c
-  passed_count = made.1 ∙ ap (λ n. n * channels_through hs channels) (length_groups channels xs) ∙ ap (λ n. length xs / channels * n) may.placed.fits
+  passed_count = stages_count codec channels hs xs may.placed.passable may.in_range ∙ ap (λ n. length xs / channels * n) may.placed.fits
 
   pub passed_fit : FitCodec codec (passed_groups channels hs xs)
-  passed_fit = width_fits codec (passed_groups channels hs xs) made.0
+  passed_fit = stages_fit codec channels hs xs may.placed.passable may.in_range
 
   pub passed_room : length xs / channels * c ≤ 16384 → length (passed_groups channels hs xs) ≤ 16384
   passed_room fits = omega (arith, passed_count, fits)

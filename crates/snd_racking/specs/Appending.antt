@@ -1,12 +1,14 @@
 -- How frames are put through a rack behind those of a file.
 use Rattle.std.specs.Prelude.{◌≡◌, ℕ, ◌*◌, ◌/◌, ◌%◌, ◌≤◌, false, None, ℤ, List, length}
-use Rattle.snd_layout.specs.Blocks.{block_frames}
+use Rattle.snd_layout.specs.Blocks.{block_align, block_frames}
+use Rattle.snd_layout.specs.Params.{Parameters}
 use Rattle.snd_layout.specs.declared.codec.Codec.{Codec}
+use Rattle.snd_edits.specs.Bytes.{numbers_in}
 use Rattle.snd_edits.specs.Editing.{Editing, frames_read}
 use Rattle.snd_edits.specs.Known.{Known}
 use Rattle.snd_edits.specs.Reading.{FitCodec}
-use Rattle.snd_output.specs.Appended.{HasRoom, IsAtEnd, left_in}
-use Rattle.snd_output.specs.Widths.{joined}
+use Rattle.snd_output.specs.Appended.{HasRoom, IsAtEnd, coded_in, left_in}
+use Rattle.snd_output.specs.Widths.{change_numbers, joined}
 use Rattle.snd_pcm.specs.Groups.{groups}
 use Rattle.snd_rack.specs.Held.{Held}
 use Rattle.snd_rack.specs.Passing.{ArePassable, all_held, channels_through, each_passed}
@@ -68,3 +70,11 @@ next_passed hs n e = passed_of hs (frames_read e n)
 -- the stages of a rack for a codec when so many frames have passed
 abbrev pub rack_at : ℕ → Codec → List Stated → List Held
 rack_at k codec items = all_held (low_of codec) (high_of codec) k items
+
+-- the bytes that those of whole frames become behind stages, in the codec of other parameters
+abbrev pub passed_bytes : Parameters → Parameters → List Held → List ℕ → List ℕ
+passed_bytes from to hs bytes = coded_in to.codec (change_numbers from.codec to.codec (passed_groups from.channels hs (numbers_in from.codec bytes)))
+
+-- how many frames so many bytes are, where each sample has bytes of its own
+abbrev pub frames_of_bytes : Parameters → ℕ → ℕ
+frames_of_bytes p n = n / block_align p.channels p.codec

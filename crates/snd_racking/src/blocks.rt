@@ -12,6 +12,7 @@ ghost use Rattle.snd_rack.specs.Stage.{kind_of};
 ghost use Rattle.snd_racking.specs.Appending.{IsPiece, MayAppendRacked, MayRack, next_passed, rack_at};
 ghost use Rattle.snd_racking.specs.Racked.{racked_left};
 
+use crate::bytes::append_bytes;
 use crate::pieces::{PieceRoom, give_racked, piece_size};
 use crate::range::range_of;
 use snd_disk::Disk;
@@ -57,6 +58,7 @@ fn append_block<D: Disk, E: Disk, M: Making>(
 
 // Puts the frames that are left in one file behind those of another as `append_racked` does, through stages that were
 // started.
+#[inline(never)]
 fn append_started<D: Disk, E: Disk, M: Making>(
     from: &mut File<'_, D, Read>,
     to: &mut File<'_, E, M>,
@@ -131,5 +133,9 @@ pub fn append_racked<D: Disk, E: Disk, M: Making>(
     let used = &mut stages[..rack.len()];
     rack.are_settled();
     start_all(used, rack, low, high);
-    append_started(from, to, rack, used, block)
+    let (_, wanted) = numbers_of(to);
+    if codec.is_adpcm() || wanted.is_adpcm() {
+        return append_started(from, to, rack, used, block);
+    }
+    append_bytes(from, to, rack, used, block)
 }

@@ -2,6 +2,9 @@
 #![tactic(auto)]
 
 mod blocks;
+mod bytes;
+mod coding;
+mod giving;
 mod pieces;
 mod range;
 

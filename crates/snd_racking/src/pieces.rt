@@ -22,8 +22,8 @@ const MOST_NUMBERS: usize = 16384;
 /// Room for what becomes of a piece, which is kept from piece to piece.
 #[derive(Drop)]
 pub(crate) struct PieceRoom {
-    between: Room,
-    passed: ArrayVec<i32, 16384>,
+    pub(crate) between: Room,
+    pub(crate) passed: ArrayVec<i32, 16384>,
 }
 
 impl PieceRoom {
