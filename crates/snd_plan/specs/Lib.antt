@@ -1,0 +1,5 @@
+pub mod Operations
+pub mod Plans
+pub mod Windows
+pub mod Disks
+pub mod Images
