@@ -1,8 +1,8 @@
 ghost use Rattle.std.specs.Prelude.{◌≡◌, IfOk, map};
-ghost use Rattle.snd_app.specs.Outcome.{files_after, outcome};
+ghost use Rattle.snd_app.specs.Outcome.{files_after, outcome, pinned_for};
 ghost use Rattle.snd_memory.specs.MemoryShelf.{shelf_state};
 ghost use Rattle.snd_tools.specs.Shelves.{IsAllIn};
-ghost use Rattle.snd_rows.specs.Memory.{one_file, IsPrinted};
+ghost use Rattle.snd_rows.specs.Memory.{one_file, HasTrail, IsPrinted};
 
 use snd_app::run;
 use snd_fields::Words;
@@ -23,8 +23,10 @@ pub struct Printed {
 /// How many bytes of the script come at a time.
 const PIECE: usize = 4096;
 
-/// Runs the words over a shelf with one file, with streams that do not fail, a script to come, and
-/// these taps and stages.
+/// Runs the words over a shelf with one file, with a script to come, and these taps and stages.
+///
+/// No call of the shelf and of the streams is told to fail, so they fail for want of memory alone: what ends
+/// with status 3 is answered as what ends with 4.
 pub fn run_in_memory(
     alloc: Global,
     words: &Words,
@@ -37,6 +39,7 @@ pub fn run_in_memory(
     ensures printed { IfOk result (IsPrinted
         (outcome words.now (map (λ b. (meter b).kind) taps.items) (map (λ b. (stage b).kind) stages.items) (one_file name.now bytes.items) script.items)
         (files_after words.now (map (λ b. (meter b).kind) taps.items) (map (λ b. (stage b).kind) stages.items) (one_file name.now bytes.items) script.items)) }
+    ensures trail { IfOk result (HasTrail (map (λ b. (meter b).kind) taps.items) (pinned_for words.now) name.now bytes.items script.items) }
     ensures all_in { IfOk result (λ p. IsAllIn (shelf_state p.shelf)) }
 {
     let disk = MemoryDisk::new(alloc, bytes, Vec::new(alloc))?;
@@ -55,6 +58,9 @@ pub fn run_in_memory(
         taps,
         stages,
     );
+    if status >= 3 {
+        return Err(AllocError);
+    }
     Ok(Printed {
         out: out.bytes().to_vec(alloc)?,
         err: err.bytes().to_vec(alloc)?,
