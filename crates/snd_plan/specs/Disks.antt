@@ -2,6 +2,8 @@
 -- contents and of crashes.
 use Rattle.std.specs.Prelude.{◌≡◌, ◌⊎◌, ◌<◌, ◌≤◌, ◌^◌, ◌-◌, ℕ, List, [], ◌∷◌, ◌++◌, length, Option, Some, None, min, Bool, nat_eq, ◌||◌}
 use Rattle.std.proofs.Common.{inl}
+use Rattle.snd_disk.specs.Device.{IsUnchanged, MixesAllOn}
+use Rattle.snd_disk.specs.Runs.{HasAt}
 use Rattle.snd_disk.specs.State.{State}
 use Rattle.snd_plan.specs.Operations.{Operation, all_carried_out}
 use Rattle.snd_plan.specs.Plans.{operations}
@@ -25,6 +27,13 @@ plan_left d x = ⊥
 
 abbrev pub plan_between : PlanDisk → ℕ → ℕ → List ℕ → Type 0
 plan_between d s t x = ⊥
+
+-- all that a crash may leave then is a mix of what it might have left before and of what was meant; or so, or as it was
+abbrev pub IsMixed : (List ℕ → List ℕ) → PlanDisk → PlanDisk → Type 0
+IsMixed meant old new = MixesAllOn plan_state plan_left meant old new
+
+abbrev pub IsMixedOrSame : (List ℕ → List ℕ) → PlanDisk → PlanDisk → Type 0
+IsMixedOrSame meant old new = IsMixed meant old new ⊎ IsUnchanged plan_state plan_left plan_between old new
 
 -- the operations that are planned, in their order, and the tape that has the bytes of their writes
 abbrev pub planned : PlanDisk → List Operation
@@ -53,6 +62,10 @@ pub record IsFile (d : PlanDisk) (b : List ℕ) : Type 0 where
 -- what the disk shows of it: what it holds when all that is planned is carried out
 abbrev pub shown : PlanDisk → List ℕ → List ℕ
 shown d b = all_carried_out (planned d) b
+
+-- bytes are those that it shows of the file from a place on, whatever file has the parts that were given
+abbrev pub Shows : PlanDisk → ℕ → List ℕ → Type 0
+Shows d at xs = (b : List ℕ) → IsFile d b → HasAt (shown d b) at xs
 
 -- nothing changes of what is planned
 pub record KeepsPlan (old new : PlanDisk) : Type 0 where

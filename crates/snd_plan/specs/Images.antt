@@ -1,9 +1,11 @@
 -- What a crash may leave of a file while a list of operations is carried out on it.
-use Rattle.std.specs.Prelude.{◌≡◌, ℕ, List, [], ◌∷◌, take}
+use Rattle.std.specs.Prelude.{◌≡◌, ℕ, List, [], ◌∷◌, option_map, take}
 use Rattle.snd_disk.specs.Bytes.{Mix, over}
 use Rattle.snd_disk.specs.Device.{Tells}
 use Rattle.snd_disk.specs.State.{State}
-use Rattle.snd_plan.specs.Operations.{Operation, carried_out}
+use Rattle.snd_plan.specs.Operations.{Operation, carried_out, length_after}
+use Rattle.snd_plan.specs.Disks.{shown}
+use Rattle.snd_plan.specs.declared.disk.PlanDisk.{PlanDisk}
 
 -- The images after one operation, from the contents and the images before it: a sync leaves the contents alone; a write or
 -- a cut leaves the mixes of an earlier image and of what was meant.
@@ -27,3 +29,14 @@ abbrev pub LeavesOnTheWay : {D : Type 0} → (D → State) → (D → List ℕ �
 LeavesOnTheWay state may_leave left_between os old new =
     (b : List ℕ) → Tells state old b → (t : ℕ) (x : List ℕ) → left_between new (state old).clock t x
     → (k : ℕ) × left_after_all (take k os) b (may_leave old) x
+
+-- what becomes of the contents that a disk tells, and of its length, when one operation is carried out on it
+abbrev pub CarriesOut : {D : Type 0} → (D → State) → Operation → D → D → Type 0
+CarriesOut state o old new = (state new).contents ≡ option_map (carried_out o) (state old).contents
+
+abbrev pub Resizes : {D : Type 0} → (D → State) → Operation → D → D → Type 0
+Resizes state o old new = (state new).size ≡ length_after o (state old).size
+
+-- .. when a disk's whole plan is
+abbrev pub HasShown : {D : Type 0} → (D → State) → PlanDisk → D → D → Type 0
+HasShown state plan old new = (state new).contents ≡ option_map (shown plan) (state old).contents

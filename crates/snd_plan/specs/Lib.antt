@@ -3,3 +3,4 @@ pub mod Plans
 pub mod Windows
 pub mod Disks
 pub mod Images
+pub mod Laws

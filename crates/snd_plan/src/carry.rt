@@ -1,10 +1,10 @@
 //! What whoever moves the bytes is to do, as a call over any disk.
 
-ghost use Rattle.std.specs.Prelude.{◌≡◌, ◌⊎◌, ◌+◌, ◌<◌, ◌≤◌, ◌^◌, ℕ, List, [], drop, length, option_map, OnOk, OnErr, true};
+ghost use Rattle.std.specs.Prelude.{◌≡◌, ◌⊎◌, ◌+◌, ◌<◌, ◌≤◌, ◌^◌, ℕ, List, [], drop, length, OnOk, OnErr, true};
 ghost use Rattle.snd_disk.specs.Device.{CountsOn, PassesOn, Tells};
-ghost use Rattle.snd_plan.specs.Operations.{carried_out, length_after, operation_of, shortens, tape_end, file_end};
-ghost use Rattle.snd_plan.specs.Disks.{held_length, plan_state, planned, shown};
-ghost use Rattle.snd_plan.specs.Images.{LeavesAfter, LeavesOnTheWay, left_after};
+ghost use Rattle.snd_plan.specs.Operations.{operation_of, shortens, tape_end, file_end};
+ghost use Rattle.snd_plan.specs.Disks.{held_length, plan_state, planned};
+ghost use Rattle.snd_plan.specs.Images.{CarriesOut, HasShown, LeavesAfter, LeavesOnTheWay, Resizes, left_after};
 
 use crate::{PlanDisk, Planned};
 use snd_disk::{Disk, Failed};
@@ -14,8 +14,8 @@ fn carry_one<D: Disk>(step: Planned, tape: &[u8], onto: &mut D) -> Result<(), Fa
     requires taped { tape_end step ≤ length tape.now }
     requires placed { file_end step < 2 ^ 63 }
     requires shortens { shortens (operation_of tape.now step) (D.state onto.old).size ≡ true }
-    ensures done { OnOk result ((D.state onto.new).contents ≡ option_map (carried_out (operation_of tape.now step)) (D.state onto.old).contents) }
-    ensures size { OnOk result ((D.state onto.new).size ≡ length_after (operation_of tape.now step) (D.state onto.old).size) }
+    ensures done { OnOk result (CarriesOut D.state (operation_of tape.now step) onto.old onto.new) }
+    ensures size { OnOk result (Resizes D.state (operation_of tape.now step) onto.old onto.new) }
     ensures images { OnOk result ((b : List ℕ) → Tells D.state onto.old b → (x : List ℕ) → D.may_leave onto.new x
         → left_after (operation_of tape.now step) b (D.may_leave onto.old) x) }
     ensures broken { OnErr result ((b : List ℕ) → Tells D.state onto.old b → (x : List ℕ) → D.may_leave onto.new x
@@ -34,7 +34,7 @@ fn carry_one<D: Disk>(step: Planned, tape: &[u8], onto: &mut D) -> Result<(), Fa
 /// operation and those behind it are still planned.
 pub fn carry_out<D: Disk>(plan: &mut PlanDisk, onto: &mut D) -> Result<(), Failed>
     requires { (D.state onto.old).size ≡ held_length plan.old }
-    ensures done { OnOk result ((D.state onto.new).contents ≡ option_map (shown plan.old) (D.state onto.old).contents) }
+    ensures done { OnOk result (HasShown D.state plan.old onto.old onto.new) }
     ensures size { OnOk result ((D.state onto.new).size ≡ (plan_state plan.old).size) }
     ensures images { OnOk result (LeavesAfter D.state D.may_leave (planned plan.old) onto.old onto.new) }
     ensures moments { LeavesOnTheWay D.state D.may_leave D.left_between (planned plan.old) onto.old onto.new }

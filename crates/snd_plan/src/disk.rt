@@ -66,7 +66,7 @@ fn read_file(windows: &Windows, held: u64, at: u64, into: &mut [u8]) -> bool
 impl PlanDisk {
     ghost use Rattle.std.specs.Prelude.{◌++◌, ◌∷◌, ◌+◌, [], take, drop, option_map, Some, None, IfSome, IsErr, OnOk, OnErr, slice_get};
     ghost use Rattle.snd_disk.specs.State.{Rises};
-    ghost use Rattle.snd_plan.specs.Disks.{IsFile, KeepsPlan, KeepsRead, given, has_all, held_length, plan_state, planned, shown, tape_of, wanted_of};
+    ghost use Rattle.snd_plan.specs.Disks.{IsFile, IsMixed, IsMixedOrSame, KeepsPlan, KeepsRead, Shows, given, has_all, held_length, plan_state, planned, shown, tape_of, wanted_of};
 
     /// A file of a length, of which nothing was read, and to which nothing is to be done.
     pub fn new(alloc: Global, size: u64) -> PlanDisk
@@ -163,7 +163,7 @@ impl PlanDisk {
     fn copy(&self, at: u64, into: &mut [u8]) -> bool
         requires { at + length into.old ≤ (plan_state self.now).size }
         ensures exact { result ≡ has_all self.now at (length into.old) }
-        ensures bytes { result ≡ true → (b : List ℕ) → IsFile self.now b → HasAt (shown self.now b) at into.new }
+        ensures bytes { result ≡ true → Shows self.now at into.new }
     {
         let read = read_file(&self.windows, self.held, at, into);
         if read {
@@ -201,7 +201,7 @@ impl Disk for PlanDisk {
     ghost use Rattle.snd_disk.specs.Device.{CountsOn, IsStable, IsUnchanged, MixesOn, MixesAllOn, PassesOn, TicksOn, OnlyReadsOn};
     ghost use Rattle.snd_disk.specs.State.{Keeps, Adds, ReadsFrom, SameImages, IsWritten, IsPartlyWritten, IsCut, IsPartlyCut};
     ghost use Rattle.snd_plan.specs.Operations.{Operation};
-    ghost use Rattle.snd_plan.specs.Disks.{IsFile, KeepsPlan, Notes, NotesNothing, given, has_all, needs, shown, wanted_of, plan_state, plan_left, plan_between, plan_told, plan_fits, plan_is_left, plan_counts_now, plan_only_now, plan_none_to_come, plan_splits};
+    ghost use Rattle.snd_plan.specs.Disks.{IsFile, IsMixed, IsMixedOrSame, KeepsPlan, Notes, NotesNothing, Shows, given, has_all, needs, plan_between, plan_counts_now, plan_fits, plan_is_left, plan_left, plan_none_to_come, plan_only_now, plan_splits, plan_state, plan_told, shown, wanted_of};
 
     ghost state = { plan_state };
 
@@ -241,7 +241,7 @@ impl Disk for PlanDisk {
         ensures faults { CountsOn plan_state self.old self.new result }
         ensures asked { Adds (plan_state self.old).asked (length into.old) (plan_state self.new).asked }
         ensures exact { is_ok result ≡ has_all self.old at (length into.old) }
-        ensures shown { IfOk result (λ n. (b : List ℕ) → IsFile self.old b → HasAt (shown self.old b) at (take n into.new)) }
+        ensures shown { IfOk result (λ n. Shows self.old at (take n into.new)) }
         ensures wants { OnErr result (wanted_of self.new ≡ Some (record { at = at; len = needs self.old at (length into.old) })) }
         ensures want { OnOk result (wanted_of self.new ≡ wanted_of self.old) }
         ensures plan { KeepsPlan self.old self.new }
@@ -264,9 +264,8 @@ impl Disk for PlanDisk {
         ensures done { OnOk result (IsWritten at from.now (plan_state self.old) (plan_state self.new)) }
         ensures broken { OnErr result (IsPartlyWritten at from.now (plan_state self.old) (plan_state self.new)) }
         ensures images { MixesOn plan_state plan_left (λ b. over b at from.now) self.old self.new }
-        ensures all_images { OnOk result (MixesAllOn plan_state plan_left (λ b. over b at from.now) self.old self.new) }
-        ensures all_or_none { OnErr result (MixesAllOn plan_state plan_left (λ b. over b at from.now) self.old self.new
-            ⊎ IsUnchanged plan_state plan_left plan_between self.old self.new) }
+        ensures all_images { OnOk result (IsMixed (λ b. over b at from.now) self.old self.new) }
+        ensures all_or_none { OnErr result (IsMixedOrSame (λ b. over b at from.now) self.old self.new) }
         ensures time { PassesOn plan_state plan_left plan_between self.old self.new }
         ensures ticks { TicksOn plan_state plan_left plan_between self.old self.new }
         ensures faults { CountsOn plan_state self.old self.new result }
@@ -290,9 +289,8 @@ impl Disk for PlanDisk {
         ensures done { OnOk result (IsCut len (plan_state self.old) (plan_state self.new)) }
         ensures broken { OnErr result (IsPartlyCut len (plan_state self.old) (plan_state self.new)) }
         ensures images { MixesOn plan_state plan_left (take len) self.old self.new }
-        ensures all_images { OnOk result (MixesAllOn plan_state plan_left (take len) self.old self.new) }
-        ensures all_or_none { OnErr result (MixesAllOn plan_state plan_left (take len) self.old self.new
-            ⊎ IsUnchanged plan_state plan_left plan_between self.old self.new) }
+        ensures all_images { OnOk result (IsMixed (take len) self.old self.new) }
+        ensures all_or_none { OnErr result (IsMixedOrSame (take len) self.old self.new) }
         ensures time { PassesOn plan_state plan_left plan_between self.old self.new }
         ensures ticks { TicksOn plan_state plan_left plan_between self.old self.new }
         ensures faults { CountsOn plan_state self.old self.new result }
