@@ -11,7 +11,7 @@ use Rattle.snd_pcm.specs.Width.{floor_div}
 use Rattle.std.proofs.lemmas.List.Elements.{All-append}
 use Rattle.snd_pcm.specs.Groups.{groups}
 use Rattle.snd_rack.specs.Held.{Held, InRange, MayPass, next, passed}
-use Rattle.snd_rack.specs.Passing.{EachMay, EachMayPass, MayPassBlock, each_by, each_passed, joined, later, next_by, passed_all, passed_block}
+use Rattle.snd_rack.specs.Passing.{AllHaveRoom, EachMay, EachMayPass, MayPassAll, MayPassBlock, each_by, each_passed, joined, later, next_by, passed_all, passed_block}
 use Rattle.snd_rack.specs.Rack.{channels_behind, is_bad}
 use Rattle.snd_rack.specs.Stage.{IsSettled, Stated, clamped, mapped}
 use Rattle.snd_rack.proofs.Cut.{Sized, count_is, groups-cons, groups_joined, groups_sized, groups_split, joined_groups, length_groups, no_group, size_joined}
@@ -142,7 +142,7 @@ first_there h c [] some all may = absurd (omega (arith, some))
 first_there h c (frame ∷ frames) some all may = sym (ap (λ m. is_bad m h.stated) all.0) ∙ may.0.there
 
 -- a block of n frames comes to the first of several stages
-module _ (h : Held) (hs : List Held) (c n : ℕ) (xs : List ℤ) (some : 1 ≤ c) (most : c ≤ 256) (one : 1 ≤ n) (few : n ≤ 64) (len : length xs ≡ n * c)
+module _ (h : Held) (hs : List Held) (c n : ℕ) (xs : List ℤ) (some : 1 ≤ c) (most : c ≤ 256) (one : 1 ≤ n) (len : length xs ≡ n * c)
     (may : EachMayPass (h ∷ hs) (groups c xs)) where
   abbrev pub behind : ℕ
   behind = channels_behind c h.stated
@@ -165,18 +165,16 @@ module _ (h : Held) (hs : List Held) (c n : ℕ) (xs : List ℤ) (some : 1 ≤ c
   pub size_then : length (passed_block h c xs) ≡ n * behind
   size_then = size_joined behind (each_by h (groups c xs)) sized ∙ ap (λ m. m * behind) (length_by h (groups c xs) ∙ count)
 
-  pub block_may : MayPassBlock h c xs
-  block_may =
-      let most_of : behind * n ≤ behind * 64 = mul-le-mul_left {m = n} {n = 64} behind few in
-      record {
-        some = some;
-        most = most;
-        whole = ap (λ m. m % c) len ∙ mul-mod_left n c;
-        settled = settled;
-        there = first_there h c (groups c xs) (omega (arith, count, one)) (groups_sized c n xs some len) both.0;
-        may = both.0;
-        room = omega (arith, size_then, most_of, bounds.1);
-      }
+  pub block_may : n * behind ≤ 16384 → MayPassBlock h c xs
+  block_may fits = record {
+    some = some;
+    most = most;
+    whole = ap (λ m. m % c) len ∙ mul-mod_left n c;
+    settled = settled;
+    there = first_there h c (groups c xs) (omega (arith, count, one)) (groups_sized c n xs some len) both.0;
+    may = both.0;
+    room = omega (arith, size_then, fits);
+  }
 
   frames_then : groups behind (passed_block h c xs) ≡ each_by h (groups c xs)
   frames_then = groups_joined behind (each_by h (groups c xs)) bounds.0 sized
@@ -196,7 +194,7 @@ opened held old i x lt is =
 
 -- one stage of a list, where a block of n frames passes those from there on
 module _ {B : Type 0} (held : B → Held) (old : List B) (i : ℕ) (x : B) (lt : i < length old) (is : x ≡ get_or old i x)
-    (c n : ℕ) (xs : List ℤ) (some : 1 ≤ c) (most : c ≤ 256) (one : 1 ≤ n) (few : n ≤ 64) (len : length xs ≡ n * c)
+    (c n : ℕ) (xs : List ℤ) (some : 1 ≤ c) (most : c ≤ 256) (one : 1 ≤ n) (len : length xs ≡ n * c)
     (may : EachMayPass (map held (drop i old)) (groups c xs)) where
   abbrev left : List Held
   left = map held (drop (i + 1) old)
@@ -204,21 +202,24 @@ module _ {B : Type 0} (held : B → Held) (old : List B) (i : ℕ) (x : B) (lt :
   here : EachMayPass (held x ∷ left) (groups c xs)
   here = subst (λ hs. EachMayPass hs (groups c xs)) (opened held old i x lt is) may
 
-  pub may_here : MayPassBlock (held x) c xs
-  may_here = block_may (held x) left c n xs some most one few len here
+  room : AllHaveRoom (map held (drop i old)) c n → AllHaveRoom (held x ∷ left) c n
+  room fits = subst (λ hs. AllHaveRoom hs c n) (opened held old i x lt is) fits
+
+  pub may_here : AllHaveRoom (map held (drop i old)) c n → MayPassBlock (held x) c xs
+  may_here fits = block_may (held x) left c n xs some most one len here (room fits).0
 
   module _ (new : List ℤ) (made : new ≡ passed_block (held x) c xs) where
     abbrev width_then : ℕ
     width_then = channels_behind c (held x).stated
 
     size : length new ≡ n * width_then
-    size = ap length made ∙ size_then (held x) left c n xs some most one few len here
+    size = ap length made ∙ size_then (held x) left c n xs some most one len here
 
     width : length new / n ≡ width_then
     width = count_is n width_then new one (size ∙ mul_comm n width_then)
 
     within_then : (1 ≤ width_then) × (width_then ≤ 256)
-    within_then = bounds (held x) left c n xs some most one few len here
+    within_then = bounds (held x) left c n xs some most one len here
 
     pub size_on : length new ≡ n * (length new / n)
     size_on = size ∙ ap (λ m. n * m) (sym width)
@@ -229,13 +230,29 @@ module _ {B : Type 0} (held : B → Held) (old : List B) (i : ℕ) (x : B) (lt :
     pub most_on : length new / n ≤ 256
     most_on = omega (arith, width, within_then.1)
 
+    pub room_left : AllHaveRoom (map held (drop i old)) c n → AllHaveRoom left (length new / n) n
+    room_left fits = subst (λ m. AllHaveRoom left m n) (sym width) (room fits).1
+
     pub may_left : EachMayPass left (groups (length new / n) new)
-    may_left = subst (λ m. EachMayPass left (groups m new)) (sym width) (may_then (held x) left c n xs some most one few len here new made)
+    may_left = subst (λ m. EachMayPass left (groups m new)) (sym width) (may_then (held x) left c n xs some most one len here new made)
 
     pub passed_left : joined (each_passed left (groups (length new / n) new)) ≡ joined (each_passed (map held (drop i old)) (groups c xs))
     passed_left =
-        ap (λ m. joined (each_passed left (groups m new))) width ∙ passed_then (held x) left c n xs some most one few len here new made
+        ap (λ m. joined (each_passed left (groups m new))) width ∙ passed_then (held x) left c n xs some most one len here new made
         ∙ sym (ap (λ hs. joined (each_passed hs (groups c xs))) (opened held old i x lt is))
+
+-- 64 frames or fewer have places behind each stage that is settled
+all_fit : (hs : List Held) (c n : ℕ) (frame : List ℤ) → 1 ≤ c → c ≤ 256 → n ≤ 64 → MayPassAll hs frame → AllHaveRoom hs c n
+all_fit [] c n frame some most few may = tt
+all_fit (h ∷ hs) c n frame some most few may =
+    let then = channels_behind c h.stated in
+    let bounds = within h.stated c may.0.settled some most in
+    let times : then * n ≤ then * 64 = mul-le-mul_left {m = n} {n = 64} then few in
+    (omega (arith, times, bounds.1), all_fit hs then n (passed h frame) bounds.0 bounds.1 few may.1)
+
+pub few_fit : (hs : List Held) (c n : ℕ) (frames : List (List ℤ)) → 1 ≤ c → c ≤ 256 → n ≤ 64 → 1 ≤ length frames → EachMayPass hs frames → AllHaveRoom hs c n
+few_fit hs c n [] some most few one may = absurd (omega (arith, one))
+few_fit hs c n (frame ∷ frames) some most few one may = all_fit hs c n frame some most few may.0
 
 -- behind the last one
 pub all_passed : (hs : List Held) (c n : ℕ) (xs : List ℤ) → hs ≡ [] → 1 ≤ c → length xs ≡ n * c → xs ≡ joined (each_passed hs (groups c xs))

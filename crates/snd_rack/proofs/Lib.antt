@@ -8,3 +8,4 @@ pub mod Placed
 pub mod Public
 pub mod Scaled
 pub mod Settled
+pub mod Widths

@@ -55,7 +55,7 @@ module _ (low high : ℤ) (below : low ≤ℤ pos 0) (above : pos 0 ≤ℤ high)
 -- a stage that passes frames stays one
 pub passable_next : (low high : ℤ) (c : ℕ) (hs : List Held) → ArePassable low high c hs → ArePassable low high c (map next hs)
 passable_next low high c [] p = tt
-passable_next low high c (h ∷ hs) p = (record { settled = p.0.settled; low_is = p.0.low_is; high_is = p.0.high_is; there = p.0.there }, passable_next low high (channels_behind c h.stated) hs p.1)
+passable_next low high c (h ∷ hs) p = (record { kind_is = p.0.kind_is; settled = p.0.settled; low_is = p.0.low_is; high_is = p.0.high_is; there = p.0.there }, passable_next low high (channels_behind c h.stated) hs p.1)
 
 pub passable_later : (n : ℕ) (low high : ℤ) (c : ℕ) (hs : List Held) → ArePassable low high c hs → ArePassable low high c (later n hs)
 passable_later zero low high c hs p = p
@@ -121,7 +121,7 @@ pub all_passable : (low high : ℤ) (k c : ℕ) (items : List Stated) → AllSet
 all_passable low high k c [] settled good = tt
 all_passable low high k c (s ∷ items) settled good =
     let parts = or_parts (is_bad c s) (bad_place items (channels_behind c s)) good in
-    (record { settled = settled.0; low_is = refl; high_is = refl; there = parts.0 }, all_passable low high k (channels_behind c s) items settled.1 parts.1)
+    (record { kind_is = refl; settled = settled.0; low_is = refl; high_is = refl; there = parts.0 }, all_passable low high k (channels_behind c s) items settled.1 parts.1)
 
 pub channels_held : (low high : ℤ) (k c : ℕ) (items : List Stated) → channels_through (all_held low high k items) c ≡ channels_after items c
 channels_held low high k c [] = refl

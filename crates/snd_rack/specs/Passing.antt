@@ -1,5 +1,5 @@
 -- Frames that pass several stages, by what these hold.
-use Rattle.std.specs.Prelude.{◌≡◌, ℕ, zero, suc, ◌%◌, ◌≤◌, ℤ, false, List, [], ◌∷◌, fold, length, map}
+use Rattle.std.specs.Prelude.{◌≡◌, ℕ, zero, suc, ◌*◌, ◌%◌, ◌≤◌, ℤ, false, List, [], ◌∷◌, fold, length, map}
 use Rattle.std.specs.List.{flat_map}
 use Rattle.snd_pcm.specs.Groups.{groups}
 use Rattle.snd_rack.specs.Held.{Held, MayPass, next, passed}
@@ -66,8 +66,15 @@ pub record MayPassBlock (h : Held) (channels : ℕ) (xs : List ℤ) : Type 0 whe
 abbrev pub channels_through : List Held → ℕ → ℕ
 channels_through hs channels = channels_after (map (λ h. h.stated) hs) channels
 
+-- so many frames of so many samples have places behind each stage
+abbrev pub AllHaveRoom : List Held → ℕ → ℕ → Type 0
+AllHaveRoom [] channels frames = Unit {0}
+AllHaveRoom (h ∷ hs) channels frames =
+    (frames * channels_behind channels h.stated ≤ 16384) × AllHaveRoom hs (channels_behind channels h.stated) frames
+
 -- a stage that was started for frames with so many samples, in this range
 pub record IsPassable (low high : ℤ) (channels : ℕ) (h : Held) : Type 0 where
+  pub kind_is : h.kind ≡ kind_of h.stated
   pub settled : IsSettled h.stated
   pub low_is : h.low ≡ low
   pub high_is : h.high ≡ high

@@ -1,5 +1,5 @@
 -- What a stage does to the frames that pass it, in their order.
-use Rattle.std.specs.Prelude.{ℕ, ◌+◌, ◌≤◌, ℤ, pos, neg_ℤ, ◌*ℤ◌, List, [], ◌∷◌, length, map, int_lt, nat_lt, slice_index_or, if◌then◌else◌}
+use Rattle.std.specs.Prelude.{ℕ, ◌+◌, ◌≤◌, ℤ, pos, neg_ℤ, ◌*ℤ◌, Bool, false, true, List, [], ◌∷◌, length, map, int_lt, nat_lt, slice_index_or, if◌then◌else◌}
 use Rattle.snd_pcm.specs.Width.{floor_div}
 use Rattle.snd_rack.specs.declared.setting.StageKind.{StageKind}
 use Rattle.snd_rack.specs.declared.setting.StageKind.TheVariants as kind
@@ -17,6 +17,11 @@ kind_of (Stated.gain a b) = kind.Gain
 kind_of Stated.invert = kind.Invert
 kind_of (Stated.pick places) = kind.Pick
 kind_of (Stated.fade count) = kind.Fade
+
+-- whether a frame has as many samples behind a stage of a kind as before it: all but a map
+abbrev pub keeps_width : StageKind → Bool
+keeps_width kind.Pick = false
+keeps_width other = true
 
 -- nothing is divided by 0, and a frame keeps a sample
 abbrev pub IsSettled : Stated → Type 0

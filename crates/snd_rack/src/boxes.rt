@@ -1,9 +1,10 @@
 //! The boxes for a rack.
 
 ghost use Rattle.std.specs.Prelude.{◌≡◌, ◌<◌, ◌≤◌, Some, slice_get, length, map, take, true};
+ghost use Rattle.std.specs.List.{list_all};
 ghost use Rattle.snd_rack.specs.Held.{Held, started};
 ghost use Rattle.snd_rack.specs.Setting.{stated};
-ghost use Rattle.snd_rack.specs.Stage.{IsSettled, kind_of};
+ghost use Rattle.snd_rack.specs.Stage.{IsSettled, keeps_width, kind_of};
 ghost use Rattle.snd_rack.specs.Boxes.{Finds, brought, has_boxes};
 ghost use Rattle.snd_rack.specs.Passing.{all_held};
 
@@ -42,6 +43,13 @@ fn find(stages: &[Box<dyn Stage>], kind: StageKind, from: usize) -> Option<usize
         }
     }
     None
+}
+
+/// Whether a frame has as many samples behind each box as before it: none is a map.
+pub fn keep_width(stages: &[Box<dyn Stage>]) -> bool
+    ensures { result ≡ list_all keeps_width (map (λ b. (stage b).kind) stages.now) }
+{
+    find(stages, StageKind::Pick, 0).is_none()
 }
 
 // Takes a box to a place before it, and those between one place on.

@@ -16,12 +16,12 @@ mod setting;
 mod spec;
 mod stage;
 
-pub use boxes::{choose, start_all};
+pub use boxes::{choose, keep_width, start_all};
 pub use fade::Fade;
 pub use gain::Gain;
 pub use invert::Invert;
 pub use laws::stages_compose;
-pub use passing::{Room, pass_frames};
+pub use passing::{Room, pass_frames, pass_in_place};
 pub use pick::Pick;
 pub use setting::{Setting, StageKind};
 pub use spec::RackSpec;

@@ -1,8 +1,10 @@
 //! Frames that pass boxed stages.
 
-ghost use Rattle.std.specs.Prelude.{◌≡◌, ◌/◌, ◌%◌, ◌≤◌, length, map};
+ghost use Rattle.std.specs.Prelude.{◌≡◌, ◌/◌, ◌%◌, ◌≤◌, length, map, true};
+ghost use Rattle.std.specs.List.{list_all};
 ghost use Rattle.snd_pcm.specs.Groups.{groups};
 ghost use Rattle.snd_rack.specs.Passing.{
+  AllHaveRoom,
   EachMayPass,
   MayPassBlock,
   each_passed,
@@ -11,6 +13,7 @@ ghost use Rattle.snd_rack.specs.Passing.{
   next_by,
   passed_block,
 };
+ghost use Rattle.snd_rack.specs.Stage.{keeps_width, kind_of};
 
 use crate::copies::{add_samples, copy_block};
 use crate::stage::Stage;
@@ -27,7 +30,7 @@ pub struct Room {
 }
 
 impl Room {
-    /// Room that is used by `pass_frames`.
+    /// Room that is used by `pass_frames` and `pass_in_place`.
     pub fn new() -> Room {
         Room {
             block: ArrayVec::new(),
@@ -49,7 +52,7 @@ fn apply_all(
     each.apply_all(channels, block, spare);
 }
 
-// Passes a few frames through all stages, 64 at most.
+// Passes frames through all stages, so many that they have places behind each.
 fn pass_block(
     stages: &mut [Box<dyn Stage>],
     channels: usize,
@@ -59,8 +62,8 @@ fn pass_block(
     requires some { 1 ≤ channels }
     requires most { channels ≤ 256 }
     requires one { 1 ≤ length block.old.items / channels }
-    requires few { length block.old.items / channels ≤ 64 }
     requires whole { length block.old.items % channels ≡ 0 }
+    requires room { AllHaveRoom (map (λ b. stage b) stages.old) channels (length block.old.items / channels) }
     requires may { EachMayPass (map (λ b. stage b) stages.old) (groups channels block.old.items) }
     ensures block { block.new.items ≡ joined (each_passed (map (λ b. stage b) stages.old) (groups channels block.old.items)) }
     ensures states { map (λ b. stage b) stages.new ≡ later (length block.old.items / channels) (map (λ b. stage b) stages.old) }
@@ -70,6 +73,29 @@ fn pass_block(
         let width = block.len() / frames;
         apply_all(each, width, block, spare);
     }
+}
+
+/// Passes whole frames of `channels` samples through all stages where they stand. No stage is a map, as `keep_width` says it,
+/// and each has been started. What the room held is lost.
+pub fn pass_in_place(
+    stages: &mut [Box<dyn Stage>],
+    channels: usize,
+    block: &mut ArrayVec<i32, 16384>,
+    room: &mut Room,
+)
+    requires some { 1 ≤ channels }
+    requires most { channels ≤ 256 }
+    requires whole { length block.old.items % channels ≡ 0 }
+    requires keep { list_all keeps_width (map (λ b. (stage b).kind) stages.old) ≡ true }
+    requires kinds { map (λ b. (stage b).kind) stages.old ≡ map (λ b. kind_of (stage b).stated) stages.old }
+    requires may { EachMayPass (map (λ b. stage b) stages.old) (groups channels block.old.items) }
+    ensures frames { block.new.items ≡ joined (each_passed (map (λ b. stage b) stages.old) (groups channels block.old.items)) }
+    ensures states { map (λ b. stage b) stages.new ≡ later (length block.old.items / channels) (map (λ b. stage b) stages.old) }
+{
+    if block.is_empty() {
+        return;
+    }
+    pass_block(stages, channels, block, &mut room.spare);
 }
 
 /// Passes whole frames of `channels` samples through all stages, one after the other, and puts what becomes of them into

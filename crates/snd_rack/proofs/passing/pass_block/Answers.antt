@@ -1,8 +1,8 @@
 use Rattle.std.proofs.Common.{◌≡◌, ◌∙◌, ◌*◌, ◌/◌, ◌<◌, ◌≤◌, ℕ, ap, length, map, sym, subst, refl, arith}
 use Rattle.std.proofs.lemmas.List.{drop_all, length-set}
 use Rattle.snd_pcm.specs.Groups.{groups}
-use Rattle.snd_rack.specs.Passing.{EachMayPass, MayPassBlock, each_passed, joined, later, next_by, passed_block}
-use Rattle.snd_rack.proofs.Block.{all_passed, frames_are_so_many, later_is, may_here, may_left, most_on, passed_left, size_on, some_on, state_as}
+use Rattle.snd_rack.specs.Passing.{AllHaveRoom, EachMayPass, MayPassBlock, each_passed, joined, later, next_by, passed_block}
+use Rattle.snd_rack.proofs.Block.{all_passed, frames_are_so_many, later_is, may_here, may_left, most_on, passed_left, room_left, size_on, some_on, state_as}
 use Rattle.snd_rack.proofs.Cut.{count_is}
 use Rattle.snd_rack.proofs.Each.{all_changed, each_more, is_old, rest_more}
 use Rattle.snd_rack.proofs.passing.pass_block.Goals as goal
@@ -23,6 +23,8 @@ loop-each-init g c =
       most = omega (arith, f.1, c.requires.most);
       block = ap (λ (m : ℕ). joined (each_passed (map (λ b. (goal.Stage-dyn g (b.vtable, b.value)).stage b.value) c.args.stages.now) (groups m xs))) f.1;
       may = subst (λ (m : ℕ). EachMayPass (map (λ b. (goal.Stage-dyn g (b.vtable, b.value)).stage b.value) c.args.stages.now) (groups m xs)) (sym f.1) c.requires.may;
+      room = subst (λ (m : ℕ). AllHaveRoom (map (λ b. (goal.Stage-dyn g (b.vtable, b.value)).stage b.value) c.args.stages.now) m (c.len.result / q)) (sym f.1)
+      (subst (λ (m : ℕ). AllHaveRoom (map (λ b. (goal.Stage-dyn g (b.vtable, b.value)).stage b.value) c.args.stages.now) q m) (sym n_is) c.requires.room);
     }
 
 pub nonzero_div-width : goal.nonzero_div-width
@@ -46,7 +48,7 @@ apply_all-requires g c =
     let there = is_old items old i x x (omega arith) inv.same_length c.each-item.is inv.rest in
     subst (λ b. MayPassBlock ((goal.Stage-dyn g (b.vtable, b.value)).stage b.value) (c.len-in-loop-each.result / n) xs) c.each-item.is
     (subst (λ (m : ℕ). MayPassBlock ((goal.Stage-dyn g (x.vtable, x.value)).stage x.value) m xs) (sym width)
-    (may_here (λ b. (goal.Stage-dyn g (b.vtable, b.value)).stage b.value) old i x (omega (arith, inv.same_length)) there (length xs / n) n xs inv.some inv.most (omega (arith, n_is, c.requires.one)) (omega (arith, n_is, c.requires.few)) inv.size inv.may))
+    (may_here (λ b. (goal.Stage-dyn g (b.vtable, b.value)).stage b.value) old i x (omega (arith, inv.same_length)) there (length xs / n) n xs inv.some inv.most (omega (arith, n_is, c.requires.one)) inv.size inv.may inv.room))
 
 pub loop-each-preserved : goal.loop-each-preserved
 loop-each-preserved g c =
@@ -65,7 +67,6 @@ loop-each-preserved g c =
     let same = inv.same_length in
     let lt = (let e : i < length old = omega (arith, same) in e) in
     let one = (let e : 1 ≤ n = omega (arith, n_is, c.requires.one) in e) in
-    let few = (let e : n ≤ 64 = omega (arith, n_is, c.requires.few) in e) in
     let there = is_old items old i x y (omega arith) same c.each-item.is inv.rest in
     let count : length xs / (c.len-in-loop-each.result / n) ≡ n = ap (λ (m : ℕ). length xs / m) width ∙ count_is (length xs / n) n xs inv.some inv.size in
     let state = state_as _ _ _ _ n c.apply_all.ensures.state count (ap (λ b. (goal.Stage-dyn g (b.vtable, b.value)).stage b.value) (sym c.each-item.is)) in
@@ -76,11 +77,12 @@ loop-each-preserved g c =
       so_far = each_more items old i x y (omega arith) same c.each-item.is inv.rest _ _ inv.so_far state;
       rest = rest_more items old i x y (omega arith) same c.each-item.is inv.rest;
       same_length = length-set items i y ∙ same;
-      size = size_on (λ b. (goal.Stage-dyn g (b.vtable, b.value)).stage b.value) old i x lt there (length xs / n) n xs inv.some inv.most one few inv.size inv.may new made;
-      some = some_on (λ b. (goal.Stage-dyn g (b.vtable, b.value)).stage b.value) old i x lt there (length xs / n) n xs inv.some inv.most one few inv.size inv.may new made;
-      most = most_on (λ b. (goal.Stage-dyn g (b.vtable, b.value)).stage b.value) old i x lt there (length xs / n) n xs inv.some inv.most one few inv.size inv.may new made;
-      block = passed_left (λ b. (goal.Stage-dyn g (b.vtable, b.value)).stage b.value) old i x lt there (length xs / n) n xs inv.some inv.most one few inv.size inv.may new made ∙ inv.block;
-      may = may_left (λ b. (goal.Stage-dyn g (b.vtable, b.value)).stage b.value) old i x lt there (length xs / n) n xs inv.some inv.most one few inv.size inv.may new made;
+      size = size_on (λ b. (goal.Stage-dyn g (b.vtable, b.value)).stage b.value) old i x lt there (length xs / n) n xs inv.some inv.most one inv.size inv.may new made;
+      some = some_on (λ b. (goal.Stage-dyn g (b.vtable, b.value)).stage b.value) old i x lt there (length xs / n) n xs inv.some inv.most one inv.size inv.may new made;
+      most = most_on (λ b. (goal.Stage-dyn g (b.vtable, b.value)).stage b.value) old i x lt there (length xs / n) n xs inv.some inv.most one inv.size inv.may new made;
+      block = passed_left (λ b. (goal.Stage-dyn g (b.vtable, b.value)).stage b.value) old i x lt there (length xs / n) n xs inv.some inv.most one inv.size inv.may new made ∙ inv.block;
+      may = may_left (λ b. (goal.Stage-dyn g (b.vtable, b.value)).stage b.value) old i x lt there (length xs / n) n xs inv.some inv.most one inv.size inv.may new made;
+      room = room_left (λ b. (goal.Stage-dyn g (b.vtable, b.value)).stage b.value) old i x lt there (length xs / n) n xs inv.some inv.most one inv.size inv.may new made inv.room;
     }
 
 pub returns-clause-block : goal.returns-clause-block

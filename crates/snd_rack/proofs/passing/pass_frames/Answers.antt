@@ -2,9 +2,9 @@ use Rattle.std.proofs.Common.{rules, ◌≡◌, ◌∙◌, ◌-◌, ◌*◌, ◌
 use Rattle.std.proofs.lemmas.List.{append-nil, length-append}
 use Rattle.snd_pcm.specs.Groups.{groups}
 use Rattle.snd_rack.specs.Held.{Held}
-use Rattle.snd_rack.specs.Passing.{EachMayPass, each_passed, joined, later}
-use Rattle.snd_rack.proofs.Block.{block_on, block_room, block_states, both_may, front_whole, piece_few, piece_is, piece_one, piece_whole, rest_whole, same_count, same_groups, states_left}
-use Rattle.snd_rack.proofs.Cut.{no_group}
+use Rattle.snd_rack.specs.Passing.{AllHaveRoom, EachMayPass, each_passed, joined, later}
+use Rattle.snd_rack.proofs.Block.{block_on, block_room, block_states, both_may, few_fit, front_whole, piece_few, piece_is, piece_one, piece_whole, rest_whole, same_count, same_groups, states_left}
+use Rattle.snd_rack.proofs.Cut.{length_groups, no_group}
 use Rattle.snd_rack.proofs.passing.pass_frames.Goals as goal
 
 pub loop-samples-init : goal.loop-samples-init
@@ -33,14 +33,22 @@ pass_block-requires-clause-one g c =
     let one = piece_one c.args.channels (length rest) (length c.in-Some.samples.now) (length c.next.new.self.rest.now) c.requires.some inv.whole size steps.1.2 (ap length steps.1.0 ∙ length-append c.in-Some.samples.now c.next.new.self.rest.now) in
     subst (λ (l : List ℤ). 1 ≤ length l / c.args.channels) (sym c.copy_block.ensures) one
 
-pub pass_block-requires-clause-few : goal.pass_block-requires-clause-few
-pass_block-requires-clause-few g c =
+pub pass_block-requires-clause-room : goal.pass_block-requires-clause-room
+pass_block-requires-clause-room g c =
+    let hs : List Held = map (λ b. (goal.Stage-dyn g (b.vtable, b.value)).stage b.value) c.loop-samples.stages in
     let steps = c.in-Some.ensures.steps in
     let inv = c.loop-samples.invariant in
+    let q = c.args.channels in
     let rest = c.loop-samples.samples-iterator.rest.now in
-    let size : length c.in-Some.samples.now ≡ min (64 * c.args.channels) (length rest) = omega (arith, steps.1.1, inv.size) in
-    let few = piece_few c.args.channels (length rest) (length c.in-Some.samples.now) (length c.next.new.self.rest.now) c.requires.some inv.whole size steps.1.2 (ap length steps.1.0 ∙ length-append c.in-Some.samples.now c.next.new.self.rest.now) in
-    subst (λ (l : List ℤ). length l / c.args.channels ≤ 64) (sym c.copy_block.ensures) few
+    let piece = c.in-Some.samples.now in
+    let size : length piece ≡ min (64 * q) (length rest) = omega (arith, steps.1.1, inv.size) in
+    let parts = ap length steps.1.0 ∙ length-append piece c.next.new.self.rest.now in
+    let is = piece_is q (length rest) (length piece) (length c.next.new.self.rest.now) c.requires.some inv.whole size steps.1.2 parts in
+    let few = piece_few q (length rest) (length piece) (length c.next.new.self.rest.now) c.requires.some inv.whole size steps.1.2 parts in
+    let one = piece_one q (length rest) (length piece) (length c.next.new.self.rest.now) c.requires.some inv.whole size steps.1.2 parts in
+    let may = both_may hs q (min 64 (length rest / q)) piece _ rest (omega (arith, c.requires.some)) is steps.1.0 inv.may in
+    let fit = few_fit hs q (length piece / q) (groups q piece) c.requires.some c.requires.most few (omega (arith, length_groups q piece, one)) may.0 in
+    subst (λ (l : List ℤ). AllHaveRoom hs q (length l / q)) (sym c.copy_block.ensures) fit
 
 pub pass_block-requires-clause-whole : goal.pass_block-requires-clause-whole
 pass_block-requires-clause-whole g c =
