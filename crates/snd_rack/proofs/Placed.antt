@@ -34,7 +34,7 @@ is_itself Fade = refl
 pub count_joined : (kind : StageKind) (xs ys : List StageKind) → count_of kind (xs ++ ys) ≡ count_of kind xs + count_of kind ys
 count_joined kind xs ys = sum_by-append (λ x. cond (is_kind kind x) 1 0) xs ys
 
-count_first : (kind x : StageKind) (xs : List StageKind) → count_of kind (x ∷ xs) ≡ cond (is_kind kind x) 1 0 + count_of kind xs
+pub count_first : (kind x : StageKind) (xs : List StageKind) → count_of kind (x ∷ xs) ≡ cond (is_kind kind x) 1 0 + count_of kind xs
 count_first kind x xs = sum_by-cons (λ x. cond (is_kind kind x) 1 0) x xs
 
 same_all : {X : Type 0} (f g : X → Bool) → ((x : X) → f x ≡ g x) → (xs : List X) → list_all f xs ≡ list_all g xs

@@ -1,6 +1,8 @@
 -- Stages that leave a frame as many samples as it had.
-use Rattle.std.proofs.Common.{◌≡◌, ◌∙◌, ℕ, suc, ◌+◌, ◌*◌, ◌<◌, ◌≤◌, Bool, true, false, ◌&&◌, ℤ, List, [], ◌∷◌, Option, None, Some, cond, drop, length, map, slice_get, refl, sym, subst, ap, arith}
+use Rattle.std.proofs.Common.{◌≡◌, ◌∙◌, ℕ, zero, suc, ◌+◌, ◌*◌, ◌<◌, ◌≤◌, Bool, true, false, not, ◌&&◌, ℤ, List, [], ◌∷◌, Option, None, Some, cond, drop, length, map, slice_get, refl, sym, subst, ap, arith}
 use Rattle.std.specs.List.{list_all}
+use Rattle.std.specs.Option.{is_some}
+use Rattle.std.proofs.lemmas.Bool.{and_parts}
 use Rattle.snd_rack.specs.Boxes.{Finds, count_of, is_kind}
 use Rattle.snd_rack.specs.Held.{Held}
 use Rattle.snd_rack.specs.Passing.{AllHaveRoom, ArePassable, channels_through}
@@ -12,26 +14,37 @@ use Rattle.snd_rack.proofs.Placed.{count_first}
 
 -- ---- whether one is a map
 
-none_is_map : (kinds : List StageKind) → count_of Pick kinds ≡ 0 → list_all keeps_width kinds ≡ true
-none_is_map [] none = refl
-none_is_map (Gain ∷ kinds) none = none_is_map kinds none
-none_is_map (Invert ∷ kinds) none = none_is_map kinds none
-none_is_map (Pick ∷ kinds) none = absurd (omega (arith, none))
-none_is_map (Fade ∷ kinds) none = none_is_map kinds none
+counted : (kind x : StageKind) (xs : List StageKind) → is_kind kind x ≡ false → count_of kind (x ∷ xs) ≡ count_of kind xs
+counted kind x xs apart =
+    let none : ◌≡◌ {A = ℕ} (cond (is_kind kind x) 1 0) 0 = ap (λ (b : Bool). cond {A = ℕ} b 1 0) apart in
+    omega (arith, count_first kind x xs, none)
 
-one_is_map : (kinds : List StageKind) (at : ℕ) → slice_get kinds at ≡ Some Pick → list_all keeps_width kinds ≡ false
-one_is_map [] at there = absurd (cc)
-one_is_map (Pick ∷ kinds) at there = refl
-one_is_map (Gain ∷ kinds) zero there = absurd (cc)
-one_is_map (Gain ∷ kinds) (suc at) there = one_is_map kinds at there
-one_is_map (Invert ∷ kinds) zero there = absurd (cc)
-one_is_map (Invert ∷ kinds) (suc at) there = one_is_map kinds at there
-one_is_map (Fade ∷ kinds) zero there = absurd (cc)
-one_is_map (Fade ∷ kinds) (suc at) there = one_is_map kinds at there
+no_map : (kinds : List StageKind) → count_of Pick kinds ≡ 0 → list_all keeps_width kinds ≡ true
+no_map [] none = refl
+no_map (Gain ∷ kinds) none = no_map kinds (sym (counted Pick Gain kinds refl) ∙ none)
+no_map (Invert ∷ kinds) none = no_map kinds (sym (counted Pick Invert kinds refl) ∙ none)
+no_map (Pick ∷ kinds) none = absurd (omega (arith, count_first Pick Pick kinds, none))
+no_map (Fade ∷ kinds) none = no_map kinds (sym (counted Pick Fade kinds refl) ∙ none)
 
-pub as_found : (kinds : List StageKind) (o : Option ℕ) (answer : Bool) → Finds Pick 0 kinds o → answer ≡ is_none o → answer ≡ list_all keeps_width kinds
-as_found kinds None answer none is = is ∙ sym (none_is_map kinds none)
-as_found kinds (Some at) answer found is = is ∙ sym (one_is_map kinds at found.2)
+a_map : (kinds : List StageKind) (at : ℕ) → slice_get kinds at ≡ Some Pick → list_all keeps_width kinds ≡ false
+a_map [] at there = absurd (cc)
+a_map (Pick ∷ kinds) at there = refl
+a_map (Gain ∷ kinds) zero there = absurd (cc)
+a_map (Gain ∷ kinds) (suc at) there = a_map kinds at there
+a_map (Invert ∷ kinds) zero there = absurd (cc)
+a_map (Invert ∷ kinds) (suc at) there = a_map kinds at there
+a_map (Fade ∷ kinds) zero there = absurd (cc)
+a_map (Fade ∷ kinds) (suc at) there = a_map kinds at there
+
+not_not : (b answer : Bool) → not b ≡ not answer → answer ≡ b
+not_not true true is = refl
+not_not true false is = absurd (cc)
+not_not false true is = absurd (cc)
+not_not false false is = refl
+
+pub as_found : (kinds : List StageKind) (o : Option ℕ) (answer : Bool) → Finds Pick 0 kinds o → is_some o ≡ not answer → answer ≡ list_all keeps_width kinds
+as_found kinds None answer none is = not_not true answer is ∙ sym (no_map kinds none)
+as_found kinds (Some at) answer found is = not_not false answer is ∙ sym (a_map kinds at found.2)
 
 -- ---- where none is
 

@@ -92,10 +92,10 @@ pub fn pass_in_place(
     ensures frames { block.new.items ≡ joined (each_passed (map (λ b. stage b) stages.old) (groups channels block.old.items)) }
     ensures states { map (λ b. stage b) stages.new ≡ later (length block.old.items / channels) (map (λ b. stage b) stages.old) }
 {
-    if block.is_empty() {
-        return;
+    let frames = block.len() / channels;
+    if frames > 0 {
+        pass_block(stages, channels, block, &mut room.spare);
     }
-    pass_block(stages, channels, block, &mut room.spare);
 }
 
 /// Passes whole frames of `channels` samples through all stages, one after the other, and puts what becomes of them into
