@@ -1,5 +1,5 @@
 -- Stages that leave a frame as many samples as it had.
-use Rattle.std.proofs.Common.{◌≡◌, ◌∙◌, ℕ, zero, suc, ◌+◌, ◌*◌, ◌<◌, ◌≤◌, Bool, true, false, not, ◌&&◌, ℤ, List, [], ◌∷◌, Option, None, Some, cond, drop, length, map, slice_get, refl, sym, subst, ap, arith}
+use Rattle.std.proofs.Common.{◌≡◌, ◌∙◌, ℕ, zero, suc, ◌*◌, ◌≤◌, Bool, true, false, not, ℤ, List, [], ◌∷◌, Option, None, Some, cond, map, slice_get, refl, sym, subst, ap, arith}
 use Rattle.std.specs.List.{list_all}
 use Rattle.std.specs.Option.{is_some}
 use Rattle.std.proofs.lemmas.Bool.{and_parts}
@@ -73,8 +73,7 @@ module _ {B : Type 0} (held : B → Held) where
   pub kept_fit : (stages : List B) (channels frames : ℕ) → Keep stages → AreOfKinds stages → frames * channels ≤ 16384 → AllHaveRoom (map held stages) channels frames
   kept_fit [] channels frames keep kinds fits = tt
   kept_fit (b ∷ stages) channels frames keep kinds fits =
-      let first = first_kept b stages channels keep kinds in
-      (
+      let first = first_kept b stages channels keep kinds in (
         subst (λ n. frames * n ≤ 16384) (sym first.0) fits,
         subst (λ n. AllHaveRoom (map held stages) n frames) (sym first.0) (kept_fit stages channels frames first.1 first.2 fits),
       )

@@ -24,7 +24,7 @@ loop-each-init g c =
       block = ap (λ (m : ℕ). joined (each_passed (map (λ b. (goal.Stage-dyn g (b.vtable, b.value)).stage b.value) c.args.stages.now) (groups m xs))) f.1;
       may = subst (λ (m : ℕ). EachMayPass (map (λ b. (goal.Stage-dyn g (b.vtable, b.value)).stage b.value) c.args.stages.now) (groups m xs)) (sym f.1) c.requires.may;
       room = subst (λ (m : ℕ). AllHaveRoom (map (λ b. (goal.Stage-dyn g (b.vtable, b.value)).stage b.value) c.args.stages.now) m (c.len.result / q)) (sym f.1)
-      (subst (λ (m : ℕ). AllHaveRoom (map (λ b. (goal.Stage-dyn g (b.vtable, b.value)).stage b.value) c.args.stages.now) q m) (sym n_is) c.requires.room);
+          (subst (λ (m : ℕ). AllHaveRoom (map (λ b. (goal.Stage-dyn g (b.vtable, b.value)).stage b.value) c.args.stages.now) q m) (sym n_is) c.requires.room);
     }
 
 pub nonzero_div-width : goal.nonzero_div-width

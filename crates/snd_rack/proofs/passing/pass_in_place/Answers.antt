@@ -1,4 +1,4 @@
-use Rattle.std.proofs.Common.{◌≡◌, ◌*◌, ◌/◌, ◌≤◌, ℕ, ap, length, arith}
+use Rattle.std.proofs.Common.{◌*◌, ◌/◌, ◌≤◌, length, arith}
 use Rattle.std.proofs.Math.Nat.{div-mul-le_self}
 use Rattle.snd_rack.proofs.Widths.{kept_fit}
 use Rattle.snd_rack.proofs.passing.pass_in_place.Goals as goal
