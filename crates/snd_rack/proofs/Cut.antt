@@ -46,7 +46,7 @@ abbrev pub Sized : ℕ → List (List ℤ) → Type 0
 Sized c [] = Unit {0}
 Sized c (frame ∷ frames) = (length frame ≡ c) × Sized c frames
 
-sized_first : (c n : ℕ) (xs : List ℤ) → n * c ≤ length xs → Sized c (first_groups c n xs)
+pub sized_first : (c n : ℕ) (xs : List ℤ) → n * c ≤ length xs → Sized c (first_groups c n xs)
 sized_first c zero xs le = tt
 sized_first c (suc n) xs le =
     let here : c ≤ length xs = omega (arith, le) in

@@ -1,15 +1,20 @@
 -- Stages that leave a frame as many samples as it had.
-use Rattle.std.proofs.Common.{◌≡◌, ◌∙◌, ℕ, zero, suc, ◌*◌, ◌≤◌, Bool, true, false, not, ℤ, List, [], ◌∷◌, Option, None, Some, cond, map, slice_get, refl, sym, subst, ap, arith}
+use Rattle.std.proofs.Common.{◌≡◌, ◌∙◌, ℕ, zero, suc, ◌*◌, ◌/◌, ◌%◌, ◌≤◌, Bool, true, false, not, ℤ, List, [], ◌∷◌, Option, None, Some, cond, length, map, slice_get, refl, sym, subst, ap, arith}
 use Rattle.std.specs.List.{list_all}
 use Rattle.std.specs.Option.{is_some}
+use Rattle.std.proofs.Math.Nat.{div-mul-le_self}
 use Rattle.std.proofs.lemmas.Bool.{and_parts}
+use Rattle.std.proofs.lemmas.List.{length-append}
 use Rattle.snd_rack.specs.Boxes.{Finds, count_of, is_kind}
-use Rattle.snd_rack.specs.Held.{Held}
-use Rattle.snd_rack.specs.Passing.{AllHaveRoom, ArePassable, channels_through}
+use Rattle.snd_pcm.specs.Groups.{groups}
+use Rattle.snd_rack.specs.Held.{Held, next, passed}
+use Rattle.snd_rack.specs.Passing.{AllHaveRoom, ArePassable, channels_through, each_passed, joined, passed_all}
 use Rattle.snd_rack.specs.Rack.{channels_behind}
 use Rattle.snd_rack.specs.Stage.{Stated, keeps_width, kind_of}
 use Rattle.snd_rack.specs.declared.setting.StageKind.{StageKind}
 use Rattle.snd_rack.specs.declared.setting.StageKind.TheVariants.{Gain, Invert, Pick, Fade}
+use Rattle.snd_rack.proofs.Cut.{Sized, length_groups, sized_first}
+use Rattle.snd_rack.proofs.Passed.{channels_next, length_mapped}
 use Rattle.snd_rack.proofs.Placed.{count_first}
 
 -- ---- whether one is a map
@@ -54,6 +59,26 @@ width_kept Stated.invert channels keeps = refl
 width_kept (Stated.pick places) channels keeps = absurd (cc)
 width_kept (Stated.fade n) channels keeps = refl
 
+-- ---- how many samples frames have behind stages
+
+all_size : (hs : List Held) (frame : List ℤ) → length (passed_all hs frame) ≡ channels_through hs (length frame)
+all_size [] frame = refl
+all_size (h ∷ hs) frame = all_size hs (passed h frame) ∙ ap (channels_through hs) (length_mapped h.stated h.low h.high h.seen frame)
+
+each_size : (hs : List Held) (c : ℕ) (frames : List (List ℤ)) → Sized c frames → length (joined (each_passed hs frames)) ≡ length frames * channels_through hs c
+each_size hs c [] all = omega arith
+each_size hs c (frame ∷ frames) all =
+    let one : length (passed_all hs frame) ≡ channels_through hs c = all_size hs frame ∙ ap (channels_through hs) all.0 in
+    let more = ap (λ (n : ℕ). length frames * n) (channels_next c hs) in
+    omega (arith, length-append (passed_all hs frame) (joined (each_passed (map next hs) frames)), one, each_size (map next hs) c frames all.1, more)
+
+passed_size : (hs : List Held) (c : ℕ) (xs : List ℤ) → length (joined (each_passed hs (groups c xs))) ≡ length xs / c * channels_through hs c
+passed_size hs c xs =
+    each_size hs c (groups c xs) (sized_first c (length xs / c) xs (div-mul-le_self (length xs) c))
+    ∙ ap (λ n. n * channels_through hs c) (length_groups c xs)
+
+-- ---- boxes of which none is a map
+
 module _ {B : Type 0} (held : B → Held) where
   abbrev Keep : List B → Type 0
   Keep stages = list_all keeps_width (map (λ b. (held b).kind) stages) ≡ true
@@ -91,3 +116,12 @@ module _ {B : Type 0} (held : B → Held) where
   kinds_passable low high channels (b ∷ stages) passable =
       ap (λ k. k ∷ map (λ b. (held b).kind) stages) passable.0.kind_is
       ∙ ap (λ l. kind_of (held b).stated ∷ l) (kinds_passable low high (channels_behind channels (held b).stated) stages passable.1)
+
+  -- and no more samples than behind them
+  pub size_kept : (stages : List B) (channels most : ℕ) (xs : List ℤ) → 1 ≤ channels → length xs % channels ≡ 0 → Keep stages → AreOfKinds stages
+      → length (joined (each_passed (map held stages) (groups channels xs))) ≤ most → length xs ≤ most
+  size_kept stages channels most xs some whole keep kinds fits =
+      let size = passed_size (map held stages) channels xs in
+      let same = ap (λ n. length xs / channels * n) (through_kept stages channels keep kinds) in
+      let all : length xs ≡ length xs / channels * channels = omega (arith, some, whole) in
+      omega (arith, all, same, size, fits)
