@@ -1,6 +1,8 @@
 -- Frames that pass stages as the bytes of their samples.
 use Rattle.std.proofs.Common.{◌≡◌, ◌∙◌, ap, sym, subst, ◌*◌, ◌/◌, ℕ, ℤ, List, All, Option, Some, length}
+use Rattle.std.proofs.Math.Nat.{mul-div_cancel_left}
 use Rattle.std.proofs.lemmas.List.{length-map}
+use Rattle.snd_container.proofs.Public.{byte_count_pos, length-samples}
 use Rattle.snd_container.specs.Fixed.{InRange, byte_count, samples, samples_bytes}
 use Rattle.snd_container.specs.Sound.{fixed_of}
 use Rattle.snd_container.specs.declared.fixed.Fixed.{Fixed}
@@ -9,6 +11,7 @@ use Rattle.snd_edits.specs.Edits.{coded_as}
 use Rattle.snd_edits.specs.Reading.{FitCodec}
 use Rattle.snd_edits.proofs.Public.{fits_form, in_form}
 use Rattle.snd_layout.specs.Params.{Parameters}
+use Rattle.snd_layout.specs.declared.codec.Codec.{Codec}
 use Rattle.snd_output.specs.Appended.{bytes_in, coded_in}
 use Rattle.snd_output.specs.Widths.{change_numbers, width_of}
 use Rattle.snd_output.proofs.Public.{bytes_of_samples}
@@ -57,3 +60,10 @@ module _ (from to : Parameters) (hs : List Held) (channels : ℕ) (old new : Fix
         ∙ ap (coded_in to.codec) changes
         ∙ ap (λ (n : ℕ). coded_in to.codec (change_numbers from.codec to.codec (passed_groups n hs numbers))) alike
         ∙ ap (λ (l : List ℤ). coded_in to.codec (change_numbers from.codec to.codec (passed_groups from.channels hs l))) (is ∙ ap (λ (o : Option Fixed). numbers_as o bytes) (sym from_is))
+
+-- so many samples are read of so many bytes
+pub count_read : (form : Fixed) (bytes : List ℕ) (n : ℕ) → length bytes ≡ byte_count form * n → length (samples form bytes) ≡ n
+count_read form bytes n size = length-samples form bytes ∙ ap (λ (m : ℕ). m / byte_count form) size ∙ mul-div_cancel_left n (byte_count_pos form)
+
+pub size_held : (codec : Codec) (form : Fixed) (bytes : List ℕ) (n : ℕ) → fixed_of codec ≡ Some form → length bytes ≡ bytes_in codec n → length bytes ≡ byte_count form * n
+size_held codec form bytes n is held = held ∙ bytes_of_samples codec form n is

@@ -2,18 +2,22 @@
 //! behind them.
 
 ghost use Rattle.std.specs.Prelude.{◌≡◌, ◌*◌, ◌/◌, ◌%◌, ◌≤◌, length, map};
+ghost use Rattle.snd_container.specs.Fixed.{byte_count, samples};
 ghost use Rattle.snd_edits.specs.Bytes.{AreWhole, numbers_in};
 ghost use Rattle.snd_edits.specs.Reading.{FitCodec};
 ghost use Rattle.snd_layout.specs.Blocks.{block_align};
 ghost use Rattle.snd_output.specs.Appended.{Pass, bytes_in};
-ghost use Rattle.snd_rack.specs.Passing.{later};
-ghost use Rattle.snd_racking.specs.Appending.{ArePlaced, frames_of_bytes, passed_bytes};
+ghost use Rattle.snd_pcm.specs.Groups.{groups};
+ghost use Rattle.snd_rack.specs.Passing.{EachMayPass, later};
+ghost use Rattle.snd_rack.specs.Stage.{kind_of};
+ghost use Rattle.snd_racking.specs.Appending.{ArePlaced, frames_of_bytes, passed_bytes, passed_groups};
 
 use crate::pieces::PieceRoom;
-use snd_container::{fixed_form, put_samples, read_samples};
+use arrayvec::ArrayVec;
+use snd_container::{Fixed, fixed_form, put_samples, read_samples};
 use snd_layout::Params;
 use snd_output::change_numbers;
-use snd_rack::{Stage, pass_frames};
+use snd_rack::{Stage, keep_width, pass_frames, pass_in_place};
 
 // The most numbers behind the stages that are coded at a time: few enough that they are still near the processor when
 // their bytes are made.
@@ -29,6 +33,57 @@ fn frames_at_once(places: usize, channels: usize, after: usize) -> usize
     ensures few { result * after ≤ 4096 }
 {
     (places / channels).min(MOST_NUMBERS / after)
+}
+
+// Makes a list as long as others: of their numbers, where it is not.
+fn make_as_long(numbers: &[i32], list: &mut ArrayVec<i32, 16384>)
+    requires { length numbers.now ≤ 16384 }
+    ensures { length list.new.items ≡ length numbers.now }
+{
+    if list.len() != numbers.len() {
+        list.clear();
+        let _ = list.try_extend_from_slice(numbers);
+    }
+}
+
+// Reads samples into a list. There are as many numbers as samples.
+fn read_into(form: Fixed, bytes: &[u8], numbers: &[i32], list: &mut ArrayVec<i32, 16384>)
+    requires held { length bytes.now ≡ byte_count form * length numbers.now }
+    requires fits { length numbers.now ≤ 16384 }
+    ensures { list.new.items ≡ samples form bytes.now }
+{
+    make_as_long(numbers, list);
+    read_samples(form, bytes, list.as_mut_slice());
+}
+
+// Reads samples, and passes the whole frames that they are through stages: where they stand, if no frame has more or fewer
+// samples then. What the numbers, of which there are as many as samples, and the room held is lost.
+fn pass_read(
+    form: Fixed,
+    channels: usize,
+    stages: &mut [Box<dyn Stage>],
+    bytes: &[u8],
+    numbers: &mut [i32],
+    room: &mut PieceRoom,
+)
+    requires held { length bytes.now ≡ byte_count form * length numbers.old }
+    requires some { 1 ≤ channels }
+    requires most { channels ≤ 256 }
+    requires whole { length numbers.old % channels ≡ 0 }
+    requires kinds { map (λ b. (stage b).kind) stages.old ≡ map (λ b. kind_of (stage b).stated) stages.old }
+    requires may { EachMayPass (map (λ b. stage b) stages.old) (groups channels (samples form bytes.now)) }
+    requires room { length (passed_groups channels (map (λ b. stage b) stages.old) (samples form bytes.now)) ≤ 16384 }
+    ensures passed { room.new.passed.items ≡ passed_groups channels (map (λ b. stage b) stages.old) (samples form bytes.now) }
+    ensures states { map (λ b. stage b) stages.new ≡ later (length numbers.old / channels) (map (λ b. stage b) stages.old) }
+{
+    let passed = &mut room.passed;
+    if keep_width(stages) {
+        read_into(form, bytes, numbers, passed);
+        pass_in_place(stages, channels, passed, &mut room.between);
+    } else {
+        read_samples(form, bytes, numbers);
+        pass_frames(stages, channels, numbers, &mut room.between, passed);
+    }
 }
 
 // Passes whole frames through stages, all at once, and puts the bytes of what becomes of them into a slice with just enough
@@ -55,15 +110,8 @@ fn pass_piece(
         unreachable!()
     };
     from.are_good();
-    read_samples(old, bytes, numbers);
     let channels = usize::from(from.channels);
-    pass_frames(
-        stages,
-        channels,
-        numbers,
-        &mut room.between,
-        &mut room.passed,
-    );
+    pass_read(old, channels, stages, bytes, numbers, room);
     change_numbers(from.codec, to.codec, room.passed.as_mut_slice());
     put_samples(new, room.passed.as_slice(), coded);
 }
