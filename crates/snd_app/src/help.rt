@@ -56,6 +56,14 @@ OUT takes kind, codec and rate from the first IN, not from its suffix.
 Example: snd interleave left.wav right.wav -o stereo.wav
 ";
 
+const DEINTERLEAVE: &str = "\
+Usage: snd deinterleave IN OUT..
+Each OUT is the mono file of one channel of IN, in their order. It takes kind,
+codec and rate from IN, not from its suffix.
+
+Example: snd deinterleave stereo.wav left.wav right.wav
+";
+
 const SET_METADATA: &str = "\
 Usage: snd metadata-set OPTION TEXT.. IN OUT
 Each option takes the word after it as its text.
@@ -139,6 +147,7 @@ Usage: snd COMMAND
   snd convert [OPTION..] IN OUT          copy into another container or codec
   snd concat IN IN.. OUT                 join 2 to 64 files, one after the other
   snd interleave IN IN.. -o OUT          join 2 to 64 mono files, as channels
+  snd deinterleave IN OUT..              split channels into 1 to 64 mono files
   snd metadata-set OPTION TEXT.. IN OUT  copy WAVE or RF64 with other texts
   snd gen SEED N NAME                    make a file of N frames, and edit it
   snd import raw CODEC N N IN OUT        make a file of samples without a head
@@ -229,6 +238,7 @@ pub fn usage_of(topic: Topic) -> &'static str
         Topic::Import => import_usage(),
         Topic::Export => export_usage(),
         Topic::Salvage => SALVAGE,
+        Topic::Deinterleave => DEINTERLEAVE,
         Topic::Script => SCRIPT,
     }
 }
