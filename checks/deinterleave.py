@@ -270,6 +270,6 @@ if readers.tools["sndfile"] and shutil.which("sndfile-deinterleave"):
     many += 1
     shutil.copyfile("plain.wav", "whole.wav")
     it = kinds.stated(content_of("whole.wav"))
-    as_others("plain.wav, by libsndfile", "whole.wav", it, lambda at: ["bash", "-c", "cp whole.wav t.wav && sndfile-deinterleave t.wav && mv t_0CHANNEL.wav NAME && rm -f t*.wav"])
+    as_others("plain.wav, by libsndfile", "whole.wav", it, lambda at: ["bash", "-c", "cp whole.wav t.wav && sndfile-deinterleave t.wav && mv t_0CHANNEL.wav NAME && rm -f t.wav t_0?.wav"])
 os.remove("plain.wav")
 cases.end(len(BY_HAND) + len(REFUSED) + len(WORDS) + 1 + len(LONG) + 2 * len(SPELLED) + 4 + 4 + 1 + sum(min(kinds.MOST.get(kind, 3) - 1, 2) for kind, _ in PAIRS) + len(ABOUT) + 2 + len(CODED) + many)
