@@ -103,6 +103,7 @@ fn reply_of(alloc: Global, summary: Result<Summary, Stop>) -> Result<Reply, Stop
 }
 
 /// Carries out a tool's work, where it has a rack with some of the stages.
+#[tactic(auto, using(crate::proofs::Left::one_among))]
 fn carry_out<S: Shelf>(
     alloc: Global,
     tool: &Tool<'_>,
