@@ -127,6 +127,9 @@ usage_of topic = lines (usages (forms topic) ++ notes topic ++ option_lines (all
 abbrev pub convert_usage : List ℕ
 convert_usage = usage_of Convert
 
+abbrev pub deinterleave_usage : List ℕ
+deinterleave_usage = usage_of Deinterleave
+
 abbrev pub metadata_usage : List ℕ
 metadata_usage = usage_of SetMetadata
 

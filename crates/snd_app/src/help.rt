@@ -1,7 +1,7 @@
 //! The texts of `--help`, of `COMMAND --help` and of `--version`, in lines of at most 79 characters.
 
 ghost use Rattle.std.specs.Prelude.{◌≡◌};
-ghost use Rattle.snd_app.specs.Help.{convert_usage, export_usage, import_usage, metadata_usage, usage, usage_of, version};
+ghost use Rattle.snd_app.specs.Help.{convert_usage, deinterleave_usage, export_usage, import_usage, metadata_usage, usage, usage_of, version};
 
 use snd_words::Topic;
 
@@ -203,6 +203,13 @@ fn convert_usage() -> &'static str
     CONVERT
 }
 
+/// What `deinterleave --help` prints.
+fn deinterleave_usage() -> &'static str
+    ensures { result.now ≡ deinterleave_usage }
+{
+    DEINTERLEAVE
+}
+
 /// What `metadata-set --help` prints.
 fn metadata_usage() -> &'static str
     ensures { result.now ≡ metadata_usage }
@@ -238,7 +245,7 @@ pub fn usage_of(topic: Topic) -> &'static str
         Topic::Import => import_usage(),
         Topic::Export => export_usage(),
         Topic::Salvage => SALVAGE,
-        Topic::Deinterleave => DEINTERLEAVE,
+        Topic::Deinterleave => deinterleave_usage(),
         Topic::Script => SCRIPT,
     }
 }
