@@ -218,7 +218,8 @@ pub fn run<S: Shelf, R: Source, O: Sink, E: Sink>(
 
     // With a script, so does a file that no line opens to be written, and that is not pinned; and no more bytes
     // are asked of the files and written than the lines may.
-    ensures unnamed { outputs_for words.now ≡ None → KeepsUnnamed S.state S.may_leave S.left_between R.left (pinned_for words.now) shelf.old script.old shelf.new }
+    ensures unnamed { outputs_for words.now ≡ None →
+        KeepsUnnamed S.state S.may_leave S.left_between R.left (pinned_for words.now) shelf.old script.old shelf.new }
     ensures bounds { runs_script words.now ≡ true → BoundsScript S.state R.left (pinned_for words.now) shelf.old script.old shelf.new }
 {
     match request_of(words) {
