@@ -1,9 +1,9 @@
 #!/usr/bin/env -S python3 -B
-"""Files of some 20 MB, for each tool of the built program: `info`, `convert` into each width, order, law and codec of ADPCM and from
-these, `import` and `export`, `concat`, `interleave`, `metadata-set` and `gen`; and a script that reads and changes such a file. Each run ends with status
-0 and its whole text, the file that is made is compared byte for byte with what it is to be, and no other file is changed. A body
-that wants memory for large inputs alone fails here. One more file, mostly a hole in the disk, grows to the most that its head can
-say. Needs Python 3, and 200 MB of disk."""
+"""Files of some 20 MB, for each tool of the built program: `info`, `convert` into each width, order, law and codec of ADPCM and from these,
+`import` and `export`, `concat`, `interleave`, `deinterleave`, `metadata-set` and `gen`; and a script that reads and changes such a file.
+Each run ends with status 0 and its whole text, the file that is made is compared byte for byte with what it is to be, and no other file
+is changed. A body that wants memory for large inputs alone fails here. One more file, mostly a hole in the disk, grows to the most that
+its head can say. Needs Python 3, and 200 MB of disk."""
 import os
 import random
 
@@ -158,6 +158,14 @@ makes(["interleave", "a.wav", "d.au", "-o", "b.wav"], ok, "b.wav", sound("wave",
 os.remove("d.au")
 os.remove("c.wav")
 
+# ---- channels apart
+put("d.wav", sound("wave", "pcm_16_le", spread(4, [low, high, None, high]), 2))
+wrong = run(program, ["deinterleave", "d.wav", "l.wav", "r.wav"], b"", ok.encode(), b"", 0, {"./l.wav", "./r.wav"})
+cases.case("deinterleave", wrong + wrong_file("l.wav", sound("wave", "pcm_16_le", data)) + wrong_file("r.wav", sound("wave", "pcm_16_le", spread(2, [None, high]))))
+for name in ("d.wav", "l.wav", "r.wav"):
+    if os.path.exists(name):
+        os.remove(name)
+
 # ---- other texts
 texts = chunk(b"LIST", b"INFO" + b"INAM" + (5).to_bytes(4, "little") + b"Dawn\0\0")
 makes(["metadata-set", "--str-title", "Dawn", "a.wav", "b.wav"], ok, "b.wav", kinds.riff("wave", "pcm_16_le", 1, RATE, data, texts))
@@ -211,4 +219,4 @@ def to_the_end():
 
 cases.case("a file that is full", to_the_end())
 os.remove("most.wav")
-cases.end(1 + 5 + 4 + 4 + 7 + 4 + 1 + 1 + 2 + 1)
+cases.end(1 + 5 + 4 + 4 + 7 + 4 + 1 + 1 + 1 + 2 + 1)

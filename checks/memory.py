@@ -2,7 +2,7 @@
 """Refused memory, allocation by allocation: each run of a table is made once more for each k, with a library preloaded that refuses
 the allocation number k, and once more with one that refuses it and all behind it, for k from 1 until none is refused. Each ends
 with status 4, or with all that a run with ample memory gives. With status 4 what was printed is the front of that. A tool then
-leaves every file but the one that it makes as it was. A script leaves all files as the lines before the one that wanted memory
+leaves every file but those that it makes as it was. A script leaves all files as the lines before the one that wanted memory
 leave them, with a close behind these, but for the file that a `create` without a reply names; the replies of these lines are
 out. What a number of lines leaves is what the program does with these alone. Needs Python 3; skipped where gcc is missing."""
 import os
@@ -108,9 +108,9 @@ def each_refused(what, files, words, script, wrong_left):
         cases.case(f"{what}{', and all behind it' if goes_on else ''}", wrong)
 
 
-def tool(files, words, made=None):
-    """A tool that makes one file at most."""
-    each_refused(" ".join(words), files, words, b"", lambda done, left: wrong_files(left, files, [made] if made else []))
+def tool(files, words, *made):
+    """A tool that makes these files."""
+    each_refused(" ".join(words), files, words, b"", lambda done, left: wrong_files(left, files, made))
 
 
 def script(what, files, lines, pinned=None):
@@ -180,9 +180,10 @@ tool({"a.vox": samples[:20_000]}, ["import", "vox", "8000", "a.vox", "x.wav"], "
 tool({"r.wav": long}, ["export", "pvf", "r.wav", "x.pvf"], "x.pvf")
 tool({"m.wav": blocks.whole_file("wave", "ima", 1, RATE, range(-3000, 3000))}, ["export", "vox", "m.wav", "x.vox"], "x.vox")
 tool({"d.wav": bytes(12) + long[12:]}, ["salvage", "d.wav", "x.wav"], "x.wav")
+tool({"r.wav": long}, ["deinterleave", "r.wav", "x.wav", "y.wav"], "x.wav", "y.wav")
 script("a script that reads and taps", {"a.wav": mono}, ["open r a.wav", "tap peak", "tap energy", "read 600", "untap peak", "get strings", "untap energy", "close", "open r no.wav"])
 script("a script that changes a file", {"a.wav": mono}, ["open u a.wav", "auto on", "seek w 600", "write 1 2 3", "truncate 10", "read 3", "update", "close"])
 script("a script on a pinned file", {"a.wav": mono}, ["seek w 600", "write 1 2 3", "close", "truncate 10", "read 3"], "a.wav")
 script("a script that makes a file of ADPCM", {}, ["create wave ms 1 8000 m.wav", "set string title A", "write " + " ".join(map(str, range(600))), "auto on", "write 1 2", "close"])
 refusals, went_on = (sum(it) for it in zip(*counts))
-cases.end(2 * 22, f"; {refusals} allocations refused, after {went_on} of which the run went on as with memory")
+cases.end(2 * 23, f"; {refusals} allocations refused, after {went_on} of which the run went on as with memory")

@@ -4,14 +4,14 @@ _snd() {
     typed=${typed##* }
     COMPREPLY=()
     case $COMP_CWORD:${COMP_WORDS[1]}:$typed in
-        1:*) words="info convert concat interleave metadata-set gen import export salvage script --help --version" ;;
+        1:*) words="info convert concat interleave deinterleave metadata-set gen import export salvage script --help --version" ;;
         2:script:*) words="--auto" ;;
         2:import:* | 2:export:*) words="raw vox pvf" ;;
         3:import:*)
             [ "${COMP_WORDS[2]}" = raw ] || return
             words="pcm_u8 pcm_s8 pcm_16_le pcm_16_be pcm_24_le pcm_24_be pcm_32_le pcm_32_be ulaw alaw"
             ;;
-        2:info:-* | 2:concat:-* | 2:gen:-* | 2:salvage:-*) words= ;;
+        2:info:-* | 2:concat:-* | 2:deinterleave:-* | 2:gen:-* | 2:salvage:-*) words= ;;
         # bash takes what stands behind an equals sign for the word to be completed
         *:convert:-endian=*) words="little big" ;;
         *:convert:-*=*) return ;;

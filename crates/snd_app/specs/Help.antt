@@ -1,7 +1,7 @@
 -- The texts of `--help`, of `COMMAND --help` and of `--version`, made of the same parts.
 use Rattle.std.specs.Prelude.{ℕ, ◌-◌, List, [], ◌∷◌, ◌++◌, length, replicate, codes, map}
 use Rattle.snd_words.specs.declared.topic.Topic.{Topic}
-use Rattle.snd_words.specs.declared.topic.Topic.TheVariants.{Info, Convert, Concat, Interleave, SetMetadata, Generate, Import, Export, Salvage, Script}
+use Rattle.snd_words.specs.declared.topic.Topic.TheVariants.{Info, Convert, Concat, Interleave, SetMetadata, Generate, Import, Export, Salvage, Deinterleave, Script}
 
 -- a form of the words, or an option, and what it does
 pub record Entry : Type 0 where
@@ -37,6 +37,7 @@ forms Info = entry (codes "snd info NAME..") (codes "describe 1 to 64 sound file
 forms Convert = entry (codes "snd convert [OPTION..] IN OUT") (codes "copy into another container or codec") ∷ []
 forms Concat = entry (codes "snd concat IN IN.. OUT") (codes "join 2 to 64 files, one after the other") ∷ []
 forms Interleave = entry (codes "snd interleave IN IN.. -o OUT") (codes "join 2 to 64 mono files, as channels") ∷ []
+forms Deinterleave = entry (codes "snd deinterleave IN OUT..") (codes "split channels into 1 to 64 mono files") ∷ []
 forms SetMetadata = entry (codes "snd metadata-set OPTION TEXT.. IN OUT") (codes "copy WAVE or RF64 with other texts") ∷ []
 forms Generate = entry (codes "snd gen SEED N NAME") (codes "make a file of N frames, and edit it") ∷ []
 forms Import = entry (codes "snd import raw CODEC N N IN OUT") (codes "make a file of samples without a head") ∷ entry (codes "snd import vox N IN OUT") (codes "make a file of Dialogic VOX") ∷ entry (codes "snd import pvf IN OUT") (codes "make a file of PVF") ∷ []
@@ -50,6 +51,8 @@ notes Info = codes "Prints of each file its kind, codec, channels, rate, frames 
 notes Convert = codes "Makes OUT, or replaces it whole; its suffix names the kind." ∷ []
 notes Concat = codes "OUT takes kind, codec, channels and rate from the first IN, not from its suffix." ∷ []
 notes Interleave = codes "OUT takes kind, codec and rate from the first IN, not from its suffix." ∷ []
+notes Deinterleave =
+    codes "Each OUT is the mono file of one channel of IN, in their order. It takes kind," ∷ codes "codec and rate from IN, not from its suffix." ∷ []
 notes SetMetadata = codes "Each option takes the word after it as its text." ∷ []
 notes Generate = codes "The same SEED (0 to 4294967295) and N (1 to 10000000) make the same WAVE file." ∷ []
 notes Import = codes "Makes OUT, or replaces it whole; its suffix names the kind." ∷ []
@@ -68,6 +71,7 @@ option_rows Convert =
 option_rows Concat = []
 option_rows Interleave =
     (entry (codes "-o OUT") (codes "the file to make; it stands last") ∷ []) ∷ []
+option_rows Deinterleave = []
 option_rows SetMetadata =
     (entry (codes "--str-title") (codes "title, at most 1024 bytes, as the five below") ∷ entry (codes "--str-artist") (codes "artist") ∷ entry (codes "--str-comment") (codes "comment") ∷ entry (codes "--str-copyright") (codes "copyright") ∷ [])
     ∷ (entry (codes "--str-date") (codes "date") ∷ entry (codes "--str-album") (codes "album") ∷ entry (codes "--bext-description") (codes "description, at most 256 bytes") ∷ entry (codes "--bext-originator") (codes "originator, at most 32 bytes") ∷ [])
@@ -100,6 +104,7 @@ example Info = codes "snd info take1.wav take2.wav"
 example Convert = codes "snd convert -pcm24 take1.wav take1.au"
 example Concat = codes "snd concat take1.wav take2.wav both.wav"
 example Interleave = codes "snd interleave left.wav right.wav -o stereo.wav"
+example Deinterleave = codes "snd deinterleave stereo.wav left.wav right.wav"
 example SetMetadata = codes "snd metadata-set --str-title Dawn take1.wav dawn.wav"
 example Generate = codes "snd gen 0 44100 noise.wav"
 example Import = codes "snd import raw pcm_16_le 2 48000 take1.raw take1.wav"
@@ -122,6 +127,9 @@ usage_of topic = lines (usages (forms topic) ++ notes topic ++ option_lines (all
 abbrev pub convert_usage : List ℕ
 convert_usage = usage_of Convert
 
+abbrev pub deinterleave_usage : List ℕ
+deinterleave_usage = usage_of Deinterleave
+
 abbrev pub metadata_usage : List ℕ
 metadata_usage = usage_of SetMetadata
 
@@ -134,8 +142,8 @@ export_usage = usage_of Export
 -- `--help`: the forms of all commands, the options of two by their names, and what names and files can be
 abbrev pub all_forms : List Entry
 all_forms =
-    forms Info ++ forms Convert ++ forms Concat ++ forms Interleave ++ forms SetMetadata ++ forms Generate ++ forms Import ++ forms Export ++ forms Salvage ++ forms Script
-    ++ entry (codes "snd COMMAND --help") (codes "print what one command takes") ∷ entry (codes "snd --help") (codes "print this text") ∷ entry (codes "snd --version") (codes "print the version") ∷ []
+    forms Info ++ forms Convert ++ forms Concat ++ forms Interleave ++ forms Deinterleave ++ forms SetMetadata ++ forms Generate ++ forms Import ++ forms Export ++ forms Salvage
+    ++ forms Script ++ entry (codes "snd COMMAND --help") (codes "print what one command takes") ∷ entry (codes "snd --help") (codes "print this text") ∷ entry (codes "snd --version") (codes "print the version") ∷ []
 
 abbrev pub names_in : List Entry → List ℕ
 names_in row = spaced (map (λ it. it.words) row)

@@ -101,10 +101,10 @@ abbrev pub pinned_by : Asked → Option (List ℕ)
 pinned_by (Asked.script name) = name
 pinned_by other = None
 
--- the name of the file that a tool makes
-abbrev pub output_by : Asked → Option (List ℕ)
-output_by (Asked.tool work) = Some (made_by work)
-output_by other = None
+-- the names of the files that a tool makes
+abbrev pub outputs_by : Asked → Option (List (List ℕ))
+outputs_by (Asked.tool work) = Some (made_by work)
+outputs_by other = None
 
 -- whether files are looked at alone
 abbrev pub looks_by : Asked → Bool
@@ -124,8 +124,8 @@ runs_script words = is_script (asked words)
 abbrev pub pinned_for : List (List ℕ) → Option (List ℕ)
 pinned_for words = pinned_by (asked words)
 
-abbrev pub output_for : List (List ℕ) → Option (List ℕ)
-output_for words = output_by (asked words)
+abbrev pub outputs_for : List (List ℕ) → Option (List (List ℕ))
+outputs_for words = outputs_by (asked words)
 
 abbrev pub looks_for : List (List ℕ) → Bool
 looks_for words = looks_by (asked words)

@@ -1,5 +1,6 @@
 -- What is printed, and the status that is answered.
 use Rattle.std.specs.Prelude.{ℕ, List, [], ◌++◌, codes, max}
+use Rattle.snd_deinterleave.specs.Outputs.{DoneAll, said_of as said_of_all}
 use Rattle.snd_rules.specs.Replies.{ok_line}
 use Rattle.snd_tools.specs.Done.{Done, Said, said_of}
 use Rattle.snd_app.specs.Text.{refusal}
@@ -27,3 +28,7 @@ outcome_said (Said.refused name why) = record { out = []; err = refusal name why
 
 abbrev pub outcome_of_tool : Done → Outcome
 outcome_of_tool todo = outcome_said (said_of todo)
+
+-- .. also one that makes several files
+abbrev pub outcome_of_all : DoneAll → Outcome
+outcome_of_all todo = outcome_said (said_of_all todo)

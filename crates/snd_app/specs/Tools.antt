@@ -1,7 +1,9 @@
 -- What the tools print, and which files they leave.
-use Rattle.std.specs.Prelude.{◌≡◌, ℕ, List, [], ◌∷◌, ◌++◌, Some, Result, Ok, Err, IfOk, codes, decimal}
+use Rattle.std.specs.Prelude.{◌≡◌, ℕ, List, [], ◌∷◌, ◌++◌, Some, Result, Ok, Err, IfOk, codes, decimal, length}
 use Rattle.snd_concat.specs.Concat.{concatenated}
 use Rattle.snd_convert.specs.Convert.{converted}
+use Rattle.snd_deinterleave.specs.Deinterleave.{deinterleaved}
+use Rattle.snd_deinterleave.specs.Outputs.{files_after as all_after}
 use Rattle.snd_export.specs.Export.{exported}
 use Rattle.snd_import.specs.Import.{imported}
 use Rattle.snd_import.specs.Making.{AsksOnce}
@@ -22,7 +24,7 @@ use Rattle.snd_tools.specs.Done.{files_after, said_by}
 use Rattle.snd_tools.specs.Shelves.{HasFiles}
 use Rattle.snd_tools.specs.declared.answer.Answer.{Answer}
 use Rattle.snd_words.specs.Asked.{Work}
-use Rattle.snd_app.specs.Printed.{Outcome, outcome_of_tool, outcome_said, says}
+use Rattle.snd_app.specs.Printed.{Outcome, outcome_of_all, outcome_of_tool, outcome_said, says}
 use Rattle.snd_app.specs.declared.tools.Reply.{Reply}
 use Rattle.snd_app.specs.declared.tools.Reply.TheVariants as reply
 
@@ -41,6 +43,7 @@ outcome_of_work (Work.set_metadata settings input output) stages files = outcome
 outcome_of_work (Work.import_as form input output) stages files = outcome_of_tool (imported form input output files)
 outcome_of_work (Work.export_as form input output) stages files = outcome_of_tool (exported form input output files)
 outcome_of_work (Work.salvage input output) stages files = outcome_of_tool (salvaged input output files)
+outcome_of_work (Work.deinterleave input outputs) stages files = outcome_of_all (deinterleaved input outputs files)
 
 -- the files then
 abbrev pub after_work : Work → List StageKind → Files → Files
@@ -52,17 +55,19 @@ after_work (Work.set_metadata settings input output) stages files = files_after 
 after_work (Work.import_as form input output) stages files = files_after (imported form input output files) files
 after_work (Work.export_as form input output) stages files = files_after (exported form input output files) files
 after_work (Work.salvage input output) stages files = files_after (salvaged input output files) files
+after_work (Work.deinterleave input outputs) stages files = all_after (deinterleaved input outputs files) files
 
--- the name of the file that it makes
-abbrev pub made_by : Work → List ℕ
-made_by (Work.convert c) = c.output
-made_by (Work.concat inputs output) = output
-made_by (Work.interleave inputs output) = output
-made_by (Work.gen seed frames name) = name
-made_by (Work.set_metadata settings input output) = output
-made_by (Work.import_as form input output) = output
-made_by (Work.export_as form input output) = output
-made_by (Work.salvage input output) = output
+-- the names of the files that it makes
+abbrev pub made_by : Work → List (List ℕ)
+made_by (Work.convert c) = c.output ∷ []
+made_by (Work.concat inputs output) = output ∷ []
+made_by (Work.interleave inputs output) = output ∷ []
+made_by (Work.gen seed frames name) = name ∷ []
+made_by (Work.set_metadata settings input output) = output ∷ []
+made_by (Work.import_as form input output) = output ∷ []
+made_by (Work.export_as form input output) = output ∷ []
+made_by (Work.salvage input output) = output ∷ []
+made_by (Work.deinterleave input outputs) = outputs
 
 -- how many bytes it may ask of its inputs; of `gen`, which has none and reads the file that it made,
 -- nothing is said
@@ -75,6 +80,7 @@ AsksForWork state (Work.set_metadata settings input output) old new = AsksForEac
 AsksForWork state (Work.import_as form input output) old new = AsksOnce state input old new
 AsksForWork state (Work.export_as form input output) old new = AsksForEach 1 16384 state (input ∷ []) old new
 AsksForWork state (Work.salvage input output) old new = AsksToSalvage state input old new
+AsksForWork state (Work.deinterleave input outputs) old new = AsksForEach (length outputs) 16384 state (input ∷ []) old new
 
 -- ---- as the code says it
 

@@ -1,7 +1,7 @@
 //! The texts of `--help`, of `COMMAND --help` and of `--version`, in lines of at most 79 characters.
 
 ghost use Rattle.std.specs.Prelude.{◌≡◌};
-ghost use Rattle.snd_app.specs.Help.{convert_usage, export_usage, import_usage, metadata_usage, usage, usage_of, version};
+ghost use Rattle.snd_app.specs.Help.{convert_usage, deinterleave_usage, export_usage, import_usage, metadata_usage, usage, usage_of, version};
 
 use snd_words::Topic;
 
@@ -54,6 +54,14 @@ OUT takes kind, codec and rate from the first IN, not from its suffix.
   -o OUT                    the file to make; it stands last
 
 Example: snd interleave left.wav right.wav -o stereo.wav
+";
+
+const DEINTERLEAVE: &str = "\
+Usage: snd deinterleave IN OUT..
+Each OUT is the mono file of one channel of IN, in their order. It takes kind,
+codec and rate from IN, not from its suffix.
+
+Example: snd deinterleave stereo.wav left.wav right.wav
 ";
 
 const SET_METADATA: &str = "\
@@ -139,6 +147,7 @@ Usage: snd COMMAND
   snd convert [OPTION..] IN OUT          copy into another container or codec
   snd concat IN IN.. OUT                 join 2 to 64 files, one after the other
   snd interleave IN IN.. -o OUT          join 2 to 64 mono files, as channels
+  snd deinterleave IN OUT..              split channels into 1 to 64 mono files
   snd metadata-set OPTION TEXT.. IN OUT  copy WAVE or RF64 with other texts
   snd gen SEED N NAME                    make a file of N frames, and edit it
   snd import raw CODEC N N IN OUT        make a file of samples without a head
@@ -194,6 +203,13 @@ fn convert_usage() -> &'static str
     CONVERT
 }
 
+/// What `deinterleave --help` prints.
+fn deinterleave_usage() -> &'static str
+    ensures { result.now ≡ deinterleave_usage }
+{
+    DEINTERLEAVE
+}
+
 /// What `metadata-set --help` prints.
 fn metadata_usage() -> &'static str
     ensures { result.now ≡ metadata_usage }
@@ -229,6 +245,7 @@ pub fn usage_of(topic: Topic) -> &'static str
         Topic::Import => import_usage(),
         Topic::Export => export_usage(),
         Topic::Salvage => SALVAGE,
+        Topic::Deinterleave => deinterleave_usage(),
         Topic::Script => SCRIPT,
     }
 }

@@ -9,8 +9,9 @@ ghost use Rattle.snd_app.specs.Look.{OnlyLooks};
 ghost use Rattle.snd_app.specs.Tools.{AsksForWork};
 ghost use Rattle.snd_words.specs.Asked.{Asked, Work};
 ghost use Rattle.snd_words.specs.Grammar.{asked};
-ghost use Rattle.snd_tools.specs.Shelves.{ChangesOne, IsAllIn};
-ghost use Rattle.snd_app.specs.Outcome.{files_after, looks_for, names_for, outcome, outcome_of_info, outcome_of_infos, output_for, pinned_for, runs_script, text_of};
+ghost use Rattle.snd_deinterleave.specs.Among.{ChangesAmong};
+ghost use Rattle.snd_tools.specs.Shelves.{IsAllIn};
+ghost use Rattle.snd_app.specs.Outcome.{files_after, looks_for, names_for, outcome, outcome_of_info, outcome_of_infos, outputs_for, pinned_for, runs_script, text_of};
 ghost use Rattle.snd_app.specs.Printed.{bad_words};
 ghost use Rattle.snd_app.specs.Run.{DescribesAs, DescribingFaultRises, DoneAtStream, EndsAs, FaultRises, IsCalm, KeepsAllImages, RunsAs, RunsScript, StopsAs};
 
@@ -151,8 +152,9 @@ fn run_script<S: Shelf, R: Source, O: Sink, E: Sink>(
 /// a file into another container or codec; with `-rack=SPEC` its frames pass boxes of `stages` on the way, of which
 /// the first unused one of its kind serves each item. Every other box is dropped as it came. `import` and `export`
 /// take samples without a head, PVF and VOX in and out. `salvage` makes a WAVE file of what is left in a file.
-/// `--help`, `COMMAND --help` and `--version` print a text on `out`. Any other words are refused. Beside the statuses 0,
-/// 1 and 2 that the outcome has, 3 says that the shelf, the script or a sink failed, and 4 that memory ran out.
+/// `deinterleave` makes a file of each channel of one. `--help`, `COMMAND --help` and `--version` print a text on
+/// `out`. Any other words are refused. Beside the statuses 0, 1 and 2 that the outcome has, 3 says that the shelf, the
+/// script or a sink failed, and 4 that memory ran out.
 pub fn run<S: Shelf, R: Source, O: Sink, E: Sink>(
     alloc: Global,
     words: &Words,
@@ -204,18 +206,20 @@ pub fn run<S: Shelf, R: Source, O: Sink, E: Sink>(
     ensures looks { looks_for words.now ≡ true →
         OnlyLooks (length (names_for words.now)) (S.state shelf.old) (S.state shelf.new) }
 
-    // With a tool, so does each file but the one that it makes; where a stream failed and no file did, that
-    // is made, or was refused, as the outcome says; and where it has inputs, no more bytes are asked than it
-    // takes to read them twice, of a file that is salvaged twenty times, and a fixed number for each.
-    ensures others { (name : List ℕ) → output_for words.now ≡ Some name → ChangesOne S.Shelf name shelf.old shelf.new }
-    ensures done { (name : List ℕ) → output_for words.now ≡ Some name →
+    // With a tool, so does each file but those that it makes; where a stream failed and no file did, these
+    // are made, or one was refused, as the outcome says; and where it has inputs, no more bytes are asked than it
+    // takes to read them twice, of a file that is salvaged twenty times, of one that is split once for each file
+    // that is made, and a fixed number for each.
+    ensures others { (names : List (List ℕ)) → outputs_for words.now ≡ Some names → ChangesAmong S.Shelf names shelf.old shelf.new }
+    ensures done { (names : List (List ℕ)) → outputs_for words.now ≡ Some names →
         DoneAtStream S.state (λ files. files_after words.now (map (λ b. (meter b).kind) taps.items) (map (λ b. (stage b).kind) stages.items) files [])
         shelf.old shelf.new result }
     ensures asks { (work : Work) → asked words.now ≡ Asked.tool work → AsksForWork S.state work shelf.old shelf.new }
 
     // With a script, so does a file that no line opens to be written, and that is not pinned; and no more bytes
     // are asked of the files and written than the lines may.
-    ensures unnamed { output_for words.now ≡ None → KeepsUnnamed S.state S.may_leave S.left_between R.left (pinned_for words.now) shelf.old script.old shelf.new }
+    ensures unnamed { outputs_for words.now ≡ None →
+        KeepsUnnamed S.state S.may_leave S.left_between R.left (pinned_for words.now) shelf.old script.old shelf.new }
     ensures bounds { runs_script words.now ≡ true → BoundsScript S.state R.left (pinned_for words.now) shelf.old script.old shelf.new }
 {
     match request_of(words) {

@@ -1,9 +1,10 @@
-//! The tools that make one file of others, or of nothing.
+//! The tools that make files of others, or of nothing.
 
 ghost use Rattle.std.specs.Prelude.{◌≡◌, IfOk, map};
+ghost use Rattle.snd_deinterleave.specs.Among.{ChangesAmong};
 ghost use Rattle.snd_output.specs.Ends.{CountsStop};
 ghost use Rattle.snd_tools.specs.Done.{said_by};
-ghost use Rattle.snd_tools.specs.Shelves.{ChangesOne, IsAllIn};
+ghost use Rattle.snd_tools.specs.Shelves.{IsAllIn};
 ghost use Rattle.snd_words.specs.Asked.{IsWork};
 ghost use Rattle.snd_words.specs.Request.{work_of};
 ghost use Rattle.snd_app.specs.Printed.{outcome_said};
@@ -15,6 +16,7 @@ use crate::put::{FAULT, NO_MEMORY, put_text};
 use itoa::Buffer;
 use snd_concat::concat;
 use snd_convert::convert;
+use snd_deinterleave::deinterleave;
 use snd_disk::{Shelf, Sink};
 use snd_export::export;
 use snd_generate::{Summary, generate};
@@ -101,6 +103,7 @@ fn reply_of(alloc: Global, summary: Result<Summary, Stop>) -> Result<Reply, Stop
 }
 
 /// Carries out a tool's work, where it has a rack with some of the stages.
+#[tactic(auto, using(crate::proofs::Left::one_among))]
 fn carry_out<S: Shelf>(
     alloc: Global,
     tool: &Tool<'_>,
@@ -110,7 +113,7 @@ fn carry_out<S: Shelf>(
     requires all_in { IsAllIn (S.state shelf.old) }
     requires good { IsWork (work_of tool.now) }
     ensures done { CarriesOut S.state (work_of tool.now) (map (λ b. (stage b).kind) stages.items) shelf.old shelf.new result }
-    ensures changes { ChangesOne S.Shelf (made_by (work_of tool.now)) shelf.old shelf.new }
+    ensures changes { ChangesAmong S.Shelf (made_by (work_of tool.now)) shelf.old shelf.new }
     ensures faults { CountsStop (S.state shelf.old).faults (S.state shelf.new).faults result }
     ensures asked { AsksForWork S.state (work_of tool.now) shelf.old shelf.new }
 {
@@ -128,6 +131,9 @@ fn carry_out<S: Shelf>(
                 output: it.output,
             };
             reply_to(alloc, salvage(alloc, &salvaging, shelf))
+        }
+        Tool::Deinterleave(it) => {
+            reply_to(alloc, deinterleave(alloc, it.input, &it.outputs, shelf))
         }
     }
 }
@@ -148,7 +154,7 @@ pub(crate) fn run_tool<S: Shelf, O: Sink, E: Sink>(
     ensures fault { result ≡ 3 →
         DescribingFaultRises S.Shelf O.Sink E.Sink shelf.old out.old err.old shelf.new out.new err.new }
     ensures done { DoneAtStream S.state (after_work (work_of tool.now) (map (λ b. (stage b).kind) stages.items)) shelf.old shelf.new result }
-    ensures changes { ChangesOne S.Shelf (made_by (work_of tool.now)) shelf.old shelf.new }
+    ensures changes { ChangesAmong S.Shelf (made_by (work_of tool.now)) shelf.old shelf.new }
     ensures asked { AsksForWork S.state (work_of tool.now) shelf.old shelf.new }
 {
     match carry_out(alloc, tool, shelf, stages) {

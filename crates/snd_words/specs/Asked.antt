@@ -29,6 +29,7 @@ pub data Work : Type 0 where
   import_as : ImportForm → List ℕ → List ℕ → Work
   export_as : ExportForm → List ℕ → List ℕ → Work
   salvage : List ℕ → List ℕ → Work
+  deinterleave : List ℕ → List (List ℕ) → Work
 
 pub data Asked : Type 0 where
   info_of : List (List ℕ) → Asked

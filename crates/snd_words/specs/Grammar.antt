@@ -3,6 +3,7 @@ use Rattle.std.specs.Prelude.{ℕ, List, [], ◌∷◌, codes, if◌then◌else�
 use Rattle.std.specs.Str.{bytes_eq}
 use Rattle.snd_words.specs.Asked.{Asked}
 use Rattle.snd_words.specs.Convert.{convert_asked}
+use Rattle.snd_words.specs.Deinterleave.{deinterleave_asked}
 use Rattle.snd_words.specs.Gather.{concat_asked, interleave_asked}
 use Rattle.snd_words.specs.Generate.{gen_asked}
 use Rattle.snd_words.specs.Metadata.{metadata_asked}
@@ -26,7 +27,8 @@ asked_with command words =
     else (if bytes_eq command (codes "import") then import_asked words
     else (if bytes_eq command (codes "export") then export_asked words
     else (if bytes_eq command (codes "salvage") then salvage_asked words
-    else Asked.nothing)))))))))))
+    else (if bytes_eq command (codes "deinterleave") then deinterleave_asked words
+    else Asked.nothing))))))))))))
 
 -- .. but two words, the second one `--help`, ask for the text of the command
 abbrev pub asked : List (List ℕ) → Asked

@@ -1,5 +1,6 @@
 pub mod Asked
 pub mod Convert
+pub mod Deinterleave
 pub mod Gather
 pub mod Generate
 pub mod Grammar

@@ -4,7 +4,7 @@ use Rattle.snd_words.specs.Asked.{Asked, Work}
 use Rattle.snd_words.specs.declared.request.Request.{Request}
 use Rattle.snd_words.specs.declared.request.Request.TheVariants.{Info, Script, Help, HelpOn, Version, Tool as TheTool}
 use Rattle.snd_words.specs.declared.request.Tool.{Tool}
-use Rattle.snd_words.specs.declared.request.Tool.TheVariants.{Convert, Concat, Interleave, Generate, SetMetadata, Import, Export, Salvage}
+use Rattle.snd_words.specs.declared.request.Tool.TheVariants.{Convert, Concat, Interleave, Generate, SetMetadata, Import, Export, Salvage, Deinterleave}
 
 abbrev pub work_of : Tool → Work
 work_of (Convert c) = Work.convert (record { rate = c.rate; order = c.order; codec = c.codec; rack = unwrap_or c.rack []; input = c.input.now; output = c.output.now })
@@ -15,6 +15,7 @@ work_of (SetMetadata s) = Work.set_metadata s.settings s.input.now s.output.now
 work_of (Import i) = Work.import_as i.form i.input.now i.output.now
 work_of (Export e) = Work.export_as e.form e.input.now e.output.now
 work_of (Salvage s) = Work.salvage s.input.now s.output.now
+work_of (Deinterleave d) = Work.deinterleave d.input.now d.outputs
 
 abbrev pub asked_by : Option Request → Asked
 asked_by (Some (Info names)) = Asked.info_of names

@@ -4,14 +4,15 @@ use Rattle.std.specs.Str.{bytes_eq}
 use Rattle.snd_words.specs.Asked.{Asked}
 use Rattle.snd_words.specs.Options.{named}
 use Rattle.snd_words.specs.declared.topic.Topic.{Topic}
-use Rattle.snd_words.specs.declared.topic.Topic.TheVariants.{Info, Convert, Concat, Interleave, SetMetadata, Generate, Import, Export, Salvage, Script}
+use Rattle.snd_words.specs.declared.topic.Topic.TheVariants.{Info, Convert, Concat, Interleave, SetMetadata, Generate, Import, Export, Salvage, Deinterleave, Script}
 
 -- the command of a name
 unfoldable pub topic_of : List ℕ → Option Topic
 topic_of command = named command (
     (codes "info", Info) ∷ (codes "convert", Convert) ∷ (codes "concat", Concat) ∷ (codes "interleave", Interleave)
     ∷ (codes "metadata-set", SetMetadata) ∷ (codes "gen", Generate)
-    ∷ (codes "import", Import) ∷ (codes "export", Export) ∷ (codes "salvage", Salvage) ∷ (codes "script", Script) ∷ [])
+    ∷ (codes "import", Import) ∷ (codes "export", Export) ∷ (codes "salvage", Salvage)
+    ∷ (codes "deinterleave", Deinterleave) ∷ (codes "script", Script) ∷ [])
 
 -- two words, the second one `--help`
 unfoldable pub asks_help : List (List ℕ) → Bool

@@ -3,6 +3,7 @@
 
 mod concat;
 mod convert;
+mod deinterleave;
 mod generate;
 mod interleave;
 mod metadata;
@@ -20,6 +21,7 @@ mod topic;
 
 pub use concat::Concatenation;
 pub use convert::{CodecChoice, Conversion};
+pub use deinterleave::Deinterleaving;
 pub use generate::Generation;
 pub use interleave::Interleaving;
 pub use metadata::MetadataChange;

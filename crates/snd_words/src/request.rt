@@ -7,6 +7,7 @@ ghost use Rattle.snd_words.specs.Request.{asked_by};
 
 use crate::concat::{Concatenation, concat_request};
 use crate::convert::{Conversion, convert_request};
+use crate::deinterleave::{Deinterleaving, deinterleave_request};
 use crate::generate::{Generation, gen_request};
 use crate::interleave::{Interleaving, interleave_request};
 use crate::metadata::{MetadataChange, metadata_request};
@@ -55,6 +56,8 @@ pub enum Tool<'a> {
     Export(Exportation<'a>),
     /// `salvage IN OUT`: to make a WAVE file of what is left in a file whose head was never filled in, or is damaged.
     Salvage(Salvaging<'a>),
+    /// `deinterleave IN OUT..`: to make a file of each channel of another one.
+    Deinterleave(Deinterleaving<'a>),
 }
 
 /// What the words ask for, of which the first one is the command.
@@ -87,6 +90,8 @@ fn request_with<'a>(command: &str, words: &'a Words) -> Option<Request<'a>>
         return export_request(words);
     } else if command == "salvage" {
         return salvage_request(words);
+    } else if command == "deinterleave" {
+        return deinterleave_request(words);
     }
     None
 }

@@ -26,6 +26,8 @@ pub enum Topic {
     Export,
     /// `salvage`
     Salvage,
+    /// `deinterleave`
+    Deinterleave,
     /// `script`
     Script,
 }
@@ -53,6 +55,8 @@ pub(crate) fn topic_of(command: &str) -> Option<Topic>
         Some(Topic::Export)
     } else if command == "salvage" {
         Some(Topic::Salvage)
+    } else if command == "deinterleave" {
+        Some(Topic::Deinterleave)
     } else if command == "script" {
         Some(Topic::Script)
     } else {

@@ -1,9 +1,9 @@
 use Rattle.std.proofs.Common.{◌≡◌, ◌∙◌, ℕ, List, [], None, Some, ap, refl, rules, subst}
-use Rattle.snd_tools.specs.Shelves.{ChangesOne}
+use Rattle.snd_deinterleave.specs.Among.{ChangesAmong}
 use Rattle.snd_words.specs.Asked.{Asked, Work}
 use Rattle.snd_words.specs.Grammar.{asked}
 use Rattle.snd_words.specs.Request.{work_of}
-use Rattle.snd_app.specs.Outcome.{files_of, outcome_of, output_by, pinned_by}
+use Rattle.snd_app.specs.Outcome.{files_of, outcome_of, outputs_by, pinned_by}
 use Rattle.snd_app.specs.Run.{DoneAtStream, StopsAs}
 use Rattle.snd_app.specs.Tools.{AsksForWork, made_by}
 use Rattle.snd_app.proofs.Left.{changed_leaves, kept_leaves}
@@ -86,14 +86,14 @@ pub returns-in-Some-Tool-clause-leaves : goal.returns-in-Some-Tool-clause-leaves
 returns-in-Some-Tool-clause-leaves g c = changed_leaves g.S.Shelf _ _ _ c.run_tool.ensures.changes
 
 pub returns-in-Some-Tool-clause-others : goal.returns-in-Some-Tool-clause-others
-returns-in-Some-Tool-clause-others g c = λ name named.
+returns-in-Some-Tool-clause-others g c = λ names named.
     let is : Asked.tool (work_of c.in-Some-Tool.tool) ≡ asked c.args.words.now = search rules in
-    let some : Some (made_by (work_of c.in-Some-Tool.tool)) ≡ Some name = ap output_by is ∙ named in
-    let same : made_by (work_of c.in-Some-Tool.tool) ≡ name = cc in
-    subst (λ (n : List ℕ). ChangesOne g.S.Shelf n c.args.shelf.now c.run_tool.new.shelf) same c.run_tool.ensures.changes
+    let some : Some (made_by (work_of c.in-Some-Tool.tool)) ≡ Some names = ap outputs_by is ∙ named in
+    let same : made_by (work_of c.in-Some-Tool.tool) ≡ names = cc in
+    subst (λ (n : List (List ℕ)). ChangesAmong g.S.Shelf n c.args.shelf.now c.run_tool.new.shelf) same c.run_tool.ensures.changes
 
 pub returns-in-Some-Tool-clause-done : goal.returns-in-Some-Tool-clause-done
-returns-in-Some-Tool-clause-done g c = λ name named.
+returns-in-Some-Tool-clause-done g c = λ names named.
     let is : Asked.tool (work_of c.in-Some-Tool.tool) ≡ asked c.args.words.now = search rules in
     done_by g.S.Shelf.state c.args.shelf.now c.run_tool.new.shelf c.run_tool.result _ _ (Asked.tool (work_of c.in-Some-Tool.tool)) (asked c.args.words.now) is c.run_tool.ensures.done
 
@@ -107,7 +107,7 @@ returns-in-Some-Tool-clause-asks g c = λ work named.
 pub returns-in-Some-Tool-clause-unnamed : goal.returns-in-Some-Tool-clause-unnamed
 returns-in-Some-Tool-clause-unnamed g c = λ none.
     let is : Asked.tool (work_of c.in-Some-Tool.tool) ≡ asked c.args.words.now = search rules in
-    let some : Some (made_by (work_of c.in-Some-Tool.tool)) ≡ None = ap output_by is ∙ none in
+    let some : Some (made_by (work_of c.in-Some-Tool.tool)) ≡ None = ap outputs_by is ∙ none in
     absurd (cc)
 
 pub returns-in-None-clause-headline : goal.returns-in-None-clause-headline

@@ -1,0 +1,5 @@
+pub mod Among
+pub mod Deinterleave
+pub mod Making
+pub mod Outputs
+pub mod Passing
