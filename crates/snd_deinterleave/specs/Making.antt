@@ -1,5 +1,5 @@
 -- How outputs are made of an open file, as the code does it. It is said for the proofs alone.
-use Rattle.std.specs.Prelude.{◌≡◌, ℕ, ◌+◌, ◌*◌, ◌<◌, ◌≤◌, List, [], Some, Result, Ok, IfOk, OnOk, None, Unit, length, slice_index_or, take, true, false}
+use Rattle.std.specs.Prelude.{◌≡◌, ℕ, ◌+◌, ◌*◌, ◌<◌, List, [], Result, IfOk, None, length, slice_index_or, take, true, false}
 use Rattle.snd_disk.specs.declared.disk.Disk.{Ghosts}
 use Rattle.snd_disk.specs.Device.{AsksAtMost, Tells}
 use Rattle.snd_disk.specs.Shelf.{Files, ShelfState}
@@ -21,7 +21,7 @@ use Rattle.snd_output.specs.declared.stop.Stop.{Stop}
 use Rattle.snd_tools.specs.Shelves.{HasFiles}
 use Rattle.snd_tools.specs.declared.answer.Answer.{Answer}
 use Rattle.snd_deinterleave.specs.Among.{is_among}
-use Rattle.snd_deinterleave.specs.Deinterleave.{done_counted, file_of, is_same_at, made_if_good, made_of}
+use Rattle.snd_deinterleave.specs.Deinterleave.{done_counted, file_of, is_same_at, made_if_good}
 use Rattle.snd_deinterleave.specs.Outputs.{IsDone, puts}
 use Rattle.snd_deinterleave.specs.Passing.{FitsAs}
 
@@ -68,15 +68,16 @@ MakesAll state shelf_state names kind p file old new =
     (files : Files) (e : Editing) → TellsFiles shelf_state old files → Stands state file e
     → HasFiles shelf_state new (puts names (file_of kind p e) 0 files)
 
--- the frames are read so many times, and the blocks are checked
+-- the frames are read so many times
 abbrev pub bytes_split : ℕ → Shape → ℕ
 bytes_split times h = times * bytes_to_copy h.params h.frames
 
 abbrev pub AsksTimes : {D M : Type 0} {d : Ghosts D} {m : ModeGhosts M} → (D → State) → ℕ → File D M d m → File D M d m → Type 0
 AsksTimes state times old new = AsksAtMost state (bytes_split times (known_of old).shape) (disk_of old) (disk_of new)
 
+-- .. and the blocks are checked once: no more than if they were so each time
 abbrev pub AsksWholeLaid : {D : Type 0} → (D → State) → ℕ → Shape → D → D → Type 0
-AsksWholeLaid state times layout old new = AsksAtMost state (bytes_checked layout + bytes_split times layout) old new
+AsksWholeLaid state times layout old new = AsksAtMost state (times * (bytes_checked layout + bytes_to_copy layout.params layout.frames)) old new
 
 abbrev pub AsksWhole : {D M : Type 0} {d : Ghosts D} {m : ModeGhosts M} → (D → State) → ℕ → File D M d m → File D M d m → Type 0
 AsksWhole state times old new = AsksWholeLaid state times (known_of old).shape (disk_of old) (disk_of new)

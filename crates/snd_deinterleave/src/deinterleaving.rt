@@ -42,6 +42,7 @@ fn split_good<'a, S: Shelf, D: Disk>(
     requires apart { AreApartNames outputs.now }
     requires all_in { AreIn outputs.now (S.state shelf.old) }
     requires unread { IsUnread (known_of file.old) }
+    requires some { 1 ≤ length outputs.now }
     requires channels { length outputs.now ≡ channels_of file.old }
     requires split { MaySplit kind params (known_of file.old) }
     ensures loan { loan_of file.new ≡ loan_of file.old }

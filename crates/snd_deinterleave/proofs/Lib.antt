@@ -1,0 +1,9 @@
+pub mod ChannelLists
+pub mod ChannelPutting
+pub mod Counting
+pub mod Firsts
+pub mod Leaving
+pub mod MakeFilling
+pub mod Putting
+pub mod Repeating
+pub mod Splitting
