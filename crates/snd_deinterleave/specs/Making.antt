@@ -92,9 +92,9 @@ DoesGood state shelf_state input outputs kind p file old new result =
     → IsDone shelf_state new answer (made_if_good input outputs kind p e) files)
 
 -- .. whether they have or not; and whether there are as many outputs as channels
-abbrev pub DoesCounted : {D M S E : Type 0} {d : Ghosts D} {m : ModeGhosts M}
+abbrev pub DoesAll : {D M S E : Type 0} {d : Ghosts D} {m : ModeGhosts M}
     → (D → State) → (S → ShelfState) → List ℕ → List (List ℕ) → File D M d m → S → S → Result Answer E → Type 0
-DoesCounted state shelf_state input outputs file old new result =
+DoesAll state shelf_state input outputs file old new result =
     IfOk result (λ answer. (files : Files) (e : Editing) → TellsFiles shelf_state old files → Stands state file e
     → IsDone shelf_state new answer (done_counted input outputs e) files)
 

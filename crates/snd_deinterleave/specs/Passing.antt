@@ -6,12 +6,12 @@ use Rattle.snd_chunks.specs.Written.{NewChunk}
 use Rattle.snd_layout.specs.Params.{Parameters}
 use Rattle.snd_layout.specs.declared.codec.Codec.{Codec}
 use Rattle.snd_layout.specs.declared.kind.Kind.{Kind}
-use Rattle.snd_edits.specs.Editing.{Editing, frames_read}
+use Rattle.snd_edits.specs.Editing.{Editing, frames_read, moved_by}
 use Rattle.snd_edits.specs.Known.{Known}
 use Rattle.snd_edits.specs.Reading.{FitCodec}
 use Rattle.snd_edits.specs.declared.mode.Mode.{Ghosts as ModeGhosts}
 use Rattle.snd_file.specs.declared.handle.File.{File}
-use Rattle.snd_file.specs.Handle.{Stands}
+use Rattle.snd_file.specs.Handle.{Stands, StandsAfter, known_of}
 use Rattle.snd_layout.specs.Blocks.{block_frames}
 use Rattle.snd_output.specs.Appended.{HasRoom, IsAtEnd, frames_ahead, left_in}
 use Rattle.snd_output.specs.Made.{IsMaking}
@@ -49,3 +49,20 @@ Lengthens state state' numbers from to to' =
     (kind : Kind) (p : Parameters) (pieces : List NewChunk) (xs : List ℤ) (r e : Editing)
     → Stands state from r → Stands state' to e → IsMaking kind p pieces xs e
     → (e' : Editing) × Stands state' to' e' × IsMaking kind p pieces (xs ++ numbers r) e'
+
+-- .. those of one channel of the next n frames, of all that are left, or of all
+abbrev pub TakesNext : {D E M N : Type 0} {d : Ghosts D} {m : ModeGhosts M} {t : Ghosts E} {n : ModeGhosts N}
+    → (D → State) → (E → State) → ℕ → File D M d m → File E N t n → File E N t n → ℕ → Type 0
+TakesNext state state' which from to to' n = Lengthens state state' (next_channel which n) from to to'
+
+abbrev pub TakesLeft : {D E M N : Type 0} {d : Ghosts D} {m : ModeGhosts M} {t : Ghosts E} {n : ModeGhosts N}
+    → (D → State) → (E → State) → ℕ → File D M d m → File E N t n → File E N t n → Type 0
+TakesLeft state state' which from to to' = Lengthens state state' (channel_left which) from to to'
+
+abbrev pub TakesAll : {D E M N : Type 0} {d : Ghosts D} {m : ModeGhosts M} {t : Ghosts E} {n : ModeGhosts N}
+    → (D → State) → (E → State) → ℕ → File D M d m → File E N t n → File E N t n → Type 0
+TakesAll state state' which from to to' = Lengthens state state' (λ e. channel_of which e.frames) from to to'
+
+-- a file that is read then stands behind its last frame
+abbrev pub StandsAtEnd : {D M : Type 0} {d : Ghosts D} {m : ModeGhosts M} → (D → State) → File D M d m → File D M d m → Type 0
+StandsAtEnd state old new = StandsAfter state old new (moved_by (left_in (known_of old)))

@@ -7,7 +7,7 @@ ghost use Rattle.snd_file.specs.Calls.{AsksForFrames};
 ghost use Rattle.snd_file.specs.Handle.{StandsAfter, channels_of, disk_of, known_of, loan_of};
 ghost use Rattle.snd_file.specs.Outcomes.{AsksNothing, TellsOn};
 ghost use Rattle.snd_output.specs.Appended.{AsksForLeft, CountsFiles, FindsChanged, LeavesFiles, OnlyReadsIn, frames_ahead, left_in, next_count, next_frames};
-ghost use Rattle.snd_deinterleave.specs.Passing.{ArePicked, Lengthens, MayPut, channel_left, next_channel};
+ghost use Rattle.snd_deinterleave.specs.Passing.{ArePicked, MayPut, StandsAtEnd, TakesLeft, TakesNext};
 
 use snd_disk::Disk;
 use snd_edits::Read;
@@ -43,7 +43,7 @@ fn append_block<D: Disk, E: Disk, M: Making>(
     ensures left { LeavesFiles (next_count (length block.old) from.old) from.old from.new to.old to.new result }
     ensures changed { FindsChanged D.state (next_frames (length block.old) from.old) from.old result }
     ensures stands { IfOk result (λ k. StandsAfter D.state from.old from.new (moved_by k)) }
-    ensures lengthens { IfOk result (λ k. Lengthens D.state E.state (next_channel which k) from.old to.old to.new) }
+    ensures lengthens { IfOk result (TakesNext D.state E.state which from.old to.old to.new) }
     ensures faults { CountsFiles D.state E.state from.old from.new to.old to.new result }
     ensures reads { OnlyReadsIn D.Disk from.old from.new }
     ensures tells { TellsOn E.state to.old to.new }
@@ -80,8 +80,8 @@ pub(crate) fn append_left<D: Disk, E: Disk, M: Making>(
     ensures to_loan { loan_of to.new ≡ loan_of to.old }
     ensures left { LeavesFiles (left_in (known_of from.old)) from.old from.new to.old to.new result }
     ensures changed { FindsChanged D.state frames_ahead from.old result }
-    ensures stands { OnOk result (StandsAfter D.state from.old from.new (moved_by (left_in (known_of from.old)))) }
-    ensures lengthens { OnOk result (Lengthens D.state E.state (channel_left which) from.old to.old to.new) }
+    ensures stands { OnOk result (StandsAtEnd D.state from.old from.new) }
+    ensures lengthens { OnOk result (TakesLeft D.state E.state which from.old to.old to.new) }
     ensures faults { CountsFiles D.state E.state from.old from.new to.old to.new result }
     ensures reads { OnlyReadsIn D.Disk from.old from.new }
     ensures tells { TellsOn E.state to.old to.new }

@@ -12,7 +12,7 @@ ghost use Rattle.snd_output.specs.Ends.{CountsStop};
 ghost use Rattle.snd_tools.specs.Shelves.{IsAllIn, NeverChanged};
 ghost use Rattle.snd_deinterleave.specs.Among.{ChangesAmong};
 ghost use Rattle.snd_deinterleave.specs.Deinterleave.{deinterleaved};
-ghost use Rattle.snd_deinterleave.specs.Making.{AreApartNames, AreIn, AsksWhole, AsksWholeLaid, DoesCounted, DoesGood, DoesLaid, MaySplit, StaysTold, StaysToldOn};
+ghost use Rattle.snd_deinterleave.specs.Making.{AreApartNames, AreIn, AsksWhole, AsksWholeLaid, DoesAll, DoesGood, DoesLaid, MaySplit, StaysTold, StaysToldOn};
 ghost use Rattle.snd_deinterleave.specs.Outputs.{Does};
 
 use crate::names::first_same;
@@ -78,7 +78,7 @@ fn split_file<'a, S: Shelf, D: Disk>(
     requires all_in { AreIn outputs.now (S.state shelf.old) }
     requires unread { IsUnread (known_of file.old) }
     ensures loan { loan_of file.new ≡ loan_of file.old }
-    ensures done { DoesCounted D.state S.state input.now outputs.now file.old shelf.old shelf.new result }
+    ensures done { DoesAll D.state S.state input.now outputs.now file.old shelf.old shelf.new result }
     ensures changes { ChangesAmong S.Shelf outputs.now shelf.old shelf.new }
     ensures faults { CountsFileAndShelf D.state S.state file.old file.new shelf.old shelf.new result }
     ensures changed { StaysTold D.state file.old result }

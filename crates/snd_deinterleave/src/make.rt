@@ -10,9 +10,8 @@ ghost use Rattle.snd_file.specs.Handle.{StandsAfter, channels_of, disk_of, known
 ghost use Rattle.snd_file.specs.Outcomes.{AsksNothing};
 ghost use Rattle.snd_output.specs.Appended.{FindsChanged};
 ghost use Rattle.snd_patch.specs.Steps.{StillTells};
-ghost use Rattle.snd_deinterleave.specs.Deinterleave.{channel_of};
 ghost use Rattle.snd_deinterleave.specs.Making.{IsRewound, Makes, MaySplit, known_at_first};
-ghost use Rattle.snd_deinterleave.specs.Passing.{Lengthens, MayPut};
+ghost use Rattle.snd_deinterleave.specs.Passing.{MayPut, TakesAll};
 
 use crate::channel::append_left;
 use snd_disk::Disk;
@@ -47,7 +46,7 @@ fn fill<D: Disk, E: Disk, M: Making>(
 ) -> Result<(), Stop>
     requires unread { IsUnread (known_of from.old) }
     requires may { MayPut which (known_of from.old) (known_of to.old) }
-    ensures fills { OnOk result (Lengthens D.state E.state (λ e. channel_of which e.frames) from.old to.old to.new) }
+    ensures fills { OnOk result (TakesAll D.state E.state which from.old to.old to.new) }
     ensures rewound { OnOk result (IsRewound D.state from.old from.new) }
     ensures copies { CopiesInto D.Disk E.Disk from.old from.new to.old to.new result }
     ensures changed { FindsChanged D.state (λ e. e.frames) from.old result }
